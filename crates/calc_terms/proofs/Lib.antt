@@ -1,0 +1,12 @@
+pub mod Codes
+pub mod Lowest
+pub mod Signs
+pub mod OneMeaning
+pub mod Fuel
+pub mod Complete
+pub mod Sound
+pub mod ReadLaws
+pub mod Keeps
+pub mod Clean
+pub mod FaceKeeps
+pub mod Words

@@ -1,0 +1,25 @@
+//! Laws of the definitions, each the contract of a function without a body.
+
+ghost use Rattle.std.specs.Prelude.{◌≡◌, ℕ, List};
+ghost use Rattle.calc_terms.specs.Trees.{Tree};
+ghost use Rattle.calc_terms.specs.Surds.{Surd, Agree};
+ghost use Rattle.calc_terms.specs.Reads.{Reads};
+ghost use Rattle.calc_terms.specs.Texts.{text as text_of};
+ghost use Rattle.calc_terms.specs.Written.{IsFull};
+ghost use Rattle.calc_terms.specs.Spelled.{CanBeWritten};
+ghost use Rattle.calc_terms.specs.Meanings.{Assignment, IsAssignment, Means};
+
+/// A tree has at most one meaning under an assignment.
+pub fn one_meaning()
+    ensures { (f : Assignment) (t : Tree) (v w : Surd) → IsAssignment f → Means t f v → Means t f w → Agree v w }
+{}
+
+/// A text reads as at most one tree.
+pub fn one_tree()
+    ensures { (text : List ℕ) (t u : Tree) → Reads text t → Reads text u → t ≡ u }
+{}
+
+/// What is written is read again.
+pub fn text_reads()
+    ensures { (u : Tree) → IsFull u → CanBeWritten u → Reads (text_of u) u }
+{}

@@ -1,0 +1,12 @@
+//! What trees are made of, and the definitions that every contract above cites.
+#![tactic(auto)]
+
+mod euclid;
+mod kind;
+mod laws;
+mod rat;
+
+pub use euclid::gcd;
+pub use kind::Kind;
+pub use laws::{one_meaning, one_tree, text_reads};
+pub use rat::Rat;
