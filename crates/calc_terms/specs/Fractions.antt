@@ -8,7 +8,7 @@ use native.Mathlib.Nat.{div-mul_cancel, pos_of_dvd_of_pos, zero-mul}
 use Prim.Native.Nat.{◌∣◌}
 use mathlib.Core.HLevel.{is_prop→PathP}
 use Rattle.calc_terms.specs.Gcd.{gcd, gcd_is, divided, lowest_den}
-use Rattle.calc_terms.specs.Integers.{parts, diffs, eq_diff, combine, cancel_pos}
+use Rattle.calc_terms.specs.Integers.{int_is_zero, int_is_one, parts, diffs, eq_diff, combine, cancel_pos}
 
 abbrev pub Holds : Bool → Type 0
 Holds true = Unit {0}
@@ -154,6 +154,30 @@ zero_fraction = lowest (pos 0) 1
 unfoldable pub one_fraction : Fraction
 one_fraction = lowest (pos 1) 1
 
+abbrev pub whole_fraction : ℤ → Fraction
+whole_fraction n = lowest n 1
+
+abbrev pub minus_one_fraction : Fraction
+minus_one_fraction = whole_fraction (negsuc 0)
+
+-- t/s
+abbrev pub quotient : ℕ → ℕ → Fraction
+quotient t s = lowest (pos t) s
+
+abbrev pub is_zero_fraction : Fraction → Bool
+is_zero_fraction q = int_is_zero q.num
+
+abbrev pub is_one_fraction : Fraction → Bool
+is_one_fraction q = int_is_one q.num && (q.den == 1)
+
+abbrev pub inverse_of : ℤ → ℕ → Fraction
+inverse_of (pos n) d = lowest (pos d) n
+inverse_of (negsuc n) d = lowest (neg_ℤ (pos d)) (suc n)
+
+-- 1/a, where a is not zero
+abbrev pub inverse : Fraction → Fraction
+inverse a = inverse_of a.num a.den
+
 sum_cross : (x y : ℤ) (d c : ℕ) (p r : ℤ) (q s : ℕ) → x *ℤ pos q ≡ p *ℤ pos d → y *ℤ pos s ≡ r *ℤ pos c → (x *ℤ pos c +ℤ y *ℤ pos d) *ℤ pos (q * s) ≡ (p *ℤ pos s +ℤ r *ℤ pos q) *ℤ pos (d * c)
 sum_cross x y d c p r q s e f =
     combine _ _ (pos (c * s)) _ _ (combine _ _ (pos (d * q)) _ _
@@ -185,11 +209,3 @@ module _ (p r t : ℤ) (q s u : ℕ) (hq : 0 < q) (hs : 0 < s) (hu : 0 < u) wher
 
 pub plus_assoc : (a b c : Fraction) → plus (plus a b) c ≡ plus a (plus b c)
 plus_assoc a b c = rw (lowest_parts a, lowest_parts b, lowest_parts c) (assoc_lowest _ _ _ _ _ _ (den_pos a) (den_pos b) (den_pos c))
-
-half : Fraction
-unfolding gcd
-half = record { num = pos 1; den = 2; lowest = tt }
-
-sum_example : plus (lowest (pos 1) 3) (lowest (pos 1) 6) ≡ half
-unfolding gcd half lowest plus
-sum_example = refl

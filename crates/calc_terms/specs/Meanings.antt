@@ -1,10 +1,9 @@
--- What a tree means under an assignment.
-use Rattle.std.specs.Prelude.{ℕ, zero, suc, ◌*◌, ◌≡◌, ℤ, pos, negsuc, List, [], ◌∷◌, ◌++◌, Contains}
-use Rattle.std.proofs.Common.{sym}
-use Rattle.calc_terms.specs.Fractions.{Fraction, lowest}
-use Rattle.calc_terms.specs.Trees.{Tree, number, symbol, undef, add, mult, power, root, neg, sub, quot, Trees, none, more}
-use Rattle.calc_terms.specs.Surds.{Surd, term, one, scale, times_each, raised, Same, Inverts}
-use Rattle.calc_terms.specs.SquareClasses.{Same-trans}
+-- What an expression means under an assignment of fractions to names.
+use Rattle.std.specs.Prelude.{ℕ, zero, suc, ◌*◌, ◌≡◌, ℤ, pos, negsuc, List, [], ◌∷◌, ◌++◌, map, Contains, ⊤}
+use Rattle.calc_terms.specs.Fractions.{Fraction, lowest, whole_fraction, minus_one_fraction}
+use Rattle.calc_terms.specs.Trees.{Tree, num, symbol, undef, add, mult, power, root, neg, sub, div, Trees, none, more}
+use Rattle.calc_terms.specs.Surds.{Surd, term, surd_of, surd_one, surd_scale, surd_times, surd_power}
+use Rattle.calc_terms.specs.SquareClasses.{Same, Inverts}
 
 -- a name and the fraction that it stands for
 pub record Binding : Type 0 where
@@ -14,75 +13,58 @@ pub record Binding : Type 0 where
 abbrev pub Assignment : Type 0
 Assignment = List Binding
 
+abbrev pub bound_names : Assignment → List (List ℕ)
+bound_names f = map (λ b. b.name) f
+
 -- each name once
 abbrev pub IsAssignment : Assignment → Type 0
-IsAssignment f = (x : List ℕ) (p q : Fraction) → Contains f (record { name = x; value = p }) → Contains f (record { name = x; value = q }) → p ≡ q
+IsAssignment [] = ⊤
+IsAssignment (b ∷ f) = ¬ (Contains (bound_names f) b.name) × IsAssignment f
 
-abbrev pub just : Fraction → Surd
-just q = term q 1 ∷ []
+-- f gives x the fraction q
+abbrev pub Gives : Assignment → List ℕ → Fraction → Type 0
+Gives f x q = Contains f (record { name = x; value = q })
 
-abbrev pub whole : ℤ → Fraction
-whole n = lowest n 1
+-- v is w to the power n
+abbrev pub IsWholePower : ℤ → Surd → Surd → Type 0
+IsWholePower (pos zero) w v = ¬ (Same w []) × Same v surd_one
+IsWholePower (pos (suc n)) w v = Same v (surd_power w (suc n))
+IsWholePower (negsuc n) w v = (y : Surd) × Inverts y w × Same v (surd_power y (suc n))
 
-abbrev pub minus_one : Fraction
-minus_one = whole (negsuc 0)
+-- the row of powers: base w, exponent x, value v
+abbrev pub IsPower : Surd → Surd → Surd → Type 0
+IsPower w x v = (n : ℤ) × Same x (surd_of (whole_fraction n)) × IsWholePower n w v
 
--- the power of a value w
-abbrev pub IsPower : ℤ → Surd → Surd → Type 0
-IsPower (pos zero) w v = ¬ (Same w []) × Same v one
-IsPower (pos (suc n)) w v = Same v (raised w (suc n))
-IsPower (negsuc n) w v = (y : Surd) × Inverts y w × Same v (raised y (suc n))
-
--- the root of p/q
+-- v is the square root of p/q
 abbrev pub IsRootOf : ℤ → ℕ → Surd → Type 0
 IsRootOf (pos zero) q v = Same v []
 IsRootOf (pos (suc p)) q v = Same v (term (lowest (pos 1) q) (suc p * q) ∷ [])
 IsRootOf (negsuc p) q v = ⊥
 
+-- the row of roots: argument x, value v
+abbrev pub IsRoot : Surd → Surd → Type 0
+IsRoot x v = (q : Fraction) × Same x (surd_of q) × IsRootOf q.num q.den v
+
+-- v is a meaning of the tree under f
 abbrev mutual
   pub Means : Tree → Assignment → Surd → Type 0
-  Means (number q) f v = Same v (just q)
-  Means (symbol x) f v = (q : Fraction) × Contains f (record { name = x; value = q }) × Same v (just q)
+  Means (num q) f v = Same v (surd_of q)
+  Means (symbol x) f v = (q : Fraction) × Gives f x q × Same v (surd_of q)
   Means undef f v = ⊥
   Means (add ts) f v = (w : Surd) × MeansSum ts f w × Same v w
   Means (mult ts) f v = (w : Surd) × MeansProduct ts f w × Same v w
-  Means (neg a) f v = (w : Surd) × Means a f w × Same v (scale minus_one w)
-  Means (sub a b) f v = (w u : Surd) × Means a f w × Means b f u × Same v (w ++ scale minus_one u)
-  Means (quot a b) f v = (w u y : Surd) × Means a f w × Means b f u × Inverts y u × Same v (times_each w y)
-  Means (power b e) f v = (w x : Surd) × (n : ℤ) × Means b f w × Means e f x × Same x (just (whole n)) × IsPower n w v
-  Means (root a) f v = (x : Surd) × (q : Fraction) × Means a f x × Same x (just q) × IsRootOf q.num q.den v
+  Means (neg a) f v = (w : Surd) × Means a f w × Same v (surd_scale minus_one_fraction w)
+  Means (sub a b) f v = (w u : Surd) × Means a f w × Means b f u × Same v (w ++ surd_scale minus_one_fraction u)
+  Means (div a b) f v = (w u y : Surd) × Means a f w × Means b f u × Inverts y u × Same v (surd_times w y)
+  Means (power b e) f v = (w x : Surd) × Means b f w × Means e f x × IsPower w x v
+  Means (root a) f v = (x : Surd) × Means a f x × IsRoot x v
 
-  -- the lists joined
+  -- v is the children's meanings joined
   pub MeansSum : Trees → Assignment → Surd → Type 0
   MeansSum none f v = v ≡ []
   MeansSum (more t ts) f v = (a b : Surd) × Means t f a × MeansSum ts f b × (v ≡ a ++ b)
 
-  -- the product by Times
+  -- v is the children's meanings multiplied
   pub MeansProduct : Trees → Assignment → Surd → Type 0
-  MeansProduct none f v = v ≡ one
-  MeansProduct (more t ts) f v = (a b : Surd) × Means t f a × MeansProduct ts f b × (v ≡ times_each a b)
-
-pub Same-sym : {v w : Surd} → Same v w → Same w v
-Same-sym h = record { of_first = λ s c. sym (h.of_second s c); of_second = λ s c. sym (h.of_first s c) }
-
-power_same : (n : ℤ) (w v u : Surd) → IsPower n w v → Same v u → IsPower n w u
-power_same (pos zero) w v u (h, k) e = (h, Same-trans (Same-sym e) k)
-power_same (pos (suc n)) w v u h e = Same-trans (Same-sym e) h
-power_same (negsuc n) w v u (y, h, k) e = (y, h, Same-trans (Same-sym e) k)
-
-root_same : (p : ℤ) (q : ℕ) (v u : Surd) → IsRootOf p q v → Same v u → IsRootOf p q u
-root_same (pos zero) q v u h e = Same-trans (Same-sym e) h
-root_same (pos (suc p)) q v u h e = Same-trans (Same-sym e) h
-root_same (negsuc p) q v u h e = h
-
-pub means_same : (t : Tree) (f : Assignment) (v u : Surd) → Means t f v → Same v u → Means t f u
-means_same (number q) f v u h e = Same-trans (Same-sym e) h
-means_same (symbol x) f v u (q, m, h) e = (q, m, Same-trans (Same-sym e) h)
-means_same undef f v u h e = h
-means_same (add ts) f v u (w, m, h) e = (w, m, Same-trans (Same-sym e) h)
-means_same (mult ts) f v u (w, m, h) e = (w, m, Same-trans (Same-sym e) h)
-means_same (neg a) f v u (w, m, h) e = (w, m, Same-trans (Same-sym e) h)
-means_same (sub a b) f v u (w, x, m, n, h) e = (w, x, m, n, Same-trans (Same-sym e) h)
-means_same (quot a b) f v u (w, x, y, m, n, i, h) e = (w, x, y, m, n, i, Same-trans (Same-sym e) h)
-means_same (power b p) f v u (w, x, n, mb, mp, i, h) e = (w, x, n, mb, mp, i, power_same n w v u h e)
-means_same (root a) f v u (x, q, m, i, h) e = (x, q, m, i, root_same q.num q.den v u h e)
+  MeansProduct none f v = v ≡ surd_one
+  MeansProduct (more t ts) f v = (a b : Surd) × Means t f a × MeansProduct ts f b × (v ≡ surd_times a b)

@@ -1,102 +1,96 @@
--- Numbers, their values, and reduced trees.
-use Rattle.std.specs.Prelude.{ℕ, zero, suc, ◌*◌, ◌/◌, ◌%◌, ◌≡◌, ◌≢◌, ◌≤◌, ◌<◌, ⊤, ℤ, pos, negsuc, [], ◌∷◌, Bool, true, false, ◌&&◌, ◌==◌, not, nat_lt, if◌then◌else◌, length}
-use Rattle.std.proofs.Common.{refl}
-use Prim.Native.Nat.{◌∣◌}
-use Rattle.calc_terms.specs.Fractions.{Fraction, zero_fraction, one_fraction}
-use Rattle.calc_terms.specs.SquareRoots.{root as square_root}
-use Rattle.calc_terms.specs.Trees.{Tree, number, add, mult, root, Trees, none, more}
-use Rattle.calc_terms.specs.Surds.{Term, Surd, term, are_alike}
+-- Numbers: sums of rational multiples of square roots, a term for each square class, and their values.
+use Rattle.std.specs.Prelude.{ℕ, ◌≡◌, ◌≢◌, ◌≤◌, ◌<◌, ⊤, ℤ, pos, negsuc, [], ◌∷◌, Bool, true, false, ◌&&◌, ◌==◌, not, nat_lt, nat_le, if◌then◌else◌, length}
+use Rattle.calc_terms.specs.Fractions.{Fraction, zero_fraction, one_fraction, is_zero_fraction, is_one_fraction}
+use Rattle.calc_terms.specs.Clean.{is_clean, IsClean}
+use Rattle.calc_terms.specs.Trees.{Tree, num, add, mult, root, Trees, none, more}
+use Rattle.calc_terms.specs.Surds.{Term, Surd, term, surd_of}
+use Rattle.calc_terms.specs.SquareClasses.{are_alike}
 
--- r without its divisors d; r is below 2 ^ fuel
-abbrev pub without : ℕ → ℕ → ℕ → ℕ
-without zero d r = r
-without (suc fuel) d r = elim (r % d) [ zero ↦ without fuel d (r / d) | suc m ↦ r ]
+-- ---- terms
 
--- r without its divisors d, d + 1 .. , as many as there are steps
-abbrev pub left_from : ℕ → ℕ → ℕ → ℕ
-left_from zero d r = r
-left_from (suc steps) d r = left_from steps (suc d) (without r d r)
+-- n where the number is n, and 0 where it is below 0
+abbrev pub natural_of : ℤ → ℕ
+natural_of (pos n) = n
+natural_of (negsuc n) = 0
 
--- what is left of r when all divisors from 2 to 10,000 are divided out
-unfoldable pub left_of : ℕ → ℕ
-left_of r = left_from 9999 2 r
+-- a whole number of at least 2 that is clean
+abbrev pub is_radicand : Fraction → Bool
+is_radicand q = (q.den == 1) && nat_le 2 (natural_of q.num) && is_clean (natural_of q.num)
 
-abbrev pub none_divides : ℕ → ℕ → ℕ → Bool
-none_divides zero d r = true
-none_divides (suc steps) d r = elim (r % (d * d)) [ zero ↦ false | suc m ↦ none_divides steps (suc d) r ]
+-- a term other than 0: a rational, a root, or a rational other than 1 times a root
+abbrev pub is_term : Tree → Bool
+is_term (num q) = not (is_zero_fraction q)
+is_term (root (num r)) = is_radicand r
+is_term (mult (more (num q) (more (root (num r)) none))) = not (is_zero_fraction q) && not (is_one_fraction q) && is_radicand r
+is_term _ = false
 
-unfoldable pub is_clean : ℕ → Bool
-is_clean r = none_divides 9999 2 r && (let m = left_of r in let s = square_root m in not (nat_lt 1 m && (s * s == m)))
-
--- the same in words
-pub record IsClean (r : ℕ) : Type 0 where
-  pub no_square : (d : ℕ) → 2 ≤ d → d ≤ 10000 → d * d ∣ r → ⊥
-  pub rest : (s : ℕ) → 1 < s → left_of r ≢ s * s
-
-clean_example : is_clean (2 * 3 * 10007 * 10009) ≡ true
-unfolding is_clean left_of square_root
-clean_example = refl
-
-clean_large : is_clean (170141183460469231731687303715884105727) ≡ true
-unfolding is_clean left_of square_root
-clean_large = refl
-
-not_clean : is_clean (10007 * 10007 * 2) ≡ false
-unfolding is_clean left_of square_root
-not_clean = refl
-
--- the number r, where q is a whole number at least 2 that is clean
-abbrev pub IsRadicand : Fraction → Type 0
-IsRadicand q = (q.den ≡ 1) × (r : ℕ) × (q.num ≡ pos r) × (2 ≤ r) × IsClean r
-
-abbrev pub whole_part : ℤ → ℕ
-whole_part (pos n) = n
-whole_part (negsuc n) = 0
-
--- one term, as a fraction, a root, or a fraction times a root
-abbrev pub IsTerm : Tree → Type 0
-IsTerm (number q) = q ≢ zero_fraction
-IsTerm (root (number r)) = IsRadicand r
-IsTerm (mult (more (number q) (more (root (number r)) none))) = (q ≢ zero_fraction) × (q ≢ one_fraction) × IsRadicand r
-IsTerm _ = ⊥
-
+-- its coefficient and its radicand, which is 1 for a rational
 abbrev pub term_of : Tree → Term
-term_of (number q) = term q 1
-term_of (root (number r)) = term one_fraction (whole_part r.num)
-term_of (mult (more (number q) (more (root (number r)) none))) = term q (whole_part r.num)
+term_of (num q) = term q 1
+term_of (root (num r)) = term one_fraction (natural_of r.num)
+term_of (mult (more (num q) (more (root (num r)) none))) = term q (natural_of r.num)
 term_of _ = term zero_fraction 1
 
 abbrev pub terms_of : Trees → Surd
 terms_of none = []
 terms_of (more t ts) = term_of t ∷ terms_of ts
 
-abbrev pub is_zero : ℤ → Bool
-is_zero (pos zero) = true
-is_zero _ = false
+abbrev pub are_terms : Trees → Bool
+are_terms none = true
+are_terms (more t ts) = is_term t && are_terms ts
 
--- the terms of a Number
+-- the radicand is below each of those, and alike with none
+abbrev pub is_below_all : Term → Surd → Bool
+is_below_all t [] = true
+is_below_all t (u ∷ v) = nat_lt t.radicand u.radicand && not (are_alike t.radicand u.radicand) && is_below_all t v
+
+-- radicands rise, and no two are alike
+abbrev pub rises : Surd → Bool
+rises [] = true
+rises (t ∷ v) = is_below_all t v && rises v
+
+-- ---- Numbers
+
+-- a rational, a term, or a sum of two terms or more whose radicands rise, no two alike
+unfoldable pub is_number : Tree → Bool
+is_number (num q) = true
+is_number (add ts) = nat_le 2 (length (terms_of ts)) && are_terms ts && rises (terms_of ts)
+is_number t = is_term t
+
+-- the value of a Number: its terms, and none for 0
 abbrev pub value : Tree → Surd
-value (number q) = if is_zero q.num then [] else term q 1 ∷ []
+value (num q) = if is_zero_fraction q then [] else surd_of q
 value (add ts) = terms_of ts
 value t = term_of t ∷ []
 
-abbrev pub EachTerm : Trees → Type 0
-EachTerm none = ⊤
-EachTerm (more t ts) = IsTerm t × EachTerm ts
+-- the classes of a Number are its terms
+abbrev pub classes : Tree → ℕ
+classes t = length (value t)
 
--- radicands rise, and no two are alike
-abbrev pub Above : Term → Surd → Type 0
-Above t [] = ⊤
-Above t (u ∷ v) = (t.radicand < u.radicand) × (are_alike t.radicand u.radicand ≡ false) × Above t v
+-- ---- the same in words
+
+abbrev pub IsRadicand : Fraction → Type 0
+IsRadicand q = (q.den ≡ 1) × (r : ℕ) × (q.num ≡ pos r) × (2 ≤ r) × IsClean r
+
+abbrev pub IsTerm : Tree → Type 0
+IsTerm (num q) = q ≢ zero_fraction
+IsTerm (root (num r)) = IsRadicand r
+IsTerm (mult (more (num q) (more (root (num r)) none))) = (q ≢ zero_fraction) × (q ≢ one_fraction) × IsRadicand r
+IsTerm _ = ⊥
+
+abbrev pub AreTerms : Trees → Type 0
+AreTerms none = ⊤
+AreTerms (more t ts) = IsTerm t × AreTerms ts
+
+abbrev pub IsBelowAll : Term → Surd → Type 0
+IsBelowAll t [] = ⊤
+IsBelowAll t (u ∷ v) = (t.radicand < u.radicand) × (are_alike t.radicand u.radicand ≡ false) × IsBelowAll t v
 
 abbrev pub Rises : Surd → Type 0
 Rises [] = ⊤
-Rises (t ∷ v) = Above t v × Rises v
+Rises (t ∷ v) = IsBelowAll t v × Rises v
 
 abbrev pub IsNumber : Tree → Type 0
-IsNumber (number q) = ⊤
-IsNumber (add ts) = (2 ≤ length (terms_of ts)) × EachTerm ts × Rises (terms_of ts)
+IsNumber (num q) = ⊤
+IsNumber (add ts) = (2 ≤ length (terms_of ts)) × AreTerms ts × Rises (terms_of ts)
 IsNumber t = IsTerm t
-
-abbrev pub classes : Tree → ℕ
-classes t = length (value t)

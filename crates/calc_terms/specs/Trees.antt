@@ -1,11 +1,14 @@
--- The tree of an expression, and its measures by recursion.
-use Rattle.std.specs.Prelude.{ℕ, suc, ◌+◌, ◌≡◌, max, pos, List, [], ◌∷◌, ◌++◌, codes}
-use Rattle.std.proofs.Common.{refl}
+-- The tree of an expression: its measures, its names and its parts.
+use Rattle.std.specs.Prelude.{ℕ, suc, ◌+◌, max, pos, List, [], ◌∷◌, ◌++◌, Bool, true, false, ⊤}
+use Rattle.calc_terms.specs.declared.kind.Kind.{Kind}
+use Rattle.calc_terms.specs.declared.kind.Kind.TheVariants as kind
+use Rattle.calc_terms.specs.Kind.{code_of, size_of_kind}
 use Rattle.calc_terms.specs.Fractions.{Fraction, lowest}
 
+-- a rational, a symbol by the bytes of its name, `undef`, or a node over its children
 mutual
   pub data Tree : Type 0 where
-    number : Fraction → Tree
+    num : Fraction → Tree
     symbol : List ℕ → Tree
     undef : Tree
     add : Trees → Tree
@@ -14,33 +17,109 @@ mutual
     root : Tree → Tree
     neg : Tree → Tree
     sub : Tree → Tree → Tree
-    quot : Tree → Tree → Tree
+    div : Tree → Tree → Tree
 
   pub data Trees : Type 0 where
     none : Trees
     more : Tree → Trees → Trees
 
--- the bytes of its nodes
+-- ---- lists of trees
+
+abbrev pub append : Trees → Trees → Trees
+append none us = us
+append (more t ts) us = more t (append ts us)
+
+abbrev pub count : Trees → ℕ
+count none = 0
+count (more t ts) = suc (count ts)
+
+abbrev pub has_two : Trees → Bool
+has_two (more t (more u ts)) = true
+has_two _ = false
+
+-- ---- the node at the root
+
+-- the kind of the root
+abbrev pub root_kind : Tree → Kind
+root_kind (num q) = kind.Num
+root_kind (symbol x) = kind.Sym
+root_kind undef = kind.Undef
+root_kind (add ts) = kind.Add
+root_kind (mult ts) = kind.Mult
+root_kind (power b e) = kind.Pow
+root_kind (root a) = kind.Root
+root_kind (neg a) = kind.Neg
+root_kind (sub a b) = kind.Sub
+root_kind (div a b) = kind.Div
+
+-- the code of that kind
+abbrev pub root_code : Tree → ℕ
+root_code t = code_of (root_kind t)
+
+-- the bytes of the root's own node
+abbrev pub root_size : Tree → ℕ
+root_size t = size_of_kind (root_kind t)
+
+abbrev pub is_num : Tree → Bool
+is_num (num q) = true
+is_num _ = false
+
+abbrev pub is_symbol : Tree → Bool
+is_symbol (symbol x) = true
+is_symbol _ = false
+
+abbrev pub is_undef : Tree → Bool
+is_undef undef = true
+is_undef _ = false
+
+abbrev pub is_add : Tree → Bool
+is_add (add ts) = true
+is_add _ = false
+
+abbrev pub is_mult : Tree → Bool
+is_mult (mult ts) = true
+is_mult _ = false
+
+abbrev pub is_root : Tree → Bool
+is_root (root a) = true
+is_root _ = false
+
+abbrev pub is_sub : Tree → Bool
+is_sub (sub a b) = true
+is_sub _ = false
+
+abbrev pub is_div : Tree → Bool
+is_div (div a b) = true
+is_div _ = false
+
+-- the whole number n
+abbrev pub whole_num : ℕ → Tree
+whole_num n = num (lowest (pos n) 1)
+
+-- ---- measures
+
+-- the bytes of all its nodes
 abbrev mutual
   pub size : Tree → ℕ
-  size (number q) = 40
-  size (symbol x) = 16
-  size undef = 8
-  size (add ts) = 8 + sizes ts
-  size (mult ts) = 8 + sizes ts
-  size (power b e) = 8 + (size b + size e)
-  size (root a) = 8 + size a
-  size (neg a) = 8 + size a
-  size (sub a b) = 8 + (size a + size b)
-  size (quot a b) = 8 + (size a + size b)
+  size (num q) = root_size (num q)
+  size (symbol x) = root_size (symbol x)
+  size undef = root_size undef
+  size (add ts) = root_size (add ts) + sizes ts
+  size (mult ts) = root_size (mult ts) + sizes ts
+  size (power b e) = root_size (power b e) + (size b + size e)
+  size (root a) = root_size (root a) + size a
+  size (neg a) = root_size (neg a) + size a
+  size (sub a b) = root_size (sub a b) + (size a + size b)
+  size (div a b) = root_size (div a b) + (size a + size b)
 
   pub sizes : Trees → ℕ
   sizes none = 0
   sizes (more t ts) = size t + sizes ts
 
+-- 1 for a leaf, and one more than the deepest child's for another tree
 abbrev mutual
   pub depth : Tree → ℕ
-  depth (number q) = 1
+  depth (num q) = 1
   depth (symbol x) = 1
   depth undef = 1
   depth (add ts) = suc (depths ts)
@@ -49,15 +128,16 @@ abbrev mutual
   depth (root a) = suc (depth a)
   depth (neg a) = suc (depth a)
   depth (sub a b) = suc (max (depth a) (depth b))
-  depth (quot a b) = suc (max (depth a) (depth b))
+  depth (div a b) = suc (max (depth a) (depth b))
 
   pub depths : Trees → ℕ
   depths none = 0
   depths (more t ts) = max (depth t) (depths ts)
 
+-- how many parts it has
 abbrev mutual
   pub nodes : Tree → ℕ
-  nodes (number q) = 1
+  nodes (num q) = 1
   nodes (symbol x) = 1
   nodes undef = 1
   nodes (add ts) = suc (nodes_of ts)
@@ -66,15 +146,16 @@ abbrev mutual
   nodes (root a) = suc (nodes a)
   nodes (neg a) = suc (nodes a)
   nodes (sub a b) = suc (nodes a + nodes b)
-  nodes (quot a b) = suc (nodes a + nodes b)
+  nodes (div a b) = suc (nodes a + nodes b)
 
   pub nodes_of : Trees → ℕ
   nodes_of none = 0
   nodes_of (more t ts) = nodes t + nodes_of ts
 
+-- the names in it, from left to right
 abbrev mutual
   pub names : Tree → List (List ℕ)
-  names (number q) = []
+  names (num q) = []
   names (symbol x) = x ∷ []
   names undef = []
   names (add ts) = names_of ts
@@ -83,16 +164,18 @@ abbrev mutual
   names (root a) = names a
   names (neg a) = names a
   names (sub a b) = names a ++ names b
-  names (quot a b) = names a ++ names b
+  names (div a b) = names a ++ names b
 
   pub names_of : Trees → List (List ℕ)
   names_of none = []
   names_of (more t ts) = names t ++ names_of ts
 
+-- ---- parts
+
 -- a fact of the tree and of each of its parts
 abbrev mutual
   pub AllParts : (Tree → Type 0) → Tree → Type 0
-  AllParts P (number q) = P (number q)
+  AllParts P (num q) = P (num q)
   AllParts P (symbol x) = P (symbol x)
   AllParts P undef = P undef
   AllParts P (add ts) = P (add ts) × AllPartsOf P ts
@@ -101,13 +184,13 @@ abbrev mutual
   AllParts P (root a) = P (root a) × AllParts P a
   AllParts P (neg a) = P (neg a) × AllParts P a
   AllParts P (sub a b) = P (sub a b) × AllParts P a × AllParts P b
-  AllParts P (quot a b) = P (quot a b) × AllParts P a × AllParts P b
+  AllParts P (div a b) = P (div a b) × AllParts P a × AllParts P b
 
   pub AllPartsOf : (Tree → Type 0) → Trees → Type 0
-  AllPartsOf P none = Unit {0}
+  AllPartsOf P none = ⊤
   AllPartsOf P (more t ts) = AllParts P t × AllPartsOf P ts
 
--- a part
+-- p is the tree itself or a part of a child
 mutual
   pub data IsPart (p : Tree) : Tree → Type 0 where
     itself : IsPart p p
@@ -119,33 +202,30 @@ mutual
     in_neg : {a : Tree} → IsPart p a → IsPart p (neg a)
     in_left : {a b : Tree} → IsPart p a → IsPart p (sub a b)
     in_right : {a b : Tree} → IsPart p b → IsPart p (sub a b)
-    in_above : {a b : Tree} → IsPart p a → IsPart p (quot a b)
-    in_below : {a b : Tree} → IsPart p b → IsPart p (quot a b)
+    in_dividend : {a b : Tree} → IsPart p a → IsPart p (div a b)
+    in_divisor : {a b : Tree} → IsPart p b → IsPart p (div a b)
 
   pub data IsPartOf (p : Tree) : Trees → Type 0 where
     first : {t : Tree} {ts : Trees} → IsPart p t → IsPartOf p (more t ts)
     later : {t : Tree} {ts : Trees} → IsPartOf p ts → IsPartOf p (more t ts)
 
-abbrev frac : ℕ → ℕ → Tree
-frac p q = number (lowest (pos p) q)
+-- two children or more
+abbrev pub HasTwo : Trees → Type 0
+HasTwo (more t (more u ts)) = ⊤
+HasTwo _ = ⊥
 
-example_size : size (add (more (frac 1 3) (more (symbol (codes "x")) none))) ≡ 64
-example_size = refl
+-- each sum and each product in it has two children or more
+abbrev mutual
+  pub IsComplete : Tree → Type 0
+  IsComplete (add ts) = AreComplete ts × HasTwo ts
+  IsComplete (mult ts) = AreComplete ts × HasTwo ts
+  IsComplete (power b e) = IsComplete b × IsComplete e
+  IsComplete (root a) = IsComplete a
+  IsComplete (neg a) = IsComplete a
+  IsComplete (sub a b) = IsComplete a × IsComplete b
+  IsComplete (div a b) = IsComplete a × IsComplete b
+  IsComplete _ = ⊤
 
--- the induction that comes with the data
-module _ (P : Tree → Type 0) (Q : Trees → Type 0) where
-  nodes_pos_by : (t : Tree) → P t → P t
-  nodes_pos_by t h = h
-
-mutual
-  pub size_least : (t : Tree) → (k : ℕ) × (size t ≡ 8 + k)
-  size_least (number q) = (32, refl)
-  size_least (symbol x) = (8, refl)
-  size_least undef = (0, refl)
-  size_least (add ts) = (sizes ts, refl)
-  size_least (mult ts) = (sizes ts, refl)
-  size_least (power b e) = (size b + size e, refl)
-  size_least (root a) = (size a, refl)
-  size_least (neg a) = (size a, refl)
-  size_least (sub a b) = (size a + size b, refl)
-  size_least (quot a b) = (size a + size b, refl)
+  pub AreComplete : Trees → Type 0
+  AreComplete none = ⊤
+  AreComplete (more t ts) = IsComplete t × AreComplete ts

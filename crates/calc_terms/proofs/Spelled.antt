@@ -1,19 +1,18 @@
--- The text of a face is scanned as its tokens.
-use Rattle.std.specs.Prelude.{ℕ, zero, suc, ◌+◌, ◌/◌, ◌%◌, ◌≡◌, ◌<◌, ⊤, List, [], ◌∷◌, ◌++◌, length, Bool, true, false, not, ◌&&◌, ◌||◌, ◌==◌, nat_le, if◌then◌else◌, Option, Some, None, pos, nat_abs, codes}
-use Rattle.std.proofs.Common.{refl, sym, ap, ◌∙◌, arith, append_assoc, append-nil}
-use Rattle.std.proofs.lemmas.Bool.{leb-true, le-leb}
+-- The text of a tree is cut into its tokens.
+use Rattle.std.specs.Prelude.{ℕ, zero, suc, ◌+◌, ◌/◌, ◌%◌, ◌≡◌, ◌<◌, ⊤, List, [], ◌∷◌, ◌++◌, length, Bool, true, false, not, ◌&&◌, ◌||◌, ◌==◌, nat_le, if◌then◌else◌, Some, None, pos, nat_abs, codes}
+use Rattle.std.proofs.Common.{refl, sym, ap, ◌∙◌, arith, append_assoc, append-nil, subst}
+use Rattle.std.proofs.lemmas.Bool.{leb-true, le-leb, and_parts, and_from, or_left, or_right}
 use Rattle.std.proofs.lemmas.Bool.Decides.{nat_tests}
 use Rattle.calc_terms.specs.Fractions.{lowest}
-use Rattle.calc_terms.specs.Trees.{Tree, number, symbol, undef, add, mult, power, root, neg, sub, quot, Trees, none, more}
-use Rattle.calc_terms.specs.Texts.{decimal, digits_before, Place, first_of_sum, later_of_sum, first_of_product, left_of_quotient, later_of_product, base, exponent, admits, at_place, enclosed, times_sign, root_sign, text, text_of_sum, text_of_terms, text_of_product, text_of_factors}
-use Rattle.calc_terms.specs.Grammar.{Token, literal, word, undef_word, root_mark, plus_mark, minus_mark, times_mark, slash_mark, caret_mark, left_mark, right_mark, arrow_mark}
-use Rattle.calc_terms.specs.Written.{inside, placed, tokens, tokens_of_sum, tokens_of_terms, tokens_of_product, tokens_of_factors}
-use Rattle.calc_terms.specs.Scanning.{is_digit, is_letter, is_name_byte, run, keep, value_from, decimals, number_at, same_bytes, word_token, word_at, token_at, or_else, where_so, is_blank, prepend, scan_in}
+use Rattle.calc_terms.specs.Texts.{decimal, digits_before, Place, first_of_sum, later_of_sum, first_of_product, left_of_quotient, later_of_product, base, exponent, admits, at_place, in_parentheses, text, text_of_sum, text_of_terms, text_of_product, text_of_factors, IsNatural, IsWritable, AreWritable}
+use Rattle.calc_terms.specs.Tokens.{literal_at, word_at, Scans, at_end, at_token, name, times_sign, root_sign, Token, literal, undef_mark, root_mark, plus_mark, minus_mark, times_mark, slash_mark, caret_mark, left_mark, right_mark, arrow_mark, is_digit, is_letter, is_name_byte, leading_run, keep, digits_value, decimals, same_bytes, token_of_word, token_at, or_else, if_so, passes, IsName}
+use Rattle.calc_terms.specs.Trees.{Tree, num, symbol, undef, add, mult, power, root, neg, sub, div, Trees, none, more}
+use Rattle.calc_terms.proofs.Written.{inside, placed, tokens, tokens_of_sum, tokens_of_terms, tokens_of_product, tokens_of_factors}
 
 abbrev pub spell : Token → List ℕ
 spell (literal q) = decimal (nat_abs q.num)
-spell (word x) = x
-spell undef_word = codes "undef"
+spell (name x) = x
+spell undef_mark = codes "undef"
 spell root_mark = root_sign
 spell plus_mark = codes "+"
 spell minus_mark = codes "-"
@@ -32,13 +31,13 @@ pub spelled-append : (a b : List Token) → spelled (a ++ b) ≡ spelled a ++ sp
 spelled-append [] b = refl
 spelled-append (t ∷ a) b = ap (λ x. spell t ++ x) (spelled-append a b) ∙ sym (append_assoc (spell t) (spelled a) (spelled b))
 
-inside_spelled : (ts : List Token) (bs : List ℕ) → bs ≡ spelled ts → enclosed bs ≡ spelled (inside ts)
+inside_spelled : (ts : List Token) (bs : List ℕ) → bs ≡ spelled ts → in_parentheses bs ≡ spelled (inside ts)
 inside_spelled ts bs e = ap (λ x. codes "(" ++ (x ++ codes ")")) e ∙ ap (λ x. codes "(" ++ x) (sym (spelled-append ts (right_mark ∷ [])))
 
 place_spelled : (p : Place) (t : Tree) (ts : List Token) (bs : List ℕ) → bs ≡ spelled ts → at_place p t bs ≡ spelled (placed (admits p t) ts)
 place_spelled p t ts bs e = by (admits p t)
   where
-    by : (b : Bool) → (if b then bs else enclosed bs) ≡ spelled (placed b ts)
+    by : (b : Bool) → (if b then bs else in_parentheses bs) ≡ spelled (placed b ts)
     by true = e
     by false = inside_spelled ts bs e
 
@@ -47,7 +46,7 @@ joined_spelled a b m x y p q = append_assoc x (spell m) y ∙ (λ i. p i ++ (spe
 
 mutual
   pub text_spelled : (t : Tree) → text t ≡ spelled (tokens t)
-  text_spelled (number q) = sym (append-nil (decimal (nat_abs q.num)))
+  text_spelled (num q) = sym (append-nil (decimal (nat_abs q.num)))
   text_spelled (symbol x) = sym (append-nil x)
   text_spelled undef = refl
   text_spelled (add ts) = sum_spelled ts
@@ -56,7 +55,7 @@ mutual
   text_spelled (root a) = ap (λ x. root_sign ++ x) (inside_spelled (tokens a) (text a) (text_spelled a))
   text_spelled (neg a) = ap (λ x. codes "-" ++ x) (place_spelled later_of_sum a (tokens a) (text a) (text_spelled a))
   text_spelled (sub a b) = joined_spelled (tokens a) (placed (admits later_of_sum b) (tokens b)) minus_mark _ _ (text_spelled a) (place_spelled later_of_sum b (tokens b) (text b) (text_spelled b))
-  text_spelled (quot a b) = joined_spelled (placed (admits left_of_quotient a) (tokens a)) (placed (admits later_of_product b) (tokens b)) slash_mark _ _ (place_spelled left_of_quotient a (tokens a) (text a) (text_spelled a)) (place_spelled later_of_product b (tokens b) (text b) (text_spelled b))
+  text_spelled (div a b) = joined_spelled (placed (admits left_of_quotient a) (tokens a)) (placed (admits later_of_product b) (tokens b)) slash_mark _ _ (place_spelled left_of_quotient a (tokens a) (text a) (text_spelled a)) (place_spelled later_of_product b (tokens b) (text b) (text_spelled b))
 
   sum_spelled : (ts : Trees) → text_of_sum ts ≡ spelled (tokens_of_sum ts)
   sum_spelled none = refl
@@ -75,42 +74,31 @@ mutual
   factors_spelled (more t ts) = (λ i. (times_sign ++ place_spelled later_of_product t (tokens t) (text t) (text_spelled t) i) ++ factors_spelled ts i) ∙ sym (spelled-append (times_mark ∷ placed (admits later_of_product t) (tokens t)) (tokens_of_factors ts))
 
 -- ---- runs
-abbrev pub passes : (ℕ → Bool) → List ℕ → Bool
-passes p [] = true
-passes p (b ∷ bs) = p b && passes p bs
-
 abbrev pub stops : (ℕ → Bool) → List ℕ → Bool
 stops p [] = true
 stops p (b ∷ bs) = not (p b)
 
-both_true : (a b : Bool) → (a && b) ≡ true → (a ≡ true) × (b ≡ true)
-both_true true b e = (refl, e)
-both_true false b e = cc
-
-both : (a b : Bool) → a ≡ true → b ≡ true → (a && b) ≡ true
-both a b p q = rw (p, q) refl
-
-run_stop : (p : ℕ → Bool) (rest : List ℕ) → stops p rest ≡ true → run p rest ≡ ([], rest)
+run_stop : (p : ℕ → Bool) (rest : List ℕ) → stops p rest ≡ true → leading_run p rest ≡ ([], rest)
 run_stop p [] h = refl
 run_stop p (b ∷ bs) h = by (p b) h
   where
-    by : (x : Bool) → not x ≡ true → keep x b bs (run p bs) ≡ ([], b ∷ bs)
+    by : (x : Bool) → not x ≡ true → keep x b bs (leading_run p bs) ≡ ([], b ∷ bs)
     by true e = cc
     by false e = refl
 
-run_all : (p : ℕ → Bool) (a rest : List ℕ) → passes p a ≡ true → stops p rest ≡ true → run p (a ++ rest) ≡ (a, rest)
+run_all : (p : ℕ → Bool) (a rest : List ℕ) → passes p a ≡ true → stops p rest ≡ true → leading_run p (a ++ rest) ≡ (a, rest)
 run_all p [] rest h s = run_stop p rest s
 run_all p (b ∷ bs) rest h s =
-    let (x, y) = both_true (p b) (passes p bs) h in
+    let (x, y) = and_parts (p b) (passes p bs) h in
     by (p b) x (run_all p bs rest y s)
   where
-    by : (x : Bool) → x ≡ true → run p (bs ++ rest) ≡ (bs, rest) → keep x b (bs ++ rest) (run p (bs ++ rest)) ≡ (b ∷ bs, rest)
+    by : (x : Bool) → x ≡ true → leading_run p (bs ++ rest) ≡ (bs, rest) → keep x b (bs ++ rest) (leading_run p (bs ++ rest)) ≡ (b ∷ bs, rest)
     by true e f = ap (λ r. (b ∷ r.0, r.1)) f
     by false e f = cc
 
 -- ---- decimals
 digit_is : (n : ℕ) → n < 10 → is_digit (48 + n) ≡ true
-digit_is n h = both _ _ (le-leb 48 (48 + n) (omega arith)) (le-leb (48 + n) 57 (omega arith))
+digit_is n h = and_from _ _ (le-leb 48 (48 + n) (omega arith)) (le-leb (48 + n) 57 (omega arith))
 
 digits_pass : (fuel n : ℕ) (acc : List ℕ) → passes is_digit acc ≡ true → passes is_digit (digits_before fuel n acc) ≡ true
 digits_pass zero n acc h = h
@@ -118,17 +106,17 @@ digits_pass (suc fuel) n acc h = by (n / 10) refl (λ acc' h'. digits_pass fuel 
   where
     by : (m : ℕ) → n / 10 ≡ m → ((acc' : List ℕ) → passes is_digit acc' ≡ true → passes is_digit (digits_before fuel (n / 10) acc') ≡ true)
         → passes is_digit (elim m [ zero ↦ (48 + n) ∷ acc | suc m' ↦ digits_before fuel (n / 10) ((48 + n % 10) ∷ acc) ]) ≡ true
-    by zero e go = both _ _ (digit_is n (omega arith)) h
-    by (suc m) e go = go ((48 + n % 10) ∷ acc) (both _ _ (digit_is (n % 10) (omega arith)) h)
+    by zero e go = and_from _ _ (digit_is n (omega arith)) h
+    by (suc m) e go = go ((48 + n % 10) ∷ acc) (and_from _ _ (digit_is (n % 10) (omega arith)) h)
 
-digits_value : (fuel n : ℕ) (acc : List ℕ) → n < fuel → value_from 0 (digits_before fuel n acc) ≡ value_from n acc
-digits_value zero n acc h = absurd (omega arith)
-digits_value (suc fuel) n acc h = by (n / 10) refl (λ acc' h'. digits_value fuel (n / 10) acc' h')
+digits_before-value : (fuel n : ℕ) (acc : List ℕ) → n < fuel → digits_value 0 (digits_before fuel n acc) ≡ digits_value n acc
+digits_before-value zero n acc h = absurd (omega arith)
+digits_before-value (suc fuel) n acc h = by (n / 10) refl (λ acc' h'. digits_before-value fuel (n / 10) acc' h')
   where
-    by : (m : ℕ) → n / 10 ≡ m → ((acc' : List ℕ) → n / 10 < fuel → value_from 0 (digits_before fuel (n / 10) acc') ≡ value_from (n / 10) acc')
-        → value_from 0 (elim m [ zero ↦ (48 + n) ∷ acc | suc m' ↦ digits_before fuel (n / 10) ((48 + n % 10) ∷ acc) ]) ≡ value_from n acc
-    by zero e go = ap (λ x. value_from x acc) (omega arith)
-    by (suc m) e go = go ((48 + n % 10) ∷ acc) (omega arith) ∙ ap (λ x. value_from x acc) (omega arith)
+    by : (m : ℕ) → n / 10 ≡ m → ((acc' : List ℕ) → n / 10 < fuel → digits_value 0 (digits_before fuel (n / 10) acc') ≡ digits_value (n / 10) acc')
+        → digits_value 0 (elim m [ zero ↦ (48 + n) ∷ acc | suc m' ↦ digits_before fuel (n / 10) ((48 + n % 10) ∷ acc) ]) ≡ digits_value n acc
+    by zero e go = ap (λ x. digits_value x acc) (omega arith)
+    by (suc m) e go = go ((48 + n % 10) ∷ acc) (omega arith) ∙ ap (λ x. digits_value x acc) (omega arith)
 
 digits_long : (fuel n : ℕ) (acc : List ℕ) → 0 < length acc → 0 < length (digits_before fuel n acc)
 digits_long zero n acc h = h
@@ -150,11 +138,11 @@ digits_some fuel n = by (n / 10)
 pub record DecimalText (n : ℕ) (ds : List ℕ) : Type 0 where
   pub all : passes is_digit ds ≡ true
   pub some : 0 < length ds
-  pub value : value_from 0 ds ≡ n
+  pub value : digits_value 0 ds ≡ n
 
 pub decimal_is : (n : ℕ) → DecimalText n (decimal n)
 unfolding decimal
-decimal_is n = record { all = digits_pass (suc n) n [] refl; some = digits_some n n; value = digits_value (suc n) n [] (omega arith) }
+decimal_is n = record { all = digits_pass (suc n) n [] refl; some = digits_some n n; value = digits_before-value (suc n) n [] (omega arith) }
 
 -- ---- one token
 -- the first byte behind an operand
@@ -175,26 +163,26 @@ not_digit b h = by (is_letter b) (is_digit b) h
 
 clear_digit : (rest : List ℕ) → is_clear rest ≡ true → stops is_digit rest ≡ true
 clear_digit [] h = refl
-clear_digit (b ∷ bs) h = let (p, q) = both_true (not (is_name_byte b)) (not (b == 46)) h in not_digit b p
+clear_digit (b ∷ bs) h = let (p, q) = and_parts (not (is_name_byte b)) (not (b == 46)) h in not_digit b p
 
 clear_name : (rest : List ℕ) → is_clear rest ≡ true → stops is_name_byte rest ≡ true
 clear_name [] h = refl
-clear_name (b ∷ bs) h = let (p, q) = both_true (not (is_name_byte b)) (not (b == 46)) h in p
+clear_name (b ∷ bs) h = let (p, q) = and_parts (not (is_name_byte b)) (not (b == 46)) h in p
 
 clear_decimals : (rest : List ℕ) → is_clear rest ≡ true → decimals rest ≡ ([], rest)
 clear_decimals [] h = refl
 clear_decimals (b ∷ []) h = refl
 clear_decimals (b ∷ c ∷ bs) h =
-    let (p, q) = both_true (not (is_name_byte b)) (not (b == 46)) h in
+    let (p, q) = and_parts (not (is_name_byte b)) (not (b == 46)) h in
     by (b == 46) q
   where
-    by : (x : Bool) → not x ≡ true → ◌≡◌ {A = List ℕ × List ℕ} (elim (x && is_digit c) [ true ↦ run is_digit (c ∷ bs) | false ↦ ([], b ∷ c ∷ bs) ]) ([], b ∷ c ∷ bs)
+    by : (x : Bool) → not x ≡ true → ◌≡◌ {A = List ℕ × List ℕ} (elim (x && is_digit c) [ true ↦ leading_run is_digit (c ∷ bs) | false ↦ ([], b ∷ c ∷ bs) ]) ([], b ∷ c ∷ bs)
     by true e = cc
     by false e = refl
 
-number_read : (n : ℕ) (ds rest : List ℕ) → DecimalText n ds → is_clear rest ≡ true → number_at (ds ++ rest) ≡ (literal (lowest (pos n) 1), rest)
-unfolding number_at
-number_read n ds rest h c =
+literal_read : (n : ℕ) (ds rest : List ℕ) → DecimalText n ds → is_clear rest ≡ true → literal_at (ds ++ rest) ≡ (literal (lowest (pos n) 1), rest)
+unfolding literal_at
+literal_read n ds rest h c =
     let e = run_all is_digit ds rest h.all (clear_digit rest c) in
     let f = clear_decimals rest c in
     rw (e, f, append-nil, h.value) refl
@@ -211,28 +199,17 @@ second_branch false false x y z e f = cc
 
 no_decimal : (ds : List ℕ) → passes is_digit ds ≡ true → 0 < length ds → (b : ℕ) × (bs : List ℕ) × (ds ≡ b ∷ bs) × (is_digit b ≡ true)
 no_decimal [] h l = absurd (omega arith)
-no_decimal (b ∷ bs) h l = (b, bs, refl, (both_true (is_digit b) (passes is_digit bs) h).0)
+no_decimal (b ∷ bs) h l = (b, bs, refl, (and_parts (is_digit b) (passes is_digit bs) h).0)
 
 literal_taken : (n : ℕ) (ds rest : List ℕ) → DecimalText n ds → is_clear rest ≡ true → token_at (ds ++ rest) ≡ Some (literal (lowest (pos n) 1), rest)
-literal_taken n ds rest h c = at_first ds (no_decimal ds h.all h.some) (number_read n ds rest h c)
+literal_taken n ds rest h c = at_first ds (no_decimal ds h.all h.some) (literal_read n ds rest h c)
   where
-    at_first : (ds : List ℕ) → (b : ℕ) × (bs : List ℕ) × (ds ≡ b ∷ bs) × (is_digit b ≡ true) → number_at (ds ++ rest) ≡ (literal (lowest (pos n) 1), rest) → token_at (ds ++ rest) ≡ Some (literal (lowest (pos n) 1), rest)
+    at_first : (ds : List ℕ) → (b : ℕ) × (bs : List ℕ) × (ds ≡ b ∷ bs) × (is_digit b ≡ true) → literal_at (ds ++ rest) ≡ (literal (lowest (pos n) 1), rest) → token_at (ds ++ rest) ≡ Some (literal (lowest (pos n) 1), rest)
     at_first [] (b, bs, e, d) f = cc
     at_first (x ∷ xs) (b, bs, e, d) f =
         let g : x ≡ b = cc in
         let d' : is_digit x ≡ true = ap is_digit g ∙ d in
-        first_branch (is_digit x) (Some (number_at (x ∷ (xs ++ rest)))) _ d' ∙ ap Some f
-
--- a name as it can be written
-pub record IsName (x : List ℕ) : Type 0 where
-  pub first : ℕ
-  pub others : List ℕ
-  pub is : x ≡ first ∷ others
-  pub letter : is_letter first ≡ true
-  pub all : passes is_name_byte x ≡ true
-  pub short : nat_le (length x) 7 ≡ true
-  pub no_root : same_bytes x (codes "sqrt") ≡ false
-  pub no_undef : same_bytes x (codes "undef") ≡ false
+        first_branch (is_digit x) (Some (literal_at (x ∷ (xs ++ rest)))) _ d' ∙ ap Some f
 
 letter_no_digit : (b : ℕ) → is_letter b ≡ true → is_digit b ≡ false
 letter_no_digit b h = by (nat_le 65 b) (nat_le b 90) (nat_le 97 b) (nat_le b 122) (nat_le b 57) refl refl refl h
@@ -247,52 +224,52 @@ letter_no_digit b h = by (nat_le 65 b) (nat_le b 90) (nat_le 97 b) (nat_le b 122
     by false w true y true p q r e = absurd (omega (arith, leb-true 97 b q, leb-true b 57 r))
     by false w false y true p q r e = cc
 
-word_read : (x rest : List ℕ) → is_clear rest ≡ true → passes is_name_byte x ≡ true → nat_le (length x) 7 ≡ true → same_bytes x (codes "sqrt") ≡ false → same_bytes x (codes "undef") ≡ false → word_at (x ++ rest) ≡ Some (word x, rest)
+name_read : (x rest : List ℕ) → is_clear rest ≡ true → passes is_name_byte x ≡ true → nat_le (length x) 7 ≡ true → same_bytes x (codes "sqrt") ≡ false → same_bytes x (codes "undef") ≡ false → word_at (x ++ rest) ≡ Some (name x, rest)
 unfolding word_at
-word_read x rest c a s r u = rw (run_all is_name_byte x rest a (clear_name rest c), s, r, u) refl
+name_read x rest c a s r u = rw (run_all is_name_byte x rest a (clear_name rest c), s, r, u) refl
 
-word_taken : (x rest : List ℕ) → IsName x → is_clear rest ≡ true → token_at (x ++ rest) ≡ Some (word x, rest)
-word_taken x rest h c = at_first x h.is (word_read x rest c h.all h.short h.no_root h.no_undef)
+name_taken : (x rest : List ℕ) → IsName x → is_clear rest ≡ true → token_at (x ++ rest) ≡ Some (name x, rest)
+name_taken x rest h c = at_first x h.is (name_read x rest c h.all h.short h.no_root h.no_undef)
   where
-    at_first : (y : List ℕ) → y ≡ h.first ∷ h.others → word_at (y ++ rest) ≡ Some (word x, rest) → token_at (y ++ rest) ≡ Some (word x, rest)
+    at_first : (y : List ℕ) → y ≡ h.first ∷ h.others → word_at (y ++ rest) ≡ Some (name x, rest) → token_at (y ++ rest) ≡ Some (name x, rest)
     at_first [] e f = cc
     at_first (b ∷ bs) e f =
         let g : b ≡ h.first = cc in
         let l : is_letter b ≡ true = ap is_letter g ∙ h.letter in
         second_branch (is_digit b) (is_letter b) _ (word_at (b ∷ (bs ++ rest))) _ (letter_no_digit b l) l ∙ f
 
-undef_taken : (rest : List ℕ) → is_clear rest ≡ true → token_at (codes "undef" ++ rest) ≡ Some (undef_word, rest)
+undef_taken : (rest : List ℕ) → is_clear rest ≡ true → token_at (codes "undef" ++ rest) ≡ Some (undef_mark, rest)
 unfolding word_at
 undef_taken rest c = read rest (run_all is_name_byte (codes "undef") rest refl (clear_name rest c))
   where
-    read : (rest : List ℕ) → run is_name_byte (codes "undef" ++ rest) ≡ (codes "undef", rest) → token_at (codes "undef" ++ rest) ≡ Some (undef_word, rest)
-    read rest e = ap (λ r. if nat_le (length (r.0)) 7 then Some (word_token (r.0), r.1) else None) e
+    read : (rest : List ℕ) → leading_run is_name_byte (codes "undef" ++ rest) ≡ (codes "undef", rest) → token_at (codes "undef" ++ rest) ≡ Some (undef_mark, rest)
+    read rest e = ap (λ r. if nat_le (length (r.0)) 7 then Some (token_of_word (r.0), r.1) else None) e
 
 minus_taken : (rest : List ℕ) → no_greater rest ≡ true → token_at (codes "-" ++ rest) ≡ Some (minus_mark, rest)
 minus_taken [] h = refl
 minus_taken (b ∷ bs) h = by (62 == b) h
   where
-    by : (x : Bool) → not x ≡ true → or_else (where_so x (Some bs)) arrow_mark (Some (minus_mark, b ∷ bs)) ≡ Some (minus_mark, b ∷ bs)
+    by : (x : Bool) → not x ≡ true → or_else (if_so x (Some bs)) arrow_mark (Some (minus_mark, b ∷ bs)) ≡ Some (minus_mark, b ∷ bs)
     by true e = cc
     by false e = refl
 
 abbrev pub is_operand : Token → Bool
 is_operand (literal q) = true
-is_operand (word x) = true
-is_operand undef_word = true
+is_operand (name x) = true
+is_operand undef_mark = true
 is_operand _ = false
 
 -- as it is written
 abbrev pub IsWritten : Token → Type 0
-IsWritten (literal q) = (n : ℕ) × (q ≡ lowest (pos n) 1) × (nat_abs q.num ≡ n)
-IsWritten (word x) = IsName x
+IsWritten (literal q) = IsNatural q
+IsWritten (name x) = IsName x
 IsWritten arrow_mark = ⊥
 IsWritten _ = ⊤
 
 taken : (t : Token) → IsWritten t → (rest : List ℕ) → (is_operand t ≡ true → is_clear rest ≡ true) → no_greater rest ≡ true → token_at (spell t ++ rest) ≡ Some (t, rest)
 taken (literal q) (n, e, f) rest c g = rw f (literal_taken n (decimal n) rest (decimal_is n) (c refl)) ∙ ap (λ x. Some (literal x, rest)) (sym e)
-taken (word x) w rest c g = word_taken x rest w (c refl)
-taken undef_word w rest c g = undef_taken rest (c refl)
+taken (name x) w rest c g = name_taken x rest w (c refl)
+taken undef_mark w rest c g = undef_taken rest (c refl)
 taken root_mark w rest c g = refl
 taken plus_mark w rest c g = refl
 taken minus_mark w rest c g = minus_taken rest g
@@ -317,47 +294,35 @@ AllWritten (t ∷ ts) = IsWritten t × AllWritten ts
 name_byte_no_greater : (b : ℕ) → is_name_byte b ≡ true → (62 == b) ≡ false
 name_byte_no_greater b h = grind (arith, nat_tests)
 
-name_byte_no_blank : (b : ℕ) → is_name_byte b ≡ true → is_blank b ≡ false
-name_byte_no_blank b h = grind (arith, nat_tests)
-
 -- how a token begins
 pub record Begins (t : Token) : Type 0 where
   pub first : ℕ
   pub others : List ℕ
   pub is : spell t ≡ first ∷ others
-  pub no_blank : is_blank first ≡ false
   pub no_greater : (62 == first) ≡ false
   pub clear : is_operand t ≡ false → is_clear (first ∷ []) ≡ true
 
-as_mark : (t : Token) (b : ℕ) (bs : List ℕ) → spell t ≡ b ∷ bs → is_blank b ≡ false → (62 == b) ≡ false → is_clear (b ∷ []) ≡ true → Begins t
-as_mark t b bs e f g h = record { first = b; others = bs; is = e; no_blank = f; no_greater = g; clear = λ o. h }
-
-or_right : (a b : Bool) → b ≡ true → (a || b) ≡ true
-or_right true b e = refl
-or_right false b e = e
-
-or_left : (a b : Bool) → a ≡ true → (a || b) ≡ true
-or_left true b e = refl
-or_left false b e = cc
+as_mark : (t : Token) (b : ℕ) (bs : List ℕ) → spell t ≡ b ∷ bs → (62 == b) ≡ false → is_clear (b ∷ []) ≡ true → Begins t
+as_mark t b bs e g h = record { first = b; others = bs; is = e; no_greater = g; clear = λ o. h }
 
 begin : (t : Token) → IsWritten t → Begins t
 begin (literal q) w =
     let d = decimal_is (nat_abs q.num) in
     let (b, bs, e, f) = no_decimal (decimal (nat_abs q.num)) d.all d.some in
     let n : is_name_byte b ≡ true = or_right (is_letter b) (is_digit b) f in
-    record { first = b; others = bs; is = e; no_blank = name_byte_no_blank b n; no_greater = name_byte_no_greater b n; clear = λ o. cc }
-begin (word x) w =
+    record { first = b; others = bs; is = e; no_greater = name_byte_no_greater b n; clear = λ o. cc }
+begin (name x) w =
     let n : is_name_byte w.first ≡ true = or_left (is_letter w.first) (is_digit w.first) w.letter in
-    record { first = w.first; others = w.others; is = w.is; no_blank = name_byte_no_blank w.first n; no_greater = name_byte_no_greater w.first n; clear = λ o. cc }
-begin undef_word w = record { first = 117; others = codes "ndef"; is = refl; no_blank = refl; no_greater = refl; clear = λ o. cc }
-begin root_mark w = as_mark root_mark 226 (136 ∷ 154 ∷ []) refl refl refl refl
-begin plus_mark w = as_mark plus_mark 43 [] refl refl refl refl
-begin minus_mark w = as_mark minus_mark 45 [] refl refl refl refl
-begin times_mark w = as_mark times_mark 195 (151 ∷ []) refl refl refl refl
-begin slash_mark w = as_mark slash_mark 47 [] refl refl refl refl
-begin caret_mark w = as_mark caret_mark 94 [] refl refl refl refl
-begin left_mark w = as_mark left_mark 40 [] refl refl refl refl
-begin right_mark w = as_mark right_mark 41 [] refl refl refl refl
+    record { first = w.first; others = w.others; is = w.is; no_greater = name_byte_no_greater w.first n; clear = λ o. cc }
+begin undef_mark w = record { first = 117; others = codes "ndef"; is = refl; no_greater = refl; clear = λ o. cc }
+begin root_mark w = as_mark root_mark 226 (136 ∷ 154 ∷ []) refl refl refl
+begin plus_mark w = as_mark plus_mark 43 [] refl refl refl
+begin minus_mark w = as_mark minus_mark 45 [] refl refl refl
+begin times_mark w = as_mark times_mark 195 (151 ∷ []) refl refl refl
+begin slash_mark w = as_mark slash_mark 47 [] refl refl refl
+begin caret_mark w = as_mark caret_mark 94 [] refl refl refl
+begin left_mark w = as_mark left_mark 40 [] refl refl refl
+begin right_mark w = as_mark right_mark 41 [] refl refl refl
 begin arrow_mark w = absurd w
 
 greater_first : (ts : List Token) → AllWritten ts → no_greater (spelled ts) ≡ true
@@ -367,50 +332,13 @@ greater_first (t ∷ ts) w = let g = begin t w.0 in ap (λ x. no_greater (x ++ s
 clear_first : (t : Token) (ts : List Token) → is_operand t ≡ false → IsWritten t → is_clear (spelled (t ∷ ts)) ≡ true
 clear_first t ts o w = let g = begin t w in ap (λ x. is_clear (x ++ spelled ts)) g.is ∙ g.clear o
 
-scan_step : (k : ℕ) (t : Token) (bs rest : List ℕ) (b : ℕ) (c : List ℕ) → bs ≡ b ∷ c → is_blank b ≡ false → token_at bs ≡ Some (t, rest) → scan_in (suc k) bs ≡ prepend t (scan_in k rest)
-unfolding scan_in
-scan_step k t [] rest b c e f g = cc
-scan_step k t (x ∷ xs) rest b c e f g =
-    let f' : is_blank x ≡ false = ap is_blank (let y : x ≡ b = cc in y) ∙ f in
-    by (is_blank x) f' (token_at (x ∷ xs)) g
-  where
-    by : (x : Bool) → x ≡ false → (r : Option (Token × List ℕ)) → r ≡ Some (t, rest)
-        → ◌≡◌ {A = Option (List Token)} (elim x [ true ↦ scan_in k xs | false ↦ elim r [ Some p ↦ prepend p.0 (scan_in k p.1) | None ↦ None ] ]) (prepend t (scan_in k rest))
-    by true e r g = cc
-    by false e None g = cc
-    by false e (Some p) g = let q : p ≡ (t, rest) = cc in ap (λ p. prepend p.0 (scan_in k p.1)) q
-
-pub scanned : (ts : List Token) → AllWritten ts → Apart ts → scan_in (suc (length ts)) (spelled ts) ≡ Some ts
-unfolding scan_in
-scanned [] w a = refl
-scanned (t ∷ []) w a =
-    let g = begin t w.0 in
-    scan_step 1 t (spell t ++ []) [] g.first g.others (append-nil (spell t) ∙ g.is) g.no_blank (taken t w.0 [] (λ o. refl) refl)
+pub scanned : (ts : List Token) → AllWritten ts → Apart ts → Scans (spelled ts) ts
+scanned [] w a = at_end
+scanned (t ∷ []) w a = at_token (taken t w.0 [] (λ o. refl) refl) at_end
 scanned (t ∷ u ∷ ts) w a =
-    let g = begin t w.0 in
-    scan_step (suc (suc (length ts))) t (spell t ++ spelled (u ∷ ts)) (spelled (u ∷ ts)) g.first (g.others ++ spelled (u ∷ ts)) (ap (λ x. x ++ spelled (u ∷ ts)) g.is) g.no_blank
-    (taken t w.0 (spelled (u ∷ ts)) (λ o. clear_first u ts (a.0 o) w.1.0) (greater_first (u ∷ ts) w.1))
-    ∙ ap (prepend t) (scanned (u ∷ ts) w.1 a.1)
+    at_token (taken t w.0 (spelled (u ∷ ts)) (λ o. clear_first u ts (a.0 o) w.1.0) (greater_first (u ∷ ts) w.1)) (scanned (u ∷ ts) w.1 a.1)
 
 -- ---- the tokens of a tree
--- what stands in it can be written
-abbrev mutual
-  pub CanBeWritten : Tree → Type 0
-  CanBeWritten (number q) = IsWritten (literal q)
-  CanBeWritten (symbol x) = IsName x
-  CanBeWritten undef = ⊤
-  CanBeWritten (add ts) = EachCanBeWritten ts
-  CanBeWritten (mult ts) = EachCanBeWritten ts
-  CanBeWritten (power b e) = CanBeWritten b × CanBeWritten e
-  CanBeWritten (root a) = CanBeWritten a
-  CanBeWritten (neg a) = CanBeWritten a
-  CanBeWritten (sub a b) = CanBeWritten a × CanBeWritten b
-  CanBeWritten (quot a b) = CanBeWritten a × CanBeWritten b
-
-  pub EachCanBeWritten : Trees → Type 0
-  EachCanBeWritten none = ⊤
-  EachCanBeWritten (more t ts) = CanBeWritten t × EachCanBeWritten ts
-
 pub record Good (ts : List Token) : Type 0 where
   pub written : AllWritten ts
   pub apart : Apart ts
@@ -466,8 +394,8 @@ factors_first none = tt
 factors_first (more t ts) = refl
 
 mutual
-  pub good : (t : Tree) → CanBeWritten t → Good (tokens t)
-  good (number q) w = record { written = (w, tt); apart = tt }
+  pub good : (t : Tree) → IsWritable t → Good (tokens t)
+  good (num q) w = record { written = (w, tt); apart = tt }
   good (symbol x) w = record { written = (w, tt); apart = tt }
   good undef w = record { written = (tt, tt); apart = tt }
   good (add none) w = good_nothing
@@ -478,22 +406,22 @@ mutual
   good (root a) w = good_before root_mark (inside (tokens a)) refl tt (good_inside (tokens a) (good a w))
   good (neg a) w = good_before minus_mark (placed (admits later_of_sum a) (tokens a)) refl tt (good_placed (admits later_of_sum a) (tokens a) (good a w))
   good (sub a b) w = good_join (tokens a) minus_mark (placed (admits later_of_sum b) (tokens b)) refl tt (good a w.0) (good_placed (admits later_of_sum b) (tokens b) (good b w.1))
-  good (quot a b) w = good_join (placed (admits left_of_quotient a) (tokens a)) slash_mark (placed (admits later_of_product b) (tokens b)) refl tt (good_placed (admits left_of_quotient a) (tokens a) (good a w.0)) (good_placed (admits later_of_product b) (tokens b) (good b w.1))
+  good (div a b) w = good_join (placed (admits left_of_quotient a) (tokens a)) slash_mark (placed (admits later_of_product b) (tokens b)) refl tt (good_placed (admits left_of_quotient a) (tokens a) (good a w.0)) (good_placed (admits later_of_product b) (tokens b) (good b w.1))
 
-  good_terms : (ts : Trees) → EachCanBeWritten ts → Good (tokens_of_terms ts)
+  good_terms : (ts : Trees) → AreWritable ts → Good (tokens_of_terms ts)
   good_terms none w = good_nothing
   good_terms (more t ts) w =
       good_append (plus_mark ∷ placed (admits later_of_sum t) (tokens t)) (tokens_of_terms ts) (terms_first ts)
       (good_before plus_mark (placed (admits later_of_sum t) (tokens t)) refl tt (good_placed (admits later_of_sum t) (tokens t) (good t w.0))) (good_terms ts w.1)
 
-  good_factors : (ts : Trees) → EachCanBeWritten ts → Good (tokens_of_factors ts)
+  good_factors : (ts : Trees) → AreWritable ts → Good (tokens_of_factors ts)
   good_factors none w = good_nothing
   good_factors (more t ts) w =
       good_append (times_mark ∷ placed (admits later_of_product t) (tokens t)) (tokens_of_factors ts) (factors_first ts)
       (good_before times_mark (placed (admits later_of_product t) (tokens t)) refl tt (good_placed (admits later_of_product t) (tokens t) (good t w.0))) (good_factors ts w.1)
 
 -- the text of a tree that can be written is scanned as its tokens
-pub text_scanned : (t : Tree) → CanBeWritten t → (k : ℕ) × (scan_in k (text t) ≡ Some (tokens t))
+pub text_scanned : (t : Tree) → IsWritable t → Scans (text t) (tokens t)
 text_scanned t w =
     let g = good t w in
-    (suc (length (tokens t)), ap (scan_in (suc (length (tokens t)))) (text_spelled t) ∙ scanned (tokens t) g.written g.apart)
+    subst (λ bs. Scans bs (tokens t)) (sym (text_spelled t)) (scanned (tokens t) g.written g.apart)

@@ -1,11 +1,8 @@
 -- The reader: a function on tokens, with a bound on its steps.
-use Rattle.std.specs.Prelude.{ℕ, zero, suc, ◌≡◌, List, [], ◌∷◌, true, false, Option, Some, None, codes, pos}
-use Rattle.std.proofs.Common.{refl}
-use Rattle.calc_terms.specs.Fractions.{lowest}
-use Rattle.calc_terms.specs.Trees.{Tree, number, symbol, undef, mult, power, root, neg, sub, Trees, none, more}
-use Rattle.calc_terms.specs.Texts.{whole_number}
-use Rattle.calc_terms.specs.Faces.{append}
-use Rattle.calc_terms.specs.Grammar.{Token, literal, word, undef_word, root_mark, plus_mark, minus_mark, times_mark, slash_mark, caret_mark, left_mark, right_mark, Sofar, part, as_tree, plus_term, minus_term, times_factor, over_factor, joined_tree, joins}
+use Rattle.std.specs.Prelude.{ℕ, zero, suc, List, ◌∷◌, true, false, Option, Some, None}
+use Rattle.calc_terms.specs.Grammar.{SoFar, single, as_tree, plus_term, minus_term, times_factor, over_factor, joined_tree, joins}
+use Rattle.calc_terms.specs.Tokens.{name, Token, literal, undef_mark, root_mark, plus_mark, minus_mark, times_mark, slash_mark, caret_mark, left_mark, right_mark}
+use Rattle.calc_terms.specs.Trees.{Tree, num, symbol, undef, power, root, neg, Trees, none, more, append}
 
 abbrev pub Read : Type 0 → Type 0
 Read A = Option (A × List Token)
@@ -19,11 +16,11 @@ closed t (right_mark ∷ ts) = Some (t, ts)
 closed t _ = None
 
 unfoldable mutual
-  pub sum_at : ℕ → List Token → Read Sofar
+  pub sum_at : ℕ → List Token → Read SoFar
   sum_at zero ts = None
-  sum_at (suc k) ts = andthen (signed_at k ts) (λ t r. terms_at k (part t) r)
+  sum_at (suc k) ts = andthen (signed_at k ts) (λ t r. terms_at k (single t) r)
 
-  pub terms_at : ℕ → Sofar → List Token → Read Sofar
+  pub terms_at : ℕ → SoFar → List Token → Read SoFar
   terms_at zero s ts = None
   terms_at (suc k) s (plus_mark ∷ ts) = andthen (signed_at k ts) (λ u r. terms_at k (plus_term s u) r)
   terms_at (suc k) s (minus_mark ∷ ts) = andthen (signed_at k ts) (λ u r. terms_at k (minus_term s u) r)
@@ -34,11 +31,11 @@ unfoldable mutual
   signed_at (suc k) (minus_mark ∷ ts) = andthen (signed_at k ts) (λ t r. Some (neg t, r))
   signed_at (suc k) ts = andthen (product_at k ts) (λ s r. Some (as_tree s, r))
 
-  pub product_at : ℕ → List Token → Read Sofar
+  pub product_at : ℕ → List Token → Read SoFar
   product_at zero ts = None
-  product_at (suc k) ts = andthen (joined_at k ts) (λ t r. factors_at k (part t) r)
+  product_at (suc k) ts = andthen (joined_at k ts) (λ t r. factors_at k (single t) r)
 
-  pub factors_at : ℕ → Sofar → List Token → Read Sofar
+  pub factors_at : ℕ → SoFar → List Token → Read SoFar
   factors_at zero s ts = None
   factors_at (suc k) s (times_mark ∷ ts) = andthen (right_at k ts) (λ u r. factors_at k (times_factor s u) r)
   factors_at (suc k) s (slash_mark ∷ ts) = andthen (right_at k ts) (λ u r. factors_at k (over_factor s u) r)
@@ -73,15 +70,9 @@ unfoldable mutual
 
   pub primary_at : ℕ → List Token → Read Tree
   primary_at zero ts = None
-  primary_at (suc k) (literal q ∷ ts) = Some (number q, ts)
-  primary_at (suc k) (word x ∷ ts) = Some (symbol x, ts)
-  primary_at (suc k) (undef_word ∷ ts) = Some (undef, ts)
+  primary_at (suc k) (literal q ∷ ts) = Some (num q, ts)
+  primary_at (suc k) (name x ∷ ts) = Some (symbol x, ts)
+  primary_at (suc k) (undef_mark ∷ ts) = Some (undef, ts)
   primary_at (suc k) (left_mark ∷ ts) = andthen (sum_at k ts) (λ s r. closed (as_tree s) r)
   primary_at (suc k) (root_mark ∷ left_mark ∷ ts) = andthen (sum_at k ts) (λ s r. closed (root (as_tree s)) r)
   primary_at (suc k) ts = None
-
--- 1-2x^-y
-example : sum_at 100 (literal (lowest (pos 1) 1) ∷ minus_mark ∷ literal (lowest (pos 2) 1) ∷ word (codes "x") ∷ caret_mark ∷ minus_mark ∷ word (codes "y") ∷ [])
-    ≡ Some (part (sub (whole_number 1) (mult (more (whole_number 2) (more (power (symbol (codes "x")) (neg (symbol (codes "y")))) none)))), [])
-unfolding sum_at
-example = refl

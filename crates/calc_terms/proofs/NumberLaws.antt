@@ -1,0 +1,109 @@
+-- The tests for clean radicands and for Numbers say what their words say.
+use Rattle.std.proofs.Common.{◌≡◌, ℕ, zero, suc, ◌+◌, ◌*◌, ◌%◌, ◌≤◌, ◌<◌, ◌⊎◌, inl, inr, Bool, true, false, not, ◌&&◌, refl, sym, ap, ◌∙◌, arith}
+use Rattle.std.proofs.lemmas.Nat.Gcd.{mod-eq-zero_of_dvd}
+use Rattle.std.proofs.lemmas.Bool.{lt-ltb, eq-eqb}
+use Prim.Native.Nat.{◌∣◌}
+use Rattle.calc_terms.specs.Clean.{left_of, is_clean, IsClean, no_square_divides}
+use Rattle.calc_terms.specs.Fractions.{Fraction, lowest, zero_fraction, one_fraction, is_one_fraction, is_zero_fraction}
+use Rattle.calc_terms.specs.Gcd.{gcd}
+use Rattle.calc_terms.specs.Numbers.{IsRadicand, IsTerm, IsNumber, AreTerms, IsBelowAll, Rises, natural_of, terms_of, is_radicand, is_term, rises, is_number, are_terms, is_below_all}
+use Rattle.calc_terms.specs.SquareClasses.{are_alike}
+use Rattle.calc_terms.specs.SquareRoots.{square_root}
+use Rattle.calc_terms.specs.Surds.{Term, Surd}
+use Rattle.calc_terms.specs.Trees.{Tree, num, add, mult, root, Trees, none, more}
+use Rattle.calc_terms.proofs.SquareRootLaws.{square_root-square}
+use Rattle.std.proofs.lemmas.Bool.{and_parts}
+use Rattle.std.proofs.Common.{◌≡◌, ◌≢◌, ℤ, pos, negsuc, [], ◌∷◌, true, false, not, ◌&&◌, nat_lt, nat_le, ◌==◌, length, refl, sym, ap, ◌∙◌}
+use Rattle.std.proofs.lemmas.Bool.{ltb-true, leb-true, eqb-true, not-true}
+
+Divides : ℕ → ℕ → Type 0
+Divides d r = d * d ∣ r
+
+none_below : (steps d r e : ℕ) → no_square_divides steps d r ≡ true → d ≤ e → e < d + steps → e * e ∣ r → ⊥
+none_below zero d r e h a b x = absurd (omega arith)
+none_below (suc steps) d r e h a b x = by (r % (d * d)) refl h (λ h' a'. none_below steps (suc d) r e h' a' (omega arith) x) (order d e a)
+  where
+    order : (d e : ℕ) → d ≤ e → (d ≡ e) ⊎ (suc d ≤ e)
+    order d e a = grind arith
+
+    by : (m : ℕ) → r % (d * d) ≡ m → (elim m [ zero ↦ false | suc m' ↦ no_square_divides steps (suc d) r ]) ≡ true → (no_square_divides steps (suc d) r ≡ true → suc d ≤ e → ⊥) → (d ≡ e) ⊎ (suc d ≤ e) → ⊥
+    by zero p h go c = cc
+    by (suc m) p h go (inl q) =
+        let z : r % (e * e) ≡ 0 = mod-eq-zero_of_dvd (e * e) x in
+        let w : r % (d * d) ≡ 0 = ap (λ k. r % (k * k)) q ∙ z in
+        absurd (omega arith)
+    by (suc m) p h go (inr q) = go h q
+
+not_both : (a b : Bool) → not (a && b) ≡ true → a ≡ true → b ≡ true → ⊥
+not_both a b h p q = let e : (a && b) ≡ true = (λ i. p i && q i) in clash (a && b) h e
+  where
+    clash : (x : Bool) → not x ≡ true → x ≡ true → ⊥
+    clash true h e = cc
+    clash false h e = cc
+
+pub clean_words : (r : ℕ) → is_clean r ≡ true → IsClean r
+unfolding is_clean
+clean_words r h =
+    let (p, q) = and_parts (no_square_divides 9999 2 r) _ h in
+    record {
+      no_square = λ d a b x. none_below 9999 2 r d p a (omega arith) x;
+      no_rest = λ s a e.
+          let z : square_root (left_of r) ≡ s = ap square_root e ∙ square_root-square s in
+          not_both _ _ q (lt-ltb 1 (left_of r) (big s (left_of r) a e)) (eq-eqb (square_root (left_of r) * square_root (left_of r)) (left_of r) ((λ i. z i * z i) ∙ sym e));
+    }
+  where
+    big : (s n : ℕ) → 1 < s → n ≡ s * s → 1 < n
+    big s n a e = grind arith
+
+no_zero : (q : Fraction) → not (is_zero_fraction q) ≡ true → q ≢ zero_fraction
+unfolding zero_fraction lowest gcd
+no_zero q h e = let f : not (is_zero_fraction zero_fraction) ≡ true = ap (λ x. not (is_zero_fraction x)) (sym e) ∙ h in cc
+
+no_one : (q : Fraction) → not (is_one_fraction q) ≡ true → q ≢ one_fraction
+unfolding one_fraction lowest gcd
+no_one q h e = let f : false ≡ true = ap (λ x. not (is_one_fraction x)) (sym e) ∙ h in cc
+
+radicand_words : (q : Fraction) → is_radicand q ≡ true → IsRadicand q
+radicand_words q h =
+    let (dr, c) = and_parts ((q.den == 1) && nat_le 2 (natural_of q.num)) (is_clean (natural_of q.num)) h in
+    let (d, r) = and_parts (q.den == 1) (nat_le 2 (natural_of q.num)) dr in
+    (eqb-true q.den 1 d, natural_of q.num, whole q.num r, leb-true 2 (natural_of q.num) r, clean_words (natural_of q.num) c)
+  where
+    whole : (z : ℤ) → nat_le 2 (natural_of z) ≡ true → z ≡ pos (natural_of z)
+    whole (pos n) h = refl
+    whole (negsuc n) h = cc
+
+term_words : (t : Tree) → is_term t ≡ true → IsTerm t
+term_words (num q) h = no_zero q h
+term_words (root (num r)) h = radicand_words r h
+term_words (mult (more (num q) (more (root (num r)) none))) h =
+    let (ab, c) = and_parts (not (is_zero_fraction q) && not (is_one_fraction q)) (is_radicand r) h in
+    let (a, b) = and_parts (not (is_zero_fraction q)) (not (is_one_fraction q)) ab in
+    (no_zero q a, no_one q b, radicand_words r c)
+term_words _ h = cc
+
+each_words : (ts : Trees) → are_terms ts ≡ true → AreTerms ts
+each_words none h = tt
+each_words (more t ts) h = let (a, b) = and_parts (is_term t) (are_terms ts) h in (term_words t a, each_words ts b)
+
+above_words : (t : Term) (v : Surd) → is_below_all t v ≡ true → IsBelowAll t v
+above_words t [] h = tt
+above_words t (u ∷ v) h =
+    let (ab, c) = and_parts (nat_lt t.radicand u.radicand && not (are_alike t.radicand u.radicand)) (is_below_all t v) h in
+    let (a, b) = and_parts (nat_lt t.radicand u.radicand) (not (are_alike t.radicand u.radicand)) ab in
+    (ltb-true t.radicand u.radicand a, not-true (are_alike t.radicand u.radicand) b, above_words t v c)
+
+rises_words : (v : Surd) → rises v ≡ true → Rises v
+rises_words [] h = tt
+rises_words (t ∷ v) h = let (a, b) = and_parts (is_below_all t v) (rises v) h in (above_words t v a, rises_words v b)
+
+pub number_words : (t : Tree) → is_number t ≡ true → IsNumber t
+unfolding is_number
+number_words (num q) h = tt
+number_words (add ts) h =
+    let (ab, c) = and_parts (nat_le 2 (length (terms_of ts)) && are_terms ts) (rises (terms_of ts)) h in
+    let (a, b) = and_parts (nat_le 2 (length (terms_of ts))) (are_terms ts) ab in
+    (leb-true 2 (length (terms_of ts)) a, each_words ts b, rises_words (terms_of ts) c)
+number_words (root a) h = term_words (root a) h
+number_words (mult ts) h = term_words (mult ts) h
+number_words _ h = cc
