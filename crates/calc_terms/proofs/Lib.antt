@@ -1,11 +1,13 @@
 pub mod Codes
 pub mod Lowest
 pub mod Signs
+pub mod FractionFacts
 pub mod SquareRootLaws
 pub mod SurdLaws
 pub mod SquareClassLaws
 pub mod TreeOrderLaws
 pub mod MeaningLaws
+pub mod BadLaws
 pub mod Reader
 pub mod ReaderSteps
 pub mod ReaderComplete

@@ -41,14 +41,14 @@ Means-Same (div a b) f v u (w, x, y, m, n, i, h) e = (w, x, y, m, n, i, Same-tra
 Means-Same (power b p) f v u (w, x, m, k, (n, i, h)) e = (w, x, m, k, (n, i, power_same n w v u h e))
 Means-Same (root a) f v u (x, m, (q, i, h)) e = (x, m, (q, i, root_same q.num q.den v u h e))
 
-class_coefficient-surd_of : (q : Fraction) → class_coefficient (surd_of q) 1 ≡ q
+pub class_coefficient-surd_of : (q : Fraction) → class_coefficient (surd_of q) 1 ≡ q
 unfolding square_root one_fraction
 class_coefficient-surd_of q = plus_comm _ zero_fraction ∙ zero_plus _ ∙ times_comm q (lowest (pos 1) 1) ∙ one_times q
 
-just_one : (p q : Fraction) → Agree (surd_of p) (surd_of q) → p ≡ q
-just_one p q h = sym (class_coefficient-surd_of p) ∙ h.at 1 ∙ class_coefficient-surd_of q
+pub surd_of_one : (p q : Fraction) → Agree (surd_of p) (surd_of q) → p ≡ q
+surd_of_one p q h = sym (class_coefficient-surd_of p) ∙ h.at 1 ∙ class_coefficient-surd_of q
 
-whole_one : (m n : ℤ) → whole_fraction m ≡ whole_fraction n → m ≡ n
+pub whole_one : (m n : ℤ) → whole_fraction m ≡ whole_fraction n → m ≡ n
 whole_one m n e = cancel_pos m n (whole_fraction m).den (den_pos (whole_fraction m)) (sym (lowest_cross m 1 (omega arith)) ∙ ap (λ x. x.num *ℤ pos 1) e ∙ lowest_cross n 1 (omega arith) ∙ ap (λ x. n *ℤ pos x.den) (sym e))
 
 join : {v u w x : Surd} → Same v w → Same u x → Agree w x → Agree v u
@@ -105,10 +105,10 @@ module _ (f : Assignment) (once : IsAssignment f) where
     one_meaning (div a b) v u (w, x, y, m, n, i, h) (w', x', y', m', n', i', k) = join h k (Agree-surd_times (one_meaning a w w' m m') (one_inverse' y y' x x' i i' (one_meaning b x x' n n')))
     one_meaning (power b e) v u (w, x, mb, me, (n, i, h)) (w', x', mb', me', (n', i', h')) =
         let s : Agree (surd_of (whole_fraction n)) (surd_of (whole_fraction n')) = Agree-trans (Agree-sym (Same-Agree i)) (Agree-trans (one_meaning e x x' me me') (Same-Agree i')) in
-        let z : n' ≡ n = sym (whole_one n n' (just_one (whole_fraction n) (whole_fraction n') s)) in
+        let z : n' ≡ n = sym (whole_one n n' (surd_of_one (whole_fraction n) (whole_fraction n') s)) in
         one_power n w w' v u (one_meaning b w w' mb mb') h (rw z at h')
     one_meaning (root a) v u (x, m, (q, i, h)) (x', m', (q', i', h')) =
-        let z : q' ≡ q = sym (just_one q q' (Agree-trans (Agree-sym (Same-Agree i)) (Agree-trans (one_meaning a x x' m m') (Same-Agree i')))) in
+        let z : q' ≡ q = sym (surd_of_one q q' (Agree-trans (Agree-sym (Same-Agree i)) (Agree-trans (one_meaning a x x' m m') (Same-Agree i')))) in
         one_root q.num q.den v u h (rw z at h')
 
     pub one_sum : (ts : Trees) (v u : Surd) → MeansSum ts f v → MeansSum ts f u → Agree v u

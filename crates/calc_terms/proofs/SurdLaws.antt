@@ -157,7 +157,7 @@ map_comm : (t : Term) (w : Surd) → map (term_times t) w ≡ map (λ u. term_ti
 map_comm t [] = refl
 map_comm t (u ∷ w) = λ i. term_times_comm t u i ∷ map_comm t w i
 
-surd_times-nil : (w : Surd) → surd_times w [] ≡ []
+pub surd_times-nil : (w : Surd) → surd_times w [] ≡ []
 surd_times-nil [] = refl
 surd_times-nil (t ∷ w) = surd_times-nil w
 

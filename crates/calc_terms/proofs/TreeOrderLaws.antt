@@ -212,5 +212,8 @@ mutual
   trees_chain (more t ts) (more u us) (more z zs) h k = chain_then _ _ _ _ _ _ (tree_chain t u z) (equal_left t u z) (equal_right t u z) (trees_chain ts us zs) h k
   trees_chain _ _ _ h k = cc
 
+pub tree_cmp_same : (t u : Tree) → t ≡ u → tree_cmp t u ≡ Equal
+tree_cmp_same t u e = ap (tree_cmp t) (sym e) ∙ tree_cmp_refl t
+
 pub tree_cmp_total : IsTotalOrder tree_cmp
 tree_cmp_total = record { antisymm = tree_cmp_turned; trans = tree_chain; congr = equal_left }

@@ -1,6 +1,7 @@
 -- Trees without symbols of which it is known whether they have a value.
-use Rattle.std.specs.Prelude.{ℕ, suc, ◌≡◌, ◌≤◌, ◌⊎◌, ℤ, pos, negsuc, ◌≤ℤ◌, [], length}
-use Rattle.calc_terms.specs.Fractions.{lowest, whole_fraction}
+use Rattle.std.specs.Prelude.{ℕ, suc, ◌≡◌, ◌≤◌, ◌⊎◌, ℤ, pos, negsuc, ◌≤ℤ◌, [], length, true}
+use Rattle.calc_terms.specs.Integers.{int_is_negative}
+use Rattle.calc_terms.specs.Fractions.{Fraction, whole_fraction}
 use Rattle.calc_terms.specs.Trees.{Tree, undef, power, root, div, names, IsPart}
 use Rattle.calc_terms.specs.Surds.{Surd, surd_of}
 use Rattle.calc_terms.specs.SquareClasses.{Same}
@@ -20,7 +21,7 @@ IsWhole t n = HasValue t (surd_of (whole_fraction n))
 
 -- it means a rational below zero
 abbrev pub IsNegative : Tree → Type 0
-IsNegative t = (n d : ℕ) × HasValue t (surd_of (lowest (negsuc n) (suc d)))
+IsNegative t = (q : Fraction) × (int_is_negative q.num ≡ true) × HasValue t (surd_of q)
 
 -- Undef, a division by zero, zero to a whole power of at most 0, or the root of a negative rational
 abbrev pub IsBadNode : Tree → Type 0

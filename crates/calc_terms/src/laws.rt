@@ -1,16 +1,98 @@
 //! Laws of the definitions, each the contract of a function without a body.
 
-ghost use Rattle.std.specs.Prelude.{◌≡◌, ℕ, List};
+ghost use Rattle.std.specs.Prelude.{◌≡◌, ◌↔◌, ◌⊎◌, ℕ, ◌<◌, ◌*◌, ℤ, pos, neg_ℤ, ◌+ℤ◌, ◌*ℤ◌, List, ◌++◌, true};
+ghost use Rattle.std.specs.Cmp.{IsTotalOrder};
+ghost use Rattle.std.specs.declared.cmp.Ordering.TheVariants.{Equal};
+ghost use Rattle.calc_terms.specs.Fractions.{Fraction, lowest as lowest_of, plus, times, negative, zero_fraction, one_fraction};
+ghost use Rattle.calc_terms.specs.Trees.{Tree, IsComplete};
+ghost use Rattle.calc_terms.specs.TreeOrder.{tree_cmp};
+ghost use Rattle.calc_terms.specs.Surds.{Surd, surd_one, surd_scale, surd_times, surd_power};
+ghost use Rattle.calc_terms.specs.SquareClasses.{class_coefficient, Same, Inverts};
 ghost use Rattle.calc_terms.specs.Meanings.{Assignment, IsAssignment, Means};
 ghost use Rattle.calc_terms.specs.Reads.{Reads};
-ghost use Rattle.calc_terms.specs.SquareClasses.{Same};
-ghost use Rattle.calc_terms.specs.Surds.{Surd};
 ghost use Rattle.calc_terms.specs.Texts.{text as text_of, IsWritable};
-ghost use Rattle.calc_terms.specs.Trees.{Tree, IsComplete};
+ghost use Rattle.calc_terms.specs.Numbers.{is_number, value};
+ghost use Rattle.calc_terms.specs.BadAndEasy.{IsBad, IsEasy, HasValue};
+
+/// Fractions are equal where their cross products are.
+pub fn equal_fractions()
+    ensures equal { (p r : ℤ) (q s : ℕ) → 0 < q → 0 < s → p *ℤ pos s ≡ r *ℤ pos q → lowest_of p q ≡ lowest_of r s }
+    ensures only_then { (p r : ℤ) (q s : ℕ) → 0 < q → 0 < s → lowest_of p q ≡ lowest_of r s → p *ℤ pos s ≡ r *ℤ pos q }
+{}
+
+/// Sum, product and negative of fractions are the textbook's.
+pub fn fraction_arithmetic()
+    ensures sum { (p r : ℤ) (q s : ℕ) → 0 < q → 0 < s → plus (lowest_of p q) (lowest_of r s) ≡ lowest_of (p *ℤ pos s +ℤ r *ℤ pos q) (q * s) }
+    ensures product { (p r : ℤ) (q s : ℕ) → 0 < q → 0 < s → times (lowest_of p q) (lowest_of r s) ≡ lowest_of (p *ℤ r) (q * s) }
+    ensures negative { (p : ℤ) (q : ℕ) → 0 < q → negative (lowest_of p q) ≡ lowest_of (neg_ℤ p) q }
+{}
+
+/// Fractions are a commutative ring.
+pub fn fractions_are_a_ring()
+    ensures plus_commutes { (a b : Fraction) → plus a b ≡ plus b a }
+    ensures plus_associates { (a b c : Fraction) → plus (plus a b) c ≡ plus a (plus b c) }
+    ensures zero { (a : Fraction) → plus zero_fraction a ≡ a }
+    ensures negative { (a : Fraction) → plus a (negative a) ≡ zero_fraction }
+    ensures times_commutes { (a b : Fraction) → times a b ≡ times b a }
+    ensures times_associates { (a b c : Fraction) → times (times a b) c ≡ times a (times b c) }
+    ensures one { (a : Fraction) → times one_fraction a ≡ a }
+    ensures distributes { (a b c : Fraction) → times a (plus b c) ≡ plus (times a b) (times a c) }
+{}
+
+/// Surds that are equal at the radicands that occur have equal coefficients at every number.
+pub fn same_at_every_number()
+    ensures { (v w : Surd) → Same v w ↔ ((s : ℕ) → class_coefficient v s ≡ class_coefficient w s) }
+{}
+
+/// Equality class by class is an equivalence.
+pub fn same_is_an_equivalence()
+    ensures reflexive { (v : Surd) → Same v v }
+    ensures symmetric { (v w : Surd) → Same v w → Same w v }
+    ensures transitive { (u v w : Surd) → Same u v → Same v w → Same u w }
+{}
+
+/// Sums, multiples, products and powers respect it.
+pub fn same_is_respected()
+    ensures joined { (v v' w w' : Surd) → Same v v' → Same w w' → Same (v ++ w) (v' ++ w') }
+    ensures scaled { (c : Fraction) (v w : Surd) → Same v w → Same (surd_scale c v) (surd_scale c w) }
+    ensures multiplied { (v v' w w' : Surd) → Same v v' → Same w w' → Same (surd_times v w) (surd_times v' w') }
+    ensures raised { (n : ℕ) (v w : Surd) → Same v w → Same (surd_power v n) (surd_power w n) }
+{}
+
+/// Up to it, surds are a commutative ring.
+pub fn surds_are_a_ring()
+    ensures sums_commute { (v w : Surd) → Same (v ++ w) (w ++ v) }
+    ensures products_commute { (v w : Surd) → Same (surd_times v w) (surd_times w v) }
+    ensures products_associate { (u v w : Surd) → Same (surd_times (surd_times u v) w) (surd_times u (surd_times v w)) }
+    ensures one { (v : Surd) → Same (surd_times surd_one v) v }
+    ensures distributes { (u v w : Surd) → Same (surd_times (u ++ v) w) (surd_times u w ++ surd_times v w) }
+{}
+
+/// A surd has at most one inverse.
+pub fn one_inverse()
+    ensures { (y z w : Surd) → Inverts y w → Inverts z w → Same y z }
+{}
+
+/// A surd that is the same as a meaning is one too.
+pub fn meanings_are_closed()
+    ensures { (t : Tree) (f : Assignment) (v w : Surd) → Means t f v → Same v w → Means t f w }
+{}
 
 /// A tree has at most one meaning under an assignment.
 pub fn one_meaning()
     ensures { (f : Assignment) (t : Tree) (v w : Surd) → IsAssignment f → Means t f v → Means t f w → Same v w }
+{}
+
+/// A Bad tree has no value, and an Easy tree has one exactly where it is not Bad.
+pub fn easy_values()
+    ensures bad { (t : Tree) (v : Surd) → IsBad t → ¬ (HasValue t v) }
+    ensures easy { (t : Tree) → IsEasy t → IsBad t ⊎ ((v : Surd) × HasValue t v) }
+{}
+
+/// The order of trees is total, and Equal exactly for identical trees.
+pub fn trees_are_ordered()
+    ensures total { IsTotalOrder tree_cmp }
+    ensures identical { (t u : Tree) → (tree_cmp t u ≡ Equal) ↔ (t ≡ u) }
 {}
 
 /// A text reads as at most one tree.
@@ -21,4 +103,9 @@ pub fn one_tree()
 /// What is written is read again.
 pub fn text_reads()
     ensures { (u : Tree) → IsComplete u → IsWritable u → Reads (text_of u) u }
+{}
+
+/// A Number means its value under every assignment.
+pub fn number_means_its_value()
+    ensures { (t : Tree) (f : Assignment) → is_number t ≡ true → Means t f (value t) }
 {}
