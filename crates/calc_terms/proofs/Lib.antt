@@ -10,3 +10,6 @@ pub mod Keeps
 pub mod Clean
 pub mod FaceKeeps
 pub mod Words
+pub mod Names
+pub mod LowBytes
+pub mod Codec

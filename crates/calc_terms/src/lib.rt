@@ -4,9 +4,15 @@
 mod euclid;
 mod kind;
 mod laws;
+mod leaf;
+mod name;
+mod node;
 mod rat;
 
 pub use euclid::gcd;
 pub use kind::Kind;
 pub use laws::{one_meaning, one_tree, text_reads};
+pub use leaf::{Header, Leaf};
+pub use name::Name;
+pub use node::bytes_read_back;
 pub use rat::Rat;
