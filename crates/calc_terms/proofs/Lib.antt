@@ -18,3 +18,6 @@ pub mod ReadLaws
 pub mod NumberLaws
 pub mod Rewrites
 pub mod FaceLaws
+pub mod Names
+pub mod LowBytes
+pub mod Codec

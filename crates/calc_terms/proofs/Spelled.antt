@@ -5,7 +5,8 @@ use Rattle.std.proofs.lemmas.Bool.{leb-true, le-leb, and_parts, and_from, or_lef
 use Rattle.std.proofs.lemmas.Bool.Decides.{nat_tests}
 use Rattle.calc_terms.specs.Fractions.{lowest}
 use Rattle.calc_terms.specs.Texts.{decimal, digits_before, Place, first_of_sum, later_of_sum, first_of_product, left_of_quotient, later_of_product, base, exponent, admits, at_place, in_parentheses, text, text_of_sum, text_of_terms, text_of_product, text_of_factors, IsNatural, IsWritable, AreWritable}
-use Rattle.calc_terms.specs.Tokens.{literal_at, word_at, Scans, at_end, at_token, name, times_sign, root_sign, Token, literal, undef_mark, root_mark, plus_mark, minus_mark, times_mark, slash_mark, caret_mark, left_mark, right_mark, arrow_mark, is_digit, is_letter, is_name_byte, leading_run, keep, digits_value, decimals, same_bytes, token_of_word, token_at, or_else, if_so, passes, IsName}
+use Rattle.calc_terms.specs.Name.{is_digit, is_letter, is_name_byte}
+use Rattle.calc_terms.specs.Tokens.{literal_at, word_at, Scans, at_end, at_token, name, times_sign, root_sign, Token, literal, undef_mark, root_mark, plus_mark, minus_mark, times_mark, slash_mark, caret_mark, left_mark, right_mark, arrow_mark, leading_run, keep, digits_value, decimals, same_bytes, token_of_word, token_at, or_else, if_so, passes, IsName}
 use Rattle.calc_terms.specs.Trees.{Tree, num, symbol, undef, add, mult, power, root, neg, sub, div, Trees, none, more}
 use Rattle.calc_terms.proofs.Written.{inside, placed, tokens, tokens_of_sum, tokens_of_terms, tokens_of_product, tokens_of_factors}
 

@@ -5,6 +5,10 @@ pub mod FractionLaws
 pub mod Ratio
 pub mod Rat
 pub mod Kind
+pub mod Name
+pub mod Payload
+pub mod Leaf
+pub mod Node
 pub mod Trees
 pub mod TreeOrder
 pub mod SquareRoots

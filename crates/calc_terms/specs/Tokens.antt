@@ -1,6 +1,7 @@
 -- Tokens, and how the bytes of a line are cut into them.
 use Rattle.std.specs.Prelude.{ℕ, ◌+◌, ◌-◌, ◌*◌, ◌^◌, ◌≡◌, List, [], ◌∷◌, ◌++◌, length, Bool, true, false, ◌&&◌, ◌||◌, ◌==◌, nat_le, if◌then◌else◌, Option, Some, None, pos, codes}
 use Rattle.calc_terms.specs.Fractions.{Fraction, lowest}
+use Rattle.calc_terms.specs.Name.{is_digit, is_letter, is_name_byte}
 
 -- a literal by its value, a name by its bytes, or a mark
 pub data Token : Type 0 where
@@ -10,15 +11,7 @@ pub data Token : Type 0 where
 
 -- ---- bytes
 
-abbrev pub is_digit : ℕ → Bool
-is_digit b = nat_le 48 b && nat_le b 57
-
-abbrev pub is_letter : ℕ → Bool
-is_letter b = nat_le 65 b && nat_le b 90 || nat_le 97 b && nat_le b 122
-
-abbrev pub is_name_byte : ℕ → Bool
-is_name_byte b = is_letter b || is_digit b
-
+-- what stands between tokens: spaces and tabs
 abbrev pub is_blank : ℕ → Bool
 is_blank b = (b == 32) || (b == 9)
 

@@ -1,0 +1,63 @@
+//! What nodes are made of.
+ghost use Rattle.std.specs.Prelude.{◌≡◌};
+ghost use Rattle.calc_terms.specs.Leaf.{payload_of};
+ghost use Rattle.calc_terms.specs.Payload.{kind_of_payload, size_of_payload};
+ghost use Rattle.calc_terms.specs.Node.{header_of, fresh, size_of_header};
+
+use crate::kind::Kind;
+use crate::name::Name;
+use crate::rat::Rat;
+
+/// What a node holds. `Plain` holds neither `Num` nor `Sym`.
+#[derive(Clone, Copy, Debug)]
+pub enum Leaf {
+    Num(Rat),
+    Sym(Name),
+    Plain(Kind),
+}
+
+impl Leaf {
+    pub fn kind(self) -> Kind
+        ensures { result ≡ kind_of_payload (payload_of self) }
+    {
+        match self {
+            Leaf::Num(_) => Kind::Num,
+            Leaf::Sym(_) => Kind::Sym,
+            Leaf::Plain(kind) => kind,
+        }
+    }
+
+    /// The header of a new node.
+    pub fn header(self, id: u16) -> Header
+        ensures { result ≡ header_of (fresh id (payload_of self)) }
+    {
+        Header {
+            kind: self.kind(),
+            id,
+            count: 1,
+            children: 0,
+        }
+    }
+}
+
+/// The front of a node. `count` is how often it is held.
+#[derive(Clone, Copy, Debug, PartialEq, Eq)]
+pub struct Header {
+    pub kind: Kind,
+    pub id: u16,
+    pub count: u16,
+    pub children: u16,
+}
+
+impl Header {
+    /// The bytes of the whole node.
+    pub fn size(self) -> u32
+        ensures { result ≡ size_of_header self }
+    {
+        match self.kind {
+            Kind::Num => 40,
+            Kind::Sym => 16,
+            _ => 8,
+        }
+    }
+}

@@ -1,0 +1,121 @@
+//! Names of symbols.
+ghost use Rattle.std.specs.Prelude.{◌≡◌, ◌↔◌, IfSome, IsSome, is_some, length, codes};
+ghost use Rattle.calc_terms.specs.Name.{HoldsName, is_name, IsName, begins_with_letter, is_name_byte, is_reserved};
+ghost use Rattle.std.specs.List.{list_all};
+
+/// A name of one to seven bytes, with zeros behind it to eight.
+#[derive(Clone, Copy, Debug, PartialEq, Eq)]
+pub struct Name {
+    text: [u8; 8],
+    ghost holds_name: { HoldsName text },
+}
+
+impl Name {
+    ghost use Rattle.calc_terms.specs.Leaf.{name_of};
+
+    /// The name that these bytes are.
+    pub fn read(bytes: &[u8]) -> Option<Name>
+        ensures value { IfSome result (λ name. name_of name ≡ bytes.now) }
+        ensures exactly { is_some result ≡ is_name bytes.now }
+        ensures in_words { IsSome result ↔ IsName bytes.now }
+    {
+        if !is_name(bytes) {
+            return None;
+        }
+        let mut text = [0; 8];
+        text[..bytes.len()].copy_from_slice(bytes);
+        Some(Name { text })
+    }
+
+    /// The name of the last answer.
+    pub fn ans() -> Name
+        ensures { name_of result ≡ codes "ans" }
+    {
+        Name {
+            text: *b"ans\0\0\0\0\0",
+        }
+    }
+
+    pub fn len(&self) -> usize
+        ensures { result ≡ length (name_of self.now) }
+    {
+        let mut len = 0;
+        while len < 8 && self.text[len] != 0 {
+            len += 1;
+        }
+        len
+    }
+
+    /// The name without the zeros.
+    pub fn bytes(&self) -> &[u8]
+        ensures value { result.now ≡ name_of self.now }
+        ensures name { IsName result.now }
+    {
+        &self.text[..self.len()]
+    }
+}
+
+fn is_name(bytes: &[u8]) -> bool
+    ensures { result ≡ is_name bytes.now }
+{
+    begins_with_letter(bytes) && is_spelled(bytes) && bytes.len() <= 7 && !is_reserved(bytes)
+}
+
+fn begins_with_letter(bytes: &[u8]) -> bool
+    ensures { result ≡ begins_with_letter bytes.now }
+{
+    match bytes.first() {
+        Some(first) => first.is_ascii_alphabetic(),
+        None => false,
+    }
+}
+
+fn is_spelled(bytes: &[u8]) -> bool
+    ensures { result ≡ list_all is_name_byte bytes.now }
+{
+    bytes.iter().all(|b| b.is_ascii_alphanumeric())
+}
+
+fn is_reserved(bytes: &[u8]) -> bool
+    ensures { result ≡ is_reserved bytes.now }
+{
+    bytes == b"sqrt".as_slice() || bytes == b"undef".as_slice()
+}
+
+#[cfg(test)]
+mod tests {
+    use super::*;
+
+    #[test]
+    fn reads_exactly_names(rt: HostRuntime) {
+        let rows: [(&[u8], bool); 16] = [
+            (b"x", true),
+            (b"Z", true),
+            (b"ans", true),
+            (b"abc1234", true),
+            (b"x9y", true),
+            (b"sqr", true),
+            (b"sqrt1", true),
+            (b"Undef", true),
+            (b"", false),
+            (b"9x", false),
+            (b"abc12345", false),
+            (b"a b", false),
+            (b"x_1", false),
+            (b"sqrt", false),
+            (b"undef", false),
+            (b"\xc3\xa9", false),
+        ];
+        for (bytes, is_name) in rows {
+            match Name::read(bytes) {
+                Some(name) => {
+                    assert!(rt; is_name, "{:?} is no name", bytes);
+                    assert_eq!(rt; name.bytes(), bytes);
+                    assert_eq!(rt; name.len(), bytes.len());
+                }
+                None => assert!(rt; !is_name, "{:?} is a name", bytes),
+            }
+        }
+        assert_eq!(rt; Name::ans().bytes(), b"ans".as_slice());
+    }
+}
