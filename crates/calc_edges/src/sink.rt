@@ -1,0 +1,38 @@
+ghost use Rattle.std.specs.Prelude.{◌≡◌, ℕ, ◌<◌, Option, List, length, take, IfOk, OnOk, OnErr};
+ghost use Rattle.std.specs.Io.{WritesAtMost};
+ghost use Rattle.std.specs.Io.KnownBytes.{Appends, Keeps};
+ghost use Rattle.calc_edges.specs.Faults.{HasCause};
+ghost use Rattle.calc_edges.specs.Taken.{AppendsPart};
+
+use crate::Failed;
+
+/// What bytes are written to.
+pub trait Sink {
+    /// The bytes that were taken so far, where the sink tells them.
+    ghost taken: { Self → Option (List ℕ) };
+
+    /// How often the sink has failed, up to 2^64 - 1.
+    ghost faults: { Self → ℕ };
+
+    /// Takes bytes from the front of `from`, and answers how many. Another write may follow a failed one.
+    fn write(&mut self, from: &[u8]) -> Result<usize, Failed>
+        ensures bound { WritesAtMost result from.now }
+        ensures progress { IfOk result (λ n. 0 < length from.now → 0 < n) }
+        ensures appended { IfOk result (λ n. Appends (taken self.old) (taken self.new) (take n from.now)) }
+        ensures kept { OnErr result (Keeps (taken self.old) (taken self.new)) }
+        ensures cause { HasCause (faults self.old) (faults self.new) result };
+}
+
+/// Writes all the bytes, by as many writes as it takes. At the first write that fails it stops.
+pub fn write_all<K: Sink>(sink: &mut K, bytes: &[u8]) -> Result<(), Failed>
+    ensures appended { OnOk result (Appends (K.taken sink.old) (K.taken sink.new) bytes.now) }
+    ensures part { OnErr result (AppendsPart (K.taken sink.old) (K.taken sink.new) bytes.now) }
+    ensures cause { HasCause (K.faults sink.old) (K.faults sink.new) result }
+{
+    let mut rest = bytes;
+    while !rest.is_empty() {
+        let count = sink.write(rest)?;
+        rest = &rest[count..];
+    }
+    Ok(())
+}

@@ -1,0 +1,27 @@
+ghost use Rattle.std.specs.Prelude.{◌≡◌, ℕ, ◌<◌, Option, List, length, take, IfOk, OnErr};
+ghost use Rattle.std.specs.Io.{ReadsAtMost};
+ghost use Rattle.std.specs.Io.KnownBytes.{Consumes, IsAtEnd, Keeps};
+ghost use Rattle.calc_edges.specs.Faults.{HasCause};
+
+/// A read that gave nothing, or a write that took nothing, since the source or the sink failed.
+#[derive(Clone, Copy, Debug, PartialEq, Eq)]
+pub struct Failed;
+
+/// What bytes are read from.
+pub trait Source {
+    /// The bytes that are still to be read, where the source tells them.
+    ghost told: { Self → Option (List ℕ) };
+
+    /// How often the source has failed, up to 2^64 - 1.
+    ghost faults: { Self → ℕ };
+
+    /// Puts the next bytes at the front of `into`, and answers how many. No byte for an `into` that is
+    /// not empty is the end of the input. What stands behind the bytes given is left open, and so is all
+    /// of `into` at `Failed`; another read may follow.
+    fn read(&mut self, into: &mut [u8]) -> Result<usize, Failed>
+        ensures bound { ReadsAtMost result into.new }
+        ensures given { IfOk result (λ n. Consumes (told self.old) (told self.new) (take n into.new)) }
+        ensures end { IfOk result (λ n. n ≡ 0 → 0 < length into.new → IsAtEnd (told self.new)) }
+        ensures kept { OnErr result (Keeps (told self.old) (told self.new)) }
+        ensures cause { HasCause (faults self.old) (faults self.new) result };
+}
