@@ -1,4 +1,5 @@
 pub mod Faults
 pub mod MemSink
 pub mod MemSource
+pub mod StdEdges
 pub mod Taken

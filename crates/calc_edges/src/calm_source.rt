@@ -7,7 +7,7 @@ use crate::{Failed, Source};
 use std::marker::Model;
 
 /// A source over bytes in memory that never fails.
-#[derive(Drop)]
+#[derive(Debug, Drop)]
 pub struct CalmSource {
     bytes: Vec<u8>,
     given: usize,

@@ -6,7 +6,7 @@ use crate::{CalmSource, Failed, Source};
 use std::marker::Model;
 
 /// A source over bytes in memory that gives them in pieces, and fails at chosen calls.
-#[derive(Drop)]
+#[derive(Debug, Drop)]
 pub struct MemSource {
     rest: CalmSource,
     piece: usize,

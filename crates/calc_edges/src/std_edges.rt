@@ -1,10 +1,15 @@
-ghost use Rattle.std.specs.Prelude.{◌≡◌, ℕ};
+ghost use Rattle.std.specs.Prelude.{◌≡◌, ℕ, ◌<◌, length, is_ok, if◌then◌else◌, IfOk};
+ghost use Rattle.std.specs.Io.{ReadsAtMost, WritesAtMost};
+ghost use Rattle.std.specs.Io.KnownBytes.{ReadConsumes, WriteAppends};
+ghost use Rattle.calc_edges.specs.Faults.{HasCause, next_count};
+ghost use Rattle.calc_edges.specs.StdEdges.{reader_of, read_faults, writer_of, write_faults};
 
 use crate::{Failed, Sink, Source};
 use std::io::{Read, Write};
 
 /// A source over a reader of std. It tells the bytes that the reader has left, where the reader says.
-#[derive(Drop)]
+/// Each error of the reader is a failure, also an interrupted read.
+#[derive(Debug, Drop)]
 pub struct StdSource<R> {
     reader: R,
     faults: u64,
@@ -12,19 +17,25 @@ pub struct StdSource<R> {
 
 impl<R: Read> StdSource<R> {
     pub fn new(reader: R) -> StdSource<R>
-        ensures told { ⟦<StdSource<R> as Source>⟧.told result ≡ R.remaining reader }
-        ensures faults { ⟦<StdSource<R> as Source>⟧.faults result ≡ 0 }
+        ensures reader { reader_of result ≡ reader }
+        ensures faults { read_faults result ≡ 0 }
     {
         StdSource { reader, faults: 0 }
     }
 }
 
 impl<R: Read> Source for StdSource<R> {
-    ghost told = { λ s. R.remaining s.reader };
+    ghost told = { λ s. R.remaining (reader_of s) };
 
-    ghost faults = { λ s. s.faults };
+    ghost faults = { read_faults };
 
-    fn read(&mut self, into: &mut [u8]) -> Result<usize, Failed> {
+    fn read(&mut self, into: &mut [u8]) -> Result<usize, Failed>
+        ensures bound { ReadsAtMost result into.new }
+        ensures bytes { ReadConsumes (R.remaining (reader_of self.old)) (R.remaining (reader_of self.new)) result into.new }
+        ensures counted { read_faults self.new
+            ≡ (if is_ok result then read_faults self.old else next_count (read_faults self.old)) }
+        ensures cause { HasCause (read_faults self.old) (read_faults self.new) result }
+    {
         match self.reader.read(into) {
             Ok(count) => Ok(count),
             Err(_) => {
@@ -36,7 +47,8 @@ impl<R: Read> Source for StdSource<R> {
 }
 
 /// A sink over a writer of std. It tells the bytes that the writer holds, where the writer says.
-#[derive(Drop)]
+/// Each error of the writer is a failure, and so is a write of some bytes that takes none.
+#[derive(Debug, Drop)]
 pub struct StdSink<W> {
     writer: W,
     faults: u64,
@@ -44,19 +56,26 @@ pub struct StdSink<W> {
 
 impl<W: Write> StdSink<W> {
     pub fn new(writer: W) -> StdSink<W>
-        ensures taken { ⟦<StdSink<W> as Sink>⟧.taken result ≡ W.contents writer }
-        ensures faults { ⟦<StdSink<W> as Sink>⟧.faults result ≡ 0 }
+        ensures writer { writer_of result ≡ writer }
+        ensures faults { write_faults result ≡ 0 }
     {
         StdSink { writer, faults: 0 }
     }
 }
 
 impl<W: Write> Sink for StdSink<W> {
-    ghost taken = { λ s. W.contents s.writer };
+    ghost taken = { λ s. W.contents (writer_of s) };
 
-    ghost faults = { λ s. s.faults };
+    ghost faults = { write_faults };
 
-    fn write(&mut self, from: &[u8]) -> Result<usize, Failed> {
+    fn write(&mut self, from: &[u8]) -> Result<usize, Failed>
+        ensures bound { WritesAtMost result from.now }
+        ensures progress { IfOk result (λ n. 0 < length from.now → 0 < n) }
+        ensures bytes { WriteAppends (W.contents (writer_of self.old)) (W.contents (writer_of self.new)) result from.now }
+        ensures counted { write_faults self.new
+            ≡ (if is_ok result then write_faults self.old else next_count (write_faults self.old)) }
+        ensures cause { HasCause (write_faults self.old) (write_faults self.new) result }
+    {
         match self.writer.write(from) {
             Ok(count) if count > 0 || from.is_empty() => Ok(count),
             _ => {

@@ -1,0 +1,14 @@
+use Rattle.std.proofs.Common.{◌++◌, take, arith}
+use Rattle.std.proofs.KnownBytes.{Appends-trans, Consumes-trans}
+use Rattle.calc_edges.proofs.tests.pour.Goals as goal
+
+pub loop-preserved : goal.loop-preserved
+loop-preserved g c =
+    let (bytes, given, taken, read_later, write_later) = c.loop.invariant in
+    let more = take c.in_ok-count.count c.read.new.into in (
+      bytes ++ more,
+      Consumes-trans _ _ _ _ _ given c.in_ok-count.ensures.given,
+      Appends-trans _ _ _ _ _ taken c.in_ok-write_all.ensures.appended,
+      omega (arith, c.read.ensures.cause.later),
+      omega (arith, c.write_all.ensures.cause.later),
+    )
