@@ -1,6 +1,5 @@
-ghost use Rattle.std.specs.Prelude.{◌≡◌, ℕ, ◌+◌, ◌-◌, ◌<◌, ◌≤◌, ◌⊎◌, ◌↔◌, List, [], ◌++◌, length, take, min, Some, IfOk, OnErr, IsErr, Contains};
+ghost use Rattle.std.specs.Prelude.{◌≡◌, ◌-◌, ◌<◌, ◌≤◌, ◌⊎◌, ◌↔◌, [], ◌++◌, length, take, min, Some, IfOk, OnErr, IsErr, Contains};
 ghost use Rattle.calc_edges.specs.Faults.{HasCause, next_count};
-ghost use Rattle.calc_edges.specs.MemSink.{SinkState};
 
 use crate::{Failed, Sink};
 use std::alloc::{AllocError, Global};
@@ -23,7 +22,14 @@ impl Model for MemSink {
 
     ghost Value = { SinkState };
 
-    ghost view = { λ s. record { taken = s.bytes.items; room = s.room; piece = s.piece; failing = s.failing.items; calls = s.calls; faults = s.faults } };
+    ghost view = { λ s. record {
+      taken = s.bytes.items;
+      room = s.room;
+      piece = s.piece;
+      failing = s.failing.items;
+      calls = s.calls;
+      faults = s.faults;
+    } };
 
     ghost invariant = { λ s. (1 ≤ s.piece) × (vec_len s.bytes + s.room ≤ vec_capacity s.bytes) };
 }
@@ -39,8 +45,14 @@ impl MemSink {
         failing: Vec<u64>,
     ) -> Result<MemSink, AllocError>
         requires { 1 ≤ piece }
-        ensures { IfOk result (λ sink. sink
-            ≡ record { taken = []; room = room; piece = piece; failing = failing.items; calls = 0; faults = 0 }) }
+        ensures { IfOk result (λ sink. sink ≡ record {
+          taken = [];
+          room = room;
+          piece = piece;
+          failing = failing.items;
+          calls = 0;
+          faults = 0;
+        }) }
     {
         Ok(MemSink {
             bytes: Vec::with_capacity(alloc, room)?,
@@ -68,12 +80,22 @@ impl Sink for MemSink {
     fn write(&mut self, from: &[u8]) -> Result<usize, Failed>
         ensures failed { IsErr result ↔ ((0 < length from.now)
             × ((self.old.room ≡ 0) ⊎ Contains self.old.failing (next_count self.old.calls))) }
-        ensures count { IfOk result (λ n. n ≡ min self.old.piece (min (length from.now) self.old.room)) }
-        ensures progress { IfOk result (λ n. 0 < length from.now → 0 < n) }
-        ensures appended { IfOk result (λ n. self.new
-            ≡ record self.old { taken = self.old.taken ++ take n from.now; room = self.old.room - n; calls = next_count self.old.calls }) }
+
+        // How many bytes are taken, and which.
+        ensures count { IfOk result (λ n. n
+            ≡ min self.old.piece (min (length from.now) self.old.room)) }
+        ensures appended { IfOk result (λ n. self.new ≡ record self.old {
+          taken = self.old.taken ++ take n from.now;
+          room = self.old.room - n;
+          calls = next_count self.old.calls;
+        }) }
+
+        // A write that fails is counted, and takes nothing.
         ensures counted { OnErr result (self.new
             ≡ record self.old { calls = next_count self.old.calls; faults = next_count self.old.faults }) }
+
+        // What the trait asks beside that.
+        ensures progress { IfOk result (λ n. 0 < length from.now → 0 < n) }
         ensures cause { HasCause self.old.faults self.new.faults result }
     {
         self.calls = self.calls.saturating_add(1);

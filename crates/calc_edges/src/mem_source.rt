@@ -1,6 +1,5 @@
-ghost use Rattle.std.specs.Prelude.{◌≡◌, ℕ, ◌<◌, ◌≤◌, ◌↔◌, List, [], ◌++◌, length, take, drop, min, Some, IfOk, OnErr, IsErr, Contains};
+ghost use Rattle.std.specs.Prelude.{◌≡◌, ◌<◌, ◌≤◌, ◌↔◌, [], ◌++◌, length, take, drop, min, Some, IfOk, OnErr, IsErr, Contains};
 ghost use Rattle.calc_edges.specs.Faults.{HasCause, next_count};
-ghost use Rattle.calc_edges.specs.MemSource.{SourceState};
 
 use crate::{CalmSource, Failed, Source};
 use std::marker::Model;
@@ -21,7 +20,13 @@ impl Model for MemSource {
 
     ghost Value = { SourceState };
 
-    ghost view = { λ s. record { left = s.rest; piece = s.piece; failing = s.failing.items; calls = s.calls; faults = s.faults } };
+    ghost view = { λ s. record {
+      left = s.rest;
+      piece = s.piece;
+      failing = s.failing.items;
+      calls = s.calls;
+      faults = s.faults;
+    } };
 
     ghost invariant = { λ s. 1 ≤ s.piece };
 }
@@ -31,7 +36,8 @@ impl MemSource {
     /// counted from 1, stand in `failing` fail and give nothing. A number stops at 2^64 - 1.
     pub fn new(bytes: Vec<u8>, piece: usize, failing: Vec<u64>) -> MemSource
         requires { 1 ≤ piece }
-        ensures { result ≡ record { left = bytes.items; piece = piece; failing = failing.items; calls = 0; faults = 0 } }
+        ensures { result
+            ≡ record { left = bytes.items; piece = piece; failing = failing.items; calls = 0; faults = 0 } }
     {
         MemSource {
             rest: CalmSource::new(bytes),
@@ -50,13 +56,20 @@ impl Source for MemSource {
 
     fn read(&mut self, into: &mut [u8]) -> Result<usize, Failed>
         ensures failed { IsErr result ↔ Contains self.old.failing (next_count self.old.calls) }
-        ensures count { IfOk result (λ n. n ≡ min self.old.piece (min (length into.old) (length self.old.left))) }
+
+        // How many bytes are given, and which.
+        ensures count { IfOk result (λ n. n
+            ≡ min self.old.piece (min (length into.old) (length self.old.left))) }
         ensures copied { IfOk result (λ n. into.new ≡ take n self.old.left ++ drop n into.old) }
         ensures left { IfOk result (λ n. self.new
             ≡ record self.old { left = drop n self.old.left; calls = next_count self.old.calls }) }
+
+        // A call that fails is counted, and gives nothing.
         ensures counted { OnErr result (self.new
             ≡ record self.old { calls = next_count self.old.calls; faults = next_count self.old.faults }) }
         ensures nothing { OnErr result (into.new ≡ into.old) }
+
+        // What the trait asks beside that.
         ensures end { IfOk result (λ n. n ≡ 0 → 0 < length into.new → self.new.left ≡ []) }
         ensures cause { HasCause self.old.faults self.new.faults result }
     {

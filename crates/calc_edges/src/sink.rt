@@ -17,8 +17,12 @@ pub trait Sink {
     /// Takes bytes from the front of `from`, and answers how many. Another write may follow a failed one.
     fn write(&mut self, from: &[u8]) -> Result<usize, Failed>
         ensures bound { WritesAtMost result from.now }
-        ensures progress { IfOk result (λ n. 0 < length from.now → 0 < n) }
+
+        // The bytes taken are appended to those told, and at least one of some is taken.
         ensures appended { IfOk result (λ n. Appends (taken self.old) (taken self.new) (take n from.now)) }
+        ensures progress { IfOk result (λ n. 0 < length from.now → 0 < n) }
+
+        // A write that fails takes nothing, and the count of failures rose.
         ensures kept { OnErr result (Keeps (taken self.old) (taken self.new)) }
         ensures cause { HasCause (faults self.old) (faults self.new) result };
 }
@@ -26,6 +30,7 @@ pub trait Sink {
 /// Writes all the bytes, by as many writes as it takes. At the first write that fails it stops.
 pub fn write_all<K: Sink>(sink: &mut K, bytes: &[u8]) -> Result<(), Failed>
     ensures appended { OnOk result (Appends (K.taken sink.old) (K.taken sink.new) bytes.now) }
+    // The bytes taken before a write that failed are a prefix, and some were not taken.
     ensures part { OnErr result (AppendsPart (K.taken sink.old) (K.taken sink.new) bytes.now) }
     ensures cause { HasCause (K.faults sink.old) (K.faults sink.new) result }
 {

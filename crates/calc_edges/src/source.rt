@@ -20,8 +20,12 @@ pub trait Source {
     /// of `into` at `Failed`; another read may follow.
     fn read(&mut self, into: &mut [u8]) -> Result<usize, Failed>
         ensures bound { ReadsAtMost result into.new }
+
+        // The bytes given are a prefix of those told, and none are given only where none are left.
         ensures given { IfOk result (λ n. Consumes (told self.old) (told self.new) (take n into.new)) }
         ensures end { IfOk result (λ n. n ≡ 0 → 0 < length into.new → IsAtEnd (told self.new)) }
+
+        // A read that fails gives nothing, and the count of failures rose.
         ensures kept { OnErr result (Keeps (told self.old) (told self.new)) }
         ensures cause { HasCause (faults self.old) (faults self.new) result };
 }
