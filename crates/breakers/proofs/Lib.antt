@@ -1,0 +1,5 @@
+pub mod Polling
+pub mod Arming
+pub mod Sweeping
+pub mod Determined
+pub mod Runs

@@ -1,0 +1,9 @@
+use Rattle.std.proofs.Common.{rules, ◌==◌}
+use Rattle.std.proofs.lemmas.List.Elements.{filter_from_retain}
+use Rattle.breakers.proofs.Sweeping.{kept_states}
+use Rattle.breakers.proofs.watch.Watch.sweep.Goals as goal
+
+pub returns : goal.returns
+returns g c =
+    kept_states (λ b. (goal.Breaker-dyn g (b.vtable, b.value)).state b.value) _ _
+    (filter_from_retain _ (λ b. ((goal.Breaker-dyn g (b.vtable, b.value)).state b.value).trips == 0) (λ p x b q k. search rules) _ _ _ c.retain.ensures.filtered)

@@ -1,0 +1,6 @@
+pub mod State
+pub mod Breakers
+pub mod Laws
+pub mod CountBreaker
+pub mod NeverBreaker
+pub mod Watch

@@ -1,0 +1,156 @@
+//! A list of breakers that are polled in order.
+ghost use Rattle.std.specs.Prelude.{◌≡◌, ◌==◌, ℕ, ◌^◌, ◌<◌, ◌↔◌, map, length, vec_len, None, OnOk, IfErr};
+ghost use Rattle.std.specs.List.{list_any};
+ghost use Rattle.std.specs.Bool.{OnFalse};
+ghost use Rattle.breakers.specs.State.{Polls, armed_after};
+ghost use Rattle.breakers.specs.Breakers.{Check, TripsRose, armed_first, kept};
+
+use crate::breaker::Breaker;
+
+/// The calculation is to stop.
+#[derive(Clone, Copy, PartialEq, Eq, Debug)]
+pub struct Interrupted {
+    /// The place in the watch, counted from 0, of the breaker that tripped.
+    pub by: u32,
+}
+
+/// Breakers that are polled together. A clause sees a watch as the list of their states.
+#[derive(Drop)]
+pub struct Watch {
+    breakers: Vec<Box<dyn Breaker>>,
+    ghost numbered: { length breakers.items < 2 ^ 32 },
+}
+
+impl Watch {
+    ghost use Rattle.breakers.specs.Watch.{states};
+
+    /// A watch over these breakers, which are polled in this order.
+    pub fn new(breakers: Vec<Box<dyn Breaker>>) -> Self
+        requires { vec_len breakers < 2 ^ 32 }
+        ensures { states state result ≡ map state breakers.items }
+    {
+        Watch { breakers }
+    }
+
+    /// The number of breakers.
+    pub fn len(&self) -> u32
+        ensures { result ≡ length (states state self.now) }
+    {
+        self.breakers.len() as u32
+    }
+
+    /// Polls the breakers in order, up to the first that trips.
+    pub fn check(&mut self) -> Result<(), Interrupted>
+        ensures calm { OnOk result (Check (states state self.old) (states state self.new) None) }
+        ensures interrupted { IfErr result (λ i. Check (states state self.old) (states state self.new) (Some i.by)) }
+        ensures by_the_one_whose_trips_rose { (place : ℕ) → (result ≡ Err (record { by = place }))
+            ↔ TripsRose (states state self.old) (states state self.new) place }
+    {
+        for (place, breaker) in self.breakers.iter_mut().enumerate() {
+            if polled(breaker) {
+                return Err(Interrupted { by: place as u32 });
+            }
+        }
+        Ok(())
+    }
+
+    /// Arms the first breaker that can be armed, and tells whether there is one: `k` more polls of that
+    /// breaker pass, and the one after them trips.
+    pub fn arm_first(&mut self, k: u64) -> bool
+        ensures armed { states state self.new ≡ armed_first k (states state self.old) }
+        ensures whether_one_can_be { result ≡ list_any (λ b. b.can_be_armed) (states state self.old) }
+        ensures false_changes_nothing { OnFalse result (states state self.new ≡ states state self.old) }
+    {
+        for breaker in self.breakers.iter_mut() {
+            if armed(breaker, k) {
+                return true;
+            }
+        }
+        false
+    }
+
+    /// Drops the breakers that have tripped, and keeps the others in their order.
+    pub fn sweep(&mut self)
+        ensures { states state self.new ≡ kept (states state self.old) }
+    {
+        self.breakers.retain(
+            |breaker: &Box<dyn Breaker>| -> bool
+                ensures { result ≡ ((state breaker.now).trips == 0) }
+            { !breaker.spent() },
+        );
+    }
+}
+
+// One step of `check`.
+fn polled(breaker: &mut Box<dyn Breaker>) -> bool
+    ensures { Polls (state breaker.old) (state breaker.new) result }
+{
+    breaker.poll()
+}
+
+// One step of `arm_first`: arms the breaker where it can be, and tells whether it can.
+fn armed(breaker: &mut Box<dyn Breaker>, k: u64) -> bool
+    ensures answer { result ≡ (state breaker.old).can_be_armed }
+    ensures plan { state breaker.new ≡ armed_after k (state breaker.old) }
+{
+    let arms = breaker.arms();
+    if arms {
+        breaker.arm(k);
+    }
+    arms
+}
+
+#[cfg(test)]
+mod tests {
+    use super::*;
+    use crate::{CountBreaker, NeverBreaker};
+    use std::test::Fail;
+
+    #[derive(Drop)]
+    enum Step {
+        Arm(u64, bool),
+        Check(Result<(), Interrupted>),
+        Sweep(u32),
+    }
+
+    #[test]
+    fn arms_trips_and_sweeps(rt: HostRuntime) -> Result<(), Fail> {
+        let alloc = rt.alloc();
+        let mut last = CountBreaker::new();
+        last.arm(3);
+        let mut breakers: Vec<Box<dyn Breaker>> = Vec::new(alloc);
+        breakers.push(Box::new(alloc, NeverBreaker::new())?)?;
+        breakers.push(Box::new(alloc, CountBreaker::new())?)?;
+        breakers.push(Box::new(alloc, last)?)?;
+        assert_eq!(rt; breakers.len(), 3);
+        let mut watch = Watch::new(breakers);
+        for (row, step) in [
+            Step::Check(Ok(())),
+            Step::Arm(0, true),
+            // The last breaker has let one poll pass, and is not polled here.
+            Step::Check(Err(Interrupted { by: 1 })),
+            Step::Check(Ok(())),
+            Step::Check(Ok(())),
+            Step::Check(Err(Interrupted { by: 2 })),
+            Step::Arm(1, true),
+            Step::Check(Ok(())),
+            Step::Check(Err(Interrupted { by: 1 })),
+            Step::Sweep(1),
+            Step::Arm(0, false),
+            Step::Check(Ok(())),
+        ]
+        .into_iter()
+        .enumerate()
+        {
+            match step {
+                Step::Arm(k, found) => assert_eq!(rt; watch.arm_first(k), found, "row {row}"),
+                Step::Check(answer) => assert_eq!(rt; watch.check(), answer, "row {row}"),
+                Step::Sweep(left) => {
+                    watch.sweep();
+                    assert_eq!(rt; watch.len(), left, "row {row}");
+                }
+            }
+        }
+        Ok(())
+    }
+}
