@@ -11,7 +11,10 @@ use Rattle.calc_terms.specs.SquareClasses.{Same}
 use Rattle.calc_terms.specs.Meanings.{Assignment, Means, MeansSum, MeansProduct, IsPower, IsWholePower}
 use Rattle.calc_terms.specs.Grammar.{SoFar, single, summed, multiplied, as_tree}
 use Rattle.calc_terms.specs.Faces.{face, has_minus, with_minus, unsigned_face, unless_one, product_of, fraction_of, power_below, exponent_below, below_zero, factor_above, factor_below, factors_above, factors_below, face_of_sum, next_term, next_terms}
-use Rattle.calc_terms.specs.Reduced.{none_is}
+use Rattle.std.proofs.Common.{inl, inr}
+use Rattle.calc_terms.specs.Numbers.{is_radicand, is_number, IsTerm}
+use Rattle.calc_terms.specs.Reduced.{none_is, num_one, split, split_product, is_reduced, NoneIs, HasForm, IsReduced}
+use Rattle.calc_terms.proofs.ReducedLaws.{reduced_words, AllParts-map}
 use Rattle.calc_terms.proofs.SurdLaws.{Agree, Agree-refl, Agree-sym, Agree-trans, Agree-eq, Agree-Same, Agree-append, Agree-surd_times, Agree-surd_times_right, surd_times_assoc, surd_times-surd_one, surd_times-one, surd_times_left_comm, surd_times-surd_of, inverse_times, inverse_power}
 use Rattle.calc_terms.proofs.SquareClassLaws.{Same-Agree}
 use Rattle.calc_terms.proofs.MeaningLaws.{Means-Same, surd_of_one, whole_one}
@@ -294,3 +297,50 @@ module _ (f : Assignment) where
 -- a face means what its tree means
 pub face_means : (t : Tree) → AllParts LeadsOnly t → (f : Assignment) (v : Surd) → Means t f v → Means (face t) f v
 face_means t h f v m = with_sign f t v (unsigned f t h v m)
+
+-- ---- reduced trees
+
+none_num : (ts : Trees) → NoneIs is_number ts → none_is is_num ts ≡ true
+unfolding is_number
+none_num none h = refl
+none_num (more (num q) ts) h = cc
+none_num (more t ts) h = none_num ts h.1
+
+-- a product of one term has a rational in front at most
+number_leads : (t : Tree) (ts : Trees) → IsTerm (mult (more t ts)) → none_is is_num ts ≡ true
+number_leads (num q) (more (root (num r)) none) h = refl
+number_leads _ _ h = absurd h
+
+-- in a product's form there is none behind the coefficient
+product_leads : (t : Tree) (ts : Trees) → NoneIs is_number (split_product (more t ts)).factors → none_is is_num ts ≡ true
+product_leads (num q) (more (root (num r)) ts) h = by (is_radicand r) h
+  where
+    by : (k : Bool) → NoneIs is_number (if k then split (mult (more (num q) (more (root (num r)) none))) ts else split (num q) (more (root (num r)) ts)).factors → none_is is_num ts ≡ true
+    by true h = none_num ts h
+    by false h = none_num ts h.1
+product_leads (num q) ts h = none_num ts h
+product_leads (root (num r)) ts h = by (is_radicand r) h
+  where
+    by : (k : Bool) → NoneIs is_number (if k then split (root (num r)) ts else split num_one (more (root (num r)) ts)).factors → none_is is_num ts ≡ true
+    by true h = none_num ts h
+    by false h = none_num ts h.1
+product_leads (add us) ts h = by (is_number (add us)) h
+  where
+    by : (k : Bool) → NoneIs is_number (if k then split (add us) ts else split num_one (more (add us) ts)).factors → none_is is_num ts ≡ true
+    by true h = none_num ts h
+    by false h = none_num ts h.1
+product_leads t ts h = none_num ts h.1
+
+form_leads : (t : Tree) → HasForm t → LeadsOnly t
+form_leads (mult none) h = tt
+form_leads (mult (more t ts)) (inl h) = number_leads t ts h
+form_leads (mult (more t ts)) (inr h) = product_leads t ts h.no_number
+form_leads _ h = tt
+
+-- the face of a reduced tree keeps its meanings
+pub reduced_face_means : (t : Tree) → is_reduced t ≡ true → (f : Assignment) (v : Surd) → Means t f v → Means (face t) f v
+reduced_face_means t h f v m = by (reduced_words t h)
+  where
+    by : IsReduced t → Means (face t) f v
+    by (inl e) = absurd (subst (λ u. Means u f v) e m)
+    by (inr g) = face_means t (AllParts-map HasForm LeadsOnly form_leads t g) f v m

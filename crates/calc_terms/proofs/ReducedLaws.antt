@@ -251,6 +251,24 @@ module _ (p : Tree → Bool) (P : Tree → Type 0) where
     all_parts_of_test f none h = refl
     all_parts_of_test f (more t ts) h = and_from _ _ (all_parts_test f t h.0) (all_parts_of_test f ts h.1)
 
+module _ (P Q : Tree → Type 0) (f : (t : Tree) → P t → Q t) where
+  mutual
+    pub AllParts-map : (t : Tree) → AllParts P t → AllParts Q t
+    AllParts-map (num q) h = f (num q) h
+    AllParts-map (symbol x) h = f (symbol x) h
+    AllParts-map undef h = f undef h
+    AllParts-map (add ts) h = (f (add ts) h.0, AllPartsOf-map ts h.1)
+    AllParts-map (mult ts) h = (f (mult ts) h.0, AllPartsOf-map ts h.1)
+    AllParts-map (power b e) h = (f (power b e) h.0, AllParts-map b h.1, AllParts-map e h.2)
+    AllParts-map (root a) h = (f (root a) h.0, AllParts-map a h.1)
+    AllParts-map (neg a) h = (f (neg a) h.0, AllParts-map a h.1)
+    AllParts-map (sub a b) h = (f (sub a b) h.0, AllParts-map a h.1, AllParts-map b h.2)
+    AllParts-map (div a b) h = (f (div a b) h.0, AllParts-map a h.1, AllParts-map b h.2)
+
+    pub AllPartsOf-map : (ts : Trees) → AllPartsOf P ts → AllPartsOf Q ts
+    AllPartsOf-map none h = tt
+    AllPartsOf-map (more t ts) h = (AllParts-map t h.0, AllPartsOf-map ts h.1)
+
 undef_words : (t : Tree) → is_undef t ≡ true → t ≡ undef
 undef_words undef h = refl
 undef_words _ h = cc
