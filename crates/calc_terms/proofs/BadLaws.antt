@@ -1,15 +1,15 @@
 -- A Bad tree has no value, and an Easy tree has one or is Bad.
-use Rattle.std.proofs.Common.{◌≡◌, ℕ, zero, suc, ◌⊎◌, ℤ, pos, negsuc, [], ◌∷◌, ◌++◌, Bool, true, false, refl, sym, ap, ◌∙◌, arith}
+use Rattle.std.proofs.Common.{◌≡◌, ℕ, zero, suc, ◌⊎◌, ℤ, pos, negsuc, [], true, ap, ◌∙◌, arith}
 use Rattle.std.specs.Prelude.{◌≤ℤ◌}
 use Rattle.std.proofs.lemmas.Int.{ints}
 use Rattle.calc_terms.specs.Integers.{int_is_negative}
-use Rattle.calc_terms.specs.Fractions.{Fraction, zero_fraction, one_fraction, whole_fraction, lowest}
+use Rattle.calc_terms.specs.Fractions.{zero_fraction, one_fraction, whole_fraction, lowest}
 use Rattle.calc_terms.specs.Gcd.{gcd}
 use Rattle.calc_terms.specs.Trees.{Tree, undef, add, mult, power, root, neg, sub, div, Trees, none, more, IsPart, itself, in_add, in_mult, in_base, in_exponent, in_root, in_neg, in_left, in_right, in_dividend, in_divisor, IsPartOf, first, later}
-use Rattle.calc_terms.specs.Surds.{Surd, surd_one, surd_of, surd_times}
-use Rattle.calc_terms.specs.SquareClasses.{class_coefficient, Same, Inverts}
-use Rattle.calc_terms.specs.Meanings.{Means, MeansSum, MeansProduct, IsWholePower, IsRootOf, IsAssignment}
-use Rattle.calc_terms.specs.BadAndEasy.{HasValue, IsZero, IsBadNode, IsBad, IsEasy}
+use Rattle.calc_terms.specs.Surds.{Surd, surd_one}
+use Rattle.calc_terms.specs.SquareClasses.{Inverts}
+use Rattle.calc_terms.specs.Meanings.{MeansSum, MeansProduct, IsWholePower, IsRootOf, IsAssignment}
+use Rattle.calc_terms.specs.BadAndEasy.{HasValue, IsBadNode, IsBad, IsEasy}
 use Rattle.calc_terms.proofs.SurdLaws.{Agree, Agree-Same, Agree-sym, Agree-trans, Agree-eq, Agree-surd_times_right, surd_times-nil}
 use Rattle.calc_terms.proofs.SquareClassLaws.{Same-Agree}
 use Rattle.calc_terms.proofs.MeaningLaws.{one_meaning, surd_of_one, whole_one, class_coefficient-surd_of}

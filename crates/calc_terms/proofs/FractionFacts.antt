@@ -1,7 +1,10 @@
--- Equal fractions have equal cross products.
-use Rattle.std.proofs.Common.{◌≡◌, ℕ, ◌<◌, ◌*◌, ℤ, pos, ◌*ℤ◌, sym, ap, ◌∙◌, arith}
-use Rattle.calc_terms.specs.Integers.{parts, diffs, eq_diff, combine, cancel_pos}
-use Rattle.calc_terms.specs.Fractions.{lowest, lowest_cross, den_pos}
+-- Equal fractions have equal cross products, and the tests for 0 and 1.
+use Rattle.std.proofs.Common.{zero, suc, negsuc, true, false, not, ◌==◌, refl, ◌≢◌, ◌≡◌, ℕ, ◌<◌, ℤ, pos, ◌*ℤ◌, sym, ap, ◌∙◌, arith}
+use Rattle.std.proofs.lemmas.Int.{ints}
+use Rattle.std.proofs.lemmas.Bool.{and_parts, eqb-true, false_from_ne_true}
+use Rattle.calc_terms.specs.Gcd.{gcd}
+use Rattle.calc_terms.specs.Integers.{int_is_zero, int_is_one, parts, diffs, eq_diff, combine, cancel_pos}
+use Rattle.calc_terms.specs.Fractions.{Fraction, lowest, zero_fraction, one_fraction, is_zero_fraction, is_one_fraction, lowest_cross, lowest_parts, same_lowest, den_pos}
 
 crossed : (x : ℤ) (d : ℕ) (p r : ℤ) (q s : ℕ) → 0 < d → x *ℤ pos q ≡ p *ℤ pos d → x *ℤ pos s ≡ r *ℤ pos d → p *ℤ pos s ≡ r *ℤ pos q
 crossed x d p r q s h e f = cancel_pos _ _ d h
@@ -11,3 +14,38 @@ pub cross_products : (p r : ℤ) (q s : ℕ) → 0 < q → 0 < s → lowest p q 
 cross_products p r q s h k e =
     crossed (lowest p q).num (lowest p q).den p r q s (den_pos (lowest p q)) (lowest_cross p q h)
     (ap (λ x. x.num *ℤ pos s) e ∙ lowest_cross r s k ∙ ap (λ x. r *ℤ pos x.den) (sym e))
+
+-- ---- the tests for 0 and 1
+
+num_zero : (z : ℤ) → int_is_zero z ≡ true → z ≡ pos 0
+num_zero (pos zero) h = refl
+num_zero (pos (suc n)) h = cc
+num_zero (negsuc n) h = cc
+
+num_one : (z : ℤ) → int_is_one z ≡ true → z ≡ pos 1
+num_one (pos zero) h = cc
+num_one (pos (suc zero)) h = refl
+num_one (pos (suc (suc n))) h = cc
+num_one (negsuc n) h = cc
+
+pub zero_is : (q : Fraction) → is_zero_fraction q ≡ true → q ≡ zero_fraction
+unfolding zero_fraction
+zero_is q h = lowest_parts q ∙ ap (λ z. lowest z q.den) (num_zero q.num h) ∙ same_lowest (pos 0) (pos 0) q.den 1 (den_pos q) (omega arith) (omega (arith, ints))
+
+pub one_is : (q : Fraction) → is_one_fraction q ≡ true → q ≡ one_fraction
+unfolding one_fraction
+one_is q h = let (a, b) = and_parts (int_is_one q.num) (q.den == 1) h in lowest_parts q ∙ (λ i. lowest (num_one q.num a i) (eqb-true q.den 1 b i))
+
+pub no_zero : (q : Fraction) → not (is_zero_fraction q) ≡ true → q ≢ zero_fraction
+unfolding zero_fraction lowest gcd
+no_zero q h e = let f : not (is_zero_fraction zero_fraction) ≡ true = ap (λ x. not (is_zero_fraction x)) (sym e) ∙ h in cc
+
+pub no_one : (q : Fraction) → not (is_one_fraction q) ≡ true → q ≢ one_fraction
+unfolding one_fraction lowest gcd
+no_one q h e = let f : false ≡ true = ap (λ x. not (is_one_fraction x)) (sym e) ∙ h in cc
+
+pub zero_test : (q : Fraction) → q ≢ zero_fraction → is_zero_fraction q ≡ false
+zero_test q h = false_from_ne_true (is_zero_fraction q) (λ e. h (zero_is q e))
+
+pub one_test : (q : Fraction) → q ≢ one_fraction → is_one_fraction q ≡ false
+one_test q h = false_from_ne_true (is_one_fraction q) (λ e. h (one_is q e))

@@ -16,6 +16,8 @@ pub mod Written
 pub mod Spelled
 pub mod ReadLaws
 pub mod NumberLaws
+pub mod NumberValues
+pub mod ReducedLaws
 pub mod Rewrites
 pub mod FaceLaws
 pub mod Names

@@ -1,11 +1,13 @@
--- The tests for clean radicands and for Numbers say what their words say.
+-- The tests for clean radicands and for Numbers say what their words say, both ways.
 use Rattle.std.proofs.Common.{◌≡◌, ℕ, zero, suc, ◌+◌, ◌*◌, ◌%◌, ◌≤◌, ◌<◌, ◌⊎◌, inl, inr, Bool, true, false, not, ◌&&◌, refl, sym, ap, ◌∙◌, arith}
-use Rattle.std.proofs.lemmas.Nat.Gcd.{mod-eq-zero_of_dvd}
+use Rattle.std.proofs.lemmas.Nat.Gcd.{mod-eq-zero_of_dvd, dvd_of_mod-eq-zero}
+use Rattle.std.proofs.lemmas.Bool.{and_from, not_from_false, le-leb}
+use Rattle.std.proofs.Common.{subst}
+use Rattle.calc_terms.proofs.FractionFacts.{no_zero, no_one, zero_test, one_test}
 use Rattle.std.proofs.lemmas.Bool.{lt-ltb, eq-eqb}
 use Prim.Native.Nat.{◌∣◌}
 use Rattle.calc_terms.specs.Clean.{left_of, is_clean, IsClean, no_square_divides}
-use Rattle.calc_terms.specs.Fractions.{Fraction, lowest, zero_fraction, one_fraction, is_one_fraction, is_zero_fraction}
-use Rattle.calc_terms.specs.Gcd.{gcd}
+use Rattle.calc_terms.specs.Fractions.{Fraction, is_one_fraction, is_zero_fraction}
 use Rattle.calc_terms.specs.Numbers.{IsRadicand, IsTerm, IsNumber, AreTerms, IsBelowAll, Rises, natural_of, terms_of, is_radicand, is_term, rises, is_number, are_terms, is_below_all}
 use Rattle.calc_terms.specs.SquareClasses.{are_alike}
 use Rattle.calc_terms.specs.SquareRoots.{square_root}
@@ -13,11 +15,8 @@ use Rattle.calc_terms.specs.Surds.{Term, Surd}
 use Rattle.calc_terms.specs.Trees.{Tree, num, add, mult, root, Trees, none, more}
 use Rattle.calc_terms.proofs.SquareRootLaws.{square_root-square}
 use Rattle.std.proofs.lemmas.Bool.{and_parts}
-use Rattle.std.proofs.Common.{◌≡◌, ◌≢◌, ℤ, pos, negsuc, [], ◌∷◌, true, false, not, ◌&&◌, nat_lt, nat_le, ◌==◌, length, refl, sym, ap, ◌∙◌}
+use Rattle.std.proofs.Common.{◌≡◌, ℤ, pos, negsuc, [], ◌∷◌, true, false, not, ◌&&◌, nat_lt, nat_le, ◌==◌, length, refl, sym, ap, ◌∙◌}
 use Rattle.std.proofs.lemmas.Bool.{ltb-true, leb-true, eqb-true, not-true}
-
-Divides : ℕ → ℕ → Type 0
-Divides d r = d * d ∣ r
 
 none_below : (steps d r e : ℕ) → no_square_divides steps d r ≡ true → d ≤ e → e < d + steps → e * e ∣ r → ⊥
 none_below zero d r e h a b x = absurd (omega arith)
@@ -55,13 +54,29 @@ clean_words r h =
     big : (s n : ℕ) → 1 < s → n ≡ s * s → 1 < n
     big s n a e = grind arith
 
-no_zero : (q : Fraction) → not (is_zero_fraction q) ≡ true → q ≢ zero_fraction
-unfolding zero_fraction lowest gcd
-no_zero q h e = let f : not (is_zero_fraction zero_fraction) ≡ true = ap (λ x. not (is_zero_fraction x)) (sym e) ∙ h in cc
+none_from : (steps d r : ℕ) → ((e : ℕ) → d ≤ e → e < d + steps → e * e ∣ r → ⊥) → no_square_divides steps d r ≡ true
+none_from zero d r h = refl
+none_from (suc steps) d r h = by (r % (d * d)) refl (none_from steps (suc d) r (λ e a b. h e (omega arith) (omega arith)))
+  where
+    by : (m : ℕ) → r % (d * d) ≡ m → no_square_divides steps (suc d) r ≡ true → (elim m [ zero ↦ false | suc m' ↦ no_square_divides steps (suc d) r ]) ≡ true
+    by zero p go = absurd (h d (omega arith) (omega arith) (dvd_of_mod-eq-zero (d * d) p))
+    by (suc m) p go = go
 
-no_one : (q : Fraction) → not (is_one_fraction q) ≡ true → q ≢ one_fraction
-unfolding one_fraction lowest gcd
-no_one q h e = let f : false ≡ true = ap (λ x. not (is_one_fraction x)) (sym e) ∙ h in cc
+pub clean_test : (r : ℕ) → IsClean r → is_clean r ≡ true
+unfolding is_clean
+clean_test r h =
+    and_from (no_square_divides 9999 2 r) _ (none_from 9999 2 r (λ d a b. h.no_square d a (omega arith)))
+    (by (nat_lt 1 (left_of r)) (square_root (left_of r) * square_root (left_of r) == left_of r) refl refl)
+  where
+    big : (s n : ℕ) → 1 < n → s * s ≡ n → 1 < s
+    big s n a e = grind arith
+
+    by : (x y : Bool) → nat_lt 1 (left_of r) ≡ x → (square_root (left_of r) * square_root (left_of r) == left_of r) ≡ y → not (x && y) ≡ true
+    by true true e f =
+        let g : square_root (left_of r) * square_root (left_of r) ≡ left_of r = eqb-true _ _ f in
+        absurd (h.no_rest (square_root (left_of r)) (big (square_root (left_of r)) (left_of r) (ltb-true 1 (left_of r) e) g) (sym g))
+    by true false e f = refl
+    by false y e f = refl
 
 radicand_words : (q : Fraction) → is_radicand q ≡ true → IsRadicand q
 radicand_words q h =
@@ -73,7 +88,7 @@ radicand_words q h =
     whole (pos n) h = refl
     whole (negsuc n) h = cc
 
-term_words : (t : Tree) → is_term t ≡ true → IsTerm t
+pub term_words : (t : Tree) → is_term t ≡ true → IsTerm t
 term_words (num q) h = no_zero q h
 term_words (root (num r)) h = radicand_words r h
 term_words (mult (more (num q) (more (root (num r)) none))) h =
@@ -82,20 +97,20 @@ term_words (mult (more (num q) (more (root (num r)) none))) h =
     (no_zero q a, no_one q b, radicand_words r c)
 term_words _ h = cc
 
-each_words : (ts : Trees) → are_terms ts ≡ true → AreTerms ts
-each_words none h = tt
-each_words (more t ts) h = let (a, b) = and_parts (is_term t) (are_terms ts) h in (term_words t a, each_words ts b)
+terms_words : (ts : Trees) → are_terms ts ≡ true → AreTerms ts
+terms_words none h = tt
+terms_words (more t ts) h = let (a, b) = and_parts (is_term t) (are_terms ts) h in (term_words t a, terms_words ts b)
 
-above_words : (t : Term) (v : Surd) → is_below_all t v ≡ true → IsBelowAll t v
-above_words t [] h = tt
-above_words t (u ∷ v) h =
+below_all_words : (t : Term) (v : Surd) → is_below_all t v ≡ true → IsBelowAll t v
+below_all_words t [] h = tt
+below_all_words t (u ∷ v) h =
     let (ab, c) = and_parts (nat_lt t.radicand u.radicand && not (are_alike t.radicand u.radicand)) (is_below_all t v) h in
     let (a, b) = and_parts (nat_lt t.radicand u.radicand) (not (are_alike t.radicand u.radicand)) ab in
-    (ltb-true t.radicand u.radicand a, not-true (are_alike t.radicand u.radicand) b, above_words t v c)
+    (ltb-true t.radicand u.radicand a, not-true (are_alike t.radicand u.radicand) b, below_all_words t v c)
 
-rises_words : (v : Surd) → rises v ≡ true → Rises v
+pub rises_words : (v : Surd) → rises v ≡ true → Rises v
 rises_words [] h = tt
-rises_words (t ∷ v) h = let (a, b) = and_parts (is_below_all t v) (rises v) h in (above_words t v a, rises_words v b)
+rises_words (t ∷ v) h = let (a, b) = and_parts (is_below_all t v) (rises v) h in (below_all_words t v a, rises_words v b)
 
 pub number_words : (t : Tree) → is_number t ≡ true → IsNumber t
 unfolding is_number
@@ -103,7 +118,40 @@ number_words (num q) h = tt
 number_words (add ts) h =
     let (ab, c) = and_parts (nat_le 2 (length (terms_of ts)) && are_terms ts) (rises (terms_of ts)) h in
     let (a, b) = and_parts (nat_le 2 (length (terms_of ts))) (are_terms ts) ab in
-    (leb-true 2 (length (terms_of ts)) a, each_words ts b, rises_words (terms_of ts) c)
+    (leb-true 2 (length (terms_of ts)) a, terms_words ts b, rises_words (terms_of ts) c)
 number_words (root a) h = term_words (root a) h
 number_words (mult ts) h = term_words (mult ts) h
 number_words _ h = cc
+
+-- ---- from the words to the test
+
+radicand_test : (q : Fraction) → IsRadicand q → is_radicand q ≡ true
+radicand_test q (d, r, e, h, c) =
+    let g : natural_of q.num ≡ r = ap natural_of e in
+    and_from _ _ (and_from _ _ (eq-eqb q.den 1 d) (le-leb 2 (natural_of q.num) (rw g h))) (clean_test (natural_of q.num) (subst IsClean (sym g) c))
+
+term_test : (t : Tree) → IsTerm t → is_term t ≡ true
+term_test (num q) h = not_from_false _ (zero_test q h)
+term_test (root (num r)) h = radicand_test r h
+term_test (mult (more (num q) (more (root (num r)) none))) h = and_from _ _ (and_from _ _ (not_from_false _ (zero_test q h.0)) (not_from_false _ (one_test q h.1))) (radicand_test r h.2)
+term_test _ h = absurd h
+
+terms_test : (ts : Trees) → AreTerms ts → are_terms ts ≡ true
+terms_test none h = refl
+terms_test (more t ts) h = and_from _ _ (term_test t h.0) (terms_test ts h.1)
+
+below_all_test : (t : Term) (v : Surd) → IsBelowAll t v → is_below_all t v ≡ true
+below_all_test t [] h = refl
+below_all_test t (u ∷ v) h = and_from _ _ (and_from _ _ (lt-ltb t.radicand u.radicand h.0) (not_from_false _ h.1)) (below_all_test t v h.2)
+
+pub rises_test : (v : Surd) → Rises v → rises v ≡ true
+rises_test [] h = refl
+rises_test (t ∷ v) h = and_from _ _ (below_all_test t v h.0) (rises_test v h.1)
+
+pub number_test : (t : Tree) → IsNumber t → is_number t ≡ true
+unfolding is_number
+number_test (num q) h = refl
+number_test (add ts) h = and_from _ _ (and_from _ _ (le-leb 2 (length (terms_of ts)) h.0) (terms_test ts h.1)) (rises_test (terms_of ts) h.2)
+number_test (root a) h = term_test (root a) h
+number_test (mult ts) h = term_test (mult ts) h
+number_test _ h = absurd h

@@ -1,12 +1,16 @@
 -- The text of a tree is cut into its tokens.
 use Rattle.std.specs.Prelude.{ℕ, zero, suc, ◌+◌, ◌/◌, ◌%◌, ◌≡◌, ◌<◌, ⊤, List, [], ◌∷◌, ◌++◌, length, Bool, true, false, not, ◌&&◌, ◌||◌, ◌==◌, nat_le, if◌then◌else◌, Some, None, pos, nat_abs, codes}
 use Rattle.std.proofs.Common.{refl, sym, ap, ◌∙◌, arith, append_assoc, append-nil, subst}
-use Rattle.std.proofs.lemmas.Bool.{leb-true, le-leb, and_parts, and_from, or_left, or_right}
+use Rattle.std.proofs.lemmas.Bool.{leb-true, le-leb, and_parts, and_from, or_left, or_right, or_parts, not-true}
+use Rattle.std.specs.List.{list_all}
+use Rattle.std.specs.Prelude.{nat_eq}
+use Rattle.std.specs.Cmp.Lexicographic.{pointwise}
+use Rattle.calc_terms.specs.Name.{is_name, is_reserved, begins_with_letter}
 use Rattle.std.proofs.lemmas.Bool.Decides.{nat_tests}
 use Rattle.calc_terms.specs.Fractions.{lowest}
 use Rattle.calc_terms.specs.Texts.{decimal, digits_before, Place, first_of_sum, later_of_sum, first_of_product, left_of_quotient, later_of_product, base, exponent, admits, at_place, in_parentheses, text, text_of_sum, text_of_terms, text_of_product, text_of_factors, IsNatural, IsWritable, AreWritable}
 use Rattle.calc_terms.specs.Name.{is_digit, is_letter, is_name_byte}
-use Rattle.calc_terms.specs.Tokens.{literal_at, word_at, Scans, at_end, at_token, name, times_sign, root_sign, Token, literal, undef_mark, root_mark, plus_mark, minus_mark, times_mark, slash_mark, caret_mark, left_mark, right_mark, arrow_mark, leading_run, keep, digits_value, decimals, same_bytes, token_of_word, token_at, or_else, if_so, passes, IsName}
+use Rattle.calc_terms.specs.Tokens.{literal_at, word_at, Scans, at_end, at_token, name, times_sign, root_sign, Token, literal, undef_mark, root_mark, plus_mark, minus_mark, times_mark, slash_mark, caret_mark, left_mark, right_mark, arrow_mark, leading_run, keep, digits_value, decimals, same_bytes, token_of_word, token_at, or_else, if_so}
 use Rattle.calc_terms.specs.Trees.{Tree, num, symbol, undef, add, mult, power, root, neg, sub, div, Trees, none, more}
 use Rattle.calc_terms.proofs.Written.{inside, placed, tokens, tokens_of_sum, tokens_of_terms, tokens_of_product, tokens_of_factors}
 
@@ -87,10 +91,10 @@ run_stop p (b ∷ bs) h = by (p b) h
     by true e = cc
     by false e = refl
 
-run_all : (p : ℕ → Bool) (a rest : List ℕ) → passes p a ≡ true → stops p rest ≡ true → leading_run p (a ++ rest) ≡ (a, rest)
+run_all : (p : ℕ → Bool) (a rest : List ℕ) → list_all p a ≡ true → stops p rest ≡ true → leading_run p (a ++ rest) ≡ (a, rest)
 run_all p [] rest h s = run_stop p rest s
 run_all p (b ∷ bs) rest h s =
-    let (x, y) = and_parts (p b) (passes p bs) h in
+    let (x, y) = and_parts (p b) (list_all p bs) h in
     by (p b) x (run_all p bs rest y s)
   where
     by : (x : Bool) → x ≡ true → leading_run p (bs ++ rest) ≡ (bs, rest) → keep x b (bs ++ rest) (leading_run p (bs ++ rest)) ≡ (b ∷ bs, rest)
@@ -101,12 +105,12 @@ run_all p (b ∷ bs) rest h s =
 digit_is : (n : ℕ) → n < 10 → is_digit (48 + n) ≡ true
 digit_is n h = and_from _ _ (le-leb 48 (48 + n) (omega arith)) (le-leb (48 + n) 57 (omega arith))
 
-digits_pass : (fuel n : ℕ) (acc : List ℕ) → passes is_digit acc ≡ true → passes is_digit (digits_before fuel n acc) ≡ true
+digits_pass : (fuel n : ℕ) (acc : List ℕ) → list_all is_digit acc ≡ true → list_all is_digit (digits_before fuel n acc) ≡ true
 digits_pass zero n acc h = h
 digits_pass (suc fuel) n acc h = by (n / 10) refl (λ acc' h'. digits_pass fuel (n / 10) acc' h')
   where
-    by : (m : ℕ) → n / 10 ≡ m → ((acc' : List ℕ) → passes is_digit acc' ≡ true → passes is_digit (digits_before fuel (n / 10) acc') ≡ true)
-        → passes is_digit (elim m [ zero ↦ (48 + n) ∷ acc | suc m' ↦ digits_before fuel (n / 10) ((48 + n % 10) ∷ acc) ]) ≡ true
+    by : (m : ℕ) → n / 10 ≡ m → ((acc' : List ℕ) → list_all is_digit acc' ≡ true → list_all is_digit (digits_before fuel (n / 10) acc') ≡ true)
+        → list_all is_digit (elim m [ zero ↦ (48 + n) ∷ acc | suc m' ↦ digits_before fuel (n / 10) ((48 + n % 10) ∷ acc) ]) ≡ true
     by zero e go = and_from _ _ (digit_is n (omega arith)) h
     by (suc m) e go = go ((48 + n % 10) ∷ acc) (and_from _ _ (digit_is (n % 10) (omega arith)) h)
 
@@ -137,7 +141,7 @@ digits_some fuel n = by (n / 10)
 
 -- a number's text: its first byte, its bytes and its value
 pub record DecimalText (n : ℕ) (ds : List ℕ) : Type 0 where
-  pub all : passes is_digit ds ≡ true
+  pub all : list_all is_digit ds ≡ true
   pub some : 0 < length ds
   pub value : digits_value 0 ds ≡ n
 
@@ -198,9 +202,9 @@ second_branch true b x y z e f = cc
 second_branch false true x y z e f = refl
 second_branch false false x y z e f = cc
 
-no_decimal : (ds : List ℕ) → passes is_digit ds ≡ true → 0 < length ds → (b : ℕ) × (bs : List ℕ) × (ds ≡ b ∷ bs) × (is_digit b ≡ true)
+no_decimal : (ds : List ℕ) → list_all is_digit ds ≡ true → 0 < length ds → (b : ℕ) × (bs : List ℕ) × (ds ≡ b ∷ bs) × (is_digit b ≡ true)
 no_decimal [] h l = absurd (omega arith)
-no_decimal (b ∷ bs) h l = (b, bs, refl, (and_parts (is_digit b) (passes is_digit bs) h).0)
+no_decimal (b ∷ bs) h l = (b, bs, refl, (and_parts (is_digit b) (list_all is_digit bs) h).0)
 
 literal_taken : (n : ℕ) (ds rest : List ℕ) → DecimalText n ds → is_clear rest ≡ true → token_at (ds ++ rest) ≡ Some (literal (lowest (pos n) 1), rest)
 literal_taken n ds rest h c = at_first ds (no_decimal ds h.all h.some) (literal_read n ds rest h c)
@@ -211,6 +215,36 @@ literal_taken n ds rest h c = at_first ds (no_decimal ds h.all h.some) (literal_
         let g : x ≡ b = cc in
         let d' : is_digit x ≡ true = ap is_digit g ∙ d in
         first_branch (is_digit x) (Some (literal_at (x ∷ (xs ++ rest)))) _ d' ∙ ap Some f
+
+same_bytes-pointwise : (x y : List ℕ) → same_bytes x y ≡ pointwise nat_eq x y
+same_bytes-pointwise [] [] = refl
+same_bytes-pointwise [] (b ∷ y) = refl
+same_bytes-pointwise (a ∷ x) [] = refl
+same_bytes-pointwise (a ∷ x) (b ∷ y) = ap (λ r. (a == b) && r) (same_bytes-pointwise x y)
+
+-- what scanning needs of a name
+record NameText (x : List ℕ) : Type 0 where
+  first : ℕ
+  others : List ℕ
+  is : x ≡ first ∷ others
+  letter : is_letter first ≡ true
+  all : list_all is_name_byte x ≡ true
+  short : nat_le (length x) 7 ≡ true
+  no_root : same_bytes x (codes "sqrt") ≡ false
+  no_undef : same_bytes x (codes "undef") ≡ false
+
+name_text : (x : List ℕ) → is_name x ≡ true → NameText x
+name_text x h =
+    let (h2, free) = and_parts (begins_with_letter x && list_all is_name_byte x && nat_le (length x) 7) (not (is_reserved x)) h in
+    let (h1, short) = and_parts (begins_with_letter x && list_all is_name_byte x) (nat_le (length x) 7) h2 in
+    let (letter, all) = and_parts (begins_with_letter x) (list_all is_name_byte x) h1 in
+    let (a, b) = or_parts (pointwise nat_eq x (codes "sqrt")) (pointwise nat_eq x (codes "undef")) (not-true (is_reserved x) free) in
+    let (c, d, e, l) = front x letter in
+    record { first = c; others = d; is = e; letter = l; all = all; short = short; no_root = same_bytes-pointwise x (codes "sqrt") ∙ a; no_undef = same_bytes-pointwise x (codes "undef") ∙ b }
+  where
+    front : (x : List ℕ) → begins_with_letter x ≡ true → (c : ℕ) × (d : List ℕ) × (x ≡ c ∷ d) × (is_letter c ≡ true)
+    front [] h = cc
+    front (c ∷ d) h = (c, d, refl, h)
 
 letter_no_digit : (b : ℕ) → is_letter b ≡ true → is_digit b ≡ false
 letter_no_digit b h = by (nat_le 65 b) (nat_le b 90) (nat_le 97 b) (nat_le b 122) (nat_le b 57) refl refl refl h
@@ -225,11 +259,11 @@ letter_no_digit b h = by (nat_le 65 b) (nat_le b 90) (nat_le 97 b) (nat_le b 122
     by false w true y true p q r e = absurd (omega (arith, leb-true 97 b q, leb-true b 57 r))
     by false w false y true p q r e = cc
 
-name_read : (x rest : List ℕ) → is_clear rest ≡ true → passes is_name_byte x ≡ true → nat_le (length x) 7 ≡ true → same_bytes x (codes "sqrt") ≡ false → same_bytes x (codes "undef") ≡ false → word_at (x ++ rest) ≡ Some (name x, rest)
+name_read : (x rest : List ℕ) → is_clear rest ≡ true → list_all is_name_byte x ≡ true → nat_le (length x) 7 ≡ true → same_bytes x (codes "sqrt") ≡ false → same_bytes x (codes "undef") ≡ false → word_at (x ++ rest) ≡ Some (name x, rest)
 unfolding word_at
 name_read x rest c a s r u = rw (run_all is_name_byte x rest a (clear_name rest c), s, r, u) refl
 
-name_taken : (x rest : List ℕ) → IsName x → is_clear rest ≡ true → token_at (x ++ rest) ≡ Some (name x, rest)
+name_taken : (x rest : List ℕ) → NameText x → is_clear rest ≡ true → token_at (x ++ rest) ≡ Some (name x, rest)
 name_taken x rest h c = at_first x h.is (name_read x rest c h.all h.short h.no_root h.no_undef)
   where
     at_first : (y : List ℕ) → y ≡ h.first ∷ h.others → word_at (y ++ rest) ≡ Some (name x, rest) → token_at (y ++ rest) ≡ Some (name x, rest)
@@ -263,13 +297,13 @@ is_operand _ = false
 -- as it is written
 abbrev pub IsWritten : Token → Type 0
 IsWritten (literal q) = IsNatural q
-IsWritten (name x) = IsName x
+IsWritten (name x) = is_name x ≡ true
 IsWritten arrow_mark = ⊥
 IsWritten _ = ⊤
 
 taken : (t : Token) → IsWritten t → (rest : List ℕ) → (is_operand t ≡ true → is_clear rest ≡ true) → no_greater rest ≡ true → token_at (spell t ++ rest) ≡ Some (t, rest)
 taken (literal q) (n, e, f) rest c g = rw f (literal_taken n (decimal n) rest (decimal_is n) (c refl)) ∙ ap (λ x. Some (literal x, rest)) (sym e)
-taken (name x) w rest c g = name_taken x rest w (c refl)
+taken (name x) w rest c g = name_taken x rest (name_text x w) (c refl)
 taken undef_mark w rest c g = undef_taken rest (c refl)
 taken root_mark w rest c g = refl
 taken plus_mark w rest c g = refl
@@ -312,7 +346,8 @@ begin (literal q) w =
     let (b, bs, e, f) = no_decimal (decimal (nat_abs q.num)) d.all d.some in
     let n : is_name_byte b ≡ true = or_right (is_letter b) (is_digit b) f in
     record { first = b; others = bs; is = e; no_greater = name_byte_no_greater b n; clear = λ o. cc }
-begin (name x) w =
+begin (name x) h =
+    let w = name_text x h in
     let n : is_name_byte w.first ≡ true = or_left (is_letter w.first) (is_digit w.first) w.letter in
     record { first = w.first; others = w.others; is = w.is; no_greater = name_byte_no_greater w.first n; clear = λ o. cc }
 begin undef_mark w = record { first = 117; others = codes "ndef"; is = refl; no_greater = refl; clear = λ o. cc }

@@ -6,7 +6,7 @@ use native.Mathlib.Nat.{mul_assoc, mul_comm, one-mul}
 use Rattle.calc_terms.specs.FractionLaws.{times_comm, times_assoc, times_plus, zero_plus, zero_times, one_times}
 use Rattle.calc_terms.specs.Fractions.{Fraction, lowest, plus, times, zero_fraction, one_fraction, plus_comm, plus_assoc, same_lowest, times_lowest, mul_pos, quotient}
 use Rattle.calc_terms.specs.SquareRoots.{square_root}
-use Rattle.calc_terms.specs.Surds.{Term, Surd, term, surd_one, term_scale, surd_scale, term_times, surd_times, surd_power}
+use Rattle.calc_terms.specs.Surds.{surd_of, Term, Surd, term, surd_one, term_scale, surd_scale, term_times, surd_times, surd_power}
 use Rattle.calc_terms.specs.SquareClasses.{are_alike, term_share, class_coefficient, Same}
 
 -- the same at every number, whether it occurs or not
@@ -182,3 +182,37 @@ one_inverse x y w a b =
     (Agree-trans (Agree-surd_times_right x (Agree-sym (Agree-trans (surd_times_comm w y) b)))
     (Agree-trans (Agree-eq (sym (surd_times_assoc x w y)))
     (Agree-trans (Agree-surd_times a (Agree-refl y)) (Agree-eq (surd_times-surd_one y)))))
+
+-- ---- products of several factors
+
+pub surd_times-one : (v : Surd) → Agree (surd_times v surd_one) v
+surd_times-one v = Agree-trans (surd_times_comm v surd_one) (Agree-eq (surd_times-surd_one v))
+
+-- a factor goes to the front
+pub surd_times_left_comm : (u v w : Surd) → Agree (surd_times u (surd_times v w)) (surd_times v (surd_times u w))
+surd_times_left_comm u v w =
+    Agree-trans (Agree-eq (sym (surd_times_assoc u v w)))
+    (Agree-trans (Agree-surd_times (surd_times_comm u v) (Agree-refl w)) (Agree-eq (surd_times_assoc v u w)))
+
+pub surd_times_exchange : (a b c d : Surd) → Agree (surd_times (surd_times a b) (surd_times c d)) (surd_times (surd_times a c) (surd_times b d))
+surd_times_exchange a b c d =
+    Agree-trans (Agree-eq (surd_times_assoc a b (surd_times c d)))
+    (Agree-trans (Agree-surd_times_right a (surd_times_left_comm b c d)) (Agree-eq (sym (surd_times_assoc a c (surd_times b d)))))
+
+-- the inverse of a product
+pub inverse_times : (y w z u : Surd) → Agree (surd_times y w) surd_one → Agree (surd_times z u) surd_one → Agree (surd_times (surd_times y z) (surd_times w u)) surd_one
+inverse_times y w z u h k =
+    Agree-trans (surd_times_exchange y z w u) (Agree-trans (Agree-surd_times h k) (Agree-eq (surd_times-surd_one surd_one)))
+
+-- the inverse of a power
+pub inverse_power : (n : ℕ) (y w : Surd) → Agree (surd_times y w) surd_one → Agree (surd_times (surd_power y (suc n)) (surd_power w (suc n))) surd_one
+inverse_power zero y w h = h
+inverse_power (suc n) y w h = inverse_times y w (surd_power y (suc n)) (surd_power w (suc n)) h (inverse_power n y w h)
+
+-- a product with one rational is a multiple
+pub surd_times-surd_of : (c : Fraction) (u : Surd) → Agree (surd_times (surd_of c) u) (surd_scale c u)
+surd_times-surd_of c u = Agree-eq (append-nil _ ∙ each c u)
+  where
+    each : (c : Fraction) (u : Surd) → map (term_times (term c 1)) u ≡ surd_scale c u
+    each c [] = refl
+    each c (t ∷ u) = λ i. term (times c t.coefficient) (one-mul t.radicand i) ∷ each c u i

@@ -1,11 +1,12 @@
 -- Reduced trees: the form that no rule of reduction changes.
-use Rattle.std.specs.Prelude.{Bool, true, false, ◌&&◌, ◌||◌, ◌==◌, not, nat_le, if◌then◌else◌}
+use Rattle.std.specs.declared.cmp.Ordering.TheVariants.{Less}
+use Rattle.std.specs.Prelude.{◌≡◌, ◌≢◌, ◌≤◌, ◌⊎◌, ⊤, Bool, true, false, ◌&&◌, ◌||◌, ◌==◌, not, nat_le, if◌then◌else◌}
 use Rattle.std.specs.Ordering.{is_lt}
 use Rattle.calc_terms.specs.Integers.{int_is_negative, int_is_even}
-use Rattle.calc_terms.specs.Fractions.{Fraction, one_fraction, is_zero_fraction, is_one_fraction}
-use Rattle.calc_terms.specs.Trees.{Tree, num, symbol, add, mult, power, root, neg, sub, div, Trees, none, more, has_two, is_num, is_add, is_mult, is_root, is_undef}
+use Rattle.calc_terms.specs.Fractions.{Fraction, zero_fraction, one_fraction, is_zero_fraction, is_one_fraction}
+use Rattle.calc_terms.specs.Trees.{HasTwo, AllParts, Tree, num, symbol, undef, add, mult, power, root, neg, sub, div, Trees, none, more, has_two, is_num, is_add, is_mult, is_root, is_undef}
 use Rattle.calc_terms.specs.TreeOrder.{tree_cmp}
-use Rattle.calc_terms.specs.Numbers.{is_radicand, is_term, is_number, terms_of, rises, classes}
+use Rattle.calc_terms.specs.Numbers.{IsNumber, Rises, is_radicand, is_term, is_number, terms_of, rises, classes}
 
 -- ---- powers
 
@@ -152,3 +153,69 @@ abbrev mutual
 -- Undef, or each part has its form
 unfoldable pub is_reduced : Tree → Bool
 is_reduced t = is_undef t || all_parts has_form t
+
+-- ---- the same in words
+
+-- no tree of the list passes the test
+abbrev pub NoneIs : (Tree → Bool) → Trees → Type 0
+NoneIs p none = ⊤
+NoneIs p (more t ts) = (p t ≡ false) × NoneIs p ts
+
+-- the keys rise strictly in the order of trees
+abbrev pub RisesBy : (Tree → Tree) → Trees → Type 0
+RisesBy key (more t (more u ts)) = (tree_cmp (key t) (key u) ≡ Less) × RisesBy key (more u ts)
+RisesBy key _ = ⊤
+
+-- a base to a whole power n
+pub record IsWholePowerForm (b : Tree) (n : Fraction) : Type 0 where
+  pub not_zero : n ≢ zero_fraction
+  pub not_one : n ≢ one_fraction
+  pub no_product : is_mult b ≡ false
+  pub no_power : is_transparent_power b ≡ false
+  pub no_root : int_is_even n.num ≡ true → is_root b ≡ false
+  pub wide : is_number b ≡ true → (int_is_negative n.num ≡ true) × (3 ≤ classes b)
+
+-- a base to a power that is no Number
+pub record IsOtherPowerForm (b : Tree) : Type 0 where
+  pub no_power : is_transparent_power b ≡ false
+  pub no_product : is_mult b ≡ true → is_number b ≡ true
+
+-- nothing is asked of an opaque power
+abbrev pub IsPowerForm : Tree → Tree → Type 0
+IsPowerForm b (num q) = q.den ≡ 1 → IsWholePowerForm b q
+IsPowerForm b e = is_number e ≡ false → IsOtherPowerForm b
+
+pub record IsSumForm (ts : Trees) : Type 0 where
+  pub two : HasTwo ts
+  pub no_sum : NoneIs is_add ts
+  pub number : Rises (terms_of (number_terms ts))
+  pub no_number : NoneIs is_number (other_terms ts)
+  pub rising : RisesBy part_of (other_terms ts)
+
+-- a rational that is written in front is neither 0 nor 1
+abbrev pub IsFrontForm : Trees → Type 0
+IsFrontForm (more (num q) ts) = (q ≢ zero_fraction) × (q ≢ one_fraction)
+IsFrontForm _ = ⊤
+
+pub record IsProductForm (ts : Trees) : Type 0 where
+  pub two : HasTwo ts
+  pub no_product : NoneIs is_mult ts
+  pub front : IsFrontForm ts
+  pub no_number : NoneIs is_number (split_product ts).factors
+  pub rising : RisesBy base_of (split_product ts).factors
+  pub distributed : is_undistributed (split_product ts) ≡ false
+
+abbrev pub IsNodeForm : Tree → Type 0
+IsNodeForm (symbol x) = ⊤
+IsNodeForm (root a) = is_num a ≡ false
+IsNodeForm (power b e) = IsPowerForm b e
+IsNodeForm (add ts) = IsSumForm ts
+IsNodeForm (mult ts) = IsProductForm ts
+IsNodeForm _ = ⊥
+
+abbrev pub HasForm : Tree → Type 0
+HasForm t = IsNumber t ⊎ IsNodeForm t
+
+-- Undef, or each part has its form
+abbrev pub IsReduced : Tree → Type 0
+IsReduced t = (t ≡ undef) ⊎ AllParts HasForm t

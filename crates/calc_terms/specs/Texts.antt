@@ -1,8 +1,9 @@
 -- The text of a tree, with the parentheses that it needs to be read again.
 use Rattle.std.specs.Prelude.{ℕ, zero, suc, ◌+◌, ◌/◌, ◌%◌, List, [], ◌∷◌, ◌++◌, Bool, true, ◌||◌, nat_le, nat_abs, ◌≡◌, pos, ⊤, if◌then◌else◌, codes}
+use Rattle.calc_terms.specs.Name.{is_name}
 use Rattle.calc_terms.specs.Fractions.{Fraction, lowest}
 use Rattle.calc_terms.specs.Trees.{Tree, num, symbol, undef, add, mult, power, root, neg, sub, div, Trees, none, more, is_sub, is_div}
-use Rattle.calc_terms.specs.Tokens.{times_sign, root_sign, IsName}
+use Rattle.calc_terms.specs.Tokens.{times_sign, root_sign}
 
 -- the digits of n in front of those; n is below 10 ^ steps
 abbrev pub digits_before : ℕ → ℕ → List ℕ → List ℕ
@@ -90,7 +91,7 @@ IsNatural q = (n : ℕ) × (q ≡ lowest (pos n) 1) × (nat_abs q.num ≡ n)
 abbrev mutual
   pub IsWritable : Tree → Type 0
   IsWritable (num q) = IsNatural q
-  IsWritable (symbol x) = IsName x
+  IsWritable (symbol x) = is_name x ≡ true
   IsWritable undef = ⊤
   IsWritable (add ts) = AreWritable ts
   IsWritable (mult ts) = AreWritable ts

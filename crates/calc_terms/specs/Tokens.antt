@@ -42,10 +42,6 @@ abbrev pub leading_run : (ℕ → Bool) → List ℕ → List ℕ × List ℕ
 leading_run p [] = ([], [])
 leading_run p (b ∷ bs) = let r = leading_run p bs in keep (p b) b bs r
 
-abbrev pub passes : (ℕ → Bool) → List ℕ → Bool
-passes p [] = true
-passes p (b ∷ bs) = p b && passes p bs
-
 -- ---- literals
 
 -- the number that the digits write behind those of n
@@ -126,16 +122,3 @@ pub data Scans : List ℕ → List Token → Type 0 where
   at_end : Scans [] []
   at_blank : {b : ℕ} {bs : List ℕ} {ts : List Token} → is_blank b ≡ true → Scans bs ts → Scans (b ∷ bs) ts
   at_token : {bs rest : List ℕ} {t : Token} {ts : List Token} → token_at bs ≡ Some (t, rest) → Scans rest ts → Scans bs (t ∷ ts)
-
--- ---- names
-
--- a letter, then letters and digits, 7 bytes at most, and no word that is a mark
-pub record IsName (x : List ℕ) : Type 0 where
-  pub first : ℕ
-  pub others : List ℕ
-  pub is : x ≡ first ∷ others
-  pub letter : is_letter first ≡ true
-  pub all : passes is_name_byte x ≡ true
-  pub short : nat_le (length x) 7 ≡ true
-  pub no_root : same_bytes x (codes "sqrt") ≡ false
-  pub no_undef : same_bytes x (codes "undef") ≡ false

@@ -11,7 +11,10 @@ ghost use Rattle.calc_terms.specs.SquareClasses.{class_coefficient, Same, Invert
 ghost use Rattle.calc_terms.specs.Meanings.{Assignment, IsAssignment, Means};
 ghost use Rattle.calc_terms.specs.Reads.{Reads};
 ghost use Rattle.calc_terms.specs.Texts.{text as text_of, IsWritable};
-ghost use Rattle.calc_terms.specs.Numbers.{is_number, value};
+ghost use Rattle.calc_terms.specs.Faces.{face};
+ghost use Rattle.calc_terms.specs.Clean.{is_clean, IsClean};
+ghost use Rattle.calc_terms.specs.Numbers.{is_number, IsNumber, value};
+ghost use Rattle.calc_terms.specs.Reduced.{is_reduced, IsReduced};
 ghost use Rattle.calc_terms.specs.BadAndEasy.{IsBad, IsEasy, HasValue};
 
 /// Fractions are equal where their cross products are.
@@ -108,4 +111,16 @@ pub fn text_reads()
 /// A Number means its value under every assignment.
 pub fn number_means_its_value()
     ensures { (t : Tree) (f : Assignment) → is_number t ≡ true → Means t f (value t) }
+{}
+
+/// The tests for clean radicands, for Numbers and for reduced trees say what their words say.
+pub fn tests_say_their_words()
+    ensures clean { (r : ℕ) → (is_clean r ≡ true) ↔ IsClean r }
+    ensures number { (t : Tree) → (is_number t ≡ true) ↔ IsNumber t }
+    ensures reduced { (t : Tree) → (is_reduced t ≡ true) ↔ IsReduced t }
+{}
+
+/// The face of a reduced tree keeps each of its meanings.
+pub fn face_keeps_meanings()
+    ensures { (t : Tree) (f : Assignment) (v : Surd) → is_reduced t ≡ true → Means t f v → Means (face t) f v }
 {}

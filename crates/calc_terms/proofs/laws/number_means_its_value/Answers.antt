@@ -1,5 +1,5 @@
 use Rattle.calc_terms.proofs.NumberLaws.{number_words}
-use Rattle.calc_terms.proofs.Rewrites.{number_means}
+use Rattle.calc_terms.proofs.NumberValues.{number_means}
 use Rattle.calc_terms.proofs.laws.number_means_its_value.Goals as goal
 
 pub returns : goal.returns
