@@ -9,7 +9,8 @@ use Rattle.calc_terms.specs.declared.leaf.Header.{Header}
 use Rattle.calc_terms.specs.Kind.{code_of, kind_of, size_of_kind}
 use Rattle.calc_terms.specs.Name.{padded, before_zero}
 use Rattle.calc_terms.specs.Payload.{Payload, rational, named, bare, kind_of_payload, size_of_payload, is_bare, IsPayload}
-use Rattle.calc_terms.specs.Node.{Node, IsNode, header_of, size_of, low_bytes, from_bytes, header_bytes, payload_bytes, encoding, kind_or_undef, kind_at, payload_at, node_at}
+use Rattle.calc_terms.specs.Ratio.{Ratio, IsRat}
+use Rattle.calc_terms.specs.Node.{ratio_at, ratio_bytes, Node, IsNode, header_of, size_of, low_bytes, from_bytes, header_bytes, payload_bytes, encoding, kind_or_undef, kind_at, payload_at, node_at}
 use Rattle.calc_terms.proofs.Codes.{kind_of-code_of}
 use Rattle.calc_terms.proofs.LowBytes.{length-low_bytes, from_bytes-low_bytes}
 use Rattle.calc_terms.proofs.Names.{length-padded, before_zero-padded}
@@ -121,3 +122,11 @@ pub header_is : (bs : List ℕ) (k : Kind) (i n c : ℕ) → k ≡ kind_at bs �
     → (record { kind = k; id = i; count = n; children = c }) ≡ header_of (node_at bs)
 unfolding node_at
 header_is bs k i n c hk hi hn hc = rw (kind_of_payload-payload_at (kind_at bs) (drop 8 bs), hk, hi, hn, hc) refl
+
+-- what stands behind a header
+pub drop-encoding : (n : Node) (rest : List ℕ) → drop 8 (encoding n ++ rest) ≡ payload_bytes n.payload ++ rest
+unfolding encoding header_bytes low_bytes
+drop-encoding n rest = refl
+
+pub ratio_at-ratio_bytes : (r : Ratio) (rest : List ℕ) → IsRat r → ratio_at (ratio_bytes r ++ rest) ≡ r
+ratio_at-ratio_bytes r rest h = let e = payload_at-payload_bytes (rational r) rest h in cc

@@ -1,6 +1,6 @@
 //! Names of symbols.
 ghost use Rattle.std.specs.Prelude.{◌≡◌, ◌↔◌, IfSome, IsSome, is_some, length, codes};
-ghost use Rattle.calc_terms.specs.Name.{HoldsName, is_name, IsName, begins_with_letter, is_name_byte, is_reserved};
+ghost use Rattle.calc_terms.specs.Name.{HoldsName, before_zero, is_name, padded, IsName, begins_with_letter, is_name_byte, is_reserved};
 ghost use Rattle.std.specs.List.{list_all};
 
 /// A name of one to seven bytes, with zeros behind it to eight.
@@ -52,6 +52,22 @@ impl Name {
         ensures name { IsName result.now }
     {
         &self.text[..self.len()]
+    }
+
+    /// The name, and zeros to eight bytes.
+    pub fn padded(self) -> [u8; 8]
+        ensures value { result ≡ padded (name_of self) }
+        ensures name { HoldsName result }
+    {
+        self.text
+    }
+
+    /// The name that eight bytes hold.
+    pub fn from_padded(text: [u8; 8]) -> Name
+        requires { HoldsName text }
+        ensures { name_of result ≡ before_zero text }
+    {
+        Name { text }
     }
 }
 

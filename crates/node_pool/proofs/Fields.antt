@@ -1,0 +1,81 @@
+-- A buffer whose bytes are those of a list of nodes.
+use Rattle.std.proofs.Common.{List, ap, arith, drop, length, refl, replicate, subst, sym, ℕ, ◌++◌, ◌+◌, ◌-◌, ◌<◌, ◌∙◌, ◌∷◌, ◌≡◌, ◌≤◌}
+use Rattle.calc_terms.specs.Node.{Node, header_of, node_at, size_of, size_of_header}
+use Rattle.calc_terms.specs.declared.leaf.Header.{Header}
+use Rattle.node_pool.specs.Contents.{Contents, IsContents, nodes_of}
+use Rattle.node_pool.specs.Laid.{IsLaid, contents_of}
+use Rattle.node_pool.specs.Nodes.{AreNodes, encodings, first_of, used}
+use Rattle.node_pool.specs.Places.{IsBoundary, since}
+use Rattle.node_pool.specs.declared.buffer.Buffer.TheInside.{Inside}
+use Rattle.node_pool.proofs.Sizes.{length-nodes_of, nodes_of-encodings, size_from}
+use Rattle.node_pool.proofs.Walk.{here}
+
+-- what a list of nodes owes to be the buffer's
+pub record IsOf (b : Inside) (ns : List Node) : Type 0 where
+  pub bytes : b.store ≡ encodings ns ++ replicate (length b.store - used ns) 0
+  pub nodes : AreNodes ns
+  pub fits : used ns ≤ length b.store
+  pub small : length b.store ≤ 524280
+  pub count : b.count ≡ length ns
+  pub used : b.used ≡ used ns
+
+-- what a method that leaves a list of nodes ensures
+pub record IsDone (c : Contents) (b : Inside) (ns : List Node) : Type 0 where
+  pub laid : IsLaid b
+  pub nodes : contents_of b ≡ record c { nodes = ns }
+  pub kept : IsContents (contents_of b)
+
+nodes_are : (b : Inside) (ns : List Node) → IsOf b ns → nodes_of b.count b.store ≡ ns
+nodes_are b ns h = ap (λ (k : ℕ). nodes_of k b.store) h.count ∙ ap (nodes_of (length ns)) h.bytes ∙ nodes_of-encodings ns (replicate (length b.store - used ns) 0) h.nodes
+
+pub laid : (b : Inside) (ns : List Node) → IsOf b ns → IsLaid b
+laid b ns h =
+    let e = nodes_are b ns h in
+    record { bytes = rw e h.bytes; used = rw e h.used; contents = record { nodes = rw e h.nodes; fits = rw e h.fits; small = h.small } }
+
+pub contents_are : (b : Inside) (ns : List Node) → IsOf b ns → contents_of b ≡ record { nodes = ns; size = length b.store }
+contents_are b ns h = rw (nodes_are b ns h) refl
+
+pub opened : (b : Inside) (c : Contents) → IsLaid b → contents_of b ≡ c → IsOf b c.nodes
+opened b c h e =
+    let ns : nodes_of b.count b.store ≡ c.nodes = ap (λ (x : Contents). x.nodes) e in
+    record {
+      bytes = subst (λ (x : List Node). b.store ≡ encodings x ++ replicate (length b.store - used x) 0) ns h.bytes;
+      nodes = subst AreNodes ns h.contents.nodes;
+      fits = subst (λ (x : List Node). used x ≤ length b.store) ns h.contents.fits;
+      small = h.contents.small;
+      count = sym (length-nodes_of b.count b.store) ∙ ap length ns;
+      used = h.used ∙ ap used ns;
+    }
+
+pub size_is : (b : Inside) (c : Contents) → contents_of b ≡ c → length b.store ≡ c.size
+size_is b c e = ap (λ (x : Contents). x.size) e
+
+-- the node whose header is read at a place
+pub record IsSeen (h : Header) (at : ℕ) (ns : List Node) : Type 0 where
+  pub value : h ≡ header_of (first_of (since at ns))
+  pub next : IsBoundary (at + size_of_header h) ns
+  pub rest : since at ns ≡ first_of (since at ns) ∷ since (at + size_of_header h) ns
+  pub within : at + size_of_header h ≤ used ns
+
+pub seen : (b : Inside) (c : Contents) (h : Header) (at : ℕ) → IsLaid b → contents_of b ≡ c → IsBoundary at c.nodes → at < used c.nodes → h ≡ header_of (node_at (drop at b.store)) → IsSeen h at c.nodes
+seen b c h at k e place lt q =
+    let o = opened b c k e in
+    let ns = c.nodes in
+    let x = here at ns b.store (replicate (length b.store - used ns) 0) o.bytes o.nodes place lt in
+    let head : h ≡ header_of x.0 = q ∙ ap header_of x.1.is in
+    let size : size_of_header h ≡ size_of x.0 = ap size_of_header head in
+    let first : first_of (since at ns) ≡ x.0 = ap first_of x.1.rest in
+    record {
+      value = head ∙ ap header_of (sym first);
+      next = rw size x.1.next;
+      rest = rw size (x.1.rest ∙ ap (λ (n : Node). n ∷ since (at + size_of x.0) ns) (sym first));
+      within = rw size x.1.room;
+    }
+
+-- there is room for a header at each place before the end
+pub has_room : (b : Inside) (c : Contents) (at : ℕ) → IsLaid b → contents_of b ≡ c → IsBoundary at c.nodes → at < used c.nodes → at + 8 ≤ length b.store
+has_room b c at k e place lt =
+    let o = opened b c k e in
+    let x = here at c.nodes b.store (replicate (length b.store - used c.nodes) 0) o.bytes o.nodes place lt in
+    omega (arith, x.1.room, size_from x.0, o.fits)

@@ -1,0 +1,174 @@
+-- What a change of the nodes leaves of the pool's fields.
+use Rattle.std.proofs.Common.{Bool, List, [], ap, arith, cond, eqb, false, inl, inr, leb, length, refl, set, subst, sym, true, ℕ, ◌++◌, ◌+◌, ◌-◌, ◌/◌, ◌<◌, ◌^◌, ◌∙◌, ◌∷◌, ◌≡◌, ◌≤◌, ◌⊎◌}
+use Rattle.std.proofs.lemmas.Bool.{eq-eqb, eqb-false, eqb-true, le-leb, leb-true, ne_eqb}
+use Rattle.std.proofs.lemmas.List.{length-set}
+use Rattle.calc_terms.specs.Node.{Node, fresh}
+use Rattle.calc_terms.specs.Payload.{Payload}
+use Rattle.node_pool.specs.Contents.{Contents, IsContents}
+use Rattle.node_pool.specs.Flags.{AreBelow, AreFlagsOf, HasUnused, IsLeastUnused, flag, without_ids}
+use Rattle.node_pool.specs.Kept.{IsKept, state_of}
+use Rattle.node_pool.specs.Nodes.{AreDistinct, has, used, with_children, with_count}
+use Rattle.node_pool.specs.Places.{IsBoundary, between, moved, since, swapped, until, without}
+use Rattle.node_pool.specs.State.{IsPoolSize, State}
+use Rattle.node_pool.specs.declared.pool.Pool.TheInside.{Inside}
+use Rattle.node_pool.proofs.Cuts.{AreDistinct-swap, AreDistinct-without, boundary_le, cut, cut3}
+use Rattle.node_pool.proofs.Found.{AreDistinct-same, found, has-same}
+use Rattle.node_pool.proofs.Ids.{AreApart, AreApart-parts, AreApart-sym, AreDistinct-append, AreDistinct-parts, has-append, or_is_false}
+use Rattle.node_pool.proofs.Marks.{below, flag-set, flag-without_ids, flag_inside, length-without_ids, unused}
+use Rattle.node_pool.proofs.Sizes.{length_le_used}
+
+-- what is known of a pool's nodes is known of its buffer's
+pub boundary_in : (p : Inside) (s : State) (at : ℕ) → state_of p ≡ s → IsBoundary at s.nodes → IsBoundary at p.buffer.nodes
+boundary_in p s at e b = subst (λ (x : State). IsBoundary at x.nodes) (sym e) b
+
+pub live_in : (p : Inside) (s : State) (id : ℕ) → state_of p ≡ s → has id s.nodes ≡ true → has id p.buffer.nodes ≡ true
+live_in p s id e h = ap (λ (x : State). has id x.nodes) e ∙ h
+
+pub end_small : (p : Inside) (s : State) (at : ℕ) → IsKept p → state_of p ≡ s → IsBoundary at s.nodes → at < 2 ^ 32
+end_small p s at k e b = omega (arith, boundary_le at p.buffer.nodes (boundary_in p s at e b), k.pool.fits, k.pool.size.most)
+
+-- other nodes of the same identifiers
+pub record SameIds (ns ms : List Node) : Type 0 where
+  pub distinct : AreDistinct ms
+  pub same : (i : ℕ) → has i ms ≡ has i ns
+
+pub kept : (p q : Inside) (ms : List Node) → IsKept p → q.buffer ≡ record p.buffer { nodes = ms } → IsContents q.buffer → length q.taken ≡ length p.taken → AreDistinct ms → AreFlagsOf ms q.taken → IsKept q
+kept p q ms k e h len d f =
+    let nodes : q.buffer.nodes ≡ ms = ap (λ (c : Contents). c.nodes) e in
+    let size : q.buffer.size ≡ p.buffer.size = ap (λ (c : Contents). c.size) e in
+    record {
+      pool = record { nodes = h.nodes; distinct = subst AreDistinct (sym nodes) d; fits = h.fits; size = subst IsPoolSize (sym size) k.pool.size };
+      flags = subst (λ (x : List Node). AreFlagsOf x q.taken) (sym nodes) f;
+      length = len ∙ k.length ∙ ap (λ (n : ℕ). n / 8) (sym size);
+    }
+
+-- the identifiers stay
+pub kept_same : (p q : Inside) (ms : List Node) → IsKept p → q.buffer ≡ record p.buffer { nodes = ms } → IsContents q.buffer → q.taken ≡ p.taken → SameIds p.buffer.nodes ms → IsKept q
+kept_same p q ms k e h t s = kept p q ms k e h (ap length t) s.distinct (λ i. ap (flag i) t ∙ k.flags i ∙ sym (s.same i))
+
+pub counted_ids : (id c : ℕ) (ns : List Node) → has id ns ≡ true → AreDistinct ns → SameIds ns (with_count id c ns)
+counted_ids id c ns h d =
+    let f = found id ns h in
+    let m = record f.node { count = c } in
+    record {
+      distinct = subst AreDistinct (sym (f.counted c)) (AreDistinct-same f.before f.node m f.after refl (subst AreDistinct f.whole d));
+      same = λ i. ap (has i) (f.counted c) ∙ has-same f.before f.node m f.after i refl ∙ ap (has i) (sym f.whole);
+    }
+
+pub parented_ids : (id c : ℕ) (ns : List Node) → has id ns ≡ true → AreDistinct ns → SameIds ns (with_children id c ns)
+parented_ids id c ns h d =
+    let f = found id ns h in
+    let m = record f.node { children = c } in
+    record {
+      distinct = subst AreDistinct (sym (f.parented c)) (AreDistinct-same f.before f.node m f.after refl (subst AreDistinct f.whole d));
+      same = λ i. ap (has i) (f.parented c) ∙ has-same f.before f.node m f.after i refl ∙ ap (has i) (sym f.whole);
+    }
+
+-- ---- blocks change places
+
+turn : (a x y d : Bool) → cond a true (cond y true (cond x true d)) ≡ cond a true (cond x true (cond y true d))
+turn true x y d = refl
+turn false true true d = refl
+turn false true false d = refl
+turn false false true d = refl
+turn false false false d = refl
+
+has-four : (i : ℕ) (a x y d : List Node) → has i (a ++ (x ++ (y ++ d))) ≡ cond (has i a) true (cond (has i x) true (cond (has i y) true (has i d)))
+has-four i a x y d =
+    has-append i a (x ++ (y ++ d)) ∙ ap (λ (b : Bool). cond (has i a) true b) (has-append i x (y ++ d) ∙ ap (λ (b : Bool). cond (has i x) true b) (has-append i y d))
+
+swapped_ids : (i j k : ℕ) (ns : List Node) → IsBoundary i ns → IsBoundary j ns → IsBoundary k ns → i ≤ j → j ≤ k → AreDistinct ns → SameIds ns (swapped i j k ns)
+swapped_ids i j k ns a b c h1 h2 d =
+    let w = (cut3 i j k ns a b c h1 h2).whole in
+    let p = until i ns in
+    let x = between i j ns in
+    let y = between j k ns in
+    let z = since k ns in
+    record {
+      distinct = AreDistinct-swap p x y z (subst AreDistinct w d);
+      same = λ n. has-four n p y x z ∙ turn (has n p) (has n x) (has n y) (has n z) ∙ sym (has-four n p x y z) ∙ ap (has n) (sym w);
+    }
+
+pub moved_ids : (from len to : ℕ) (ns : List Node) → IsBoundary from ns → IsBoundary (from + len) ns → IsBoundary to ns → (to ≤ from) ⊎ (from + len ≤ to) → AreDistinct ns → SameIds ns (moved from len to ns)
+moved_ids from len to ns a b c h d = by_test (leb to from) refl
+  where
+    right : (to ≤ from) ⊎ (from + len ≤ to) → leb to from ≡ false → from + len ≤ to
+    right (inl le) e = absurd (clash (le-leb to from le) e)
+      where
+        clash : leb to from ≡ true → leb to from ≡ false → ⊥
+        clash p q = cc
+    right (inr le) e = le
+
+    by_test : (t : Bool) → leb to from ≡ t → SameIds ns (cond t (swapped to from (from + len) ns) (swapped from (from + len) to ns))
+    by_test true e = swapped_ids to from (from + len) ns c a b (leb-true to from e) (omega arith) d
+    by_test false e = swapped_ids from (from + len) to ns a b c (omega arith) (right h e) d
+
+-- ---- one node more
+
+pub placed : (p q : Inside) (id : ℕ) (x : Payload) → IsKept p → IsLeastUnused id p.taken → q.taken ≡ set p.taken id true → q.buffer ≡ record p.buffer { nodes = p.buffer.nodes ++ fresh id x ∷ [] } → IsContents q.buffer → IsKept q
+placed p q id x k u t e h =
+    let ns = p.buffer.nodes in
+    let n = fresh id x in
+    let free : has id ns ≡ false = sym (k.flags id) ∙ u.unused in
+    kept p q (ns ++ n ∷ []) k e h (ap length t ∙ length-set p.taken id true)
+    (AreDistinct-append ns (n ∷ []) k.pool.distinct (refl, tt) (AreApart-sym (n ∷ []) ns (free, tt)))
+    (λ i. ap (flag i) t ∙ flag-set i id p.taken true u.inside ∙ ap (λ (b : Bool). cond (eqb i id) true b) (k.flags i) ∙ more i (eqb i id) (has i ns) refl ∙ sym (has-append i ns (n ∷ [])))
+  where
+    more : (i : ℕ) (t h : Bool) → eqb i id ≡ t → cond t true h ≡ cond h true (cond (eqb id i) true false)
+    more i true h e = let back : eqb id i ≡ true = eq-eqb id i (sym (eqb-true i id e)) in rw back (either h)
+      where
+        either : (h : Bool) → true ≡ cond h true true
+        either true = refl
+        either false = refl
+    more i false h e = let back : eqb id i ≡ false = ne_eqb id i (λ q. eqb-false i id e (sym q)) in rw back (same h)
+      where
+        same : (h : Bool) → h ≡ cond h true false
+        same true = refl
+        same false = refl
+
+-- a pool with room for a node has an identifier for it
+pub room_unused : (p : Inside) (needed : ℕ) → IsKept p → 8 ≤ needed → needed ≤ p.buffer.size - used p.buffer.nodes → HasUnused p.taken
+room_unused p needed k h room = unused p.buffer.nodes p.taken k.flags (omega (arith, k.length, length_le_used p.buffer.nodes, k.pool.fits))
+
+-- ---- a block goes
+
+-- an identifier of one of two lists that are apart
+apart_step : (i : ℕ) (n : Node) (a b : List Node) (t : Bool) → eqb n.id i ≡ t → has n.id b ≡ false → cond t true (has i a) ≡ true → (has i a ≡ true → has i b ≡ false) → has i b ≡ false
+apart_step i n a b true e p h rec = ap (λ (x : ℕ). has x b) (sym (eqb-true n.id i e)) ∙ p
+apart_step i n a b false e p h rec = rec h
+
+not_both : (i : ℕ) (a b : List Node) → AreApart a b → has i a ≡ true → has i b ≡ false
+not_both i [] b p h = absurd cc
+not_both i (n ∷ a) b p h = apart_step i n a b (eqb n.id i) refl p.0 h (not_both i a b p.1)
+
+without_has : (i : ℕ) (a b c : List Node) → AreDistinct (a ++ (b ++ c)) → cond (has i b) false (has i (a ++ (b ++ c))) ≡ has i (a ++ c)
+without_has i a b c d = by_test (has i b) refl (AreDistinct-parts a (b ++ c) d)
+  where
+    by_test : (t : Bool) → has i b ≡ t → AreDistinct a × AreDistinct (b ++ c) × AreApart a (b ++ c) → cond t false (has i (a ++ (b ++ c))) ≡ has i (a ++ c)
+    by_test true e p =
+        let q = AreDistinct-parts b c p.1 in
+        let first : has i a ≡ false = not_both i b a (AreApart-sym a b (AreApart-parts a b c p.2).0) e in
+        let last : has i c ≡ false = not_both i b c q.2 e in
+        sym (has-append i a c ∙ or_is_false _ _ first last)
+    by_test false e p = has-append i a (b ++ c) ∙ ap (λ (x : Bool). cond (has i a) true x) (has-append i b c ∙ ap (λ (x : Bool). cond x true (has i c)) e) ∙ sym (has-append i a c)
+
+between_has : (i at to : ℕ) (ns : List Node) → IsBoundary at ns → IsBoundary to ns → at ≤ to → has i (between at to ns) ≡ true → has i ns ≡ true
+between_has i at to ns a b le h =
+    let w = (cut at to ns a b le).whole in
+    ap (has i) w ∙ has-append i (until at ns) (between at to ns ++ since to ns) ∙ ap (λ (x : Bool). cond (has i (until at ns)) true x) (has-append i (between at to ns) (since to ns) ∙ ap (λ (x : Bool). cond x true (has i (since to ns))) h) ∙ always (has i (until at ns))
+  where
+    always : (x : Bool) → cond x true true ≡ true
+    always true = refl
+    always false = refl
+
+pub between_below : (p : Inside) (at to : ℕ) → IsKept p → IsBoundary at p.buffer.nodes → IsBoundary to p.buffer.nodes → at ≤ to → AreBelow (length p.taken) (between at to p.buffer.nodes)
+between_below p at to k a b le = below (length p.taken) _ (λ i h. flag_inside i p.taken (k.flags i ∙ between_has i at to p.buffer.nodes a b le h))
+
+pub removed_block : (p q : Inside) (at to : ℕ) → IsKept p → IsBoundary at p.buffer.nodes → IsBoundary to p.buffer.nodes → at ≤ to → q.taken ≡ without_ids (between at to p.buffer.nodes) p.taken → q.buffer ≡ record p.buffer { nodes = without at to p.buffer.nodes } → IsContents q.buffer → IsKept q
+removed_block p q at to k a b le t e h =
+    let ns = p.buffer.nodes in
+    let w = (cut at to ns a b le).whole in
+    let d : AreDistinct (until at ns ++ (between at to ns ++ since to ns)) = subst AreDistinct w k.pool.distinct in
+    kept p q (without at to ns) k e h (ap length t ∙ length-without_ids (between at to ns) p.taken)
+    (AreDistinct-without (until at ns) (between at to ns) (since to ns) d)
+    (λ i. ap (flag i) t ∙ flag-without_ids i (between at to ns) p.taken (between_below p at to k a b le) ∙ ap (λ (x : Bool). cond (has i (between at to ns)) false x) (k.flags i ∙ ap (has i) w) ∙ without_has i (until at ns) (between at to ns) (since to ns) d)

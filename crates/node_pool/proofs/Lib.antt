@@ -1,0 +1,16 @@
+pub mod Numbers
+pub mod Slides
+pub mod Puts
+pub mod Sizes
+pub mod Ids
+pub mod Cuts
+pub mod Found
+pub mod Splits
+pub mod Walk
+pub mod Fields
+pub mod Steps
+pub mod LeastFree
+pub mod Values
+pub mod Changes
+pub mod Marks
+pub mod Keeping

@@ -1,0 +1,54 @@
+-- Writing one list after another.
+use Rattle.std.proofs.Common.{List, [], ap, append_assoc, arith, drop, length, refl, sym, take, ℕ, ◌++◌, ◌+◌, ◌∙◌, ◌≡◌, ◌≤◌}
+use Rattle.std.proofs.lemmas.List.{drop-drop, drop_at, length-append, length-drop, length-take, take-append-drop, take_at}
+use Rattle.calc_terms.specs.Kind.{code_of}
+use Rattle.calc_terms.specs.Node.{encoding, fresh, header_bytes, header_of, low_bytes, payload_bytes}
+use Rattle.calc_terms.specs.Payload.{Payload}
+use Rattle.calc_terms.specs.declared.leaf.Header.{Header}
+use Rattle.calc_terms.proofs.Codec.{length-header_bytes}
+use Rattle.calc_terms.proofs.LowBytes.{length-low_bytes}
+use Rattle.node_pool.specs.Bytes.{put}
+
+pub length-put : (xs : List ℕ) (at : ℕ) (ys : List ℕ) → at + length ys ≤ length xs → length (put xs at ys) ≡ length xs
+length-put xs at ys h = omega (arith, length-append (take at xs) (ys ++ drop (at + length ys) xs), length-append ys (drop (at + length ys) xs), length-take at xs, length-drop (at + length ys) xs)
+
+pub put-nil : (xs : List ℕ) (at : ℕ) → xs ≡ put xs at []
+put-nil xs at = let e : at + 0 ≡ at = omega arith in rw e (sym (take-append-drop at xs))
+
+pub put-put : (xs : List ℕ) (at : ℕ) (ys : List ℕ) (next : ℕ) (zs : List ℕ) → next ≡ at + length ys → at ≤ length xs → put (put xs at ys) next zs ≡ put xs at (ys ++ zs)
+put-put xs at ys next zs e h =
+    let a = take at xs in
+    let d = drop (at + length ys) xs in
+    let len : length (a ++ ys) ≡ next = omega (arith, length-append a ys, length-take at xs) in
+    let grouped : put xs at ys ≡ (a ++ ys) ++ d = sym (append_assoc a ys d) in
+    let first : take next (put xs at ys) ≡ a ++ ys = ap (take next) grouped ∙ take_at (a ++ ys) d next len in
+    let over : drop (next + length zs) (put xs at ys) ≡ drop (at + length (ys ++ zs)) xs =
+    sym (drop-drop (length zs) next (put xs at ys)) ∙ ap (λ (x : List ℕ). drop (length zs) x) (ap (drop next) grouped ∙ drop_at (a ++ ys) d next len)
+    ∙ drop-drop (length zs) (at + length ys) xs ∙ ap (λ (n : ℕ). drop n xs) (omega (arith, length-append ys zs)) in
+    rw (first, over) (append_assoc a ys (zs ++ drop (at + length (ys ++ zs)) xs) ∙ ap (λ (x : List ℕ). a ++ x) (sym (append_assoc ys zs (drop (at + length (ys ++ zs)) xs))))
+
+-- one write more
+pub then_put : (s0 s1 s2 : List ℕ) (at : ℕ) (ys : List ℕ) (next : ℕ) (zs : List ℕ) → at ≤ length s0 → next ≡ at + length ys → s1 ≡ put s0 at ys → s2 ≡ put s1 next zs → s2 ≡ put s0 at (ys ++ zs)
+then_put s0 s1 s2 at ys next zs h e p q = q ∙ ap (λ (s : List ℕ). put s next zs) p ∙ put-put s0 at ys next zs e h
+
+pub header_put : (s0 s1 s2 s3 s4 s5 : List ℕ) (at k i n c : ℕ) (h : Header) → at ≤ length s0 → k ≡ code_of h.kind → i ≡ h.id → n ≡ h.count → c ≡ h.children
+    → s1 ≡ put s0 at (low_bytes 1 k) → s2 ≡ put s1 (at + 1) (low_bytes 1 0) → s3 ≡ put s2 (at + 2) (low_bytes 2 i) → s4 ≡ put s3 (at + 4) (low_bytes 2 n) → s5 ≡ put s4 (at + 6) (low_bytes 2 c) → s5 ≡ put s0 at (header_bytes h)
+unfolding header_bytes low_bytes
+header_put s0 s1 s2 s3 s4 s5 at k i n c h small hk hi hn hc e1 e2 e3 e4 e5 =
+    let z = low_bytes 1 0 in
+    let f2 = then_put s0 s1 s2 at (low_bytes 1 k) (at + 1) z small refl e1 e2 in
+    let f3 = then_put s0 s2 s3 at (low_bytes 1 k ++ z) (at + 2) (low_bytes 2 i) small refl f2 e3 in
+    let f4 = then_put s0 s3 s4 at ((low_bytes 1 k ++ z) ++ low_bytes 2 i) (at + 4) (low_bytes 2 n) small refl f3 e4 in
+    let f5 = then_put s0 s4 s5 at (((low_bytes 1 k ++ z) ++ low_bytes 2 i) ++ low_bytes 2 n) (at + 6) (low_bytes 2 c) small refl f4 e5 in
+    rw (← hk, ← hi, ← hn, ← hc) f5
+
+pub rational_put : (s0 s1 s2 : List ℕ) (at a b p q : ℕ) → at + 32 ≤ length s0 → p ≡ a → q ≡ b → s1 ≡ put s0 at (low_bytes 16 p) → s2 ≡ put s1 (at + 16) (low_bytes 16 q) → s2 ≡ put s0 at (low_bytes 16 a ++ low_bytes 16 b)
+rational_put s0 s1 s2 at a b p q small hp hq e1 e2 =
+    rw (← hp, ← hq) (then_put s0 s1 s2 at (low_bytes 16 p) (at + 16) (low_bytes 16 q) (omega arith) (omega (arith, length-low_bytes 16 p)) e1 e2)
+
+pub node_put : (s0 s1 s2 : List ℕ) (at id : ℕ) (x : Payload) (h : Header) → at + 8 ≤ length s0 → h ≡ header_of (fresh id x)
+    → s1 ≡ put s0 at (header_bytes h) → s2 ≡ put s1 (at + 8) (payload_bytes x) → s2 ≡ put s0 at (encoding (fresh id x))
+unfolding encoding
+node_put s0 s1 s2 at id x h small e e1 e2 =
+    let f : s2 ≡ put s0 at (header_bytes h ++ payload_bytes x) = then_put s0 s1 s2 at (header_bytes h) (at + 8) (payload_bytes x) (omega arith) (omega (arith, length-header_bytes h)) e1 e2 in
+    f ∙ ap (λ (y : Header). put s0 at (header_bytes y ++ payload_bytes x)) e

@@ -1,0 +1,69 @@
+-- Changes of a list of nodes that is known in parts.
+use Rattle.std.proofs.Common.{Bool, List, [], ap, append_assoc, arith, cond, eqb, false, leb, refl, subst, sym, true, ℕ, ◌++◌, ◌+◌, ◌-◌, ◌<◌, ◌∙◌, ◌∷◌, ◌≡◌}
+use Rattle.std.proofs.lemmas.Bool.{eq-eqb, le-leb, lt-leb}
+use Rattle.calc_terms.specs.Node.{Node, size_of}
+use Rattle.node_pool.specs.Nodes.{has, place_of, used, with_children, with_count}
+use Rattle.node_pool.specs.Places.{IsBoundary, between, moved, since, swapped, until, without}
+use Rattle.node_pool.proofs.Cuts.{since-append, until-append}
+use Rattle.node_pool.proofs.Sizes.{used-append}
+
+pub boundary-append : (a b : List Node) (at : ℕ) → at ≡ used a → IsBoundary at (a ++ b)
+boundary-append a b at e = ap (λ (k : ℕ). used (until k (a ++ b))) e ∙ ap used (until-append a b) ∙ sym e
+
+-- the place of an identifier that is not before
+place_step : (t : Bool) (i : ℕ) (m : Node) (r s : ℕ) (b : Bool) → cond t true b ≡ false → (b ≡ false → r ≡ s) → cond t 0 (size_of m + r) ≡ size_of m + s
+place_step true i m r s b h k = absurd cc
+place_step false i m r s b h k = ap (λ (x : ℕ). size_of m + x) (k h)
+
+pub place_of-append : (i : ℕ) (a : List Node) (n : Node) (b : List Node) → has i a ≡ false → n.id ≡ i → place_of i (a ++ n ∷ b) ≡ used a
+place_of-append i [] n b h e = ap (λ (t : Bool). cond t 0 (size_of n + place_of i b)) (eq-eqb n.id i e)
+place_of-append i (m ∷ a) n b h e = place_step (eqb m.id i) i m (place_of i (a ++ n ∷ b)) (used a) (has i a) h (λ k. place_of-append i a n b k e)
+
+count_step : (t : Bool) (c : ℕ) (m : Node) (xs ys : List Node) (b : Bool) → cond t true b ≡ false → (b ≡ false → xs ≡ ys) → (zs : List Node) → cond t zs (m ∷ xs) ≡ m ∷ ys
+count_step true c m xs ys b h k zs = absurd cc
+count_step false c m xs ys b h k zs = ap (λ (x : List Node). m ∷ x) (k h)
+
+pub with_count-append : (i c : ℕ) (a : List Node) (n : Node) (b : List Node) → has i a ≡ false → n.id ≡ i → with_count i c (a ++ n ∷ b) ≡ a ++ record n { count = c } ∷ b
+with_count-append i c [] n b h e = ap (λ (t : Bool). cond t (record n { count = c } ∷ b) (n ∷ with_count i c b)) (eq-eqb n.id i e)
+with_count-append i c (m ∷ a) n b h e = count_step (eqb m.id i) c m (with_count i c (a ++ n ∷ b)) (a ++ record n { count = c } ∷ b) (has i a) h (λ k. with_count-append i c a n b k e) (record m { count = c } ∷ (a ++ n ∷ b))
+
+pub with_children-append : (i c : ℕ) (a : List Node) (n : Node) (b : List Node) → has i a ≡ false → n.id ≡ i → with_children i c (a ++ n ∷ b) ≡ a ++ record n { children = c } ∷ b
+with_children-append i c [] n b h e = ap (λ (t : Bool). cond t (record n { children = c } ∷ b) (n ∷ with_children i c b)) (eq-eqb n.id i e)
+with_children-append i c (m ∷ a) n b h e = count_step (eqb m.id i) c m (with_children i c (a ++ n ∷ b)) (a ++ record n { children = c } ∷ b) (has i a) h (λ k. with_children-append i c a n b k e) (record m { children = c } ∷ (a ++ n ∷ b))
+
+-- a block between two places
+pub between-append : (a x b : List Node) (i j : ℕ) → i ≡ used a → j ≡ used a + used x → between i j (a ++ (x ++ b)) ≡ x
+between-append a x b i j hi hj =
+    let e : since i (a ++ (x ++ b)) ≡ x ++ b = ap (λ (k : ℕ). since k (a ++ (x ++ b))) hi ∙ since-append a (x ++ b) in
+    let d : j - i ≡ used x = omega arith in
+    rw (e, d) (until-append x b)
+
+pub since-append_two : (a x b : List Node) (j : ℕ) → j ≡ used a + used x → since j (a ++ (x ++ b)) ≡ b
+since-append_two a x b j hj =
+    ap (since j) (sym (append_assoc a x b)) ∙ ap (λ (k : ℕ). since k ((a ++ x) ++ b)) (hj ∙ sym (used-append a x)) ∙ since-append (a ++ x) b
+
+pub without-append : (a x b : List Node) (i j : ℕ) → i ≡ used a → j ≡ used a + used x → without i j (a ++ (x ++ b)) ≡ a ++ b
+without-append a x b i j hi hj =
+    let first : until i (a ++ (x ++ b)) ≡ a = ap (λ (k : ℕ). until k (a ++ (x ++ b))) hi ∙ until-append a (x ++ b) in
+    rw (first, since-append_two a x b j hj) refl
+
+pub swapped-append : (a x y d : List Node) (i j k : ℕ) → i ≡ used a → j ≡ used a + used x → k ≡ used a + used x + used y → swapped i j k (a ++ (x ++ (y ++ d))) ≡ a ++ (y ++ (x ++ d))
+swapped-append a x y d i j k hi hj hk =
+    let ns = a ++ (x ++ (y ++ d)) in
+    let grouped : (a ++ x) ++ (y ++ d) ≡ ns = append_assoc a x (y ++ d) in
+    let first : until i ns ≡ a = ap (λ (n : ℕ). until n ns) hi ∙ until-append a (x ++ (y ++ d)) in
+    let second : between i j ns ≡ x = between-append a x (y ++ d) i j hi hj in
+    let third : between j k ns ≡ y = subst (λ (t : List Node). between j k t ≡ y) grouped (between-append (a ++ x) y d j k (hj ∙ sym (used-append a x)) (omega (arith, used-append a x))) in
+    let last : since k ns ≡ d = subst (λ (t : List Node). since k t ≡ d) grouped (since-append_two (a ++ x) y d k (omega (arith, used-append a x))) in
+    rw (first, second, third, last) refl
+
+-- a block goes to the right, or to the left
+pub moved_right : (a x y d : List Node) (from len to : ℕ) → from ≡ used a → len ≡ used x → to ≡ used a + used x + used y → 0 < len → moved from len to (a ++ (x ++ (y ++ d))) ≡ a ++ (y ++ (x ++ d))
+moved_right a x y d from len to hf hl ht some =
+    let no : leb to from ≡ false = lt-leb to from (omega arith) in
+    rw no (swapped-append a x y d from (from + len) to hf (omega arith) ht)
+
+pub moved_left : (a x y d : List Node) (from len to : ℕ) → to ≡ used a → from ≡ used a + used x → len ≡ used y → moved from len to (a ++ (x ++ (y ++ d))) ≡ a ++ (y ++ (x ++ d))
+moved_left a x y d from len to ht hf hl =
+    let yes : leb to from ≡ true = le-leb to from (omega arith) in
+    rw yes (swapped-append a x y d to from (from + len) ht hf (omega arith))

@@ -1,0 +1,105 @@
+-- What a node holds, read from its bytes.
+use Rattle.std.proofs.Common.{FitsSigned, List, ap, arith, drop, false, length, of_z, pos, refl, replicate, subst, sym, take, to_z, true, unsigned_abs, ℕ, ℤ, ◌++◌, ◌+◌, ◌-◌, ◌<ℤ◌, ◌<◌, ◌∙◌, ◌∷◌, ◌≡◌, ◌≤◌}
+use Rattle.std.proofs.lemmas.Int.{ints, to_z-of_z, to_z_pos}
+use Rattle.std.proofs.lemmas.List.{drop-drop, take_at}
+use Rattle.std.specs.Int.{w128}
+use Rattle.calc_terms.specs.Name.{HoldsName, before_zero, is_name, padded}
+use Rattle.calc_terms.specs.Node.{Node, from_bytes, payload_bytes, ratio_at}
+use Rattle.calc_terms.specs.Payload.{IsPayload, Payload, bare, is_bare, kind_of_payload, named, rational, size_of_payload}
+use Rattle.calc_terms.specs.Ratio.{IsRat, Ratio}
+use Rattle.calc_terms.specs.declared.kind.Kind.TheVariants as kind
+use Rattle.calc_terms.specs.declared.kind.Kind.{Kind}
+use Rattle.calc_terms.proofs.Codec.{drop-encoding, ratio_at-ratio_bytes}
+use Rattle.calc_terms.proofs.Names.{before_zero-padded, length-padded}
+use Rattle.node_pool.specs.Contents.{Contents}
+use Rattle.node_pool.specs.Laid.{IsLaid, contents_of}
+use Rattle.node_pool.specs.Nodes.{first_of, has, payload_of_id, place_of, used}
+use Rattle.node_pool.specs.Places.{IsBoundary, since}
+use Rattle.node_pool.specs.declared.buffer.Buffer.TheInside.{Inside}
+use Rattle.node_pool.proofs.Cuts.{since-append}
+use Rattle.node_pool.proofs.Fields.{opened}
+use Rattle.node_pool.proofs.Found.{found}
+use Rattle.node_pool.proofs.Walk.{here}
+
+-- the bytes of a payload stand behind a header
+pub record IsHeld (x : Payload) (at : ℕ) (store : List ℕ) : Type 0 where
+  pub behind : List ℕ
+  pub bytes : drop (at + 8) store ≡ payload_bytes x ++ behind
+  pub room : at + size_of_payload x ≤ length store
+  pub valid : IsPayload x
+
+pub held : (b : Inside) (c : Contents) (i at : ℕ) → IsLaid b → contents_of b ≡ c → has i c.nodes ≡ true → at ≡ place_of i c.nodes → IsBoundary at c.nodes → at < used c.nodes → IsHeld (payload_of_id i c.nodes) at b.store
+held b c i at k e live place boundary lt =
+    let o = opened b c k e in
+    let ns = c.nodes in
+    let x = here at ns b.store (replicate (length b.store - used ns) 0) o.bytes o.nodes boundary lt in
+    let f = found i ns live in
+    let there : since at ns ≡ f.node ∷ f.after = ap (λ (j : ℕ). since j ns) (place ∙ f.place) ∙ ap (since (used f.before)) f.whole ∙ since-append f.before (f.node ∷ f.after) in
+    let same : x.0 ≡ f.node = ap first_of (sym x.1.rest ∙ there) in
+    let payload : x.0.payload ≡ payload_of_id i ns = ap (λ (n : Node). n.payload) same ∙ sym f.leafed in
+    subst (λ (y : Payload). IsHeld y at b.store) payload (record {
+      behind = x.1.behind;
+      bytes = sym (drop-drop 8 at b.store) ∙ ap (drop 8) x.1.bytes ∙ drop-encoding x.0 x.1.behind;
+      room = omega (arith, x.1.room, o.fits);
+      valid = x.1.valid.payload;
+    })
+
+-- ---- a number
+
+pub record HoldsRational (x : Payload) (at : ℕ) (store : List ℕ) : Type 0 where
+  pub room : at + 8 + 32 ≤ length store
+  pub is : x ≡ rational (ratio_at (drop (at + 8) store))
+  pub rat : IsRat (ratio_at (drop (at + 8) store))
+
+bare_number : (k : Kind) → is_bare k ≡ true → k ≡ kind.Num → ⊥
+bare_number k h e = let no : is_bare k ≡ false = ap is_bare e in cc
+
+pub holds_rational : (x : Payload) (at : ℕ) (store : List ℕ) → IsHeld x at store → kind_of_payload x ≡ kind.Num → HoldsRational x at store
+holds_rational (rational r) at store h k =
+    let e : ratio_at (drop (at + 8) store) ≡ r = ap ratio_at h.bytes ∙ ratio_at-ratio_bytes r h.behind h.valid in
+    record { room = omega (arith, h.room); is = ap (λ (y : Ratio). rational y) (sym e); rat = rw e h.valid }
+holds_rational (named x) at store h k = absurd cc
+holds_rational (bare k) at store h e = absurd (bare_number k h.valid e)
+
+positive : (d : ℕ) → 1 ≤ d → pos 0 <ℤ pos d
+positive d h = omega (arith, ints)
+
+-- two numbers that were read are numerator and denominator
+pub record ReadBack (s : List ℕ) (at : ℕ) (x y : ℤ) : Type 0 where
+  pub positive : pos 0 <ℤ to_z w128 (of_z w128 y)
+  pub is : (record { num = to_z w128 (of_z w128 x); den = unsigned_abs (to_z w128 (of_z w128 y)) }) ≡ ratio_at (drop (at + 8) s)
+  pub rat : IsRat (record { num = to_z w128 (of_z w128 x); den = unsigned_abs (to_z w128 (of_z w128 y)) })
+
+pub read_back : (s : List ℕ) (at n d : ℕ) (x y : ℤ) → IsRat (ratio_at (drop (at + 8) s)) → n ≡ from_bytes (take 16 (drop (at + 8) s)) → d ≡ from_bytes (take 16 (drop (at + 24) s)) → x ≡ to_z w128 n → y ≡ to_z w128 d → FitsSigned w128 x → FitsSigned w128 y → ReadBack s at x y
+read_back s at n d x y rat hn hd hx hy fx fy =
+    let f = ratio_at (drop (at + 8) s) in
+    let back-x : to_z w128 (of_z w128 x) ≡ x = to_z-of_z w128 x fx in
+    let back-y : to_z w128 (of_z w128 y) ≡ y = to_z-of_z w128 y fy in
+    let num : x ≡ f.num = hx ∙ ap (to_z w128) hn in
+    let den : d ≡ f.den = hd ∙ ap (λ (l : List ℕ). from_bytes (take 16 l)) (ap (λ (k : ℕ). drop k s) (omega arith) ∙ sym (drop-drop 16 (at + 8) s)) in
+    let y-is : y ≡ pos f.den = hy ∙ ap (to_z w128) den ∙ to_z_pos w128 f.den rat.den_fits in
+    let abs : unsigned_abs (to_z w128 (of_z w128 y)) ≡ f.den = ap unsigned_abs (back-y ∙ y-is) in
+    let e : (record { num = to_z w128 (of_z w128 x); den = unsigned_abs (to_z w128 (of_z w128 y)) }) ≡ f = rw (back-x, abs, num) refl in
+    record { positive = rw (back-y, y-is) (positive f.den rat.positive); is = e; rat = subst IsRat (sym e) rat }
+
+-- ---- a symbol
+
+pub record HoldsSymbol (x : Payload) (at : ℕ) (store : List ℕ) : Type 0 where
+  pub room : at + 8 + 8 ≤ length store
+  pub is : x ≡ named (before_zero (take 8 (drop (at + 8) store)))
+  pub name : HoldsName (take 8 (drop (at + 8) store))
+
+bare_symbol : (k : Kind) → is_bare k ≡ true → k ≡ kind.Sym → ⊥
+bare_symbol k h e = let no : is_bare k ≡ false = ap is_bare e in cc
+
+pub holds_symbol : (x : Payload) (at : ℕ) (store : List ℕ) → IsHeld x at store → kind_of_payload x ≡ kind.Sym → HoldsSymbol x at store
+holds_symbol (rational r) at store h k = absurd cc
+holds_symbol (named x) at store h k =
+    let text : take 8 (drop (at + 8) store) ≡ padded x = ap (take 8) h.bytes ∙ take_at (padded x) h.behind 8 (length-padded x h.valid) in
+    let name : before_zero (take 8 (drop (at + 8) store)) ≡ x = ap before_zero text ∙ before_zero-padded x h.valid in
+    record {
+      room = omega (arith, h.room);
+      is = ap (λ (y : List ℕ). named y) (sym name);
+      name = record { name = ap is_name name ∙ h.valid; whole = text ∙ ap padded (sym name) };
+    }
+holds_symbol (bare k) at store h e = absurd (bare_symbol k h.valid e)

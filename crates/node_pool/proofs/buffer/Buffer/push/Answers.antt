@@ -1,0 +1,31 @@
+use Rattle.std.proofs.Common.{arith, refl, ap, ◌∙◌, ◌+◌, ◌++◌, ◌∷◌, [], ℕ}
+use Rattle.calc_terms.specs.Leaf.{payload_of}
+use Rattle.calc_terms.specs.Node.{fresh, size_of_header}
+use Rattle.calc_terms.proofs.Leaves.{usable}
+use Rattle.node_pool.proofs.Sizes.{length_le_used}
+use Rattle.node_pool.proofs.Fields.{IsDone, opened, size_is}
+use Rattle.node_pool.proofs.Changes.{done, pushed}
+use Rattle.node_pool.proofs.buffer.Buffer.push.Goals as goal
+
+pub overflow_add-self-2 : goal.overflow_add-self-2
+overflow_add-self-2 c =
+    let o = opened c.self.inside c.args.self.now c.self.invariant c.self.view_is in
+    record { fits = omega (arith, o.count, length_le_used c.args.self.now.nodes, o.fits, o.small) }
+
+all : (c : goal.After-self-2-1) → IsDone c.args.self.now (record { store = c.write_node.new.store; used = c.self.inside.used + c.size.result; count = c.self.inside.count + 1 }) (c.args.self.now.nodes ++ fresh c.args.id (payload_of c.args.leaf) ∷ [])
+all c =
+    let s = c.args.self.now in
+    let p = c.self.inside in
+    let o = opened p s c.self.invariant c.self.view_is in
+    let size = c.size.ensures ∙ ap size_of_header c.header.ensures in
+    done p _ s _ c.self.view_is (pushed p _ s.nodes c.args.id (payload_of c.args.leaf) o (usable c.args.leaf c.requires.usable) (omega arith)
+    (omega (arith, c.requires.room, size_is p s c.self.view_is)) c.write_node.ensures.put (ap (λ (k : ℕ). p.used + k) size) refl)
+
+pub invariant_of-self : goal.invariant_of-self
+invariant_of-self c = (all c).laid
+
+pub returns-clause-nodes : goal.returns-clause-nodes
+returns-clause-nodes c = (all c).nodes
+
+pub returns-clause-kept : goal.returns-clause-kept
+returns-clause-kept c = (all c).kept

@@ -1,0 +1,15 @@
+use Rattle.std.proofs.Common.{◌≡◌, ◌-◌, ◌≤◌, length}
+use Rattle.node_pool.specs.Places.{between, IsBoundary}
+use Rattle.node_pool.specs.Flags.{AreBelow, without_ids}
+use Rattle.node_pool.proofs.identifiers.release_block.Given as goal
+
+abbrev pub invariant-loop-at : goal.invariant-loop-at
+invariant-loop-at l = record {
+  boundary : IsBoundary l.at l.buffer.nodes;
+  within : l.at ≤ l.to;
+  known : AreBelow (length l.ids) (between l.at l.to l.buffer.nodes);
+  rest : without_ids (between l.at l.to l.buffer.nodes) l.ids ≡ without_ids (between l.fn.from l.to l.buffer.nodes) l.initial.ids;
+}
+
+abbrev pub decreases-loop-at : goal.decreases-loop-at
+decreases-loop-at l = l.to - l.at

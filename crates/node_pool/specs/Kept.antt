@@ -1,0 +1,13 @@
+-- A pool's fields.
+use Rattle.std.specs.Prelude.{◌≡◌, ◌/◌, length}
+use Rattle.node_pool.specs.declared.pool.Pool.TheInside.{Inside}
+use Rattle.node_pool.specs.State.{State, IsPool}
+use Rattle.node_pool.specs.Flags.{AreFlagsOf}
+
+abbrev pub state_of : Inside → State
+state_of p = record { nodes = p.buffer.nodes; size = p.buffer.size; refusals = p.refusals; last_refused = p.last_refused }
+
+pub record IsKept (p : Inside) : Type 0 where
+  pub pool : IsPool (state_of p)
+  pub flags : AreFlagsOf p.buffer.nodes p.taken
+  pub length : length p.taken ≡ p.buffer.size / 8

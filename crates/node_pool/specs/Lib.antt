@@ -1,0 +1,8 @@
+pub mod Bytes
+pub mod Nodes
+pub mod Places
+pub mod State
+pub mod Contents
+pub mod Laid
+pub mod Flags
+pub mod Kept

@@ -1,0 +1,222 @@
+//! Nodes one after another in bytes, and zeros behind them.
+ghost use Rattle.std.specs.Prelude.{◌≡◌, ◌+◌, ◌-◌, ◌<◌, ◌≤◌, ◌⊎◌, [], ◌∷◌, ◌++◌, ◌^◌, length, IfOk, true};
+ghost use Rattle.calc_terms.specs.declared.kind.Kind.TheVariants.{Num, Sym};
+ghost use Rattle.calc_terms.specs.Rat.{ratio_of};
+ghost use Rattle.calc_terms.specs.Payload.{rational, named, kind_of_payload, size_of_payload};
+ghost use Rattle.calc_terms.specs.Leaf.{payload_of, name_of, IsUsable};
+ghost use Rattle.calc_terms.specs.Node.{header_of, fresh, size_of_header};
+ghost use Rattle.node_pool.specs.Nodes.{used, has, place_of, first_of, payload_of_id, with_count, with_children};
+ghost use Rattle.node_pool.specs.Places.{since, between, without, swapped, moved, IsBoundary};
+ghost use Rattle.node_pool.specs.Contents.{bytes_in, IsContents};
+
+use crate::node;
+use crate::store::Store;
+use calc_terms::{Header, Leaf, Name, Rat};
+use std::alloc::{AllocError, Global};
+use std::marker::Model;
+
+/// The nodes, the bytes that they take, and how many there are.
+#[derive(Drop)]
+pub struct Buffer {
+    store: Store,
+    used: u32,
+    count: u32,
+}
+
+impl Model for Buffer {
+    ghost use Rattle.node_pool.specs.Contents.{Contents};
+
+    ghost Value = { Contents };
+
+    ghost use Rattle.node_pool.specs.Laid.{contents_of, IsLaid};
+
+    ghost view = { contents_of };
+
+    ghost invariant = { IsLaid };
+}
+
+impl Buffer {
+    /// No nodes in that many bytes.
+    pub fn new(alloc: Global, size: u32) -> Result<Buffer, AllocError>
+        requires { size ≤ 524280 }
+        ensures { IfOk result (λ buffer. buffer ≡ record { nodes = []; size = size }) }
+    {
+        Ok(Buffer {
+            store: Store::new(alloc, size)?,
+            used: 0,
+            count: 0,
+        })
+    }
+
+    pub fn used(&self) -> u32
+        ensures { result ≡ used self.now.nodes }
+    {
+        self.used
+    }
+
+    pub fn free(&self) -> u32
+        ensures { result ≡ self.now.size - used self.now.nodes }
+    {
+        self.size() - self.used
+    }
+
+    pub fn count(&self) -> u32
+        ensures { result ≡ length self.now.nodes }
+    {
+        self.count
+    }
+
+    pub fn size(&self) -> u32
+        ensures { result ≡ self.now.size }
+    {
+        self.store.bytes().len() as u32
+    }
+
+    pub fn bytes(&self) -> &[u8]
+        ensures { result.now ≡ bytes_in self.now }
+    {
+        self.store.bytes()
+    }
+
+    /// The header of the node that begins at a place.
+    pub fn header(&self, at: u32) -> Header
+        requires boundary { IsBoundary at self.now.nodes }
+        requires inside { at < used self.now.nodes }
+        ensures value { result ≡ header_of (first_of (since at self.now.nodes)) }
+        ensures next { IsBoundary (at + size_of_header result) self.now.nodes }
+        ensures rest { since at self.now.nodes ≡ first_of (since at self.now.nodes) ∷ since (at + size_of_header result) self.now.nodes }
+        ensures within { at + size_of_header result ≤ used self.now.nodes }
+        ensures kept { IsContents self.now }
+    {
+        node::header_at(&self.store, at)
+    }
+
+    /// Where the node with an identifier begins.
+    pub fn locate(&self, id: u16) -> u32
+        requires { has id self.now.nodes ≡ true }
+        ensures value { result ≡ place_of id self.now.nodes }
+        ensures boundary { IsBoundary result self.now.nodes }
+        ensures inside { result < used self.now.nodes }
+    {
+        let mut at = 0;
+        loop {
+            let header = self.header(at);
+            if header.id == id {
+                return at;
+            }
+            at += header.size();
+        }
+    }
+
+    pub fn rational(&self, id: u16) -> Rat
+        requires live { has id self.now.nodes ≡ true }
+        requires number { kind_of_payload (payload_of_id id self.now.nodes) ≡ Num }
+        ensures { payload_of_id id self.now.nodes ≡ rational (ratio_of result) }
+    {
+        let at = self.locate(id);
+        node::rational_at(&self.store, at)
+    }
+
+    pub fn name(&self, id: u16) -> Name
+        requires live { has id self.now.nodes ≡ true }
+        requires symbol { kind_of_payload (payload_of_id id self.now.nodes) ≡ Sym }
+        ensures { payload_of_id id self.now.nodes ≡ named (name_of result) }
+    {
+        let at = self.locate(id);
+        node::name_at(&self.store, at)
+    }
+
+    /// A new node at the end.
+    pub fn push(&mut self, id: u16, leaf: Leaf)
+        requires usable { IsUsable leaf }
+        requires room { size_of_payload (payload_of leaf) ≤ self.old.size - used self.old.nodes }
+        ensures nodes { self.new ≡ record self.old { nodes = self.old.nodes ++ fresh id (payload_of leaf) ∷ [] } }
+        ensures kept { IsContents self.new }
+    {
+        node::write_node(&mut self.store, self.used, id, leaf);
+        self.used += leaf.header(id).size();
+        self.count += 1;
+    }
+
+    pub fn set_count(&mut self, id: u16, count: u16)
+        requires { has id self.old.nodes ≡ true }
+        ensures nodes { self.new ≡ record self.old { nodes = with_count id count self.old.nodes } }
+        ensures kept { IsContents self.new }
+    {
+        let at = self.locate(id);
+        node::write_count(&mut self.store, at, count);
+    }
+
+    pub fn set_children(&mut self, id: u16, children: u16)
+        requires { has id self.old.nodes ≡ true }
+        ensures nodes { self.new ≡ record self.old { nodes = with_children id children self.old.nodes } }
+        ensures kept { IsContents self.new }
+    {
+        let at = self.locate(id);
+        node::write_children(&mut self.store, at, children);
+    }
+
+    /// The nodes in the `len` bytes at `at` go, and those behind them close up.
+    pub fn remove(&mut self, at: u32, len: u32)
+        requires from { IsBoundary at self.old.nodes }
+        requires to { IsBoundary (at + len) self.old.nodes }
+        ensures nodes { self.new ≡ record self.old { nodes = without at (at + len) self.old.nodes } }
+        ensures kept { IsContents self.new }
+    {
+        let used = self.used;
+        let end = at + len;
+        let gone = self.count_between(at, end);
+        let rest = used - end;
+        self.store.slide(end, at, rest);
+        self.store.clear(at + rest, used);
+        self.used = at + rest;
+        self.count -= gone;
+    }
+
+    /// The nodes in the `len` bytes at `from` stand before what began at `to`.
+    pub fn relocate(&mut self, from: u32, len: u32, to: u32)
+        requires from { IsBoundary from self.old.nodes }
+        requires end { IsBoundary (from + len) self.old.nodes }
+        requires to { IsBoundary to self.old.nodes }
+        requires outside { (to ≤ from) ⊎ (from + len ≤ to) }
+        requires small { from + len < 2 ^ 32 }
+        ensures nodes { self.new ≡ record self.old { nodes = moved from len to self.old.nodes } }
+        ensures kept { IsContents self.new }
+    {
+        let end = from + len;
+        if to <= from {
+            self.rotate(to, from, end);
+        } else {
+            self.rotate(from, end, to);
+        }
+    }
+
+    /// The nodes from `mid` to before `end` stand before those from `start` to before `mid`.
+    fn rotate(&mut self, start: u32, mid: u32, end: u32)
+        requires start { IsBoundary start self.old.nodes }
+        requires mid { IsBoundary mid self.old.nodes }
+        requires end { IsBoundary end self.old.nodes }
+        requires low { start ≤ mid }
+        requires high { mid ≤ end }
+        ensures nodes { self.new ≡ record self.old { nodes = swapped start mid end self.old.nodes } }
+        ensures kept { IsContents self.new }
+    {
+        self.store.rotate(start, mid, end);
+    }
+
+    /// How many nodes begin from `from` to before `to`.
+    fn count_between(&self, from: u32, to: u32) -> u32
+        requires from { IsBoundary from self.now.nodes }
+        requires to { IsBoundary to self.now.nodes }
+        requires order { from ≤ to }
+        ensures { result ≡ length (between from to self.now.nodes) }
+    {
+        let mut at = from;
+        let mut count = 0;
+        while at < to {
+            at += self.header(at).size();
+            count += 1;
+        }
+        count
+    }
+}

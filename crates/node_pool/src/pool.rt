@@ -1,0 +1,251 @@
+//! The pool.
+ghost use Rattle.std.specs.Prelude.{◌≡◌, ◌+◌, ◌≤◌, ◌<◌, ◌↔◌, ◌⊎◌, [], ◌∷◌, ◌++◌, length, IfOk, IfErr, IsOk, OnOk, true};
+ghost use Rattle.calc_terms.specs.declared.kind.Kind.TheVariants.{Num, Sym};
+ghost use Rattle.calc_terms.specs.Rat.{ratio_of};
+ghost use Rattle.calc_terms.specs.Payload.{rational, named, kind_of_payload, size_of_payload};
+ghost use Rattle.calc_terms.specs.Leaf.{payload_of, name_of, IsUsable};
+ghost use Rattle.calc_terms.specs.Node.{header_of, fresh};
+ghost use Rattle.node_pool.specs.Nodes.{used, has, place_of, first_of, payload_of_id, with_count, with_children, IsLeastFree};
+ghost use Rattle.node_pool.specs.Places.{since, without, moved, IsBoundary};
+ghost use Rattle.node_pool.specs.State.{bytes_of, free_of, IsPoolSize, IsPool, refused};
+
+use crate::buffer::Buffer;
+use crate::full::Full;
+use crate::id::Id;
+use crate::identifiers::{Identifiers, release_block};
+use calc_terms::{Header, Leaf, Name, Rat};
+use std::alloc::{AllocError, Global};
+use std::marker::Model;
+
+/// Nodes side by side in a buffer of one capacity, and zeros behind them.
+#[derive(Drop)]
+pub struct Pool {
+    buffer: Buffer,
+    taken: Identifiers,
+    refusals: u64,
+    last_refused: Full,
+}
+
+impl Model for Pool {
+    ghost use Rattle.node_pool.specs.State.{State};
+
+    ghost Value = { State };
+
+    ghost use Rattle.node_pool.specs.Kept.{state_of, IsKept};
+
+    ghost view = { state_of };
+
+    ghost invariant = { IsKept };
+}
+
+impl Pool {
+    /// A pool of that many bytes, all free. All memory is taken here.
+    pub fn open(alloc: Global, size: u32) -> Result<Pool, AllocError>
+        requires { IsPoolSize size }
+        ensures { IfOk result (λ pool. pool ≡ record { nodes = []; size = size; refusals = 0; last_refused = record { needed = 0; free = 0 } }) }
+    {
+        let buffer = Buffer::new(alloc, size)?;
+        let taken = Identifiers::new(alloc, size / 8)?;
+        Ok(Pool {
+            buffer,
+            taken,
+            refusals: 0,
+            last_refused: Full { needed: 0, free: 0 },
+        })
+    }
+
+    /// The bytes that the nodes take.
+    pub fn used(&self) -> u32
+        ensures value { result ≡ used self.now.nodes }
+        ensures boundary { IsBoundary result self.now.nodes }
+        ensures pool { IsPool self.now }
+    {
+        self.buffer.used()
+    }
+
+    /// The bytes that no node takes.
+    pub fn free(&self) -> u32
+        ensures value { result ≡ free_of self.now }
+        ensures pool { IsPool self.now }
+    {
+        self.buffer.free()
+    }
+
+    /// How many nodes there are.
+    pub fn nodes(&self) -> u32
+        ensures value { result ≡ length self.now.nodes }
+        ensures pool { IsPool self.now }
+    {
+        self.buffer.count()
+    }
+
+    /// The capacity in bytes.
+    pub fn size(&self) -> u32
+        ensures value { result ≡ self.now.size }
+        ensures pool { IsPool self.now }
+    {
+        self.buffer.size()
+    }
+
+    /// All bytes, as many as the capacity.
+    pub fn bytes(&self) -> &[u8]
+        ensures value { result.now ≡ bytes_of self.now }
+        ensures pool { IsPool self.now }
+    {
+        self.buffer.bytes()
+    }
+
+    /// How often `place` and `ask` were refused, up to 2^64 - 1.
+    pub fn refusals(&self) -> u64
+        ensures value { result ≡ self.now.refusals }
+        ensures pool { IsPool self.now }
+    {
+        self.refusals
+    }
+
+    /// The last refusal, two zeros where there was none.
+    pub fn last_refused(&self) -> Full
+        ensures value { result ≡ self.now.last_refused }
+        ensures pool { IsPool self.now }
+    {
+        self.last_refused
+    }
+
+    /// Where the node begins.
+    pub fn locate(&self, id: Id) -> u32
+        requires { has id self.now.nodes ≡ true }
+        ensures value { result ≡ place_of id self.now.nodes }
+        ensures boundary { IsBoundary result self.now.nodes }
+        ensures inside { result < used self.now.nodes }
+        ensures pool { IsPool self.now }
+    {
+        self.buffer.locate(id.value())
+    }
+
+    /// The header of the node that begins at a place.
+    pub fn header(&self, at: u32) -> Header
+        requires boundary { IsBoundary at self.now.nodes }
+        requires inside { at < used self.now.nodes }
+        ensures value { result ≡ header_of (first_of (since at self.now.nodes)) }
+        ensures pool { IsPool self.now }
+    {
+        self.buffer.header(at)
+    }
+
+    /// The value of a number.
+    pub fn rational(&self, id: Id) -> Rat
+        requires live { has id self.now.nodes ≡ true }
+        requires number { kind_of_payload (payload_of_id id self.now.nodes) ≡ Num }
+        ensures { payload_of_id id self.now.nodes ≡ rational (ratio_of result) }
+    {
+        self.buffer.rational(id.value())
+    }
+
+    /// The name of a symbol.
+    pub fn name(&self, id: Id) -> Name
+        requires live { has id self.now.nodes ≡ true }
+        requires symbol { kind_of_payload (payload_of_id id self.now.nodes) ≡ Sym }
+        ensures { payload_of_id id self.now.nodes ≡ named (name_of result) }
+    {
+        self.buffer.name(id.value())
+    }
+
+    /// A new node at the end, held once and without children.
+    pub fn place(&mut self, leaf: Leaf) -> Result<Id, Full>
+        requires { IsUsable leaf }
+        ensures ok { IfOk result (λ id. self.new ≡ record self.old { nodes = self.old.nodes ++ fresh id (payload_of leaf) ∷ [] }) }
+        ensures least { IfOk result (λ id. IsLeastFree id self.old.nodes) }
+
+        // Refused exactly where the node is larger than what is free. Only the refusal is kept.
+        ensures exactly { IsOk result ↔ (size_of_payload (payload_of leaf) ≤ free_of self.old) }
+        ensures full { IfErr result (λ full. full ≡ record { needed = size_of_payload (payload_of leaf); free = free_of self.old }) }
+        ensures counted { IfErr result (λ full. self.new ≡ refused self.old full) }
+
+        ensures pool { IsPool self.new }
+    {
+        let needed = leaf.header(0).size();
+        if needed > self.free() {
+            return Err(self.refuse(needed));
+        }
+        let id = self.taken.take_least();
+        self.buffer.push(id, leaf);
+        Ok(Id::of(id))
+    }
+
+    /// Whether the nodes in the `len` bytes at `from` would fit once more.
+    pub fn ask(&mut self, from: u32, len: u32) -> Result<(), Full>
+        requires from { IsBoundary from self.old.nodes }
+        requires to { IsBoundary (from + len) self.old.nodes }
+        ensures ok { OnOk result (self.new ≡ self.old) }
+
+        // Refused exactly where they are larger than what is free. Only the refusal is kept.
+        ensures exactly { IsOk result ↔ (len ≤ free_of self.old) }
+        ensures full { IfErr result (λ full. full ≡ record { needed = len; free = free_of self.old }) }
+        ensures counted { IfErr result (λ full. self.new ≡ refused self.old full) }
+
+        ensures pool { IsPool self.new }
+    {
+        if len > self.free() {
+            return Err(self.refuse(len));
+        }
+        Ok(())
+    }
+
+    /// Counts and keeps a refusal.
+    fn refuse(&mut self, needed: u32) -> Full
+        ensures full { result ≡ record { needed = needed; free = free_of self.old } }
+        ensures counted { self.new ≡ refused self.old result }
+        ensures pool { IsPool self.new }
+    {
+        let full = Full {
+            needed,
+            free: self.free(),
+        };
+        self.refusals = self.refusals.saturating_add(1);
+        self.last_refused = full;
+        full
+    }
+
+    /// Sets how often a node is held.
+    pub fn set_count(&mut self, id: Id, count: u16)
+        requires { has id self.old.nodes ≡ true }
+        ensures nodes { self.new ≡ record self.old { nodes = with_count id count self.old.nodes } }
+        ensures pool { IsPool self.new }
+    {
+        self.buffer.set_count(id.value(), count);
+    }
+
+    /// Sets a node's number of children.
+    pub fn set_children(&mut self, id: Id, children: u16)
+        requires { has id self.old.nodes ≡ true }
+        ensures nodes { self.new ≡ record self.old { nodes = with_children id children self.old.nodes } }
+        ensures pool { IsPool self.new }
+    {
+        self.buffer.set_children(id.value(), children);
+    }
+
+    /// The nodes in the `len` bytes at `from` go before the node that begins at `to` now, or to
+    /// the end.
+    pub fn move_block(&mut self, from: u32, len: u32, to: u32)
+        requires from { IsBoundary from self.old.nodes }
+        requires end { IsBoundary (from + len) self.old.nodes }
+        requires to { IsBoundary to self.old.nodes }
+        requires outside { (to ≤ from) ⊎ (from + len ≤ to) }
+        ensures nodes { self.new ≡ record self.old { nodes = moved from len to self.old.nodes } }
+        ensures pool { IsPool self.new }
+    {
+        self.buffer.relocate(from, len, to);
+    }
+
+    /// The nodes in the `len` bytes at `at` go, those behind them close up, and their identifiers
+    /// are free.
+    pub fn remove_block(&mut self, at: u32, len: u32)
+        requires from { IsBoundary at self.old.nodes }
+        requires to { IsBoundary (at + len) self.old.nodes }
+        ensures nodes { self.new ≡ record self.old { nodes = without at (at + len) self.old.nodes } }
+        ensures pool { IsPool self.new }
+    {
+        release_block(&mut self.taken, &self.buffer, at, len);
+        self.buffer.remove(at, len);
+    }
+}
