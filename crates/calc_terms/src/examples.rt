@@ -1,11 +1,11 @@
 //! Worked examples of the definitions, each the contract of a function without a body.
 
-ghost use Rattle.std.specs.Prelude.{◌≡◌, ◌^◌, ℕ, ℤ, pos, negsuc, List, [], ◌∷◌, ◌++◌, Bool, true, false, codes};
+ghost use Rattle.std.specs.Prelude.{◌≡◌, pos, negsuc, [], ◌∷◌, ◌++◌, true, false, codes};
 ghost use Rattle.std.specs.declared.cmp.Ordering.TheVariants.{Less, Equal};
-ghost use Rattle.calc_terms.specs.Fractions.{lowest as lowest_of, one_fraction, minus_one_fraction, whole_fraction, quotient};
-ghost use Rattle.calc_terms.specs.Trees.{num, symbol, undef, add, mult, power, root, neg, sub, div, none, more, whole_num, size, depth, nodes, names};
+ghost use Rattle.calc_terms.specs.Fractions.{one_fraction, minus_one_fraction, whole_fraction, quotient};
+ghost use Rattle.calc_terms.specs.Trees.{symbol, undef, add, mult, power, root, neg, sub, div, more, whole_num, size, depth, nodes};
 ghost use Rattle.calc_terms.specs.TreeOrder.{tree_cmp};
-ghost use Rattle.calc_terms.specs.Surds.{Surd, term, surd_one};
+ghost use Rattle.calc_terms.specs.Surds.{Surd, term};
 ghost use Rattle.calc_terms.specs.SquareClasses.{Same};
 ghost use Rattle.calc_terms.specs.Meanings.{Assignment, Means};
 ghost use Rattle.calc_terms.specs.Tokens.{times_sign, root_sign};
@@ -18,7 +18,7 @@ ghost use Rattle.calc_terms.specs.Measures.{room, high, low, bits};
 ghost use Rattle.calc_terms.specs.Loads.{nest, weight, load};
 ghost use Rattle.calc_terms.specs.Fits.{mul_op, pow_op};
 ghost use Rattle.calc_terms.specs.PlainValues.{plain_value, exactly, undefined, overflow, nothing};
-ghost use Rattle.calc_terms.specs.Examples.{x, y, z, ratio, root_of, two, three, sum, product};
+ghost use Rattle.calc_terms.specs.Examples.{x, y, z, ratio, root_of, three, sum, product, third_and_sixth, one_over_two_roots};
 
 /// What lines read as.
 pub fn lines_read()
@@ -37,24 +37,32 @@ pub fn lines_read()
 
 /// The texts of trees.
 pub fn trees_written()
-    ensures parentheses { text_of (product (power (whole_num 2) (neg x)) (sum x y)) ≡ codes "2^-x" ++ times_sign ++ codes "(x+y)" }
+    ensures parentheses { text_of (product (power (whole_num 2) (neg x)) (sum x y))
+        ≡ codes "2^-x" ++ times_sign ++ codes "(x+y)" }
     ensures a_difference_in_front { text_of (sum (sub x y) z) ≡ codes "x-y+z" }
     ensures a_difference_behind { text_of (sum x (sub y z)) ≡ codes "x+(y-z)" }
     ensures a_quotient_below { text_of (div x (div y z)) ≡ codes "x/(y/z)" }
     ensures a_power_of_a_power { text_of (power (power x y) z) ≡ codes "(x^y)^z" }
-    ensures the_largest_number { text_of (whole_num 170141183460469231731687303715884105727) ≡ codes "170141183460469231731687303715884105727" }
+    ensures the_largest_number { text_of (whole_num 170141183460469231731687303715884105727)
+        ≡ codes "170141183460469231731687303715884105727" }
 {}
 
 /// The texts of the faces of reduced trees.
 pub fn faces_written()
     ensures a_negative { text_of (face (ratio (negsuc 3) 1)) ≡ codes "-4" }
-    ensures the_root_of_a_quadratic { text_of (face (sum (ratio (negsuc 2) 4) (product (ratio (pos 1) 4) (root_of 17)))) ≡ codes "-3/4+" ++ root_sign ++ codes "(17)/4" }
-    ensures two_roots { text_of (face (sum (product (ratio (negsuc 0) 1) (root_of 2)) (root_of 3))) ≡ codes "-" ++ root_sign ++ codes "(2)+" ++ root_sign ++ codes "(3)" }
-    ensures three_classes { text_of (face (power (add (three (whole_num 1) (root_of 2) (root_of 3))) (ratio (negsuc 0) 1))) ≡ codes "1/(1+" ++ root_sign ++ codes "(2)+" ++ root_sign ++ codes "(3))" }
-    ensures a_wide_coefficient { text_of (face (product (sum (whole_num 1) (root_of 2)) x)) ≡ codes "(1+" ++ root_sign ++ codes "(2))" ++ times_sign ++ codes "x" }
+    ensures the_root_of_a_quadratic { text_of (face (sum (ratio (negsuc 2) 4) (product (ratio (pos 1) 4) (root_of 17))))
+        ≡ codes "-3/4+" ++ root_sign ++ codes "(17)/4" }
+    ensures two_roots { text_of (face (sum (product (ratio (negsuc 0) 1) (root_of 2)) (root_of 3)))
+        ≡ codes "-" ++ root_sign ++ codes "(2)+" ++ root_sign ++ codes "(3)" }
+    ensures three_classes { text_of (face (power (add (three (whole_num 1) (root_of 2) (root_of 3))) (ratio (negsuc 0) 1)))
+        ≡ codes "1/(1+" ++ root_sign ++ codes "(2)+" ++ root_sign ++ codes "(3))" }
+    ensures a_wide_coefficient { text_of (face (product (sum (whole_num 1) (root_of 2)) x))
+        ≡ codes "(1+" ++ root_sign ++ codes "(2))" ++ times_sign ++ codes "x" }
     ensures a_half { text_of (face (product (ratio (pos 1) 2) (root x))) ≡ root_sign ++ codes "(x)/2" }
-    ensures below_the_line { text_of (face (mult (three (ratio (negsuc 1) 3) x (power y (ratio (negsuc 1) 1))))) ≡ codes "-2" ++ times_sign ++ codes "x/(3" ++ times_sign ++ codes "y^2)" }
-    ensures a_difference { text_of (face (sum (mult (three (whole_num 2) x (sum (whole_num 1) x))) (product (ratio (negsuc 1) 1) (power x (whole_num 2))))) ≡ codes "2" ++ times_sign ++ codes "x" ++ times_sign ++ codes "(1+x)-2" ++ times_sign ++ codes "x^2" }
+    ensures below_the_line { text_of (face (mult (three (ratio (negsuc 1) 3) x (power y (ratio (negsuc 1) 1)))))
+        ≡ codes "-2" ++ times_sign ++ codes "x/(3" ++ times_sign ++ codes "y^2)" }
+    ensures a_difference { text_of (face (sum (mult (three (whole_num 2) x (sum (whole_num 1) x))) (product (ratio (negsuc 1) 1) (power x (whole_num 2)))))
+        ≡ codes "2" ++ times_sign ++ codes "x" ++ times_sign ++ codes "(1+x)-2" ++ times_sign ++ codes "x^2" }
 {}
 
 /// The order of trees.
@@ -85,11 +93,14 @@ pub fn reduced_trees()
     ensures a_root { is_reduced (root x) ≡ true }
     ensures a_power { is_reduced (power x (whole_num 2)) ≡ true }
     ensures an_odd_power_of_a_root { is_reduced (power (root x) (whole_num 3)) ≡ true }
-    ensures a_wide_inverse { is_reduced (power (add (three (whole_num 1) (root_of 2) (root_of 3))) (ratio (negsuc 0) 1)) ≡ true }
+    ensures a_wide_inverse { is_reduced (power (add (three (whole_num 1) (root_of 2) (root_of 3))) (ratio (negsuc 0) 1))
+        ≡ true }
     ensures a_symbol_as_exponent { is_reduced (power (product (whole_num 2) (root_of 3)) x) ≡ true }
     ensures an_opaque_power { is_reduced (power (power x (whole_num 2)) (ratio (pos 1) 2)) ≡ true }
-    ensures a_sum { is_reduced (add (more (whole_num 1) (three (root_of 2) x (mult (three (whole_num 2) (root_of 3) (power x (ratio (negsuc 1) 1))))))) ≡ true }
-    ensures a_product { is_reduced (mult (three (whole_num 2) x (power (sum (whole_num 1) x) (ratio (negsuc 0) 1)))) ≡ true }
+    ensures a_sum { is_reduced (add (more (whole_num 1) (three (root_of 2) x (mult (three (whole_num 2) (root_of 3) (power x (ratio (negsuc 1) 1)))))))
+        ≡ true }
+    ensures a_product { is_reduced (mult (three (whole_num 2) x (power (sum (whole_num 1) x) (ratio (negsuc 0) 1))))
+        ≡ true }
     ensures a_wide_coefficient { is_reduced (product (sum (whole_num 1) (root_of 2)) x) ≡ true }
     ensures an_irrational_before_a_sum { is_reduced (product (root_of 2) (sum x y)) ≡ true }
 {}
@@ -126,22 +137,22 @@ pub fn other_trees()
 
 /// The measures of `1/3+1/6`.
 pub fn a_sum_measured()
-    ensures nodes { nodes (sum (div (whole_num 1) (whole_num 3)) (div (whole_num 1) (whole_num 6))) ≡ 7 }
-    ensures depth { depth (sum (div (whole_num 1) (whole_num 3)) (div (whole_num 1) (whole_num 6))) ≡ 3 }
-    ensures size { size (sum (div (whole_num 1) (whole_num 3)) (div (whole_num 1) (whole_num 6))) ≡ 184 }
-    ensures room { room (sum (div (whole_num 1) (whole_num 3)) (div (whole_num 1) (whole_num 6))) ≡ 7168 }
-    ensures high { high (sum (div (whole_num 1) (whole_num 3)) (div (whole_num 1) (whole_num 6))) ≡ 5 }
-    ensures low { low (sum (div (whole_num 1) (whole_num 3)) (div (whole_num 1) (whole_num 6))) ≡ 10 }
-    ensures bits { bits (sum (div (whole_num 1) (whole_num 3)) (div (whole_num 1) (whole_num 6))) ≡ 50 }
+    ensures nodes { nodes third_and_sixth ≡ 7 }
+    ensures depth { depth third_and_sixth ≡ 3 }
+    ensures size { size third_and_sixth ≡ 184 }
+    ensures room { room third_and_sixth ≡ 7168 }
+    ensures high { high third_and_sixth ≡ 5 }
+    ensures low { low third_and_sixth ≡ 10 }
+    ensures bits { bits third_and_sixth ≡ 50 }
 {}
 
 /// The measures of `1/(√(2)+√(3))`.
 pub fn an_inverse_measured()
-    ensures nodes { nodes (div (whole_num 1) (sum (root_of 2) (root_of 3))) ≡ 7 }
-    ensures room { room (div (whole_num 1) (sum (root_of 2) (root_of 3))) ≡ 28672 }
-    ensures high { high (div (whole_num 1) (sum (root_of 2) (root_of 3))) ≡ 4 }
-    ensures low { low (div (whole_num 1) (sum (root_of 2) (root_of 3))) ≡ 6 }
-    ensures bits { bits (div (whole_num 1) (sum (root_of 2) (root_of 3))) ≡ 32 }
+    ensures nodes { nodes one_over_two_roots ≡ 7 }
+    ensures room { room one_over_two_roots ≡ 28672 }
+    ensures high { high one_over_two_roots ≡ 4 }
+    ensures low { low one_over_two_roots ≡ 6 }
+    ensures bits { bits one_over_two_roots ≡ 32 }
 {}
 
 /// The measures of powers.
@@ -162,17 +173,22 @@ pub fn powers_measured()
 
 /// Plain values.
 pub fn plain_values()
-    ensures a_sum { plain_value (sum (div (whole_num 1) (whole_num 3)) (div (whole_num 1) (whole_num 6))) ≡ exactly (quotient 1 2) }
+    ensures a_sum { plain_value third_and_sixth ≡ exactly (quotient 1 2) }
     ensures a_difference { plain_value (sub (whole_num 2) (whole_num 3)) ≡ exactly minus_one_fraction }
-    ensures an_inverse_power { plain_value (power (div (whole_num 2) (whole_num 3)) (neg (whole_num 40))) ≡ exactly (quotient 12157665459056928801 1099511627776) }
+    ensures an_inverse_power { plain_value (power (div (whole_num 2) (whole_num 3)) (neg (whole_num 40)))
+        ≡ exactly (quotient 12157665459056928801 1099511627776) }
     ensures a_division_by_zero { plain_value (div (whole_num 1) (whole_num 0)) ≡ undefined }
     ensures zero_to_the_zero { plain_value (power (whole_num 0) (whole_num 0)) ≡ undefined }
     ensures zero_to_a_negative { plain_value (power (whole_num 0) (neg (whole_num 1))) ≡ undefined }
     ensures undefined_in_a_sum { plain_value (sum undef (whole_num 1)) ≡ undefined }
-    ensures a_product_overflows { plain_value (mult (three (power (whole_num 2) (whole_num 126)) (whole_num 2) (whole_num 3))) ≡ overflow mul_op (whole_fraction (pos 85070591730234615865843651857942052864)) (whole_fraction (pos 2)) }
-    ensures a_power_overflows { plain_value (power (whole_num 2) (whole_num 127)) ≡ overflow pow_op (whole_fraction (pos 2)) (whole_fraction (pos 127)) }
-    ensures an_inverse_power_overflows { plain_value (power (div (whole_num 2) (whole_num 3)) (neg (whole_num 200))) ≡ overflow pow_op (quotient 3 2) (whole_fraction (pos 200)) }
-    ensures an_overflow_behind_undefined { plain_value (product (div (whole_num 1) (whole_num 0)) (power (whole_num 2) (whole_num 127))) ≡ overflow pow_op (whole_fraction (pos 2)) (whole_fraction (pos 127)) }
+    ensures a_product_overflows { plain_value (mult (three (power (whole_num 2) (whole_num 126)) (whole_num 2) (whole_num 3)))
+        ≡ overflow mul_op (whole_fraction (pos 85070591730234615865843651857942052864)) (whole_fraction (pos 2)) }
+    ensures a_power_overflows { plain_value (power (whole_num 2) (whole_num 127))
+        ≡ overflow pow_op (whole_fraction (pos 2)) (whole_fraction (pos 127)) }
+    ensures an_inverse_power_overflows { plain_value (power (div (whole_num 2) (whole_num 3)) (neg (whole_num 200)))
+        ≡ overflow pow_op (quotient 3 2) (whole_fraction (pos 200)) }
+    ensures an_overflow_behind_undefined { plain_value (product (div (whole_num 1) (whole_num 0)) (power (whole_num 2) (whole_num 127)))
+        ≡ overflow pow_op (whole_fraction (pos 2)) (whole_fraction (pos 127)) }
     ensures a_broken_exponent { plain_value (power (whole_num 2) (div (whole_num 1) (whole_num 2))) ≡ nothing }
     ensures a_symbol { plain_value (sum (div (whole_num 1) (whole_num 0)) x) ≡ nothing }
     ensures a_root { plain_value (root_of 4) ≡ nothing }
@@ -188,7 +204,7 @@ pub fn surds_compared()
 
 /// Meanings, and trees without one.
 pub fn meanings_found()
-    ensures an_inverse { (f : Assignment) → Means (div (whole_num 1) (sum (root_of 2) (root_of 3))) f (term minus_one_fraction 2 ∷ term one_fraction 3 ∷ []) }
+    ensures an_inverse { (f : Assignment) → Means one_over_two_roots f (term minus_one_fraction 2 ∷ term one_fraction 3 ∷ []) }
     ensures a_root_of_a_ratio { (f : Assignment) → Means (root (ratio (pos 1) 2)) f (term (quotient 1 2) 2 ∷ []) }
     ensures zero_to_the_zero { (f : Assignment) (v : Surd) → ¬ (Means (power (whole_num 0) (whole_num 0)) f v) }
     ensures a_root_of_a_negative { (f : Assignment) (v : Surd) → ¬ (Means (root (ratio (negsuc 0) 1)) f v) }
