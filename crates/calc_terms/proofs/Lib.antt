@@ -15,6 +15,8 @@ pub mod ReaderSound
 pub mod Written
 pub mod Spelled
 pub mod ReadLaws
+pub mod Scanner
+pub mod Compared
 pub mod NumberLaws
 pub mod NumberValues
 pub mod ReducedLaws

@@ -87,9 +87,9 @@ whole_power_words b n h =
 pub whole_power_test : (b : Tree) (n : Fraction) → IsWholePowerForm b n → whole_power_form b n ≡ true
 whole_power_test b n h =
     and_from _ _ (and_from _ _ (and_from _ _ (and_from _ _ (and_from _ _ (not_from_false _ (zero_test n h.not_zero)) (not_from_false _ (one_test n h.not_one)))
-        (not_from_false _ h.no_product)) (not_from_false _ h.no_power))
-        (implied (int_is_even n.num) (not (is_root b)) (λ e. not_from_false _ (h.no_root e))))
-        (implied (is_number b) _ (λ e. and_from _ _ (h.wide e).0 (le-leb 3 (classes b) (h.wide e).1)))
+    (not_from_false _ h.no_product)) (not_from_false _ h.no_power))
+    (implied (int_is_even n.num) (not (is_root b)) (λ e. not_from_false _ (h.no_root e))))
+    (implied (is_number b) _ (λ e. and_from _ _ (h.wide e).0 (le-leb 3 (classes b) (h.wide e).1)))
 
 other_power_words : (b e : Tree) → (is_number e || not (is_transparent_power b) && (not (is_mult b) || is_number b)) ≡ true → is_number e ≡ false → IsOtherPowerForm b
 other_power_words b e h k =
@@ -147,7 +147,7 @@ sum_words ts h =
 pub sum_test : (ts : Trees) → IsSumForm ts → sum_form ts ≡ true
 sum_test ts h =
     and_from _ _ (and_from _ _ (and_from _ _ (and_from _ _ (two_test ts h.two) (none_test is_add ts h.no_sum)) (rises_test (terms_of (number_terms ts)) h.number))
-        (none_test is_number (other_terms ts) h.no_number)) (rises_by_test part_of (other_terms ts) h.rising)
+    (none_test is_number (other_terms ts) h.no_number)) (rises_by_test part_of (other_terms ts) h.rising)
 
 front_words : (ts : Trees) → front_form ts ≡ true → IsFrontForm ts
 front_words (more (num q) ts) h = let (a, b) = and_parts (not (is_zero_fraction q)) _ h in (no_zero q a, no_one q b)
@@ -176,7 +176,7 @@ product_words ts h =
 pub product_test : (ts : Trees) → IsProductForm ts → product_form ts ≡ true
 product_test ts h =
     and_from _ _ (and_from _ _ (and_from _ _ (and_from _ _ (and_from _ _ (two_test ts h.two) (none_test is_mult ts h.no_product)) (front_test ts h.front))
-        (none_test is_number (split_product ts).factors h.no_number)) (rises_by_test base_of (split_product ts).factors h.rising)) (not_from_false _ h.distributed)
+    (none_test is_number (split_product ts).factors h.no_number)) (rises_by_test base_of (split_product ts).factors h.rising)) (not_from_false _ h.distributed)
 
 -- ---- nodes and parts
 

@@ -29,3 +29,4 @@ pub mod Measures
 pub mod Loads
 pub mod Fits
 pub mod PlainValues
+pub mod Examples

@@ -2,6 +2,7 @@
 #![tactic(auto)]
 
 mod euclid;
+pub mod examples;
 mod kind;
 pub mod laws;
 mod leaf;
