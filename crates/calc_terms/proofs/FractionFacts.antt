@@ -1,10 +1,10 @@
 -- Equal fractions have equal cross products, and the tests for 0 and 1.
-use Rattle.std.proofs.Common.{zero, suc, negsuc, true, false, not, ◌==◌, refl, ◌≢◌, ◌≡◌, ℕ, ◌<◌, ℤ, pos, ◌*ℤ◌, sym, ap, ◌∙◌, arith}
+use Rattle.std.proofs.Common.{nat_lt, nat_abs, zero, suc, negsuc, true, false, not, ◌==◌, refl, ◌≢◌, ◌≡◌, ℕ, ◌<◌, ℤ, pos, ◌*ℤ◌, sym, ap, ◌∙◌, arith}
 use Rattle.std.proofs.lemmas.Int.{ints}
-use Rattle.std.proofs.lemmas.Bool.{and_parts, eqb-true, false_from_ne_true}
-use Rattle.calc_terms.specs.Gcd.{gcd}
+use Rattle.std.proofs.lemmas.Bool.{eq-eqb, and_parts, eqb-true, false_from_ne_true}
+use Rattle.calc_terms.specs.Gcd.{gcd, gcd_step, gcd_zero}
 use Rattle.calc_terms.specs.Integers.{int_is_zero, int_is_one, parts, diffs, eq_diff, combine, cancel_pos}
-use Rattle.calc_terms.specs.Fractions.{Fraction, lowest, zero_fraction, one_fraction, is_zero_fraction, is_one_fraction, lowest_cross, lowest_parts, same_lowest, den_pos}
+use Rattle.calc_terms.specs.Fractions.{Fraction, lowest, zero_fraction, one_fraction, is_zero_fraction, is_one_fraction, held, same_fraction, lowest_cross, lowest_parts, same_lowest, den_pos}
 
 crossed : (x : ℤ) (d : ℕ) (p r : ℤ) (q s : ℕ) → 0 < d → x *ℤ pos q ≡ p *ℤ pos d → x *ℤ pos s ≡ r *ℤ pos d → p *ℤ pos s ≡ r *ℤ pos q
 crossed x d p r q s h e f = cancel_pos _ _ d h
@@ -49,3 +49,24 @@ zero_test q h = false_from_ne_true (is_zero_fraction q) (λ e. h (zero_is q e))
 
 pub one_test : (q : Fraction) → q ≢ one_fraction → is_one_fraction q ≡ false
 one_test q h = false_from_ne_true (is_one_fraction q) (λ e. h (one_is q e))
+
+-- ---- whole numbers
+
+gcd_one : (n : ℕ) → gcd n 1 ≡ 1
+gcd_one n = gcd_step n 1 (omega arith) ∙ ap (gcd 1) (omega arith) ∙ gcd_zero 1
+
+whole_parts : ℤ → Fraction
+whole_parts z = record { num = z; den = 1; lowest = held (nat_lt 0 1) (gcd (nat_abs z) 1 == 1) refl (eq-eqb (gcd (nat_abs z) 1) 1 (gcd_one (nat_abs z))) }
+
+whole_is : (z : ℤ) → lowest z 1 ≡ whole_parts z
+unfolding whole_parts
+whole_is z = same_fraction (lowest z 1) (whole_parts z) (lowest_cross z 1 (omega arith))
+
+-- the numerator and the denominator of a whole number
+pub whole_numerator : (z : ℤ) → (lowest z 1).num ≡ z
+unfolding whole_parts
+whole_numerator z = ap (λ q. q.num) (whole_is z)
+
+pub whole_denominator : (z : ℤ) → (lowest z 1).den ≡ 1
+unfolding whole_parts
+whole_denominator z = ap (λ q. q.den) (whole_is z)

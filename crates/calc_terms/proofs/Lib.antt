@@ -22,6 +22,7 @@ pub mod NumberValues
 pub mod ReducedLaws
 pub mod Rewrites
 pub mod FaceLaws
+pub mod FaceTexts
 pub mod Names
 pub mod LowBytes
 pub mod Codec

@@ -269,6 +269,24 @@ module _ (P Q : Tree → Type 0) (f : (t : Tree) → P t → Q t) where
     AllPartsOf-map none h = tt
     AllPartsOf-map (more t ts) h = (AllParts-map t h.0, AllPartsOf-map ts h.1)
 
+module _ (P Q R : Tree → Type 0) (f : (t : Tree) → P t → Q t → R t) where
+  mutual
+    pub AllParts-zip : (t : Tree) → AllParts P t → AllParts Q t → AllParts R t
+    AllParts-zip (num q) h k = f (num q) h k
+    AllParts-zip (symbol x) h k = f (symbol x) h k
+    AllParts-zip undef h k = f undef h k
+    AllParts-zip (add ts) h k = (f (add ts) h.0 k.0, AllPartsOf-zip ts h.1 k.1)
+    AllParts-zip (mult ts) h k = (f (mult ts) h.0 k.0, AllPartsOf-zip ts h.1 k.1)
+    AllParts-zip (power b e) h k = (f (power b e) h.0 k.0, AllParts-zip b h.1 k.1, AllParts-zip e h.2 k.2)
+    AllParts-zip (root a) h k = (f (root a) h.0 k.0, AllParts-zip a h.1 k.1)
+    AllParts-zip (neg a) h k = (f (neg a) h.0 k.0, AllParts-zip a h.1 k.1)
+    AllParts-zip (sub a b) h k = (f (sub a b) h.0 k.0, AllParts-zip a h.1 k.1, AllParts-zip b h.2 k.2)
+    AllParts-zip (div a b) h k = (f (div a b) h.0 k.0, AllParts-zip a h.1 k.1, AllParts-zip b h.2 k.2)
+
+    pub AllPartsOf-zip : (ts : Trees) → AllPartsOf P ts → AllPartsOf Q ts → AllPartsOf R ts
+    AllPartsOf-zip none h k = tt
+    AllPartsOf-zip (more t ts) h k = (AllParts-zip t h.0 k.0, AllPartsOf-zip ts h.1 k.1)
+
 undef_words : (t : Tree) → is_undef t ≡ true → t ≡ undef
 undef_words undef h = refl
 undef_words _ h = cc

@@ -12,6 +12,7 @@ use Rattle.calc_terms.specs.Texts.{decimal, digits_before, Place, first_of_sum, 
 use Rattle.calc_terms.specs.Name.{is_digit, is_letter, is_name_byte}
 use Rattle.calc_terms.specs.Tokens.{literal_at, word_at, Scans, at_end, at_token, name, times_sign, root_sign, Token, literal, undef_mark, root_mark, plus_mark, minus_mark, times_mark, slash_mark, caret_mark, left_mark, right_mark, arrow_mark, leading_run, keep, digits_value, decimals, same_bytes, token_of_word, token_at, or_else, if_so}
 use Rattle.calc_terms.specs.Trees.{Tree, num, symbol, undef, add, mult, power, root, neg, sub, div, Trees, none, more}
+use Rattle.calc_terms.proofs.FractionFacts.{whole_numerator}
 use Rattle.calc_terms.proofs.Written.{inside, placed, tokens, tokens_of_sum, tokens_of_terms, tokens_of_product, tokens_of_factors}
 
 abbrev pub spell : Token → List ℕ
@@ -302,7 +303,7 @@ IsWritten arrow_mark = ⊥
 IsWritten _ = ⊤
 
 taken : (t : Token) → IsWritten t → (rest : List ℕ) → (is_operand t ≡ true → is_clear rest ≡ true) → no_greater rest ≡ true → token_at (spell t ++ rest) ≡ Some (t, rest)
-taken (literal q) (n, e, f) rest c g = rw f (literal_taken n (decimal n) rest (decimal_is n) (c refl)) ∙ ap (λ x. Some (literal x, rest)) (sym e)
+taken (literal q) (n, e) rest c g = rw (ap (λ x. nat_abs x.num) e ∙ ap nat_abs (whole_numerator (pos n))) (literal_taken n (decimal n) rest (decimal_is n) (c refl)) ∙ ap (λ x. Some (literal x, rest)) (sym e)
 taken (name x) w rest c g = name_taken x rest (name_text x w) (c refl)
 taken undef_mark w rest c g = undef_taken rest (c refl)
 taken root_mark w rest c g = refl

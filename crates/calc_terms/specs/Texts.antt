@@ -1,8 +1,8 @@
 -- The text of a tree, with the parentheses that it needs to be read again.
 use Rattle.std.specs.Prelude.{ℕ, zero, suc, ◌+◌, ◌/◌, ◌%◌, List, [], ◌∷◌, ◌++◌, Bool, true, ◌||◌, nat_le, nat_abs, ◌≡◌, pos, ⊤, if◌then◌else◌, codes}
 use Rattle.calc_terms.specs.Name.{is_name}
-use Rattle.calc_terms.specs.Fractions.{Fraction, lowest}
-use Rattle.calc_terms.specs.Trees.{Tree, num, symbol, undef, add, mult, power, root, neg, sub, div, Trees, none, more, is_sub, is_div}
+use Rattle.calc_terms.specs.Fractions.{Fraction, whole_fraction}
+use Rattle.calc_terms.specs.Trees.{AllParts, Tree, num, symbol, undef, add, mult, power, root, neg, sub, div, Trees, none, more, is_sub, is_div}
 use Rattle.calc_terms.specs.Tokens.{times_sign, root_sign}
 
 -- the digits of n in front of those; n is below 10 ^ steps
@@ -85,7 +85,7 @@ abbrev mutual
 
 -- a whole number of at least 0
 abbrev pub IsNatural : Fraction → Type 0
-IsNatural q = (n : ℕ) × (q ≡ lowest (pos n) 1) × (nat_abs q.num ≡ n)
+IsNatural q = (n : ℕ) × (q ≡ whole_fraction (pos n))
 
 -- each rational in it is a whole number of at least 0, and each symbol a name
 abbrev mutual
@@ -104,3 +104,11 @@ abbrev mutual
   pub AreWritable : Trees → Type 0
   AreWritable none = ⊤
   AreWritable (more t ts) = IsWritable t × AreWritable ts
+
+abbrev pub IsNamed : Tree → Type 0
+IsNamed (symbol x) = is_name x ≡ true
+IsNamed _ = ⊤
+
+-- each symbol in it is a name
+abbrev pub HasNames : Tree → Type 0
+HasNames t = AllParts IsNamed t

@@ -1,16 +1,16 @@
 //! Laws of the definitions, each the contract of a function without a body.
 
-ghost use Rattle.std.specs.Prelude.{◌≡◌, ◌↔◌, ◌⊎◌, ℕ, ◌<◌, ◌*◌, ℤ, pos, neg_ℤ, ◌+ℤ◌, ◌*ℤ◌, List, ◌++◌, true};
+ghost use Rattle.std.specs.Prelude.{◌≡◌, ◌↔◌, ◌⊎◌, false, ℕ, ◌<◌, ◌*◌, ℤ, pos, neg_ℤ, ◌+ℤ◌, ◌*ℤ◌, List, ◌++◌, true};
 ghost use Rattle.std.specs.Cmp.{IsTotalOrder};
 ghost use Rattle.std.specs.declared.cmp.Ordering.TheVariants.{Equal};
 ghost use Rattle.calc_terms.specs.Fractions.{Fraction, lowest as lowest_of, plus, times, negative, zero_fraction, one_fraction};
-ghost use Rattle.calc_terms.specs.Trees.{Tree, IsComplete};
+ghost use Rattle.calc_terms.specs.Trees.{Tree, is_undef, IsComplete};
 ghost use Rattle.calc_terms.specs.TreeOrder.{tree_cmp};
 ghost use Rattle.calc_terms.specs.Surds.{Surd, surd_one, surd_scale, surd_times, surd_power};
 ghost use Rattle.calc_terms.specs.SquareClasses.{class_coefficient, Same, Inverts};
 ghost use Rattle.calc_terms.specs.Meanings.{Assignment, IsAssignment, Means};
 ghost use Rattle.calc_terms.specs.Reads.{Reads};
-ghost use Rattle.calc_terms.specs.Texts.{text as text_of, IsWritable};
+ghost use Rattle.calc_terms.specs.Texts.{text as text_of, IsWritable, HasNames};
 ghost use Rattle.calc_terms.specs.Faces.{face};
 ghost use Rattle.calc_terms.specs.Clean.{is_clean, IsClean};
 ghost use Rattle.calc_terms.specs.Numbers.{is_number, IsNumber, value};
@@ -123,4 +123,9 @@ pub fn tests_say_their_words()
 /// The face of a reduced tree keeps each of its meanings.
 pub fn face_keeps_meanings()
     ensures { (t : Tree) (f : Assignment) (v : Surd) → is_reduced t ≡ true → Means t f v → Means (face t) f v }
+{}
+
+/// The text of its face reads as the face, where the symbols in it are names.
+pub fn face_text_reads()
+    ensures { (t : Tree) → is_reduced t ≡ true → is_undef t ≡ false → HasNames t → Reads (text_of (face t)) (face t) }
 {}
