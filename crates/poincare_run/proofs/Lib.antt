@@ -1,0 +1,7 @@
+pub mod SumLemmas
+pub mod ReplyLemmas
+pub mod BufferLemmas
+pub mod ByteLemmas
+pub mod LineLemmas
+pub mod StepLemmas
+pub mod EndLemmas
