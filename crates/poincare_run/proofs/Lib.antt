@@ -5,3 +5,4 @@ pub mod ByteLemmas
 pub mod LineLemmas
 pub mod StepLemmas
 pub mod EndLemmas
+pub mod StatusLemmas

@@ -66,3 +66,10 @@ EndsAs ReadToEnd start told told' taken taken' f f' g g' = ReadsAll start told t
 EndsAs ReadFailed start told told' taken taken' f f' g g' = Rose f f' × ReadsPart start told told' taken taken'
 EndsAs WriteFailed start told told' taken taken' f f' g g' = Rose g g' × WriteStops start told told' taken taken'
 EndsAs LimitReached start told told' taken taken' f f' g g' = ReadsLimit start told told' taken taken'
+
+-- the status of the program
+abbrev pub status : Ending → ℕ
+status ReadToEnd = 0
+status ReadFailed = 3
+status WriteFailed = 4
+status LimitReached = 6

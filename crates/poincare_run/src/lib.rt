@@ -8,6 +8,7 @@ mod session;
 mod sums;
 mod text;
 mod top;
+mod words;
 
 pub use answers::{LineAnswer, Op, Refusal};
 pub use session::Session;

@@ -1,12 +1,14 @@
 ghost use Rattle.std.specs.Prelude.{◌≡◌, ℕ, ◌≤◌, ◌⊎◌, ◌↔◌, List, [], ◌∷◌, ◌++◌, length, map, Contains, None, Some, IfSome, string_bytes};
 ghost use Rattle.calc_edges.specs.Faults.{Rose};
 ghost use Rattle.poincare_run.specs.Options.{opening};
+ghost use Rattle.poincare_run.specs.Progress.{status};
 ghost use Rattle.poincare_run.specs.Endings.{session_limit, ReadsAll, ReadsPart, ReadsLimit, WriteStops};
 
 use calc_edges::{Sink, Source};
 use std::alloc::Global;
 
 use crate::Session;
+use crate::words::are_form;
 use crate::dialog::{Dialog, Ending};
 
 /// The most bytes of one read.
@@ -47,7 +49,7 @@ pub fn run<S: Source, K: Sink>(
     ensures limit { (input rest : List ℕ) → S.told source.old ≡ Some (input ++ rest) → S.told source.new ≡ Some rest
         → (length input ≤ session_limit) × (length input ≡ session_limit → (result ≡ 6) ⊎ (result ≡ 4)) }
 {
-    if !words.is_empty() {
+    if !are_form(words) {
         return 2;
     }
     let Ok(mut piece) = vec![in alloc; 0; PIECE_LIMIT] else {
@@ -57,7 +59,9 @@ pub fn run<S: Source, K: Sink>(
     status_of(dialog.serve(piece.as_mut_slice(), source, sink))
 }
 
-fn status_of(ending: Ending) -> u8 {
+fn status_of(ending: Ending) -> u8
+    ensures { result ≡ status ending }
+{
     match ending {
         Ending::ReadToEnd => 0,
         Ending::ReadFailed => 3,
