@@ -9,16 +9,16 @@ use Rattle.poincare_run.specs.declared.answers.Refusal.{Refusal}
 use Rattle.poincare_run.specs.declared.answers.Refusal.TheVariants.{Form, Overflow}
 use Rattle.poincare_run.specs.declared.answers.LineAnswer.{LineAnswer}
 use Rattle.poincare_run.specs.declared.answers.LineAnswer.TheVariants.{Blank, Shown, Refused}
-use Rattle.poincare_run.specs.Lines.{is_blank}
+use Rattle.poincare_run.specs.Lines.{is_blank_line}
 use Rattle.poincare_run.specs.Sums.{sum_line}
 use Rattle.poincare_run.specs.Replies.{Reply, blank, shown, form, overflow, reply_to, sum_reply, text_of}
 use Rattle.poincare_run.specs.Answers.{IsRefusal, IsSum, printed, refusal_text, sign_of}
 
-pub blank_reply : (line : List ℕ) → is_blank line ≡ true → reply_to line ≡ blank
+pub blank_reply : (line : List ℕ) → is_blank_line line ≡ true → reply_to line ≡ blank
 unfolding reply_to
 blank_reply line e = ap (λ b. cond b blank (sum_reply (sum_line line))) e
 
-pub other_reply : (line : List ℕ) → is_blank line ≡ false → reply_to line ≡ sum_reply (sum_line line)
+pub other_reply : (line : List ℕ) → is_blank_line line ≡ false → reply_to line ≡ sum_reply (sum_line line)
 unfolding reply_to
 other_reply line e = ap (λ b. cond b blank (sum_reply (sum_line line))) e
 

@@ -6,7 +6,7 @@ use Rattle.std.specs.Io.KnownBytes.{Appends}
 use Rattle.calc_edges.specs.Taken.{AppendsPart}
 use Rattle.poincare_run.specs.declared.buffer.LineBuffer.{LineBuffer}
 use Rattle.poincare_run.specs.declared.dialog.Dialog.{Dialog}
-use Rattle.poincare_run.specs.Lines.{is_newline, is_blank, lines_of, line_of_rest, whole_lines, rest_of}
+use Rattle.poincare_run.specs.Lines.{is_newline, is_blank_line, lines_of, line_of_rest, whole_lines, rest_of}
 use Rattle.poincare_run.specs.Sums.{sum_line}
 use Rattle.poincare_run.specs.Replies.{blank, reply_to, sum_reply, text_of}
 use Rattle.poincare_run.specs.Steps.{State, Step, Steps, Transcript, written}
@@ -27,7 +27,7 @@ same_reply kept line h = by (nat_le (length line) 1024) refl
         let long = leb-false (length line) 1024 e in
         let full : length kept ≡ 1025 = h.long (omega arith) in
         let no_sum : sum_line kept ≡ sum_line line = too_long kept (omega arith) ∙ sym (too_long line (omega arith)) in
-        ap (λ t. cond t blank (sum_reply (sum_line kept))) h.blank ∙ ap (λ s. cond (is_blank line) blank (sum_reply s)) no_sum
+        ap (λ t. cond t blank (sum_reply (sum_line kept))) h.blank ∙ ap (λ s. cond (is_blank_line line) blank (sum_reply s)) no_sum
 
 pub step_of_line : (buffer : LineBuffer) (bytes : List ℕ) (s t : State) (text : Option (List ℕ)) → Holds buffer bytes → Step s buffer.kept.items text t → Step s (strip_carriage_return bytes) text t
 step_of_line buffer bytes s t text h step = record {

@@ -1,7 +1,8 @@
 -- The lines of an input.
-use Rattle.std.specs.Prelude.{ℕ, List, [], ◌∷◌, ◌++◌, map, Bool, ◌||◌, ◌==◌}
+use Rattle.std.specs.Prelude.{ℕ, List, [], ◌∷◌, ◌++◌, map, Bool, ◌==◌}
 use Rattle.std.specs.List.{slice_split, list_all}
 use Rattle.std.specs.Str.Lines.{strip_carriage_return}
+use Rattle.calc_terms.specs.Tokens.{is_blank}
 
 abbrev pub is_newline : ℕ → Bool
 is_newline b = b == 10
@@ -38,8 +39,5 @@ abbrev pub lines_of : List ℕ → List (List ℕ)
 lines_of bytes = whole_lines bytes ++ line_of_rest (rest_of bytes)
 
 -- a line of spaces and tabs, or of nothing
-abbrev pub is_blank_byte : ℕ → Bool
-is_blank_byte b = (b == 32) || (b == 9)
-
-abbrev pub is_blank : List ℕ → Bool
-is_blank line = list_all is_blank_byte line
+abbrev pub is_blank_line : List ℕ → Bool
+is_blank_line line = list_all is_blank line

@@ -1,6 +1,6 @@
 -- What a line is answered with.
 use Rattle.std.specs.Prelude.{ℕ, ◌+◌, ◌^◌, List, [], ◌∷◌, ◌++◌, Bool, true, false, nat_lt, if◌then◌else◌, Option, Some, None, codes, decimal}
-use Rattle.poincare_run.specs.Lines.{is_blank}
+use Rattle.poincare_run.specs.Lines.{is_blank_line}
 use Rattle.poincare_run.specs.Sums.{sum_line}
 
 pub data Reply : Type 0 where
@@ -20,7 +20,7 @@ sum_reply None = form
 
 -- the answer to a line
 unfoldable pub reply_to : List ℕ → Reply
-reply_to line = if is_blank line then blank else sum_reply (sum_line line)
+reply_to line = if is_blank_line line then blank else sum_reply (sum_line line)
 
 -- what is printed, without the newline; nothing is for a blank line
 unfoldable pub text_of : Reply → Option (List ℕ)

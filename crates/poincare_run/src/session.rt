@@ -1,6 +1,7 @@
 //! A session, which answers line by line.
 ghost use Rattle.std.specs.Prelude.{◌≡◌, []};
-ghost use Rattle.poincare_run.specs.Lines.{is_blank as is_blank_line, is_blank_byte as is_blank_byte_of};
+ghost use Rattle.calc_terms.specs.Tokens.{is_blank as is_blank_of};
+ghost use Rattle.poincare_run.specs.Lines.{is_blank_line as is_blank_line_of};
 
 
 use std::marker::Model;
@@ -40,7 +41,7 @@ impl Session {
         ensures blank { result ≡ LineAnswer.Blank → self.new.text ≡ [] }
     {
         self.text.clear();
-        if is_blank(line) {
+        if is_blank_line(line) {
             return LineAnswer::Blank;
         }
         match sum_of(line) {
@@ -64,15 +65,15 @@ impl Session {
 }
 
 /// Whether a line is of blanks alone, or of nothing.
-fn is_blank(line: &[u8]) -> bool
-    ensures { result ≡ is_blank_line line.now }
+fn is_blank_line(line: &[u8]) -> bool
+    ensures { result ≡ is_blank_line_of line.now }
 {
     line.iter().all(|byte| is_blank_byte(*byte))
 }
 
 /// A space or a tab.
 pub fn is_blank_byte(byte: u8) -> bool
-    ensures { result ≡ is_blank_byte_of byte }
+    ensures { result ≡ is_blank_of byte }
 {
     byte == b' ' || byte == b'\t'
 }
