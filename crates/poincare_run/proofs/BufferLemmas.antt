@@ -1,0 +1,23 @@
+-- Lemmas on what is kept of a line.
+use Rattle.std.proofs.Common.{◌≡◌, ◌≢◌, ◌∙◌, ℕ, ◌+◌, ◌-◌, List, [], ◌∷◌, ◌++◌, length, Bool, true, false, cond, nat_eq, get_or, take, refl, sym, ap, subst, arith, append-nil, length-append}
+use Rattle.std.proofs.lemmas.List.{get_or-append-add}
+use Rattle.std.proofs.Math.Seq.{get_or-append_seam}
+use Rattle.std.specs.Str.Lines.{strip_carriage_return}
+use Rattle.poincare_run.specs.declared.buffer.LineBuffer.{LineBuffer}
+use Rattle.poincare_run.specs.Buffer.{Holds, StandsFor, return_if}
+
+-- a line that ends in no carriage return is left as it is
+pub strip-plain : (bytes : List ℕ) (b : ℕ) → nat_eq b 13 ≡ false → strip_carriage_return (bytes ++ b ∷ []) ≡ bytes ++ b ∷ []
+strip-plain bytes b other =
+    let at : length (bytes ++ b ∷ []) - 1 ≡ length bytes = omega (arith, length-append bytes (b ∷ [])) in
+    let last : get_or (bytes ++ b ∷ []) (length (bytes ++ b ∷ []) - 1) 0 ≡ b = ap (λ n. get_or (bytes ++ b ∷ []) n 0) at ∙ get_or-append_seam bytes b [] 0 in
+    ap (λ t. cond t (take (length (bytes ++ b ∷ []) - 1) (bytes ++ b ∷ [])) (bytes ++ b ∷ [])) (ap (λ n. nat_eq n 13) last ∙ other)
+
+-- a byte that is no carriage return came, and all bytes so far are the line
+pub holds_all : (buffer : LineBuffer) (bytes : List ℕ) (b : ℕ) → nat_eq b 13 ≡ false → buffer.returned ≡ nat_eq b 13 → StandsFor buffer.kept.items (bytes ++ b ∷ []) → Holds buffer (bytes ++ b ∷ [])
+holds_all buffer bytes b other is stands = record {
+  line = bytes ++ b ∷ [];
+  bytes_are = sym (ap (λ r. (bytes ++ b ∷ []) ++ return_if r) (is ∙ other) ∙ append-nil (bytes ++ b ∷ []));
+  line_is = strip-plain bytes b other;
+  stands = stands;
+}

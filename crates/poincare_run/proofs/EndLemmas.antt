@@ -1,0 +1,97 @@
+-- Lemmas on the loop over the input, and how it ends.
+use Rattle.std.proofs.Common.{◌≡◌, ◌∙◌, ℕ, ◌+◌, ◌-◌, ◌≤◌, ◌<◌, List, [], ◌∷◌, ◌++◌, length, Option, Some, None, refl, sym, ap, subst, arith, append_assoc, append-nil, length-append}
+use Rattle.std.specs.Io.KnownBytes.{Appends, Consumes, IsAtEnd, Keeps}
+use Rattle.poincare_run.specs.declared.dialog.Dialog.{Dialog}
+use Rattle.poincare_run.specs.Lines.{lines_of, line_of_rest, whole_lines, rest_of}
+use Rattle.poincare_run.specs.Steps.{State, Transcript}
+use Rattle.poincare_run.specs.Buffer.{Holds}
+use Rattle.poincare_run.specs.Endings.{session_limit, Writes, WritesPart, ReadsAll, ReadsPart, ReadsLimit, WriteStops}
+use Rattle.poincare_run.specs.Progress.{Answered, Continues, Breaks, Goes, IsUnderWay}
+use Rattle.poincare_run.proofs.ByteLemmas.{Appends-nil, Appends-trans, AppendsPart-after, Consumes-nil, Consumes-trans, Consumes-kept}
+
+pub begins : (dialog : Dialog) (t k : Option (List ℕ)) → Holds dialog.line [] → IsUnderWay dialog.session.state t t k k session_limit dialog
+unfolding whole_lines rest_of
+begins dialog t k h = record {
+  input = [];
+  out = [];
+  read = Consumes-nil t;
+  limit = refl;
+  answered = record { steps = (refl, refl); rest = h };
+  appended = Appends-nil k;
+}
+
+-- what was answered before and now
+continued : (start : State) (lines : List (List ℕ)) (out : List ℕ) (a b c : Option (List ℕ)) → Appends a b out → Continues start lines out b c → Writes start lines a c
+continued start lines out a b c h more = record {
+  out = out ++ more.out;
+  transcript = more.transcript;
+  appended = Appends-trans a b c out more.out h more.appended;
+}
+
+broken : (start : State) (lines others : List (List ℕ)) (out : List ℕ) (a b c : Option (List ℕ)) → Appends a b out → Breaks start lines out b c → WritesPart start (lines ++ others) a c
+broken start lines others out a b c h more = record {
+  answered = more.answered;
+  others = more.others ++ others;
+  lines_are = ap (λ ls. ls ++ others) more.lines_are ∙ append_assoc more.answered more.others others;
+  out = out ++ more.out;
+  transcript = more.transcript;
+  appended = AppendsPart-after a b c out more.out h more.appended;
+}
+
+module _ (start : State) (t t' k k' : Option (List ℕ)) (left : ℕ) (dialog : Dialog) (h : IsUnderWay start t t' k k' left dialog) where
+  pub read_fails : (u : Option (List ℕ)) → 0 < left → Keeps t' u → ReadsPart start t u k k'
+  read_fails u more kept = record {
+    input = h.input;
+    read = Consumes-kept t t' u h.input h.read kept;
+    within = omega (arith, h.limit);
+    written = record { out = h.out; transcript = (dialog.session.state, h.answered.steps); appended = h.appended };
+  }
+
+  pub reads_on : (u j : Option (List ℕ)) (bytes : List ℕ) (n : ℕ) (new : Dialog) → n ≤ left → length bytes ≡ n → Consumes t' u bytes
+      → ((start : State) (before out : List ℕ) → Answered start before out dialog → Goes start before bytes out new k' j) → IsUnderWay start t u k j (left - n) new
+  reads_on u j bytes n new fits many read next =
+      let goes = next start h.input h.out h.answered in
+      record {
+        input = h.input ++ bytes;
+        out = h.out ++ goes.more;
+        read = Consumes-trans t t' u h.input bytes h.read read;
+        limit = omega (arith, h.limit, length-append h.input bytes);
+        answered = goes.answered;
+        appended = Appends-trans k k' j h.out goes.more h.appended goes.appended;
+      }
+
+  pub write_fails : (u j : Option (List ℕ)) (bytes : List ℕ) → length bytes ≤ left → Consumes t' u bytes
+      → ((start : State) (before out : List ℕ) → Answered start before out dialog → Breaks start (whole_lines (before ++ bytes)) out k' j) → WriteStops start t u k j
+  write_fails u j bytes fits read next = record {
+    input = h.input ++ bytes;
+    read = Consumes-trans t t' u h.input bytes h.read read;
+    within = omega (arith, h.limit, length-append h.input bytes);
+    written = broken start (whole_lines (h.input ++ bytes)) (line_of_rest (rest_of (h.input ++ bytes))) h.out k k' j h.appended (next start h.input h.out h.answered);
+  }
+
+  pub ends : (u j : Option (List ℕ)) → 0 < left → Consumes t' u [] → IsAtEnd u
+      → ((start : State) (input out : List ℕ) → Answered start input out dialog → Continues start (lines_of input) out k' j) → ReadsAll start t u k j
+  ends u j more read end next = record {
+    input = h.input;
+    read = subst (Consumes t u) (append-nil h.input) (Consumes-trans t t' u h.input [] h.read read);
+    nothing_left = end;
+    within = omega (arith, h.limit);
+    written = continued start (lines_of h.input) h.out k k' j h.appended (next start h.input h.out h.answered);
+  }
+
+  pub end_fails : (u j : Option (List ℕ)) → Consumes t' u []
+      → ((start : State) (input out : List ℕ) → Answered start input out dialog → Breaks start (lines_of input) out k' j) → WriteStops start t u k j
+  end_fails u j read next = record {
+    input = h.input;
+    read = subst (Consumes t u) (append-nil h.input) (Consumes-trans t t' u h.input [] h.read read);
+    within = omega (arith, h.limit);
+    written = subst (λ ls. WritesPart start ls k j) (append-nil (lines_of h.input)) (broken start (lines_of h.input) [] h.out k k' j h.appended (next start h.input h.out h.answered));
+  }
+
+  pub limit_reached : left ≡ 0 → ReadsLimit start t t' k k'
+  limit_reached none = record {
+    input = h.input;
+    read = h.read;
+    all = omega (arith, h.limit);
+    written = record { out = h.out; transcript = (dialog.session.state, h.answered.steps); appended = h.appended };
+  }

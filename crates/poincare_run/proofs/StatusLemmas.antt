@@ -1,0 +1,95 @@
+-- Lemmas on the status of the program, and what it says.
+use Rattle.std.proofs.Common.{◌≡◌, ◌∙◌, ◌⊎◌, ◌↔◌, ℕ, ◌≤◌, ◌<◌, List, [], ◌∷◌, ◌++◌, length, Option, Some, None, IfSome, is_some, true, Contains, inl, inr, refl, sym, ap, subst, arith, length-append}
+use Rattle.std.proofs.lemmas.List.{append_cancel_right}
+use Rattle.std.specs.Io.KnownBytes.{Consumes}
+use Rattle.calc_edges.specs.Faults.{Rose}
+use Rattle.poincare_run.specs.declared.dialog.Ending.{Ending}
+use Rattle.poincare_run.specs.declared.dialog.Ending.TheVariants.{ReadToEnd, ReadFailed, WriteFailed, LimitReached}
+use Rattle.poincare_run.specs.Steps.{State}
+use Rattle.poincare_run.specs.Endings.{session_limit, ReadsAll, ReadsPart, ReadsLimit, WriteStops}
+use Rattle.poincare_run.specs.Progress.{EndsAs, status}
+
+-- what was consumed is known where the source tells its bytes
+consumed : (t u : Option (List ℕ)) (bytes input rest : List ℕ) → Consumes t u bytes → t ≡ Some (input ++ rest) → u ≡ Some rest → length input ≡ length bytes
+consumed t u bytes input rest h before after =
+    ap length (append_cancel_right input bytes rest (known (input ++ rest) rest t u before after h))
+  where
+    known : (xs ys : List ℕ) (a b : Option (List ℕ)) → a ≡ Some xs → b ≡ Some ys → Consumes a b bytes → xs ≡ bytes ++ ys
+    known xs ys None b p q c = cc
+    known xs ys (Some a) None p q c = cc
+    known xs ys (Some a) (Some b) p q c = let x : a ≡ xs = cc in let y : b ≡ ys = cc in sym x ∙ c ∙ ap (λ l. bytes ++ l) y
+
+-- nothing was read
+pub nothing_read : (t : Option (List ℕ)) (input rest : List ℕ) (status : ℕ) → t ≡ Some (input ++ rest) → t ≡ Some rest → (length input ≤ session_limit) × (length input ≡ session_limit → (status ≡ 6) ⊎ (status ≡ 4))
+nothing_read t input rest status before after =
+    let same : input ++ rest ≡ rest = cc in
+    let none : length input ≡ 0 = omega (arith, length-append input rest, ap length same) in
+    (omega arith, λ all. absurd (omega arith))
+
+-- what holds at each value holds at the one that is there
+pub if_some : {X : Type 0} (o : Option X) (P : X → Type 0) → ((x : X) → o ≡ Some x → P x) → IfSome o P
+if_some None P h = tt
+if_some (Some x) P h = h x refl
+
+pub not_none : {X : Type 0} (o : Option X) → is_some o ≡ true → o ≡ None → ⊥
+not_none None h e = cc
+not_none (Some x) h e = cc
+
+pub is_status : (ending : Ending) → Contains (0 ∷ 2 ∷ 3 ∷ 4 ∷ 5 ∷ 6 ∷ []) (status ending)
+is_status ReadToEnd = (0, omega arith, refl)
+is_status ReadFailed = (2, omega arith, refl)
+is_status WriteFailed = (3, omega arith, refl)
+is_status LimitReached = (5, omega arith, refl)
+
+pub no_usage : (ending : Ending) → status ending ≡ 2 → ⊥
+no_usage ReadToEnd e = omega arith
+no_usage ReadFailed e = omega arith
+no_usage WriteFailed e = omega arith
+no_usage LimitReached e = omega arith
+
+pub not_early : (ending : Ending) → (status ending ≡ 2) ⊎ (status ending ≡ 5) → ⊥
+not_early ending (inl e) = no_usage ending e
+not_early ReadToEnd (inr e) = omega arith
+not_early ReadFailed (inr e) = omega arith
+not_early WriteFailed (inr e) = omega arith
+not_early LimitReached (inr e) = omega arith
+
+module _ (start : State) (t t' k k' : Option (List ℕ)) (f f' g g' : ℕ) where
+  pub all_read : (ending : Ending) → EndsAs ending start t t' k k' f f' g g' → status ending ≡ 0 → ReadsAll start t t' k k'
+  all_read ReadToEnd h e = h
+  all_read ReadFailed h e = absurd (omega arith)
+  all_read WriteFailed h e = absurd (omega arith)
+  all_read LimitReached h e = absurd (omega arith)
+
+  pub read_failed : (ending : Ending) → EndsAs ending start t t' k k' f f' g g' → status ending ≡ 3 → Rose f f' × ReadsPart start t t' k k'
+  read_failed ReadToEnd h e = absurd (omega arith)
+  read_failed ReadFailed h e = h
+  read_failed WriteFailed h e = absurd (omega arith)
+  read_failed LimitReached h e = absurd (omega arith)
+
+  pub write_failed : (ending : Ending) → EndsAs ending start t t' k k' f f' g g' → status ending ≡ 4 → Rose g g' × WriteStops start t t' k k'
+  write_failed ReadToEnd h e = absurd (omega arith)
+  write_failed ReadFailed h e = absurd (omega arith)
+  write_failed WriteFailed h e = h
+  write_failed LimitReached h e = absurd (omega arith)
+
+  pub limit_reached : (ending : Ending) → EndsAs ending start t t' k k' f f' g g' → status ending ≡ 6 → ReadsLimit start t t' k k'
+  limit_reached ReadToEnd h e = absurd (omega arith)
+  limit_reached ReadFailed h e = absurd (omega arith)
+  limit_reached WriteFailed h e = absurd (omega arith)
+  limit_reached LimitReached h e = h
+
+  pub within_limit : (ending : Ending) → EndsAs ending start t t' k k' f f' g g' → (input rest : List ℕ) → t ≡ Some (input ++ rest) → t' ≡ Some rest
+      → (length input ≤ session_limit) × (length input ≡ session_limit → (status ending ≡ 6) ⊎ (status ending ≡ 4))
+  within_limit ReadToEnd h input rest before after =
+      let same = consumed t t' h.input input rest h.read before after in
+      (omega (arith, h.within), λ all. absurd (omega (arith, h.within)))
+  within_limit ReadFailed h input rest before after =
+      let same = consumed t t' h.1.input input rest h.1.read before after in
+      (omega (arith, h.1.within), λ all. absurd (omega (arith, h.1.within)))
+  within_limit WriteFailed h input rest before after =
+      let same = consumed t t' h.1.input input rest h.1.read before after in
+      (omega (arith, h.1.within), λ all. inr refl)
+  within_limit LimitReached h input rest before after =
+      let same = consumed t t' h.input input rest h.read before after in
+      (omega (arith, h.all), λ all. inl refl)

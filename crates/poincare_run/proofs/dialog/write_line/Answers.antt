@@ -1,0 +1,7 @@
+use Rattle.std.proofs.Common.{◌∷◌, []}
+use Rattle.std.proofs.lemmas.Result.{on_err_weaker}
+use Rattle.poincare_run.proofs.ByteLemmas.{AppendsPart-after}
+use Rattle.poincare_run.proofs.dialog.write_line.Goals as goal
+
+pub returns-clause-part : goal.returns-clause-part
+returns-clause-part g c = on_err_weaker c.write_all-2.result (AppendsPart-after _ _ _ c.args.text.now (10 ∷ []) c.in_ok-write_all.ensures.appended) c.write_all-2.ensures.part

@@ -1,0 +1,55 @@
+-- How a session ends: what was read of the source, and what was written to the sink.
+-- Of the source and the sink: the bytes that are left and the bytes that were taken, at the beginning and at the end, where they tell them.
+use Rattle.std.specs.Prelude.{◌≡◌, ℕ, ◌<◌, ◌≤◌, List, ◌++◌, length, Option}
+use Rattle.std.specs.Io.KnownBytes.{Appends, Consumes, IsAtEnd}
+use Rattle.calc_edges.specs.Taken.{AppendsPart}
+use Rattle.poincare_run.specs.Lines.{lines_of, whole_lines}
+use Rattle.poincare_run.specs.Steps.{State, Transcript}
+
+-- the most bytes that are read
+abbrev pub session_limit : ℕ
+session_limit = 16777215
+
+-- the answers to these lines were written
+pub record Writes (start : State) (lines : List (List ℕ)) (taken taken' : Option (List ℕ)) : Type 0 where
+  pub out : List ℕ
+  pub transcript : Transcript start lines out
+  pub appended : Appends taken taken' out
+
+-- the answers to some of the lines, from the first on, were to be written, and a front of them was
+pub record WritesPart (start : State) (lines : List (List ℕ)) (taken taken' : Option (List ℕ)) : Type 0 where
+  pub answered : List (List ℕ)
+  pub others : List (List ℕ)
+  pub lines_are : lines ≡ answered ++ others
+  pub out : List ℕ
+  pub transcript : Transcript start answered out
+  pub appended : AppendsPart taken taken' out
+
+-- the input was read to its end, and all its lines were answered
+pub record ReadsAll (start : State) (told told' taken taken' : Option (List ℕ)) : Type 0 where
+  pub input : List ℕ
+  pub read : Consumes told told' input
+  pub nothing_left : IsAtEnd told'
+  pub within : length input < session_limit
+  pub written : Writes start (lines_of input) taken taken'
+
+-- the input was read up to some place before the limit, and the lines that were whole were answered
+pub record ReadsPart (start : State) (told told' taken taken' : Option (List ℕ)) : Type 0 where
+  pub input : List ℕ
+  pub read : Consumes told told' input
+  pub within : length input < session_limit
+  pub written : Writes start (whole_lines input) taken taken'
+
+-- the input was read up to the limit, and the lines that were whole were answered
+pub record ReadsLimit (start : State) (told told' taken taken' : Option (List ℕ)) : Type 0 where
+  pub input : List ℕ
+  pub read : Consumes told told' input
+  pub all : length input ≡ session_limit
+  pub written : Writes start (whole_lines input) taken taken'
+
+-- a part of the answers to what was read was written
+pub record WriteStops (start : State) (told told' taken taken' : Option (List ℕ)) : Type 0 where
+  pub input : List ℕ
+  pub read : Consumes told told' input
+  pub within : length input ≤ session_limit
+  pub written : WritesPart start (lines_of input) taken taken'

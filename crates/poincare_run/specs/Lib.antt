@@ -1,0 +1,10 @@
+pub mod Lines
+pub mod Sums
+pub mod Replies
+pub mod Steps
+pub mod Seen
+pub mod Answers
+pub mod Buffer
+pub mod Endings
+pub mod Progress
+pub mod Options

@@ -1,0 +1,28 @@
+-- A session as a chain of steps, one for each line.
+use Rattle.std.specs.Prelude.{◌≡◌, ℕ, List, [], ◌∷◌, ◌++◌, Option, Some, None}
+use Rattle.poincare_run.specs.Replies.{reply_to, text_of}
+
+-- what a session keeps from line to line
+abbrev pub State : Type 0
+State = Unit {0}
+
+-- From a state a line is answered by a text, or by none, and leaves a state.
+pub record Step (old : State) (line : List ℕ) (text : Option (List ℕ)) (new : State) : Type 0 where
+  pub text_is : text ≡ text_of (reply_to line)
+  pub state_is : new ≡ old
+
+-- a text with a newline behind it
+abbrev pub written : Option (List ℕ) → List ℕ
+written None = []
+written (Some text) = text ++ 10 ∷ []
+
+-- the lines are answered one after the other from the old state to the new one, and out is what is written
+abbrev pub Steps : State → List (List ℕ) → List ℕ → State → Type 0
+Steps old [] out new = (out ≡ []) × (new ≡ old)
+Steps old (line ∷ lines) out new =
+    (text : Option (List ℕ)) × (middle : State) × (rest : List ℕ)
+    × Step old line text middle × (out ≡ written text ++ rest) × Steps middle lines rest new
+
+-- what is written for the lines of a session that begins in this state
+abbrev pub Transcript : State → List (List ℕ) → List ℕ → Type 0
+Transcript start lines out = (end : State) × Steps start lines out end

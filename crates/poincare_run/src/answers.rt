@@ -1,0 +1,27 @@
+//! What a line is answered with.
+use calc_terms::Rat;
+
+/// An operation on rationals.
+#[derive(Clone, Copy, Debug)]
+pub enum Op {
+    Add,
+    Mul,
+    Pow,
+}
+
+/// Why a line is not answered.
+#[derive(Clone, Copy, Debug)]
+pub enum Refusal {
+    /// The line is no sum of whole numbers.
+    Form,
+    /// The operation on these operands does not fit.
+    Overflow { op: Op, a: Rat, b: Rat },
+}
+
+#[derive(Clone, Copy, Debug)]
+pub enum LineAnswer {
+    /// The line is blank, and there is no text.
+    Blank,
+    Shown,
+    Refused(Refusal),
+}
