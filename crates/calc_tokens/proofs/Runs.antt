@@ -1,0 +1,93 @@
+-- A run of bytes at the front, by its length.
+use Rattle.std.specs.Prelude.{ℕ, suc, ◌+◌, ◌≡◌, ◌≤◌, ◌<◌, List, [], ◌∷◌, Bool, true, false, length, take, drop, ◌&&◌, ◌==◌}
+use Rattle.std.specs.List.{prefix_len, AllPass}
+use Rattle.std.proofs.Common.{refl, ap, arith, cond}
+use Rattle.std.proofs.Math.Numerals.{one-add}
+use Rattle.std.proofs.lemmas.Bool.{eqb-true}
+use Rattle.std.proofs.lemmas.List.Elements.{All-nil, All-cons}
+use Rattle.calc_terms.specs.Name.{is_digit}
+use Rattle.calc_terms.specs.Tokens.{leading_run, keep, decimals}
+
+pub run_front : (p : ℕ → Bool) (bytes : List ℕ) → take (prefix_len p bytes) bytes ≡ (leading_run p bytes).0
+run_front p [] = refl
+run_front p (b ∷ bytes) = by (p b) (run_front p bytes)
+  where
+    by : (x : Bool) → take (prefix_len p bytes) bytes ≡ (leading_run p bytes).0 → take (cond x (1 + prefix_len p bytes) 0) (b ∷ bytes) ≡ (keep x b bytes (leading_run p bytes)).0
+    by true e = rw one-add (ap (λ r. b ∷ r) e)
+    by false e = refl
+
+pub run_back : (p : ℕ → Bool) (bytes : List ℕ) → drop (prefix_len p bytes) bytes ≡ (leading_run p bytes).1
+run_back p [] = refl
+run_back p (b ∷ bytes) = by (p b) (run_back p bytes)
+  where
+    by : (x : Bool) → drop (prefix_len p bytes) bytes ≡ (leading_run p bytes).1 → drop (cond x (1 + prefix_len p bytes) 0) (b ∷ bytes) ≡ (keep x b bytes (leading_run p bytes)).1
+    by true e = rw one-add e
+    by false e = refl
+
+pub run_passes : (p : ℕ → Bool) (bytes : List ℕ) → AllPass p ((leading_run p bytes).0)
+run_passes p [] = All-nil (λ x. p x ≡ true)
+run_passes p (b ∷ bytes) = by (p b) refl (run_passes p bytes)
+  where
+    by : (x : Bool) → p b ≡ x → AllPass p ((leading_run p bytes).0) → AllPass p ((keep x b bytes (leading_run p bytes)).0)
+    by true e h = All-cons (λ x. p x ≡ true) b ((leading_run p bytes).0) e h
+    by false e h = All-nil (λ x. p x ≡ true)
+
+pub run_back_le : (p : ℕ → Bool) (bytes : List ℕ) → length ((leading_run p bytes).1) ≤ length bytes
+run_back_le p [] = omega arith
+run_back_le p (b ∷ bytes) = by (p b) (run_back_le p bytes)
+  where
+    by : (x : Bool) → length ((leading_run p bytes).1) ≤ length bytes → length ((keep x b bytes (leading_run p bytes)).1) ≤ suc (length bytes)
+    by true h = omega arith
+    by false h = omega arith
+
+-- a run that begins takes its first byte
+pub run_back_lt : (p : ℕ → Bool) (b : ℕ) (bytes : List ℕ) → p b ≡ true → length ((leading_run p (b ∷ bytes)).1) < length (b ∷ bytes)
+run_back_lt p b bytes e = rw e (omega (arith, run_back_le p bytes))
+
+-- the choice that `decimals` makes, with its test as an argument
+abbrev pub chosen : Bool → ℕ → ℕ → List ℕ → List ℕ × List ℕ
+chosen x b c bytes = elim x as (λ x. List ℕ × List ℕ) [ true ↦ leading_run is_digit (c ∷ bytes) | false ↦ ([], b ∷ c ∷ bytes) ]
+
+chosen_le : (x : Bool) (b c : ℕ) (bytes : List ℕ) → length ((chosen x b c bytes).1) ≤ suc (suc (length bytes))
+chosen_le true b c bytes = let h : length ((leading_run is_digit (c ∷ bytes)).1) ≤ suc (length bytes) = run_back_le is_digit (c ∷ bytes) in omega arith
+chosen_le false b c bytes = omega arith
+
+pub decimals_le : (bytes : List ℕ) → length ((decimals bytes).1) ≤ length bytes
+decimals_le [] = omega arith
+decimals_le (b ∷ []) = omega arith
+decimals_le (b ∷ c ∷ bytes) = chosen_le ((b == 46) && is_digit c) b c bytes
+
+first_digit : (b : ℕ) (bytes : List ℕ) → 0 < length ((leading_run is_digit (b ∷ bytes)).0) → is_digit b ≡ true
+first_digit b bytes h = by (is_digit b) h
+  where
+    by : (x : Bool) → 0 < length ((keep x b bytes (leading_run is_digit bytes)).0) → x ≡ true
+    by true h = refl
+    by false h = absurd (omega arith)
+
+-- behind a point the digits are the decimals
+pub decimals_behind : (point : ℕ) (others : List ℕ) → point ≡ 46 → 0 < length ((leading_run is_digit others).0) → decimals (point ∷ others) ≡ leading_run is_digit others
+decimals_behind point [] e h = absurd (omega arith)
+decimals_behind point (b ∷ bytes) e h =
+    let d : is_digit b ≡ true = first_digit b bytes h in
+    let test : ((point == 46) && is_digit b) ≡ true = rw (e, d) refl in
+    ap (λ x. chosen x point b bytes) test
+
+-- where no digit stands behind a point, there are none
+pub no_decimals : (point : ℕ) (others : List ℕ) → (point ≡ 46 → 0 < length ((leading_run is_digit others).0) → ⊥) → decimals (point ∷ others) ≡ ([], point ∷ others)
+no_decimals point [] h = refl
+no_decimals point (b ∷ bytes) h = ap (λ x. chosen x point b bytes) (fails (is_digit b) refl)
+  where
+    fails : (d : Bool) → is_digit b ≡ d → ((point == 46) && d) ≡ false
+    fails false e = by (point == 46)
+      where
+        by : (x : Bool) → (x && false) ≡ false
+        by true = refl
+        by false = refl
+    fails true e = by (point == 46) refl
+      where
+        some : 0 < length ((leading_run is_digit (b ∷ bytes)).0)
+        some = rw e (omega arith)
+
+        by : (x : Bool) → (point == 46) ≡ x → (x && true) ≡ false
+        by true f = absurd (h (eqb-true point 46 f) some)
+        by false f = refl

@@ -1,0 +1,77 @@
+-- Words: a run of letters and digits is a reserved word, a name, or too long.
+use Rattle.std.specs.Prelude.{ℕ, ◌≡◌, List, [], ◌∷◌, Bool, true, false, ◌&&◌, ◌||◌, not, nat_le, nat_eq, ◌==◌, length, if◌then◌else◌, codes, Some, None}
+use Rattle.std.specs.List.{list_all}
+use Rattle.std.specs.Cmp.Lexicographic.{pointwise}
+use Rattle.std.proofs.Common.{refl, sym, ap, ◌∙◌}
+use Rattle.std.proofs.lemmas.Slice.Eq.{bytes_eq-Decides}
+use Rattle.calc_terms.specs.Tokens.{name, root_mark, undef_mark}
+use Rattle.calc_terms.specs.Name.{begins_with_letter, is_name}
+use Rattle.calc_terms.specs.Name.{is_letter, is_name_byte}
+use Rattle.calc_terms.specs.Tokens.{leading_run, keep, same_bytes, token_of_word, word_at}
+
+same_bytes-pointwise : (x y : List ℕ) → same_bytes x y ≡ pointwise nat_eq x y
+same_bytes-pointwise [] [] = refl
+same_bytes-pointwise [] (b ∷ y) = refl
+same_bytes-pointwise (a ∷ x) [] = refl
+same_bytes-pointwise (a ∷ x) (b ∷ y) = ap (λ r. (a == b) && r) (same_bytes-pointwise x y)
+
+run_all : (p : ℕ → Bool) (bytes : List ℕ) → list_all p ((leading_run p bytes).0) ≡ true
+run_all p [] = refl
+run_all p (b ∷ bytes) = by (p b) refl (run_all p bytes)
+  where
+    by : (x : Bool) → p b ≡ x → list_all p ((leading_run p bytes).0) ≡ true → list_all p ((keep x b bytes (leading_run p bytes)).0) ≡ true
+    by true e h = rw (e, h) refl
+    by false e h = refl
+
+-- a run that begins with a letter
+run_begins : (bytes : List ℕ) → begins_with_letter bytes ≡ true → begins_with_letter ((leading_run is_name_byte bytes).0) ≡ true
+run_begins [] h = h
+run_begins (b ∷ bytes) h =
+    let letter : is_letter b ≡ true = h in
+    let name_byte : is_name_byte b ≡ true = rw letter refl in
+    rw name_byte letter
+
+-- what the front of the bytes is, and what stands behind it
+pub record Runs (bytes front behind : List ℕ) : Type 0 where
+  pub front_is : front ≡ (leading_run is_name_byte bytes).0
+  pub behind_is : behind ≡ (leading_run is_name_byte bytes).1
+  pub letter : begins_with_letter bytes ≡ true
+
+word_at-run : (bytes front behind : List ℕ) → Runs bytes front behind → word_at bytes ≡ (if nat_le (length front) 7 then Some (token_of_word front, behind) else None)
+unfolding word_at
+word_at-run bytes front behind r = rw (r.front_is, r.behind_is) refl
+
+pub root_word : (bytes front behind : List ℕ) → Runs bytes front behind → pointwise nat_eq front (codes "sqrt") ≡ true → Some (root_mark, behind) ≡ word_at bytes
+root_word bytes front behind r e =
+    let same : front ≡ codes "sqrt" = (bytes_eq-Decides front (codes "sqrt")).0 e in
+    sym (word_at-run bytes front behind r ∙ ap (λ x. if nat_le (length x) 7 then Some (token_of_word x, behind) else None) same)
+
+pub undef_is : (bytes front behind : List ℕ) → Runs bytes front behind → pointwise nat_eq front (codes "undef") ≡ true → Some (undef_mark, behind) ≡ word_at bytes
+undef_is bytes front behind r e =
+    let same : front ≡ codes "undef" = (bytes_eq-Decides front (codes "undef")).0 e in
+    sym (word_at-run bytes front behind r ∙ ap (λ x. if nat_le (length x) 7 then Some (token_of_word x, behind) else None) same)
+
+name_test : (bytes front behind : List ℕ) → Runs bytes front behind → pointwise nat_eq front (codes "sqrt") ≡ false → pointwise nat_eq front (codes "undef") ≡ false → is_name front ≡ nat_le (length front) 7
+name_test bytes front behind r e f =
+    let begins : begins_with_letter front ≡ true = ap begins_with_letter r.front_is ∙ run_begins bytes r.letter in
+    let all : list_all is_name_byte front ≡ true = ap (list_all is_name_byte) r.front_is ∙ run_all is_name_byte bytes in
+    rw (begins, all, e, f) (by (nat_le (length front) 7))
+  where
+    by : (x : Bool) → (true && true && x && not (false || false)) ≡ x
+    by true = refl
+    by false = refl
+
+-- a run that is no reserved word is a name, or too long
+pub name_word : (bytes front behind : List ℕ) → Runs bytes front behind → pointwise nat_eq front (codes "sqrt") ≡ false → pointwise nat_eq front (codes "undef") ≡ false → is_name front ≡ true
+    → Some (name front, behind) ≡ word_at bytes
+name_word bytes front behind r e f n =
+    let short : nat_le (length front) 7 ≡ true = sym (name_test bytes front behind r e f) ∙ n in
+    let root : same_bytes front (codes "sqrt") ≡ false = same_bytes-pointwise front (codes "sqrt") ∙ e in
+    let undef : same_bytes front (codes "undef") ≡ false = same_bytes-pointwise front (codes "undef") ∙ f in
+    sym (word_at-run bytes front behind r ∙ rw (short, root, undef) refl)
+
+pub long_word : (bytes front behind : List ℕ) → Runs bytes front behind → pointwise nat_eq front (codes "sqrt") ≡ false → pointwise nat_eq front (codes "undef") ≡ false → is_name front ≡ false
+    → None ≡ word_at bytes
+long_word bytes front behind r e f n =
+    let long : nat_le (length front) 7 ≡ false = sym (name_test bytes front behind r e f) ∙ n in
+    sym (word_at-run bytes front behind r ∙ rw long refl)

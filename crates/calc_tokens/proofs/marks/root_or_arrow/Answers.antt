@@ -1,0 +1,13 @@
+use Rattle.std.specs.Prelude.{[], ◌∷◌}
+use Rattle.std.specs.Option.{option_map}
+use Rattle.std.proofs.Common.{ap, ◌∙◌}
+use Rattle.calc_terms.specs.Tokens.{rest_after, root_mark, arrow_mark}
+use Rattle.calc_tokens.specs.Tokens.{front_of}
+use Rattle.calc_tokens.proofs.Prefixes.{either_token}
+use Rattle.calc_tokens.proofs.marks.root_or_arrow.Goals as goal
+
+pub returns : goal.returns
+returns c =
+    let rest = c.args.rest.now in
+    ap (option_map front_of) c.or.ensures
+    ∙ either_token c.continued.result c.continued-2.result (rest_after (134 ∷ 146 ∷ []) rest) (rest_after (136 ∷ 154 ∷ []) rest) arrow_mark root_mark c.continued.ensures c.continued-2.ensures

@@ -1,0 +1,10 @@
+use Rattle.std.proofs.Common.{length}
+use Rattle.calc_tokens.specs.Tokens.{tokens_of}
+use Rattle.calc_tokens.proofs.Scans.{Reached}
+use Rattle.calc_tokens.proofs.scanning.scanned.Given as goal
+
+abbrev pub invariant-loop-first : goal.invariant-loop-first
+invariant-loop-first l = Reached l.line (tokens_of l.tokens) l.rest
+
+abbrev pub decreases-loop-first : goal.decreases-loop-first
+decreases-loop-first l = length l.rest

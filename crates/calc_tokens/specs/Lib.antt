@@ -1,0 +1,5 @@
+pub mod Placed
+pub mod Tokens
+pub mod Literals
+pub mod Scanned
+pub mod Faults

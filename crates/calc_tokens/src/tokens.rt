@@ -1,0 +1,81 @@
+//! Tokens and the list of them.
+ghost use Rattle.std.specs.Prelude.{◌≡◌, ◌<◌, ◌≤◌, [], ◌∷◌, ◌++◌, length, map};
+
+use arrayvec::ArrayVec;
+use calc_terms::{Name, Rat};
+
+/// What a token is.
+#[derive(Clone, Copy, Debug)]
+pub enum What {
+    Number(Rat),
+    Name(Name),
+    Plus,
+    Minus,
+    Times,
+    Slash,
+    Caret,
+    Left,
+    Right,
+    Root,
+    Undef,
+    Arrow,
+}
+
+/// A token and the place of its first byte in the line, counted from 1.
+#[derive(Clone, Copy, Debug)]
+pub struct Token {
+    pub what: What,
+    pub at: u16,
+}
+
+impl Default for Token {
+    fn default() -> Token {
+        Token {
+            what: What::Plus,
+            at: 0,
+        }
+    }
+}
+
+/// Why a line has no tokens; `at` is the place of a byte in the line, counted from 1.
+#[derive(Clone, Copy, Debug, PartialEq, Eq)]
+pub enum TokenFault {
+    /// No token begins here.
+    Character { at: u16 },
+    /// The literal that begins here is too wide.
+    Number { at: u16 },
+}
+
+/// The tokens of a line: at most 1,024, and no allocation.
+#[derive(Drop)]
+pub struct Tokens {
+    items: ArrayVec<Token, 1024>,
+}
+
+impl Tokens {
+    ghost use Rattle.calc_tokens.specs.Tokens.{placed, tokens_of};
+
+    /// A list without tokens.
+    pub(crate) fn none() -> Tokens
+        ensures { tokens_of result ≡ [] }
+    {
+        Tokens {
+            items: ArrayVec::new(),
+        }
+    }
+
+    /// The tokens from left to right.
+    pub fn items(&self) -> &[Token]
+        ensures tokens { map placed result.now ≡ tokens_of self.now }
+        ensures fits { length result.now ≤ 1024 }
+    {
+        self.items.as_slice()
+    }
+
+    pub(crate) fn push(&mut self, token: Token)
+        requires { length (tokens_of self.old) < 1024 }
+        ensures { tokens_of self.new ≡ tokens_of self.old ++ placed token ∷ [] }
+    {
+        self.items.push(token);
+    }
+}
