@@ -23,3 +23,4 @@ pub mod FaceLaws
 pub mod Names
 pub mod LowBytes
 pub mod Codec
+pub mod TermLaws
