@@ -24,3 +24,4 @@ pub mod Names
 pub mod LowBytes
 pub mod Codec
 pub mod TermLaws
+pub mod CleanLaws
