@@ -27,3 +27,5 @@ pub mod Names
 pub mod LowBytes
 pub mod Codec
 pub mod Leaves
+pub mod TermLaws
+pub mod CleanLaws

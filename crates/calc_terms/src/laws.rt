@@ -1,13 +1,18 @@
 //! Laws of the definitions, each the contract of a function without a body.
 
+<<<<<<< HEAD
 ghost use Rattle.std.specs.Prelude.{◌≡◌, ◌↔◌, ◌⊎◌, false, ℕ, ◌<◌, ◌*◌, ℤ, pos, neg_ℤ, ◌+ℤ◌, ◌*ℤ◌, List, ◌++◌, true};
+=======
+ghost use Rattle.std.specs.Int.{◌∣◌};
+ghost use Rattle.std.specs.Prelude.{◌≡◌, ◌↔◌, ◌⊎◌, ℕ, ◌<◌, ◌*◌, ◌^◌, ℤ, pos, neg_ℤ, ◌+ℤ◌, ◌*ℤ◌, List, ◌++◌, true};
+>>>>>>> 33872c1db3f8bd32290155c2f7a20780ca1175a9
 ghost use Rattle.std.specs.Cmp.{IsTotalOrder};
 ghost use Rattle.std.specs.declared.cmp.Ordering.TheVariants.{Equal};
 ghost use Rattle.calc_terms.specs.Fractions.{Fraction, lowest as lowest_of, plus, times, negative, zero_fraction, one_fraction};
 ghost use Rattle.calc_terms.specs.Trees.{Tree, is_undef, IsComplete};
 ghost use Rattle.calc_terms.specs.TreeOrder.{tree_cmp};
 ghost use Rattle.calc_terms.specs.Surds.{Surd, surd_one, surd_scale, surd_times, surd_power};
-ghost use Rattle.calc_terms.specs.SquareClasses.{class_coefficient, Same, Inverts};
+ghost use Rattle.calc_terms.specs.SquareClasses.{are_alike, class_coefficient, Same, Inverts};
 ghost use Rattle.calc_terms.specs.Meanings.{Assignment, IsAssignment, Means};
 ghost use Rattle.calc_terms.specs.Reads.{Reads};
 ghost use Rattle.calc_terms.specs.Texts.{text as text_of, IsWritable, HasNames};
@@ -118,6 +123,12 @@ pub fn tests_say_their_words()
     ensures clean { (r : ℕ) → (is_clean r ≡ true) ↔ IsClean r }
     ensures number { (t : Tree) → (is_number t ≡ true) ↔ IsNumber t }
     ensures reduced { (t : Tree) → (is_reduced t ≡ true) ↔ IsReduced t }
+{}
+
+/// A clean radicand below 10^12 is square-free, so each class has at most one.
+pub fn clean_radicands()
+    ensures square_free { (r d : ℕ) → is_clean r ≡ true → r < 10 ^ 12 → 1 < d → ¬ (d * d ∣ r) }
+    ensures one_a_class { (r s : ℕ) → is_clean r ≡ true → is_clean s ≡ true → r < 10 ^ 12 → s < 10 ^ 12 → are_alike r s ≡ true → r ≡ s }
 {}
 
 /// The face of a reduced tree keeps each of its meanings.
