@@ -9,11 +9,13 @@ use Rattle.breakers.specs.Laws.{TellsPlan, ToldChecksHaveOneOutcome}
 use Rattle.breakers.specs.declared.breaker.Plan.{Plan}
 use Rattle.breakers.specs.declared.breaker.Plan.TheVariants.{Untold, Idle, After}
 
-State-same : (b c : State) → b.polls ≡ c.polls → b.trips ≡ c.trips → b.plan ≡ c.plan → b.can_be_armed ≡ c.can_be_armed → b ≡ c
+State-same : (b c : State) → b.polls ≡ c.polls → b.trips ≡ c.trips → b.plan ≡ c.plan
+    → b.can_be_armed ≡ c.can_be_armed → b ≡ c
 State-same b c p t q a = λ i. record { polls = p i; trips = t i; plan = q i; can_be_armed = a i }
 
 -- a plan that is told has one next plan, which is told too, and one answer
-told-step : (plan p q : Plan) (s t : Bool) → plan ≢ Untold → StepsPlan plan p s → StepsPlan plan q t → (q ≡ p) × (t ≡ s) × (p ≢ Untold)
+told-step : (plan p q : Plan) (s t : Bool) → plan ≢ Untold → StepsPlan plan p s → StepsPlan plan q t
+    → (q ≡ p) × (t ≡ s) × (p ≢ Untold)
 told-step Untold p q s t told h k = absurd (told refl)
 told-step Idle p q s t told h k = (cc, cc, λ u. cc)
 told-step (After zero) p q s t told h k = (cc, cc, λ u. cc)
@@ -33,7 +35,8 @@ told-poll b c d s t told p q =
       plans.2,
     )
 
-told-check : (old new other : List State) (out out' : Option ℕ) → AllByRecursion TellsPlan old → Check old new out → Check old other out' → (other ≡ new) × (out' ≡ out) × AllByRecursion TellsPlan new
+told-check : (old new other : List State) (out out' : Option ℕ) → AllByRecursion TellsPlan old
+    → Check old new out → Check old other out' → (other ≡ new) × (out' ≡ out) × AllByRecursion TellsPlan new
 told-check [] [] [] None None told p q = (refl, refl, tt)
 told-check [] [] [] None (Some _) told p q = absurd q
 told-check [] [] [] (Some _) out' told p q = absurd p

@@ -13,7 +13,8 @@ PassedBelow (suc n) (b ∷ bs) (c ∷ cs) = Polls b c false × PassedBelow n bs 
 PassedBelow (suc n) _ _ = ⊥
 
 -- the next breaker is polled, and does not trip either
-passed-one : (n : ℕ) (old mid : List State) (b c : State) → PassedBelow n old mid → n < length mid → Polls (get_or mid n b) c false → PassedBelow (suc n) old (set mid n c)
+passed-one : (n : ℕ) (old mid : List State) (b c : State) → PassedBelow n old mid → n < length mid
+    → Polls (get_or mid n b) c false → PassedBelow (suc n) old (set mid n c)
 passed-one zero old [] b c p h q = absurd (omega arith)
 passed-one zero [] (m ∷ ms) b c p h q = cc
 passed-one zero (o ∷ os) (m ∷ ms) b c p h q =
@@ -24,7 +25,8 @@ passed-one (suc n) (o ∷ os) [] b c p h q = absurd p
 passed-one (suc n) (o ∷ os) (m ∷ ms) b c p h q = (p.0, passed-one n os ms b c p.1 (omega arith) q)
 
 -- the next breaker is polled, and trips
-passed-tripped : (n : ℕ) (old mid : List State) (b c : State) → PassedBelow n old mid → n < length mid → Polls (get_or mid n b) c true → Check old (set mid n c) (Some n)
+passed-tripped : (n : ℕ) (old mid : List State) (b c : State) → PassedBelow n old mid → n < length mid
+    → Polls (get_or mid n b) c true → Check old (set mid n c) (Some n)
 passed-tripped zero old [] b c p h q = absurd (omega arith)
 passed-tripped zero [] (m ∷ ms) b c p h q = cc
 passed-tripped zero (o ∷ os) (m ∷ ms) b c p h q =
@@ -60,7 +62,8 @@ unpolled (o ∷ os) (n ∷ ns) zero e r = let same : n ≡ o = cc in let trips :
 unpolled (o ∷ os) (n ∷ ns) (suc place) e r = let rest : ns ≡ os = cc in unpolled os ns place rest r
 
 -- in a check that trips the breaker at a place, the trips rise there and nowhere else
-pub tripped_rises : (old new : List State) (by place : ℕ) → Check old new (Some by) → (by ≡ place) ↔ TripsRose old new place
+pub tripped_rises : (old new : List State) (by place : ℕ) → Check old new (Some by)
+    → (by ≡ place) ↔ TripsRose old new place
 tripped_rises [] [] by place c = absurd c
 tripped_rises [] (n ∷ ns) by place c = absurd c
 tripped_rises (o ∷ os) [] by place c = absurd c
@@ -72,23 +75,30 @@ tripped_rises (o ∷ os) (n ∷ ns) (suc by) (suc place) c =
     (λ e. there (omega arith), λ r. ap suc (back r))
 
 -- what `check` answers tells where trips rose
-pub calm_tells : (old new : List State) → Check old new None → (place : ℕ) → ◌≡◌ {A = Result (Unit {0}) Interrupted} (Ok tt) (Err (record { by = place })) ↔ TripsRose old new place
+pub calm_tells : (old new : List State) → Check old new None → (place : ℕ)
+    → ◌≡◌ {A = Result (Unit {0}) Interrupted} (Ok tt) (Err (record { by = place })) ↔ TripsRose old new place
 calm_tells old new c place = (λ e. absurd cc, λ r. absurd (calm_rises old new place c r))
 
-pub tripped_tells : (old new : List State) (by : ℕ) → Check old new (Some by) → (place : ℕ) → ◌≡◌ {A = Result (Unit {0}) Interrupted} (Err (record { by = by })) (Err (record { by = place })) ↔ TripsRose old new place
+pub tripped_tells : (old new : List State) (by : ℕ) → Check old new (Some by) → (place : ℕ)
+    → ◌≡◌ {A = Result (Unit {0}) Interrupted} (Err (record { by = by })) (Err (record { by = place })) ↔ TripsRose old new place
 tripped_tells old new by c place =
     let (there, back) = tripped_rises old new by place c in
     (λ e. there (let same : ◌≡◌ {A = Interrupted} (record { by = by }) (record { by = place }) = cc in ap (λ i. i.by) same), λ r. ap (λ n. Err (record { by = n })) (back r))
 
 -- the same of a list of things that have a state
 module _ {A : Type 0} (state : A → State) where
-  pub PassedBelow-next : (n : ℕ) (xs ys : List A) (d y : A) → PassedBelow n (map state xs) (map state ys) → n < length ys → Polls (state (get_or ys n d)) (state y) false → PassedBelow (n + 1) (map state xs) (map state (set ys n y))
+  pub PassedBelow-next : (n : ℕ) (xs ys : List A) (d y : A) → PassedBelow n (map state xs) (map state ys)
+      → n < length ys → Polls (state (get_or ys n d)) (state y) false
+      → PassedBelow (n + 1) (map state xs) (map state (set ys n y))
   PassedBelow-next n xs ys d y p h q =
       rw (add-one, map-set) (passed-one n (map state xs) (map state ys) (state d) (state y) p (simp length-map h) (rw (get_or-map state ys n d) q))
 
-  pub PassedBelow-trip : (n : ℕ) (xs ys old new : List A) (d y : A) → xs ≡ old → new ≡ set ys n y → PassedBelow n (map state xs) (map state ys) → n < length ys → Polls (state (get_or ys n d)) (state y) true → Check (map state old) (map state new) (Some n)
-  PassedBelow-trip n xs ys old new d y e f p h q =
+  pub PassedBelow-trip : (n : ℕ) (old : List State) (xs ys new : List A) (d y : A) → map state xs ≡ old
+      → new ≡ set ys n y → PassedBelow n (map state xs) (map state ys) → n < length ys
+      → Polls (state (get_or ys n d)) (state y) true → Check old (map state new) (Some n)
+  PassedBelow-trip n old xs ys new d y e f p h q =
       rw (← e, f, map-set) (passed-tripped n (map state xs) (map state ys) (state d) (state y) p (simp length-map h) (rw (get_or-map state ys n d) q))
 
-  pub PassedBelow-all : (n : ℕ) (xs ys old new : List A) → xs ≡ old → new ≡ ys → PassedBelow n (map state xs) (map state ys) → length ys ≤ n → Check (map state old) (map state new) None
-  PassedBelow-all n xs ys old new e f p h = rw (← e, f) (passed-all n (map state xs) (map state ys) p (simp length-map h))
+  pub PassedBelow-all : (n : ℕ) (old : List State) (xs ys new : List A) → map state xs ≡ old → new ≡ ys
+      → PassedBelow n (map state xs) (map state ys) → length ys ≤ n → Check old (map state new) None
+  PassedBelow-all n old xs ys new e f p h = rw (← e, f) (passed-all n (map state xs) (map state ys) p (simp length-map h))

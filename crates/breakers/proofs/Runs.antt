@@ -7,7 +7,8 @@ use Rattle.breakers.specs.Laws.{CalmChecksRaiseNoTrips, OnlyTheTrippedRose}
 use Rattle.breakers.proofs.Polling.{unpolled, tripped_rises}
 
 -- a calm check leaves all trips as they were
-after-calm : (old mid new : List State) (place : ℕ) → Check old mid None → TripsRose mid new place ↔ TripsRose old new place
+after-calm : (old mid new : List State) (place : ℕ) → Check old mid None
+    → TripsRose mid new place ↔ TripsRose old new place
 after-calm [] [] new place c = (λ r. r, λ r. r)
 after-calm [] (m ∷ ms) new place c = absurd c
 after-calm (o ∷ os) [] new place c = absurd c
@@ -29,6 +30,7 @@ only_the_tripped_rose (suc n) old between new by place (mid, c, cs) t =
     (λ e. later (there e), λ r. back (earlier r))
 
 -- calm checks after calm checks
-pub CalmChecks-append : (m n : ℕ) (old between new : List State) → CalmChecks m old between → CalmChecks n between new → CalmChecks (m + n) old new
+pub CalmChecks-append : (m n : ℕ) (old between new : List State) → CalmChecks m old between
+    → CalmChecks n between new → CalmChecks (m + n) old new
 CalmChecks-append zero n old between new e d = rw zero-add (subst (λ s. CalmChecks n s new) e d)
 CalmChecks-append (suc m) n old between new (mid, c, cs) d = rw suc-add (mid, c, CalmChecks-append m n mid between new cs d)

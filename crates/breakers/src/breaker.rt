@@ -37,3 +37,24 @@ pub trait Breaker: Drop {
     fn spent(&self) -> bool
         ensures { IsTrue result ↔ (0 < (state self.now).trips) };
 }
+
+/// A boxed breaker is the breaker in the box.
+impl Breaker for Box<dyn Breaker> {
+    ghost state = { λ b. (Breaker-box b).state b.value };
+
+    fn poll(&mut self) -> bool {
+        (**self).poll()
+    }
+
+    fn arms(&self) -> bool {
+        (**self).arms()
+    }
+
+    fn arm(&mut self, k: u64) {
+        (**self).arm(k);
+    }
+
+    fn spent(&self) -> bool {
+        (**self).spent()
+    }
+}

@@ -2,7 +2,6 @@
 ghost use Rattle.std.specs.Prelude.{◌≡◌, ◌==◌, ℕ, ◌^◌, ◌<◌, ◌↔◌, map, length, vec_len, None, OnOk, IfErr};
 ghost use Rattle.std.specs.List.{list_any};
 ghost use Rattle.std.specs.Bool.{OnFalse};
-ghost use Rattle.breakers.specs.State.{Polls, armed_after};
 ghost use Rattle.breakers.specs.Breakers.{Check, TripsRose, armed_first, kept};
 
 use crate::breaker::Breaker;
@@ -14,40 +13,44 @@ pub struct Interrupted {
     pub by: u32,
 }
 
-/// Breakers that are polled together. A clause sees a watch as the list of their states.
+/// Breakers that are polled together, by default boxed ones of several types.
+///
+/// A clause sees a watch as the list of its breakers' states, `states B.state watch`. Code that is handed
+/// a watch takes it at any `B: Breaker`, so that only the caller who boxes the breakers names a `dyn`.
 #[derive(Drop)]
-pub struct Watch {
-    breakers: Vec<Box<dyn Breaker>>,
+pub struct Watch<B = Box<dyn Breaker>> {
+    breakers: Vec<B>,
     ghost numbered: { length breakers.items < 2 ^ 32 },
 }
 
-impl Watch {
+impl<B: Breaker> Watch<B> {
     ghost use Rattle.breakers.specs.Watch.{states};
 
     /// A watch over these breakers, which are polled in this order.
-    pub fn new(breakers: Vec<Box<dyn Breaker>>) -> Self
+    pub fn new(breakers: Vec<B>) -> Self
         requires { vec_len breakers < 2 ^ 32 }
-        ensures { states state result ≡ map state breakers.items }
+        ensures { states B.state result ≡ map B.state breakers.items }
     {
         Watch { breakers }
     }
 
     /// The number of breakers.
     pub fn len(&self) -> u32
-        ensures { result ≡ length (states state self.now) }
+        ensures { result ≡ length (states B.state self.now) }
     {
         self.breakers.len() as u32
     }
 
     /// Polls the breakers in order, up to the first that trips.
     pub fn check(&mut self) -> Result<(), Interrupted>
-        ensures calm { OnOk result (Check (states state self.old) (states state self.new) None) }
-        ensures interrupted { IfErr result (λ i. Check (states state self.old) (states state self.new) (Some i.by)) }
+        ensures calm { OnOk result (Check (states B.state self.old) (states B.state self.new) None) }
+        ensures interrupted { IfErr result (λ interruption.
+            Check (states B.state self.old) (states B.state self.new) (Some interruption.by)) }
         ensures by_the_one_whose_trips_rose { (place : ℕ) → (result ≡ Err (record { by = place }))
-            ↔ TripsRose (states state self.old) (states state self.new) place }
+            ↔ TripsRose (states B.state self.old) (states B.state self.new) place }
     {
         for (place, breaker) in self.breakers.iter_mut().enumerate() {
-            if polled(breaker) {
+            if breaker.poll() {
                 return Err(Interrupted { by: place as u32 });
             }
         }
@@ -57,12 +60,13 @@ impl Watch {
     /// Arms the first breaker that can be armed, and tells whether there is one: `k` more polls of that
     /// breaker pass, and the one after them trips.
     pub fn arm_first(&mut self, k: u64) -> bool
-        ensures armed { states state self.new ≡ armed_first k (states state self.old) }
-        ensures whether_one_can_be { result ≡ list_any (λ b. b.can_be_armed) (states state self.old) }
-        ensures false_changes_nothing { OnFalse result (states state self.new ≡ states state self.old) }
+        ensures armed { states B.state self.new ≡ armed_first k (states B.state self.old) }
+        ensures whether_one_can_be { result ≡ list_any (λ b. b.can_be_armed) (states B.state self.old) }
+        ensures false_changes_nothing { OnFalse result (states B.state self.new ≡ states B.state self.old) }
     {
         for breaker in self.breakers.iter_mut() {
-            if armed(breaker, k) {
+            if breaker.arms() {
+                breaker.arm(k);
                 return true;
             }
         }
@@ -71,33 +75,10 @@ impl Watch {
 
     /// Drops the breakers that have tripped, and keeps the others in their order.
     pub fn sweep(&mut self)
-        ensures { states state self.new ≡ kept (states state self.old) }
+        ensures { states B.state self.new ≡ kept (states B.state self.old) }
     {
-        self.breakers.retain(
-            |breaker: &Box<dyn Breaker>| -> bool
-                ensures { result ≡ ((state breaker.now).trips == 0) }
-            { !breaker.spent() },
-        );
+        self.breakers.retain(|breaker| !breaker.spent());
     }
-}
-
-// One step of `check`.
-fn polled(breaker: &mut Box<dyn Breaker>) -> bool
-    ensures { Polls (state breaker.old) (state breaker.new) result }
-{
-    breaker.poll()
-}
-
-// One step of `arm_first`: arms the breaker where it can be, and tells whether it can.
-fn armed(breaker: &mut Box<dyn Breaker>, k: u64) -> bool
-    ensures answer { result ≡ (state breaker.old).can_be_armed }
-    ensures plan { state breaker.new ≡ armed_after k (state breaker.old) }
-{
-    let arms = breaker.arms();
-    if arms {
-        breaker.arm(k);
-    }
-    arms
 }
 
 #[cfg(test)]

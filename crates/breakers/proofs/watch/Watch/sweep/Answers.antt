@@ -5,5 +5,5 @@ use Rattle.breakers.proofs.watch.Watch.sweep.Goals as goal
 
 pub returns : goal.returns
 returns g c =
-    kept_states (λ b. (goal.Breaker-dyn g (b.vtable, b.value)).state b.value) _ _
-    (filter_from_retain _ (λ b. ((goal.Breaker-dyn g (b.vtable, b.value)).state b.value).trips == 0) (λ p x b q k. search rules) _ _ _ c.retain.ensures.filtered)
+    kept_states g.B.Breaker.state _ _
+    (filter_from_retain _ (λ b. (g.B.Breaker.state b).trips == 0) (λ p x b q k. search rules) _ _ _ c.retain.ensures.filtered)
