@@ -249,3 +249,6 @@ impl Pool {
         self.buffer.remove(at, len);
     }
 }
+
+#[cfg(test)]
+mod tests;
