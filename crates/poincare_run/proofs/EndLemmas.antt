@@ -1,9 +1,9 @@
 -- Lemmas on the loop over the input, and how it ends.
-use Rattle.std.proofs.Common.{◌≡◌, ◌∙◌, ℕ, ◌+◌, ◌-◌, ◌≤◌, ◌<◌, List, [], ◌∷◌, ◌++◌, length, Option, Some, None, refl, sym, ap, subst, arith, append_assoc, append-nil, length-append}
+use Rattle.std.proofs.Common.{◌≡◌, ◌∙◌, ℕ, ◌-◌, ◌≤◌, ◌<◌, List, [], ◌++◌, length, Option, refl, ap, subst, arith, append_assoc, append-nil, length-append}
 use Rattle.std.specs.Io.KnownBytes.{Appends, Consumes, IsAtEnd, Keeps}
 use Rattle.poincare_run.specs.declared.dialog.Dialog.{Dialog}
 use Rattle.poincare_run.specs.Lines.{lines_of, line_of_rest, whole_lines, rest_of}
-use Rattle.poincare_run.specs.Steps.{State, Transcript}
+use Rattle.poincare_run.specs.Steps.{State}
 use Rattle.poincare_run.specs.Buffer.{Holds}
 use Rattle.poincare_run.specs.Endings.{session_limit, Writes, WritesPart, ReadsAll, ReadsPart, ReadsLimit, WriteStops}
 use Rattle.poincare_run.specs.Progress.{Answered, Continues, Breaks, Goes, IsUnderWay}

@@ -1,9 +1,9 @@
 -- Lemmas on lines: what one more byte does to them.
-use Rattle.std.proofs.Common.{◌≡◌, ◌∙◌, ℕ, List, [], ◌∷◌, ◌++◌, map, Bool, true, false, refl, sym, ap, append_assoc, append-nil, length}
+use Rattle.std.proofs.Common.{◌≡◌, ◌∙◌, ℕ, List, [], ◌∷◌, ◌++◌, map, Bool, true, false, refl, sym, ap, append_assoc, append-nil}
 use Rattle.std.proofs.lemmas.List.{map-append}
 use Rattle.std.proofs.lemmas.List.Splits.{slice_split-cons_yes, slice_split-cons_no}
 use Rattle.std.proofs.lemmas.Bool.{eqb-true}
-use Rattle.std.specs.List.{slice_split, onto_first}
+use Rattle.std.specs.List.{onto_first}
 use Rattle.std.specs.Str.Lines.{strip_carriage_return}
 use Rattle.poincare_run.specs.Lines.{is_newline, parts, all_but_last, last_of, whole_lines, rest_of}
 
@@ -34,6 +34,7 @@ cut (x ∷ bytes) = by (is_newline x) refl (cut bytes)
       newline = slice_split-cons_no is_newline x (bytes ++ 10 ∷ []) e ∙ ap (onto_first x) (c.newline ∙ ap (λ qs. qs ++ c.last ∷ [] ∷ []) f);
       other = λ b g. slice_split-cons_no is_newline x (bytes ++ b ∷ []) e ∙ ap (onto_first x) (c.other b g ∙ ap (λ qs. qs ++ (c.last ++ b ∷ []) ∷ []) f);
     }
+
     by : (b : Bool) → is_newline x ≡ b → Cut bytes → Cut (x ∷ bytes)
     by true e c = record {
       front = [] ∷ c.front;

@@ -1,10 +1,9 @@
 -- Lemmas on replies and what the code answers for them.
-use Rattle.std.proofs.Common.{◌≡◌, ◌∙◌, ℕ, pos, List, ◌++◌, true, false, Some, Ok, Err, codes, decimal, cond, refl, sym, ap}
+use Rattle.std.proofs.Common.{◌≡◌, ◌∙◌, ℕ, pos, List, ◌++◌, true, false, Some, Ok, codes, cond, refl, sym, ap}
 use Rattle.std.specs.Fmt.{signed_decimal}
 use Rattle.calc_terms.specs.Ratio.{Ratio, whole}
 use Rattle.calc_terms.specs.Rat.{ratio_of}
 use Rattle.poincare_run.specs.declared.answers.Op.{Op}
-use Rattle.poincare_run.specs.declared.answers.Op.TheVariants.{Add}
 use Rattle.poincare_run.specs.declared.answers.Refusal.{Refusal}
 use Rattle.poincare_run.specs.declared.answers.Refusal.TheVariants.{Form, Overflow}
 use Rattle.poincare_run.specs.declared.answers.LineAnswer.{LineAnswer}

@@ -1,15 +1,13 @@
 -- Lemmas on the steps of a session, and on how far it has come.
-use Rattle.std.proofs.Common.{◌≡◌, ◌∙◌, ℕ, ◌+◌, ◌≤◌, ◌<◌, List, [], ◌∷◌, ◌++◌, length, Bool, true, false, nat_le, cond, Option, Some, None, refl, sym, ap, subst, arith, append_assoc, append-nil, length-append}
+use Rattle.std.proofs.Common.{◌≡◌, ◌∙◌, ℕ, List, [], ◌∷◌, ◌++◌, length, Bool, true, false, nat_le, cond, Option, refl, sym, ap, subst, arith, append_assoc, append-nil}
 use Rattle.std.proofs.lemmas.Bool.{leb-true, leb-false}
 use Rattle.std.specs.Str.Lines.{strip_carriage_return}
-use Rattle.std.specs.Io.KnownBytes.{Appends}
-use Rattle.calc_edges.specs.Taken.{AppendsPart}
 use Rattle.poincare_run.specs.declared.buffer.LineBuffer.{LineBuffer}
 use Rattle.poincare_run.specs.declared.dialog.Dialog.{Dialog}
 use Rattle.poincare_run.specs.Lines.{is_newline, is_blank_line, lines_of, line_of_rest, whole_lines, rest_of}
 use Rattle.poincare_run.specs.Sums.{sum_line}
 use Rattle.poincare_run.specs.Replies.{blank, reply_to, sum_reply, text_of}
-use Rattle.poincare_run.specs.Steps.{State, Step, Steps, Transcript, written}
+use Rattle.poincare_run.specs.Steps.{State, Step, Steps, written}
 use Rattle.poincare_run.specs.Buffer.{Holds, StandsFor}
 use Rattle.poincare_run.specs.Progress.{Answered, AnswersLine, FailsAtLine, Continues, Breaks, Goes}
 use Rattle.poincare_run.proofs.SumLemmas.{too_long}

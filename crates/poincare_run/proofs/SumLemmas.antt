@@ -1,6 +1,5 @@
 -- Lemmas on sum lines: their parts, and the values of these.
-use Rattle.std.proofs.Common.{◌≡◌, ◌∙◌, ℕ, ◌+◌, ◌^◌, ◌<◌, ◌≤◌, List, [], ◌∷◌, ◌++◌, length, take, drop, Bool, true, false, Option, Some, None, MatchOption, MatchResult, Result, Ok, Err, position, nat_lt, nat_le, ◌&&◌, cond, get_or, append-nil, refl, sym, ap, subst, arith, rules, append_assoc}
-use Rattle.std.proofs.lemmas.Grind.{common_steps}
+use Rattle.std.proofs.Common.{◌≡◌, ◌∙◌, ℕ, ◌+◌, ◌^◌, ◌<◌, ◌≤◌, List, [], ◌∷◌, ◌++◌, length, take, drop, Bool, true, false, Option, Some, None, MatchOption, MatchResult, Result, Ok, Err, position, nat_lt, nat_le, ◌&&◌, cond, append-nil, refl, sym, ap, subst, arith, rules, append_assoc}
 use Rattle.std.proofs.lemmas.Str.{IsUtf8-from_ascii}
 use Rattle.std.proofs.lemmas.Fmt.{IsAscii-from_digits}
 use Rattle.std.proofs.lemmas.Str.Parse.{IsNumeralModel, numerals_by_value, parse_digits}
@@ -11,7 +10,7 @@ use Rattle.std.proofs.lemmas.List.Elements.{All-cons, All-nil}
 use Rattle.std.proofs.lemmas.List.Sums.{fails_before_first}
 use Rattle.std.specs.List.{All, list_all, slice_split, position_or_len}
 use Rattle.std.specs.Char.{is_ascii_digit}
-use Rattle.std.specs.Result.{result_ok, OkIff}
+use Rattle.std.specs.Result.{result_ok}
 use Rattle.std.specs.Option.{option_map}
 use Rattle.std.specs.Str.{IsUtf8}
 use Rattle.std.specs.Str.Parse.{ParsesUnsigned, digits_value}

@@ -1,5 +1,5 @@
 -- What the code answers, and the replies that its answers stand for.
-use Rattle.std.specs.Prelude.{◌≡◌, ⊤, ℕ, pos, List, [], ◌++◌, Option, Some, None, Result, Ok, Err, codes}
+use Rattle.std.specs.Prelude.{◌≡◌, ⊤, ℕ, pos, List, ◌++◌, Option, Some, None, Result, Ok, Err, codes}
 use Rattle.std.specs.Fmt.{signed_decimal}
 use Rattle.calc_terms.specs.Tokens.{times_sign}
 use Rattle.calc_terms.specs.Ratio.{whole}

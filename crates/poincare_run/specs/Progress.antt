@@ -1,5 +1,5 @@
 -- How far a session has come in the middle of its input.
-use Rattle.std.specs.Prelude.{◌≡◌, ℕ, ◌+◌, ◌≤◌, List, ◌++◌, length, Option}
+use Rattle.std.specs.Prelude.{◌≡◌, ℕ, ◌+◌, List, ◌++◌, length, Option}
 use Rattle.std.specs.Str.Lines.{strip_carriage_return}
 use Rattle.std.specs.Io.KnownBytes.{Appends, Consumes}
 use Rattle.calc_edges.specs.Faults.{Rose}
@@ -7,10 +7,10 @@ use Rattle.calc_edges.specs.Taken.{AppendsPart}
 use Rattle.poincare_run.specs.declared.dialog.Dialog.{Dialog}
 use Rattle.poincare_run.specs.declared.dialog.Ending.{Ending}
 use Rattle.poincare_run.specs.declared.dialog.Ending.TheVariants.{ReadToEnd, ReadFailed, WriteFailed, LimitReached}
-use Rattle.poincare_run.specs.Lines.{lines_of, whole_lines, rest_of}
+use Rattle.poincare_run.specs.Lines.{whole_lines, rest_of}
 use Rattle.poincare_run.specs.Steps.{State, Step, Steps, Transcript, written}
 use Rattle.poincare_run.specs.Buffer.{Holds}
-use Rattle.poincare_run.specs.Endings.{session_limit, Writes, WritesPart, ReadsAll, ReadsPart, ReadsLimit, WriteStops}
+use Rattle.poincare_run.specs.Endings.{session_limit, ReadsAll, ReadsPart, ReadsLimit, WriteStops}
 
 -- the whole lines of the bytes are answered by out, and the buffer holds the rest
 pub record Answered (start : State) (bytes out : List ℕ) (dialog : Dialog) : Type 0 where

@@ -1,5 +1,5 @@
 -- What a line is answered with.
-use Rattle.std.specs.Prelude.{ℕ, ◌+◌, ◌^◌, List, [], ◌∷◌, ◌++◌, Bool, true, false, nat_lt, if◌then◌else◌, Option, Some, None, codes, decimal}
+use Rattle.std.specs.Prelude.{ℕ, ◌+◌, ◌^◌, List, [], ◌∷◌, ◌++◌, nat_lt, if◌then◌else◌, Option, Some, None, codes, decimal}
 use Rattle.poincare_run.specs.Lines.{is_blank_line}
 use Rattle.poincare_run.specs.Sums.{sum_line}
 

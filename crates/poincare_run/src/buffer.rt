@@ -2,9 +2,8 @@
 ghost use Rattle.std.specs.Prelude.{◌≡◌, ℕ, List, [], ◌∷◌, ◌++◌, ◌↔◌, IsTrue};
 ghost use Rattle.poincare_run.specs.Buffer.{Holds, StandsFor};
 
-use arrayvec::ArrayVec;
-
 use crate::session::is_blank_byte;
+use arrayvec::ArrayVec;
 
 /// One byte more than a line may have.
 const KEPT_LIMIT: usize = 1025;

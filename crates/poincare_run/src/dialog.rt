@@ -8,10 +8,9 @@ ghost use Rattle.poincare_run.specs.Steps.{State, Step};
 ghost use Rattle.poincare_run.specs.Buffer.{Holds};
 ghost use Rattle.poincare_run.specs.Progress.{Answered, AnswersLine, FailsAtLine, Continues, Breaks, Goes, EndsAs};
 
-use calc_edges::{Failed, Sink, Source, write_all};
-
 use crate::buffer::LineBuffer;
 use crate::{LineAnswer, Session};
+use calc_edges::{Failed, Sink, Source, write_all};
 
 /// The most bytes that are read in a session.
 const SESSION_LIMIT: usize = 16_777_215;

@@ -13,3 +13,6 @@ mod words;
 pub use answers::{LineAnswer, Op, Refusal};
 pub use session::Session;
 pub use top::run;
+
+#[cfg(test)]
+mod tests;

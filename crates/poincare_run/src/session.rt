@@ -3,12 +3,10 @@ ghost use Rattle.std.specs.Prelude.{◌≡◌, []};
 ghost use Rattle.calc_terms.specs.Tokens.{is_blank as is_blank_of};
 ghost use Rattle.poincare_run.specs.Lines.{is_blank_line as is_blank_line_of};
 
-
-use std::marker::Model;
-
 use crate::LineAnswer;
 use crate::sums::sum_of;
 use crate::text::{Text, write_refusal};
+use std::marker::Model;
 
 #[derive(Drop)]
 pub struct Session {

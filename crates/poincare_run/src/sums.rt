@@ -6,11 +6,10 @@ ghost use Rattle.poincare_run.specs.Replies.{sum_reply, added_to, overflow as ov
 ghost use Rattle.poincare_run.specs.Answers.{IsSum, IsRefusal};
 ghost use Rattle.poincare_run.specs.Sums.{is_plus, literal as literal_of, sum_line};
 
+use crate::{Op, Refusal};
 use arrayvec::ArrayVec;
 use calc_terms::Rat;
 use std::str;
-
-use crate::{Op, Refusal};
 
 /// The most bytes of a line.
 const LINE_LIMIT: usize = 1024;
@@ -104,7 +103,11 @@ fn literal(text: &[u8]) -> Option<u128>
         return None;
     }
     let value = str::from_utf8(text).ok()?.parse::<u128>().ok()?;
-    if value < VALUE_LIMIT { Some(value) } else { None }
+    if value < VALUE_LIMIT {
+        Some(value)
+    } else {
+        None
+    }
 }
 
 /// Whether there is nothing but digits.

@@ -2,11 +2,10 @@ ghost use Rattle.std.specs.Prelude.{◌≡◌, ◌+◌, ◌≤◌, ◌++◌, [],
 ghost use Rattle.poincare_run.specs.Answers.{refusal_text, sign_of as sign_text};
 ghost use Rattle.std.specs.Fmt.{signed_decimal};
 
+use crate::{Op, Refusal};
 use arrayvec::ArrayVec;
 use itoa::Buffer;
 use std::marker::Model;
-
-use crate::{Op, Refusal};
 
 /// The most bytes of a text.
 pub const TEXT_LIMIT: usize = 96;

@@ -4,24 +4,18 @@ ghost use Rattle.poincare_run.specs.Options.{opening};
 ghost use Rattle.poincare_run.specs.Progress.{status};
 ghost use Rattle.poincare_run.specs.Endings.{session_limit, ReadsAll, ReadsPart, ReadsLimit, WriteStops};
 
+use crate::Session;
+use crate::dialog::{Dialog, Ending};
+use crate::words::are_form;
 use calc_edges::{Sink, Source};
 use std::alloc::Global;
-
-use crate::Session;
-use crate::words::are_form;
-use crate::dialog::{Dialog, Ending};
 
 /// The most bytes of one read.
 const PIECE_LIMIT: usize = 4096;
 
 /// Answers the lines of the source one by one, and writes the answers to the sink. The result is the
 /// status of the program.
-pub fn run<S: Source, K: Sink>(
-    alloc: Global,
-    words: &[String],
-    source: &mut S,
-    sink: &mut K,
-) -> u8
+pub fn run<S: Source, K: Sink>(alloc: Global, words: &[String], source: &mut S, sink: &mut K) -> u8
     ensures status { Contains (0 ∷ 2 ∷ 3 ∷ 4 ∷ 5 ∷ 6 ∷ []) result }
 
     // Status 2: the words are no form of the command line. Status 5: there was no memory to begin with.

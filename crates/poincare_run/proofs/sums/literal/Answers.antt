@@ -1,7 +1,6 @@
-use Rattle.std.proofs.Common.{◌≡◌, ◌∙◌, ◌^◌, List, ℕ, Option, sym, ap, subst, MatchOption, Some, None, nat_lt, cond, rules, true}
+use Rattle.std.proofs.Common.{◌∙◌, ◌^◌, sym, ap, subst, Some, None, cond}
 use Rattle.std.proofs.lemmas.Bool.{lt-ltb}
 use Rattle.std.specs.Str.Parse.{ParsesUnsigned}
-use Rattle.poincare_run.specs.Sums.{literal}
 use Rattle.poincare_run.proofs.SumLemmas.{digits_are_utf8, literal_from_parse, at_some, at_none}
 use Rattle.poincare_run.proofs.sums.literal.Goals as goal
 use Rattle.poincare_run.proofs.sums.literal.Goals.{In_ok-ok}

@@ -1,5 +1,5 @@
-use Rattle.std.proofs.Common.{◌∙◌, sym, ap, arith, None, Some, ◌++◌, ◌∷◌}
-use Rattle.poincare_run.proofs.SumLemmas.{part_fails, part_read, last_part_read, too_long, sum_line_is, sum_values_fit}
+use Rattle.std.proofs.Common.{◌∙◌, sym, ap, arith, Some}
+use Rattle.poincare_run.proofs.SumLemmas.{part_fails, last_part_read, too_long, sum_line_is, sum_values_fit}
 use Rattle.poincare_run.proofs.sums.read_sum.Goals as goal
 
 pub returns-then-line-gt-LINE_LIMIT-clause-values : goal.returns-then-line-gt-LINE_LIMIT-clause-values

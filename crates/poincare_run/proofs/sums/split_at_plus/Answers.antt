@@ -1,4 +1,4 @@
-use Rattle.std.proofs.Common.{◌≡◌, ◌∙◌, sym, ap, subst, MatchOption, Some, None, rules, arith, ◌-◌, ◌+◌, ◌∷◌, length, take, drop, ℕ, List}
+use Rattle.std.proofs.Common.{◌∙◌, sym, ap, Some, None, ◌+◌, ◌∷◌, take}
 use Rattle.std.proofs.lemmas.List.{take_rest}
 use Rattle.poincare_run.specs.Sums.{is_plus}
 use Rattle.std.specs.List.{slice_split}

@@ -1,5 +1,4 @@
-use Rattle.std.proofs.Common.{◌≡◌, ◌∙◌, ◌⊎◌, ◌↔◌, List, ℕ, [], ◌∷◌, Option, Some, None, Contains, map, string_bytes, refl, sym, subst}
-use Rattle.poincare_run.specs.Options.{opening}
+use Rattle.std.proofs.Common.{◌≡◌, ◌∙◌, ◌⊎◌, [], ◌∷◌, Contains, sym, subst}
 use Rattle.poincare_run.proofs.StatusLemmas.{nothing_read, if_some, not_none, is_status, all_read, read_failed, write_failed, limit_reached, within_limit, no_usage, not_early}
 use Rattle.poincare_run.proofs.top.run.Goals as goal
 

@@ -1,4 +1,4 @@
-use Rattle.std.proofs.Common.{◌≡◌, ◌++◌, ◌∷◌, [], refl, append-nil}
+use Rattle.std.proofs.Common.{refl, append-nil}
 use Rattle.poincare_run.specs.Buffer.{StandsFor}
 use Rattle.poincare_run.proofs.BufferLemmas.{holds_all}
 use Rattle.poincare_run.proofs.buffer.LineBuffer.push.Goals as goal
@@ -7,9 +7,9 @@ use Rattle.poincare_run.proofs.buffer.LineBuffer.push.Goals.{then-self, else-sel
 pub returns-then-not-self : goal.returns-then-not-self
 returns-then-not-self c = elim c.if-self.branch [
   | then-self w ↦ λ bytes h.
-    let first : StandsFor c.if-self.self.kept.items bytes = rw (w.self-is, h.bytes_are, w.if-self.true) (w.keep.ensures h.line h.stands) in
-    holds_all _ bytes c.args.byte c.if-not-self.true refl (c.keep-then-not-self.ensures bytes first)
+      let first : StandsFor c.if-self.self.kept.items bytes = rw (w.self-is, h.bytes_are, w.if-self.true) (w.keep.ensures h.line h.stands) in
+      holds_all _ bytes c.args.byte c.if-not-self.true refl (c.keep-then-not-self.ensures bytes first)
   | else-self w ↦ λ bytes h.
-    let first : StandsFor c.if-self.self.kept.items bytes = rw (w.self-is, h.bytes_are, w.if-self.false, append-nil) h.stands in
-    holds_all _ bytes c.args.byte c.if-not-self.true refl (c.keep-then-not-self.ensures bytes first)
+      let first : StandsFor c.if-self.self.kept.items bytes = rw (w.self-is, h.bytes_are, w.if-self.false, append-nil) h.stands in
+      holds_all _ bytes c.args.byte c.if-not-self.true refl (c.keep-then-not-self.ensures bytes first)
 ]

@@ -1,4 +1,4 @@
-use Rattle.std.proofs.Common.{◌≡◌, ◌++◌, ◌∷◌, [], refl, sym, subst, ap}
+use Rattle.std.proofs.Common.{refl}
 use Rattle.std.proofs.lemmas.Result.{on_ok_weaker, on_err_weaker}
 use Rattle.std.proofs.lemmas.Bool.{ne_eqb}
 use Rattle.poincare_run.specs.Lines.{rest_of}
@@ -16,5 +16,5 @@ returns-then-byte-eq10-clause-err g c = on_err_weaker c.answer_line.result
     c.answer_line.ensures.err
 
 pub returns-clause-ok : goal.returns-clause-ok
-returns-clause-ok g c = λ start before out h. 
+returns-clause-ok g c = λ start before out h.
     goes_by_byte start before out _ h _ _ c.args.byte (ne_eqb c.args.byte 10 c.if-byte-eq10.false) refl (c.push.ensures (rest_of before) h.rest)

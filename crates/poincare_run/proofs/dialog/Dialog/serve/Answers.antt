@@ -1,6 +1,5 @@
-use Rattle.std.proofs.Common.{◌≡◌, ◌≤◌, ◌<◌, ℕ, [], take, length, arith, refl, sym, subst}
+use Rattle.std.proofs.Common.{◌≡◌, take, length, arith}
 use Rattle.std.proofs.lemmas.List.{length-take-le}
-use Rattle.std.specs.Io.KnownBytes.{Consumes}
 use Rattle.poincare_run.proofs.ByteLemmas.{Rose-later}
 use Rattle.poincare_run.proofs.EndLemmas.{begins, reads_on, write_fails, ends, end_fails}
 use Rattle.poincare_run.proofs.dialog.Dialog.serve.Goals as goal
@@ -21,8 +20,7 @@ returns-in-Err g c = (
 pub returns-in_default-answer : goal.returns-in_default-answer
 returns-in_default-answer g c =
     let given = take c.in-Ok.count c.read_piece.new.piece in
-    let many : length given ≡ c.in-Ok.count = length-take-le c.in-Ok.count c.read_piece.new.piece c.in-Ok.ensures.bound.1 in
-    (
+    let many : length given ≡ c.in-Ok.count = length-take-le c.in-Ok.count c.read_piece.new.piece c.in-Ok.ensures.bound.1 in (
       Rose-later _ _ _ c.loop-left.invariant.sink_later c.in_default-answer.ensures.cause.failed,
       write_fails _ _ _ _ _ _ _ c.loop-left.invariant.under_way _ _ given (omega (arith, c.in-Ok.ensures.bound.0)) c.in-Ok.ensures.given c.in_default-answer.ensures.err,
     )

@@ -1,8 +1,6 @@
-use Rattle.std.proofs.Common.{◌≡◌, ◌∙◌, refl, sym, ap, subst, Some, Ok, Err}
+use Rattle.std.proofs.Common.{◌∙◌, refl, sym, ap, Some}
 use Rattle.std.proofs.lemmas.Int.{to_z_pos}
-use Rattle.poincare_run.specs.Replies.{reply_to, text_of, Reply, shown}
-use Rattle.poincare_run.specs.Answers.{IsAnswer, IsRefusal}
-use Rattle.poincare_run.specs.declared.answers.LineAnswer.TheVariants.{Blank, Shown}
+use Rattle.poincare_run.specs.Replies.{text_of}
 use Rattle.poincare_run.proofs.ReplyLemmas.{blank_reply, other_reply, shown_sum, refused_text}
 use Rattle.poincare_run.proofs.session.Session.line.Goals as goal
 

@@ -1,0 +1,137 @@
+ghost use Rattle.std.specs.Prelude.{◌≤◌};
+
+use super::*;
+use calc_edges::{MemSink, MemSource};
+use std::alloc::{AllocError, Global};
+use std::test::Fail;
+
+/// What a run over memory ends with, and what its sink has taken.
+#[derive(Drop)]
+struct Outcome {
+    status: u8,
+    taken: Vec<u8>,
+}
+
+/// Runs over these bytes, which come and go in pieces of at most `piece` bytes.
+fn converse(
+    alloc: Global,
+    words: &[&str],
+    input: &[u8],
+    piece: usize,
+    room: usize,
+    failing: &[u64],
+) -> Result<Outcome, AllocError>
+    requires { 1 ≤ piece }
+{
+    let mut texts = Vec::new(alloc);
+    for word in words {
+        texts.push(String::from_str(alloc, word)?)?;
+    }
+    let mut source = MemSource::new(input.to_vec(alloc)?, piece, failing.to_vec(alloc)?);
+    let mut sink = MemSink::new(alloc, room, piece, Vec::new(alloc))?;
+    let status = run(alloc, texts.as_slice(), &mut source, &mut sink);
+    let taken = sink.bytes().to_vec(alloc)?;
+    Ok(Outcome { status, taken })
+}
+
+#[test]
+fn lines_are_answered_in_any_pieces(rt: HostRuntime) -> Result<(), Fail> {
+    let rows = [
+        ("1+2+3", "6\n"),
+        ("1+1\r\n\n007", "2\n7\n"),
+        ("", ""),
+        (" \t\r\n\r\n\t", ""),
+        (
+            "2×3\n1+\n1 + 1\n+1\n1++1\n1a\n",
+            "! form\n! form\n! form\n! form\n! form\n! form\n",
+        ),
+        (
+            "170141183460469231731687303715884105727",
+            "170141183460469231731687303715884105727\n",
+        ),
+        (
+            "170141183460469231731687303715884105727+1",
+            "! overflow 170141183460469231731687303715884105727+1\n",
+        ),
+        ("170141183460469231731687303715884105728", "! form\n"),
+        ("1\r\r\n1\r2\n2\r", "! form\n! form\n2\n"),
+    ];
+    for (input, output) in rows {
+        for piece in [1usize, 3, 4096] {
+            let got = converse(rt.alloc(), &[], input.as_bytes(), piece, 1000, &[])?;
+            assert_eq!(rt; got.status, 0, "{input:?} in pieces of {piece}");
+            assert_eq!(rt;
+                got.taken.as_slice(),
+                output.as_bytes(),
+                "{input:?} in pieces of {piece}"
+            );
+        }
+    }
+    Ok(())
+}
+
+#[test]
+fn a_line_of_any_length_is_answered(rt: HostRuntime) -> Result<(), Fail> {
+    let rows = [
+        ("1", 1024, "", "! form\n"),
+        ("1", 1025, "", "! form\n"),
+        ("1", 3000, "", "! form\n"),
+        ("1+", 511, "1", "512\n"),
+        ("1+", 512, "1", "! form\n"),
+        (" ", 3000, "", ""),
+        (" ", 3000, "\r", ""),
+        (" ", 3000, "\r ", "! form\n"),
+        (" ", 3000, "1", "! form\n"),
+        ("0", 1023, "7\r\n", "7\n"),
+    ];
+    for (text, count, end, output) in rows {
+        let mut input = Vec::new(rt.alloc());
+        for _ in 0..count {
+            input.extend_from_slice(text.as_bytes())?;
+        }
+        input.extend_from_slice(end.as_bytes())?;
+        let got = converse(rt.alloc(), &[], input.as_slice(), 700, 1000, &[])?;
+        assert_eq!(rt; got.status, 0, "{count} times {text:?} and {end:?}");
+        assert_eq!(rt;
+            got.taken.as_slice(),
+            output.as_bytes(),
+            "{count} times {text:?} and {end:?}"
+        );
+    }
+    Ok(())
+}
+
+#[test]
+fn words_and_failures_have_their_status(rt: HostRuntime) -> Result<(), Fail> {
+    // The words, the input, the room of the sink, the reads that fail, the status and the output.
+    let rows = [
+        ([].as_slice(), "1", 0, [].as_slice(), 4, ""),
+        (&[], "1\n2", 2, &[], 4, "1\n"),
+        (&[], "1\n2", 3, &[], 4, "1\n2"),
+        (&[], "1+1\n2", 100, &[2], 3, "2\n"),
+        (&[], "1+1\n2", 100, &[1], 3, ""),
+        (&["x"], "1", 100, &[], 2, ""),
+        (&["--"], "1", 100, &[], 2, ""),
+    ];
+    for (words, input, room, failing, status, output) in rows {
+        let got = converse(rt.alloc(), words, input.as_bytes(), 4096, room, failing)?;
+        assert_eq!(rt; got.status, status, "{words:?} with {input:?}");
+        assert_eq!(rt;
+            got.taken.as_slice(),
+            output.as_bytes(),
+            "{words:?} with {input:?}"
+        );
+    }
+    Ok(())
+}
+
+#[test]
+fn a_session_ends_at_its_limit(rt: HostRuntime) -> Result<(), Fail> {
+    for (count, status) in [(16_777_214usize, 0), (16_777_215, 6), (16_777_216, 6)] {
+        let input = vec![in rt.alloc(); b'\n'; count]?;
+        let got = converse(rt.alloc(), &[], input.as_slice(), 100_000, 1000, &[])?;
+        assert_eq!(rt; got.status, status, "{count} newlines");
+        assert!(rt; got.taken.is_empty());
+    }
+    Ok(())
+}
