@@ -25,3 +25,4 @@ pub mod LowBytes
 pub mod Codec
 pub mod TermLaws
 pub mod CleanLaws
+pub mod InverseLaws
