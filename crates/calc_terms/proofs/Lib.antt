@@ -26,3 +26,4 @@ pub mod Codec
 pub mod TermLaws
 pub mod CleanLaws
 pub mod InverseLaws
+pub mod PowerLaws
