@@ -27,3 +27,4 @@ pub mod TermLaws
 pub mod CleanLaws
 pub mod InverseLaws
 pub mod PowerLaws
+pub mod NumberUniqueness
