@@ -28,3 +28,4 @@ pub mod CleanLaws
 pub mod InverseLaws
 pub mod PowerLaws
 pub mod NumberUniqueness
+pub mod MeaningRewrites
