@@ -29,3 +29,7 @@ pub mod Codec
 pub mod Leaves
 pub mod TermLaws
 pub mod CleanLaws
+pub mod InverseLaws
+pub mod PowerLaws
+pub mod NumberUniqueness
+pub mod MeaningRewrites

@@ -122,18 +122,19 @@ whole_times_quotient s u x h = times_lowest (pos s) (pos u) 1 x (omega arith) h 
 square_alike : (s t x u : ℕ) → 0 < s → Alike t x u → Alike (s * s * t) x (s * u)
 square_alike s t x u h a = record { square = omega (arith, ap (λ n. s * s * n) a.square); positive = mul_pos s u h (a.positive) }
 
-square_apart : (s t x : ℕ) → 0 < s → are_alike t x ≡ false → are_alike (s * s * t) x ≡ false
-square_apart s t x h e = false_from_ne_true (are_alike (s * s * t) x) (λ k.
-    let m = square_root (s * s * t * x) in
-    let a = alike_from (s * s * t) x k in
+square_in_class : (s t x m : ℕ) → 0 < s → Alike (s * s * t) x m → are_alike t x ≡ true
+square_in_class s t x m h a =
     let (u, f) = square_from_scaled (t * x) s m h (omega (arith, a.square)) in
-    let b : Alike t x u = record { square = sym f; positive = nonzero u t x s m (sym f) (a.square) (a.positive) } in
-    let g : are_alike t x ≡ true = alike_true t x u b in
-    cc)
+    alike_true t x u (record { square = omega (arith, f); positive = nonzero u t x s m f a.square a.positive })
   where
-    nonzero : (u t x s m : ℕ) → u * u ≡ t * x → m * m ≡ s * s * t * x → 0 < m → 0 < u
+    nonzero : (u t x s m : ℕ) → t * x ≡ u * u → m * m ≡ s * s * t * x → 0 < m → 0 < u
     nonzero zero t x s m e f h = absurd (omega (arith, ap (λ n. s * s * n) e, mul_pos m m h h))
     nonzero (suc u) t x s m e f h = omega arith
+
+square_apart : (s t x : ℕ) → 0 < s → are_alike t x ≡ false → are_alike (s * s * t) x ≡ false
+square_apart s t x h e = false_from_ne_true (are_alike (s * s * t) x) (λ k.
+    let g : are_alike t x ≡ true = square_in_class s t x (square_root (s * s * t * x)) h (alike_from (s * s * t) x k) in
+    cc)
 
 share_extracted : (q : Fraction) (s t x : ℕ) → 0 < s → term_share (term q (s * s * t)) x ≡ term_share (term (times q (whole_fraction (pos s))) t) x
 share_extracted q s t x h = by (are_alike t x) refl

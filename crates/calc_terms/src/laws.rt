@@ -1,6 +1,6 @@
 //! Laws of the definitions, each the contract of a function without a body.
 
-ghost use Rattle.std.specs.Prelude.{◌≡◌, ◌↔◌, ◌⊎◌, false, ℕ, ◌<◌, ◌*◌, ℤ, pos, neg_ℤ, ◌+ℤ◌, ◌*ℤ◌, List, ◌++◌, true, ◌^◌};
+ghost use Rattle.std.specs.Prelude.{◌≡◌, ◌↔◌, ◌⊎◌, false, ℕ, ◌<◌, ◌*◌, ℤ, pos, neg_ℤ, ◌+ℤ◌, ◌*ℤ◌, List, ◌++◌, true, ◌^◌, Contains};
 ghost use Rattle.std.specs.Int.{◌∣◌};
 ghost use Rattle.std.specs.Cmp.{IsTotalOrder};
 ghost use Rattle.std.specs.declared.cmp.Ordering.TheVariants.{Equal};
@@ -8,7 +8,7 @@ ghost use Rattle.calc_terms.specs.Fractions.{Fraction, lowest as lowest_of, plus
 ghost use Rattle.calc_terms.specs.Trees.{Tree, is_undef, IsComplete};
 ghost use Rattle.calc_terms.specs.TreeOrder.{tree_cmp};
 ghost use Rattle.calc_terms.specs.Surds.{Surd, surd_one, surd_scale, surd_times, surd_power};
-ghost use Rattle.calc_terms.specs.SquareClasses.{are_alike, class_coefficient, Same, Inverts};
+ghost use Rattle.calc_terms.specs.SquareClasses.{are_alike, class_coefficient, radicands, Same, Inverts};
 ghost use Rattle.calc_terms.specs.Meanings.{Assignment, IsAssignment, Means};
 ghost use Rattle.calc_terms.specs.Reads.{Reads};
 ghost use Rattle.calc_terms.specs.Texts.{text as text_of, IsWritable, HasNames};
@@ -125,6 +125,14 @@ pub fn tests_say_their_words()
 pub fn clean_radicands()
     ensures square_free { (r d : ℕ) → is_clean r ≡ true → r < 10 ^ 12 → 1 < d → ¬ (d * d ∣ r) }
     ensures one_a_class { (r s : ℕ) → is_clean r ≡ true → is_clean s ≡ true → r < 10 ^ 12 → s < 10 ^ 12 → are_alike r s ≡ true → r ≡ s }
+{}
+
+/// Numbers with the same value are one tree, where no radicand reaches 10^12.
+pub fn one_number()
+    ensures { (t u : Tree) → is_number t ≡ true → is_number u ≡ true
+        → ((r : ℕ) → Contains (radicands (value t)) r → r < 10 ^ 12)
+        → ((r : ℕ) → Contains (radicands (value u)) r → r < 10 ^ 12)
+        → Same (value t) (value u) → t ≡ u }
 {}
 
 /// The face of a reduced tree keeps each of its meanings.
