@@ -1,0 +1,11 @@
+pub mod Divisors
+pub mod Newton
+pub mod Coprime
+pub mod LowestTerms
+pub mod FitTests
+pub mod Signed
+pub mod Products
+pub mod Sums
+pub mod PowerLaws
+pub mod FractionPowers
+pub mod Reciprocals

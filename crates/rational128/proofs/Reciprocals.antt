@@ -1,0 +1,88 @@
+-- Negatives and reciprocals by their parts.
+use Rattle.std.proofs.Common.{◌≡◌, ◌≢◌, ℕ, zero, suc, ◌*◌, ◌<◌, ◌≤◌, ◌^◌, ℤ, pos, negsuc, ◌*ℤ◌, ◌-ℤ◌, neg_ℤ, ◌<ℤ◌, ◌≤ℤ◌, refl, sym, ap, ◌∙◌, subst, arith, to_z, of_z}
+use Rattle.std.specs.Prelude.{nat_abs}
+use Rattle.std.specs.Int.{IsGcd, w128}
+use Rattle.std.proofs.lemmas.Int.{ints, to_z_pos, to_z-of_z, fits_signed_from_abs}
+use Rattle.calc_terms.specs.Integers.{parts, diffs, eq_diff}
+use Rattle.calc_terms.specs.Fractions.{Fraction, lowest, times, negative, inverse, inverse_of, zero_fraction, one_fraction, den_pos, lowest_parts, same_lowest, times_lowest, mul_pos}
+use Rattle.rational128.proofs.Coprime.{IsCoprime, IsCoprime-swap, IsGcd-from_coprime}
+use Rattle.rational128.proofs.LowestTerms.{HasParts, parts_themselves, is_lowest_from, fraction_coprime}
+use Rattle.rational128.proofs.Signed.{told}
+
+abs_negative : (p : ℤ) → nat_abs (neg_ℤ p) ≡ nat_abs p
+abs_negative (pos zero) = refl
+abs_negative (pos (suc n)) = refl
+abs_negative (negsuc n) = refl
+
+-- the negative number, as the program hands it on
+pub negative_told : (p : ℤ) → nat_abs p < 2 ^ 127 → to_z w128 (of_z w128 (pos 0 -ℤ to_z w128 (of_z w128 p))) ≡ neg_ℤ p
+negative_told p small =
+    let e : pos 0 -ℤ to_z w128 (of_z w128 p) ≡ neg_ℤ p = ap (λ z. pos 0 -ℤ z) (told p small) ∙ omega (arith, ints) in
+    ap (λ z. to_z w128 (of_z w128 z)) e ∙ told (neg_ℤ p) (rw (abs_negative p) small)
+
+pub negative_lowest : (f : Fraction) (p : ℤ) (d : ℕ) → p ≡ f.num → d ≡ f.den → IsGcd (nat_abs (neg_ℤ p)) d 1
+negative_lowest f p d p-is d-is = rw (abs_negative p, p-is, d-is) (IsGcd-from_coprime _ _ (fraction_coprime f))
+
+pub negative_parts : (f : Fraction) (p : ℤ) (d : ℕ) → p ≡ f.num → d ≡ f.den → HasParts (negative f) (neg_ℤ p) d
+unfolding negative
+negative_parts f p d p-is d-is = rw (p-is, d-is) (parts_themselves (neg_ℤ f.num) f.den (is_lowest_from (neg_ℤ f.num) f.den (den_pos f) (negative_lowest f f.num f.den refl refl)))
+
+-- d with the sign of p
+abbrev signed_as : ℤ → ℕ → ℤ
+signed_as (pos n) d = pos d
+signed_as (negsuc n) d = neg_ℤ (pos d)
+
+-- n/d is 1/f, in lowest terms
+pub record IsInverse (f : Fraction) (n : ℤ) (d : ℕ) : Type 0 where
+  pub positive : 0 < d
+  pub lowest : IsGcd (nat_abs n) d 1
+  pub parts : HasParts (inverse f) n d
+  pub product : times f (inverse f) ≡ one_fraction
+
+inverse_of_parts : (p : ℤ) (d : ℕ) → 0 < nat_abs p → IsCoprime (nat_abs p) d → 0 < d → IsGcd (nat_abs (signed_as p d)) (nat_abs p) 1 × HasParts (inverse_of p d) (signed_as p d) (nat_abs p)
+inverse_of_parts (pos n) d positive h k = let g : IsGcd d n 1 = IsGcd-from_coprime _ _ (IsCoprime-swap _ _ h) in (g, parts_themselves (pos d) n (is_lowest_from (pos d) n positive g))
+inverse_of_parts (negsuc n) d positive h k =
+    let g : IsGcd (nat_abs (neg_ℤ (pos d))) (suc n) 1 = rw (abs_negative (pos d)) (IsGcd-from_coprime _ _ (IsCoprime-swap _ _ h)) in
+    (g, parts_themselves (neg_ℤ (pos d)) (suc n) (is_lowest_from (neg_ℤ (pos d)) (suc n) positive g))
+
+times_inverse_of : (p : ℤ) (d : ℕ) → 0 < nat_abs p → 0 < d → times (lowest p d) (inverse_of p d) ≡ lowest (pos 1) 1
+times_inverse_of (pos n) d positive k =
+    times_lowest (pos n) (pos d) d n k positive ∙ same_lowest (pos n *ℤ pos d) (pos 1) (d * n) 1 (mul_pos d n k positive) (omega arith) (ap pos (omega arith))
+times_inverse_of (negsuc n) d positive k =
+    times_lowest (negsuc n) (neg_ℤ (pos d)) d (suc n) k positive
+    ∙ same_lowest (negsuc n *ℤ neg_ℤ (pos d)) (pos 1) (d * suc n) 1 (mul_pos d (suc n) k positive) (omega arith) (product n d)
+  where
+    product : (n d : ℕ) → (negsuc n *ℤ neg_ℤ (pos d)) *ℤ pos 1 ≡ pos 1 *ℤ pos (d * suc n)
+    product n zero = omega (arith, ints)
+    product n (suc d) = ap pos (omega arith)
+
+nonzero : (f : Fraction) → f ≢ zero_fraction → 0 < nat_abs f.num
+unfolding zero_fraction
+nonzero f h = by f.num refl
+  where
+    by : (p : ℤ) → f.num ≡ p → 0 < nat_abs p
+    by (pos zero) e = absurd (h (lowest_parts f ∙ ap (λ z. lowest z f.den) e ∙ same_lowest (pos 0) (pos 0) f.den 1 (den_pos f) (omega arith) (omega (arith, ints))))
+    by (pos (suc n)) e = omega arith
+    by (negsuc n) e = omega arith
+
+inverse_itself : (f : Fraction) → f ≢ zero_fraction → IsInverse f (signed_as f.num f.den) (nat_abs f.num)
+unfolding one_fraction
+inverse_itself f h =
+    let parts = inverse_of_parts f.num f.den (nonzero f h) (fraction_coprime f) (den_pos f) in
+    record {
+      positive = nonzero f h;
+      lowest = parts.0;
+      parts = parts.1;
+      product = ap (λ (g : Fraction). times g (inverse f)) (lowest_parts f) ∙ times_inverse_of f.num f.den (nonzero f h) (den_pos f);
+    }
+
+-- the program's numbers: p/d is f, m the magnitude of p, and n is d with the sign of p
+pub inverts : (f : Fraction) (p n : ℤ) (d m : ℕ) → f ≢ zero_fraction → p ≡ f.num → d ≡ f.den → m ≡ nat_abs p → (p <ℤ pos 0 → n ≡ neg_ℤ (pos d)) → (pos 0 ≤ℤ p → n ≡ pos d) → IsInverse f n m
+inverts f p n d m h p-is d-is m-is below above = subst (λ k. IsInverse f n k) (sym (m-is ∙ ap nat_abs p-is)) (subst (λ z. IsInverse f z (nat_abs f.num)) (sym n-is) (inverse_itself f h))
+  where
+    by : (q : ℤ) → p ≡ q → n ≡ signed_as q d
+    by (pos k) e = above (omega (arith, ints))
+    by (negsuc k) e = below (omega (arith, ints))
+
+    n-is : n ≡ signed_as f.num f.den
+    n-is = by f.num p-is ∙ ap (signed_as f.num) d-is

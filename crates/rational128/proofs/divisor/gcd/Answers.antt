@@ -1,0 +1,13 @@
+use Rattle.std.proofs.Common.{arith}
+use Rattle.std.specs.Int.{w128}
+use Rattle.rational128.proofs.Divisors.{splits_twos, IsGcd-from_odd}
+use Rattle.rational128.proofs.divisor.gcd.Goals as goal
+
+pub odd_gcd-requires-clause-a_is_odd : goal.odd_gcd-requires-clause-a_is_odd
+odd_gcd-requires-clause-a_is_odd c = (splits_twos w128 _ (omega arith) (omega arith)).odd
+
+pub odd_gcd-requires-clause-b_is_odd : goal.odd_gcd-requires-clause-b_is_odd
+odd_gcd-requires-clause-b_is_odd c = (splits_twos w128 _ (omega arith) (omega arith)).odd
+
+pub returns : goal.returns
+returns c = IsGcd-from_odd _ _ _ _ (omega arith) (omega arith) (omega arith) (omega arith) c.odd_gcd.ensures c.min.ensures

@@ -1,0 +1,81 @@
+use Rattle.std.proofs.Common.{◌≡◌, ℕ, ℤ, ◌<◌, ◌^◌, ◌*◌, ◌/◌, ◌*ℤ◌, pos, subst, sym, ap, ◌∙◌, arith, to_z, of_z}
+use Rattle.std.specs.Prelude.{nat_abs}
+use Rattle.std.specs.Int.{w128, IsGcd}
+use Rattle.std.proofs.lemmas.Int.{unsigned_abs-mul}
+use Rattle.calc_terms.specs.Fractions.{over}
+use Rattle.calc_terms.specs.Rat.{value_of}
+use Rattle.rational128.proofs.LowestTerms.{HasParts, same_parts}
+use Rattle.rational128.proofs.Signed.{told, quotient_told, product_told}
+use Rattle.rational128.proofs.Products.{Factors, first_positive, second_positive, product_lowest, product_den_positive, product_parts, unfit_num, unfit_den, parts_fit}
+use Rattle.rational128.proofs.multiplication.fitted_product.Goals as goal
+use Rattle.rational128.proofs.multiplication.fitted_product.Goals.{After-gcd-second, After-quotient-2, In_ok-num}
+
+factors : (c : After-gcd-second) → Factors (value_of c.args.a) (value_of c.args.b) (c.parts-a_num.result.0) (c.parts-a_num.result.1) (c.parts-b_num.result.0) (c.parts-b_num.result.1) c.gcd-first.result c.gcd-second.result
+factors c = record {
+  p_is = c.parts-a_num.ensures.num;
+  q_is = c.parts-a_num.ensures.den;
+  r_is = c.parts-b_num.ensures.num;
+  s_is = c.parts-b_num.ensures.den;
+  first = subst (λ n. IsGcd n (c.parts-b_num.result.1) c.gcd-first.result) (c.unsigned_abs.ensures.value ∙ ap nat_abs (told (c.parts-a_num.result.0) c.parts-a_num.ensures.num_fits)) c.gcd-first.ensures;
+  second = subst (λ n. IsGcd n (c.parts-a_num.result.1) c.gcd-second.result) (c.unsigned_abs-2.ensures.value ∙ ap nat_abs (told (c.parts-b_num.result.0) c.parts-b_num.ensures.num_fits)) c.gcd-second.ensures;
+}
+
+-- the quotients are handed on as they are
+first_told : (c : After-quotient-2) → (to_z w128 (of_z w128 c.quotient.result) ≡ over (c.parts-a_num.result.0) c.gcd-first.result) × (nat_abs (over (c.parts-a_num.result.0) c.gcd-first.result) < 2 ^ 127)
+first_told c = quotient_told c.quotient.result (c.parts-a_num.result.0) c.gcd-first.result c.parts-a_num.ensures.num_fits c.quotient.ensures
+
+second_told : (c : After-quotient-2) → (to_z w128 (of_z w128 c.quotient-2.result) ≡ over (c.parts-b_num.result.0) c.gcd-second.result) × (nat_abs (over (c.parts-b_num.result.0) c.gcd-second.result) < 2 ^ 127)
+second_told c = quotient_told c.quotient-2.result (c.parts-b_num.result.0) c.gcd-second.result c.parts-b_num.ensures.num_fits c.quotient-2.ensures
+
+-- so is their product
+num_told : (c : In_ok-num) → (to_z w128 (of_z w128 c.in_ok-num.num) ≡ over (c.parts-a_num.result.0) c.gcd-first.result *ℤ over (c.parts-b_num.result.0) c.gcd-second.result)
+    × (nat_abs (over (c.parts-a_num.result.0) c.gcd-first.result *ℤ over (c.parts-b_num.result.0) c.gcd-second.result) < 2 ^ 127)
+num_told c =
+    let (first, _) = quotient_told c.quotient.result (c.parts-a_num.result.0) c.gcd-first.result c.parts-a_num.ensures.num_fits c.quotient.ensures in
+    let (second, _) = quotient_told c.quotient-2.result (c.parts-b_num.result.0) c.gcd-second.result c.parts-b_num.ensures.num_fits c.quotient-2.ensures in
+    product_told c.in_ok-num.num _ _ _ _ first second c.in_ok-num.ensures
+
+pub quotient-requires-clause-positive : goal.quotient-requires-clause-positive
+quotient-requires-clause-positive c = first_positive _ _ _ _ _ _ _ _ (factors (goal.at.quotient-requires-clause-positive c).After-gcd-second)
+
+pub quotient-requires-2-clause-positive : goal.quotient-requires-2-clause-positive
+quotient-requires-2-clause-positive c = second_positive _ _ _ _ _ _ _ _ (factors (goal.at.quotient-requires-2-clause-positive c).After-gcd-second)
+
+pub returns-in_err-num : goal.returns-in_err-num
+returns-in_err-num c =
+    let f = factors (goal.at.returns-in_err-num c).After-gcd-second in
+    let (first, _) = first_told (goal.at.returns-in_err-num c).After-quotient-2 in
+    let (second, _) = second_told (goal.at.returns-in_err-num c).After-quotient-2 in
+    let refused : ¬ (nat_abs (over (c.parts-a_num.result.0) c.gcd-first.result) * nat_abs (over (c.parts-b_num.result.0) c.gcd-second.result) < 2 ^ 127) = rw (first, second) at c.in_err-num.ensures in
+    rw c.from_residual.ensures (unfit_num _ _ _ _ (product_parts _ _ _ _ _ _ _ _ f) (unsigned_abs-mul (over (c.parts-a_num.result.0) c.gcd-first.result) (over (c.parts-b_num.result.0) c.gcd-second.result)) refused)
+
+pub nonzero_div-a_den : goal.nonzero_div-a_den
+nonzero_div-a_den c = second_positive _ _ _ _ _ _ _ _ (factors (goal.at.nonzero_div-a_den c).After-gcd-second)
+
+pub nonzero_div-b_den : goal.nonzero_div-b_den
+nonzero_div-b_den c = first_positive _ _ _ _ _ _ _ _ (factors (goal.at.nonzero_div-b_den c).After-gcd-second)
+
+pub returns-in_err-den : goal.returns-in_err-den
+returns-in_err-den c =
+    let f = factors (goal.at.returns-in_err-den c).After-gcd-second in
+    rw c.from_residual-in_err-den.ensures (unfit_den _ _ _ (product_parts _ _ _ _ _ _ _ _ f) c.in_err-den.ensures)
+
+pub rational-requires-clause-in_lowest_terms : goal.rational-requires-clause-in_lowest_terms
+rational-requires-clause-in_lowest_terms c =
+    let f = factors (goal.at.rational-requires-clause-in_lowest_terms c).After-gcd-second in
+    let (is, _) = num_told (goal.at.rational-requires-clause-in_lowest_terms c).In_ok-num in
+    subst (λ z. IsGcd (nat_abs z) c.in_ok-den.den 1) (sym is)
+    (subst (λ d. IsGcd (nat_abs (over (c.parts-a_num.result.0) c.gcd-first.result *ℤ over (c.parts-b_num.result.0) c.gcd-second.result)) d 1) (sym c.in_ok-den.ensures.1) (product_lowest _ _ _ _ _ _ _ _ f))
+
+pub rational-requires-clause-positive : goal.rational-requires-clause-positive
+rational-requires-clause-positive c = subst (λ n. 0 < n) (sym c.in_ok-den.ensures.1) (product_den_positive _ _ _ _ _ _ _ _ (factors (goal.at.rational-requires-clause-positive c).After-gcd-second))
+
+pub returns : goal.returns
+returns c =
+    let f = factors (goal.at.returns c).After-gcd-second in
+    let (is, small) = num_told (goal.at.returns c).In_ok-num in
+    let parts : HasParts (value_of c.rational.result) (over (c.parts-a_num.result.0) c.gcd-first.result *ℤ over (c.parts-b_num.result.0) c.gcd-second.result) ((c.parts-a_num.result.1 / c.gcd-second.result) * (c.parts-b_num.result.1 / c.gcd-first.result)) = record {
+      num = c.rational.ensures.num ∙ is;
+      den = c.rational.ensures.den ∙ c.in_ok-den.ensures.1;
+    } in
+    (parts_fit _ _ _ (product_parts _ _ _ _ _ _ _ _ f) small c.in_ok-den.ensures.0, same_parts _ _ _ _ parts (product_parts _ _ _ _ _ _ _ _ f))

@@ -1,0 +1,16 @@
+use Rattle.std.proofs.Common.{sym, ap, ◌∙◌, rules}
+use Rattle.std.specs.Prelude.{nat_abs, FitsSigned}
+use Rattle.std.specs.Int.{w128}
+use Rattle.std.proofs.lemmas.Int.{to_z-of_z}
+use Rattle.rational128.proofs.LowestTerms.{ratio_parts}
+use Rattle.rational128.proofs.parts.parts.Goals as goal
+
+pub returns-clause-num : goal.returns-clause-num
+returns-clause-num c =
+    let fits : FitsSigned w128 c.num.result = search rules in
+    to_z-of_z w128 _ fits ∙ c.num.ensures.value ∙ sym (ratio_parts c.args.a).num
+
+pub returns-clause-den : goal.returns-clause-den
+returns-clause-den c =
+    let fits : FitsSigned w128 c.den.result = search rules in
+    c.unsigned_abs.ensures.value ∙ ap nat_abs (to_z-of_z w128 _ fits ∙ c.den.ensures.value) ∙ sym (ratio_parts c.args.a).den

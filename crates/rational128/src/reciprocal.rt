@@ -1,0 +1,27 @@
+//! Negatives and reciprocals, which always fit.
+ghost use Rattle.std.specs.Prelude.{◌≡◌, ◌≢◌};
+ghost use Rattle.calc_terms.specs.Rat.{value_of};
+ghost use Rattle.calc_terms.specs.Fractions.{times, negative, inverse, zero_fraction, one_fraction};
+
+use calc_terms::Rat;
+
+use crate::parts::{parts, rational};
+
+/// -a
+pub fn neg(a: Rat) -> Rat
+    ensures { value_of result ≡ negative (value_of a) }
+{
+    let (num, den) = parts(a);
+    rational(-num, den)
+}
+
+/// 1/a
+pub fn invert(a: Rat) -> Rat
+    requires { value_of a ≢ zero_fraction }
+    ensures inverse { value_of result ≡ inverse (value_of a) }
+    ensures product { times (value_of a) (value_of result) ≡ one_fraction }
+{
+    let (num, den) = parts(a);
+    let den = den as i128;
+    rational(if num < 0 { -den } else { den }, num.unsigned_abs())
+}
