@@ -7,6 +7,7 @@ pub mod SurdLaws
 pub mod SquareClassLaws
 pub mod TreeOrderLaws
 pub mod MeaningLaws
+pub mod ComputedNumbers
 pub mod BadLaws
 pub mod Reader
 pub mod ReaderSteps

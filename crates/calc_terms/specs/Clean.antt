@@ -34,3 +34,8 @@ is_clean r = no_square_divides (trial_limit - 1) 2 r && (let m = left_of r in le
 pub record IsClean (r : ℕ) : Type 0 where
   pub no_square : (d : ℕ) → 2 ≤ d → d ≤ trial_limit → d * d ∣ r → ⊥
   pub no_rest : (s : ℕ) → 1 < s → left_of r ≢ s * s
+
+-- a product of numbers from 2 to 10,000
+pub data IsTried : ℕ → Type 0 where
+  empty_product : IsTried 1
+  one_factor_more : {d m : ℕ} → 2 ≤ d → d ≤ trial_limit → IsTried m → IsTried (d * m)

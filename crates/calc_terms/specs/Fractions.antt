@@ -1,4 +1,4 @@
--- Fractions in lowest terms: equal fractions are one.
+-- Fractions: always in lowest terms, so that equal fractions are one.
 use Rattle.std.specs.Prelude.{ℕ, zero, suc, ◌*◌, ◌/◌, ◌≡◌, ◌<◌, ℤ, pos, negsuc, ◌+ℤ◌, ◌*ℤ◌, neg_ℤ, nat_abs, Bool, true, false, ◌&&◌, nat_lt, ◌==◌}
 use Rattle.std.proofs.Common.{refl, arith, sym, ap, ◌∙◌, subst}
 use Rattle.std.proofs.lemmas.Bool.{lt-ltb, eq-eqb, ltb-true, eqb-true}
@@ -10,6 +10,7 @@ use mathlib.Core.HLevel.{is_prop→PathP}
 use Rattle.calc_terms.specs.Gcd.{gcd, gcd_is, divided, lowest_den}
 use Rattle.calc_terms.specs.Integers.{int_is_zero, int_is_one, parts, diffs, eq_diff, combine, cancel_pos}
 
+-- the test holds, as a fact with one proof
 abbrev pub Holds : Bool → Type 0
 Holds true = Unit {0}
 Holds false = ⊥
@@ -30,15 +31,17 @@ second_held true true h = refl
 second_held true false h = absurd h
 second_held false b h = absurd h
 
+-- q is at least 1, and p and q have no common divisor but 1
 abbrev pub is_lowest : ℤ → ℕ → Bool
 is_lowest p q = nat_lt 0 q && (gcd (nat_abs p) q == 1)
 
--- p/q in lowest terms, with q at least 1, and 0/1 for zero
+-- numerator and denominator in lowest terms, 0/1 for zero
 pub record Fraction : Type 0 where
   pub num : ℤ
   pub den : ℕ
   pub lowest : Holds (is_lowest num den)
 
+-- p/g, where g divides it
 abbrev pub over : ℤ → ℕ → ℤ
 over (pos n) g = pos (n / g)
 over (negsuc n) g = neg_ℤ (pos (suc n / g))
@@ -78,10 +81,57 @@ pub zero_holds : Holds (is_lowest (pos 0) 1)
 unfolding gcd
 zero_holds = tt
 
--- p/q, where q is not 0
+-- p/q in lowest terms, and 0 where q is 0
 unfoldable pub lowest : ℤ → ℕ → Fraction
 lowest p zero = record { num = pos 0; den = 1; lowest = zero_holds }
 lowest p (suc q) = record { num = over p (gcd (nat_abs p) (suc q)); den = suc q / gcd (nat_abs p) (suc q); lowest = lowest_holds p q }
+
+-- ---- arithmetic, as in school
+
+-- a/b + c/d = (ad + cb)/(bd)
+unfoldable pub plus : Fraction → Fraction → Fraction
+plus a b = lowest (a.num *ℤ pos b.den +ℤ b.num *ℤ pos a.den) (a.den * b.den)
+
+-- (a/b)(c/d) = (ac)/(bd)
+unfoldable pub times : Fraction → Fraction → Fraction
+times a b = lowest (a.num *ℤ b.num) (a.den * b.den)
+
+unfoldable pub negative : Fraction → Fraction
+negative a = lowest (neg_ℤ a.num) a.den
+
+unfoldable pub zero_fraction : Fraction
+zero_fraction = lowest (pos 0) 1
+
+unfoldable pub one_fraction : Fraction
+one_fraction = lowest (pos 1) 1
+
+-- the whole number n
+abbrev pub whole_fraction : ℤ → Fraction
+whole_fraction n = lowest n 1
+
+abbrev pub minus_one_fraction : Fraction
+minus_one_fraction = whole_fraction (negsuc 0)
+
+-- t/s
+abbrev pub quotient : ℕ → ℕ → Fraction
+quotient t s = lowest (pos t) s
+
+abbrev pub is_zero_fraction : Fraction → Bool
+is_zero_fraction q = int_is_zero q.num
+
+abbrev pub is_one_fraction : Fraction → Bool
+is_one_fraction q = int_is_one q.num && (q.den == 1)
+
+-- d/n for n/d
+abbrev pub inverse_of : ℤ → ℕ → Fraction
+inverse_of (pos n) d = lowest (pos d) n
+inverse_of (negsuc n) d = lowest (neg_ℤ (pos d)) (suc n)
+
+-- 1/a, where a is not zero
+abbrev pub inverse : Fraction → Fraction
+inverse a = inverse_of a.num a.den
+
+-- ---- equal cross products make one fraction
 
 pub den_pos : (a : Fraction) → 0 < a.den
 den_pos a = ltb-true 0 _ (first_held _ _ a.lowest)
@@ -96,7 +146,6 @@ abs_times : (a : ℤ) (n : ℕ) → nat_abs (a *ℤ pos n) ≡ nat_abs a * n
 abs_times (pos m) n = refl
 abs_times (negsuc m) n = neg_abs (suc m * n)
 
--- equal cross products make one fraction
 pub same_fraction : (a b : Fraction) → a.num *ℤ pos b.den ≡ b.num *ℤ pos a.den → a ≡ b
 same_fraction a b e = fraction_path a b nums dens
   where
@@ -138,45 +187,6 @@ same_lowest p r q s hq hs e = same_fraction _ _ (chase _ _ _ _ p r q s hq hs (lo
 
 pub lowest_parts : (a : Fraction) → a ≡ lowest a.num a.den
 lowest_parts a = same_fraction _ _ (sym (lowest_cross a.num a.den (den_pos a)))
-
-unfoldable pub plus : Fraction → Fraction → Fraction
-plus a b = lowest (a.num *ℤ pos b.den +ℤ b.num *ℤ pos a.den) (a.den * b.den)
-
-unfoldable pub times : Fraction → Fraction → Fraction
-times a b = lowest (a.num *ℤ b.num) (a.den * b.den)
-
-unfoldable pub negative : Fraction → Fraction
-negative a = lowest (neg_ℤ a.num) a.den
-
-unfoldable pub zero_fraction : Fraction
-zero_fraction = lowest (pos 0) 1
-
-unfoldable pub one_fraction : Fraction
-one_fraction = lowest (pos 1) 1
-
-abbrev pub whole_fraction : ℤ → Fraction
-whole_fraction n = lowest n 1
-
-abbrev pub minus_one_fraction : Fraction
-minus_one_fraction = whole_fraction (negsuc 0)
-
--- t/s
-abbrev pub quotient : ℕ → ℕ → Fraction
-quotient t s = lowest (pos t) s
-
-abbrev pub is_zero_fraction : Fraction → Bool
-is_zero_fraction q = int_is_zero q.num
-
-abbrev pub is_one_fraction : Fraction → Bool
-is_one_fraction q = int_is_one q.num && (q.den == 1)
-
-abbrev pub inverse_of : ℤ → ℕ → Fraction
-inverse_of (pos n) d = lowest (pos d) n
-inverse_of (negsuc n) d = lowest (neg_ℤ (pos d)) (suc n)
-
--- 1/a, where a is not zero
-abbrev pub inverse : Fraction → Fraction
-inverse a = inverse_of a.num a.den
 
 sum_cross : (x y : ℤ) (d c : ℕ) (p r : ℤ) (q s : ℕ) → x *ℤ pos q ≡ p *ℤ pos d → y *ℤ pos s ≡ r *ℤ pos c → (x *ℤ pos c +ℤ y *ℤ pos d) *ℤ pos (q * s) ≡ (p *ℤ pos s +ℤ r *ℤ pos q) *ℤ pos (d * c)
 sum_cross x y d c p r q s e f =

@@ -1,7 +1,10 @@
 //! Laws of the definitions, each the contract of a function without a body.
 
-ghost use Rattle.std.specs.Prelude.{◌≡◌, ◌↔◌, ◌⊎◌, false, ℕ, ◌<◌, ◌*◌, ℤ, pos, neg_ℤ, ◌+ℤ◌, ◌*ℤ◌, List, ◌++◌, true, ◌^◌, Contains};
-ghost use Rattle.std.specs.Int.{◌∣◌};
+ghost use Rattle.std.specs.Prelude.{◌≡◌, ◌↔◌, ◌⊎◌, false, ℕ, ◌<◌, ◌*◌, ℤ, pos, neg_ℤ, ◌+ℤ◌, ◌*ℤ◌, List, ◌++◌, true, ◌^◌, Contains, ◌≤◌};
+ghost use Rattle.std.specs.Int.{◌∣◌, IsGcd};
+ghost use Rattle.calc_terms.specs.Gcd.{gcd as gcd_of};
+ghost use Rattle.calc_terms.specs.SquareRoots.{square_root, IsSquareRoot};
+ghost use Rattle.calc_terms.specs.Measures.{ceil_log2};
 ghost use Rattle.std.specs.Cmp.{IsTotalOrder};
 ghost use Rattle.std.specs.declared.cmp.Ordering.TheVariants.{Equal};
 ghost use Rattle.calc_terms.specs.Fractions.{Fraction, lowest as lowest_of, plus, times, negative, zero_fraction, one_fraction};
@@ -10,13 +13,29 @@ ghost use Rattle.calc_terms.specs.TreeOrder.{tree_cmp};
 ghost use Rattle.calc_terms.specs.Surds.{Surd, surd_one, surd_scale, surd_times, surd_power};
 ghost use Rattle.calc_terms.specs.SquareClasses.{are_alike, class_coefficient, radicands, Same, Inverts};
 ghost use Rattle.calc_terms.specs.Meanings.{Assignment, IsAssignment, Means};
+ghost use Rattle.calc_terms.specs.Tokens.{digits_value};
 ghost use Rattle.calc_terms.specs.Reads.{Reads};
-ghost use Rattle.calc_terms.specs.Texts.{text as text_of, IsWritable, HasNames};
+ghost use Rattle.calc_terms.specs.Texts.{decimal, text as text_of, IsWritable, HasNames};
 ghost use Rattle.calc_terms.specs.Faces.{face};
-ghost use Rattle.calc_terms.specs.Clean.{is_clean, IsClean};
+ghost use Rattle.calc_terms.specs.Clean.{is_clean, IsClean, trial_limit, left_of, IsTried};
 ghost use Rattle.calc_terms.specs.Numbers.{is_number, IsNumber, value};
 ghost use Rattle.calc_terms.specs.Reduced.{is_reduced, IsReduced};
 ghost use Rattle.calc_terms.specs.BadAndEasy.{IsBad, IsEasy, HasValue};
+
+/// The numbers that definitions compute are those that their names say.
+pub fn computed_numbers()
+    ensures greatest_common_divisor { (a b : ℕ) → IsGcd a b (gcd_of a b) }
+    ensures square_root { (n : ℕ) → IsSquareRoot n (square_root n) }
+    ensures alike { (r s : ℕ) → (are_alike r s ≡ true) ↔ ((t : ℕ) × (0 < t) × (t * t ≡ r * s)) }
+    ensures enough_bits { (n : ℕ) → n ≤ 2 ^ ceil_log2 n }
+    ensures least_bits { (n j : ℕ) → j < ceil_log2 n → 2 ^ j < n }
+    ensures digits { (n : ℕ) → digits_value 0 (decimal n) ≡ n }
+
+    // What trial division leaves of a number has none of the tried divisors, and only such were
+    // divided out.
+    ensures no_divisor_left { (r d : ℕ) → 0 < r → 2 ≤ d → d ≤ trial_limit → ¬ (d ∣ left_of r) }
+    ensures only_tried { (r : ℕ) → 0 < r → (m : ℕ) × IsTried m × (r ≡ left_of r * m) }
+{}
 
 /// Fractions are equal where their cross products are.
 pub fn equal_fractions()
