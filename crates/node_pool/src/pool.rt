@@ -163,7 +163,7 @@ impl Pool {
 
         ensures pool { IsPool self.new }
     {
-        let needed = leaf.header(0).size();
+        let needed = leaf.size();
         if needed > self.free() {
             return Err(self.refuse(needed));
         }
