@@ -27,6 +27,13 @@ impl Leaf {
         }
     }
 
+    /// The bytes of a node that holds it.
+    pub fn size(self) -> u32
+        ensures { result ≡ size_of_payload (payload_of self) }
+    {
+        self.header(0).size()
+    }
+
     /// The header of a new node.
     pub fn header(self, id: u16) -> Header
         ensures { result ≡ header_of (fresh id (payload_of self)) }

@@ -59,7 +59,7 @@ removed_split p q s1 a b c i len o ha hb e1 e2 e3 e4 =
     record {
       size = size-now;
       of = record {
-        bytes = store-is ∙ rw (zeros, encodings-append a c) refl;
+        bytes = store-is ∙ ap (λ (x : List ℕ). (encodings a ++ encodings c) ++ x) zeros ∙ ap (λ (x : List ℕ). x ++ replicate (length q.store - used (a ++ c)) 0) (sym (encodings-append a c));
         nodes = AreNodes-without a b c o.nodes;
         fits = omega (arith, used-append a c, o.fits);
         small = omega (arith, o.small);
@@ -214,9 +214,9 @@ reparented p q ns id at c o h place small e1 e2 e3 =
 behind : (ns : List Node) (n : Node) (store : List ℕ) → AreNodes ns → IsNode n → store ≡ encodings ns ++ replicate (length store - used ns) 0 → used ns + size_of n ≤ length store
     → put store (used ns) (encoding n) ≡ encodings (ns ++ n ∷ []) ++ replicate (length store - used (ns ++ n ∷ [])) 0
 behind ns n store h v e room =
-    let z = replicate (length store - used ns) 0 in
-    let len = length-encodings ns h in
-    let size = length-encoding n v in
+    let z : List ℕ = replicate (length store - used ns) 0 in
+    let len : length (encodings ns) ≡ used ns = length-encodings ns h in
+    let size : length (encoding n) ≡ size_of n = length-encoding n v in
     let first : take (used ns) store ≡ encodings ns = ap (take (used ns)) e ∙ take_at (encodings ns) z (used ns) len in
     let over : drop (used ns + length (encoding n)) store ≡ replicate (length store - used (ns ++ n ∷ [])) 0 =
     sym (drop-drop (length (encoding n)) (used ns) store)

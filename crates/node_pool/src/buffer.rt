@@ -134,7 +134,7 @@ impl Buffer {
         ensures kept { IsContents self.new }
     {
         node::write_node(&mut self.store, self.used, id, leaf);
-        self.used += leaf.header(id).size();
+        self.used += leaf.size();
         self.count += 1;
     }
 

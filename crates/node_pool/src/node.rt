@@ -1,4 +1,7 @@
-//! One node's bytes: a header of eight bytes, and then the payload.
+//! One node's bytes: a header of eight bytes, and then the payload. The header has the code of the
+//! kind, a zero, and in two bytes each the identifier, the count and the number of children, the
+//! lower byte first. A number's payload is numerator and denominator in sixteen bytes each, a
+//! symbol's its name and zeros to eight bytes, and other nodes have none.
 ghost use Rattle.std.specs.Prelude.{◌≡◌, ◌+◌, ◌<◌, ◌≤◌, ◌^◌, length, take, drop};
 ghost use Rattle.calc_terms.specs.Ratio.{IsRat};
 ghost use Rattle.calc_terms.specs.Rat.{ratio_of};

@@ -1,4 +1,4 @@
-//! The pool.
+//! The pool: nodes one after another in bytes that are taken once.
 ghost use Rattle.std.specs.Prelude.{◌≡◌, ◌+◌, ◌≤◌, ◌<◌, ◌↔◌, ◌⊎◌, [], ◌∷◌, ◌++◌, length, IfOk, IfErr, IsOk, OnOk, true};
 ghost use Rattle.calc_terms.specs.declared.kind.Kind.TheVariants.{Num, Sym};
 ghost use Rattle.calc_terms.specs.Rat.{ratio_of};
@@ -163,7 +163,7 @@ impl Pool {
 
         ensures pool { IsPool self.new }
     {
-        let needed = leaf.header(0).size();
+        let needed = leaf.size();
         if needed > self.free() {
             return Err(self.refuse(needed));
         }

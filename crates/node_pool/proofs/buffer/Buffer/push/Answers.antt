@@ -1,6 +1,6 @@
-use Rattle.std.proofs.Common.{arith, refl, ap, ◌∙◌, ◌+◌, ◌++◌, ◌∷◌, [], ℕ}
+use Rattle.std.proofs.Common.{arith, refl, ap, ◌+◌, ◌++◌, ◌∷◌, [], ℕ}
 use Rattle.calc_terms.specs.Leaf.{payload_of}
-use Rattle.calc_terms.specs.Node.{fresh, size_of_header}
+use Rattle.calc_terms.specs.Node.{fresh}
 use Rattle.calc_terms.proofs.Leaves.{usable}
 use Rattle.node_pool.proofs.Sizes.{length_le_used}
 use Rattle.node_pool.proofs.Fields.{IsDone, opened, size_is}
@@ -17,9 +17,8 @@ all c =
     let s = c.args.self.now in
     let p = c.self.inside in
     let o = opened p s c.self.invariant c.self.view_is in
-    let size = c.size.ensures ∙ ap size_of_header c.header.ensures in
     done p _ s _ c.self.view_is (pushed p _ s.nodes c.args.id (payload_of c.args.leaf) o (usable c.args.leaf c.requires.usable) (omega arith)
-    (omega (arith, c.requires.room, size_is p s c.self.view_is)) c.write_node.ensures.put (ap (λ (k : ℕ). p.used + k) size) refl)
+    (omega (arith, c.requires.room, size_is p s c.self.view_is)) c.write_node.ensures.put (ap (λ (k : ℕ). p.used + k) c.size.ensures) refl)
 
 pub invariant_of-self : goal.invariant_of-self
 invariant_of-self c = (all c).laid

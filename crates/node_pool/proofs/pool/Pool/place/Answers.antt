@@ -1,6 +1,5 @@
 use Rattle.std.proofs.Common.{arith, ap}
 use Rattle.calc_terms.specs.Leaf.{payload_of}
-use Rattle.calc_terms.specs.Node.{size_of_header}
 use Rattle.node_pool.specs.Kept.{IsKept}
 use Rattle.node_pool.specs.State.{free_of}
 use Rattle.node_pool.proofs.Sizes.{size_leaf}
@@ -9,7 +8,7 @@ use Rattle.node_pool.proofs.pool.Pool.place.Goals as goal
 
 pub take_least-id-requires-clause-some : goal.take_least-id-requires-clause-some
 take_least-id-requires-clause-some c =
-    room_unused c.self.inside c.size-needed.result c.self.invariant (omega (arith, size_leaf (payload_of c.args.leaf), c.size-needed.ensures, ap size_of_header c.header.ensures))
+    room_unused c.self.inside c.size-needed.result c.self.invariant (omega (arith, size_leaf (payload_of c.args.leaf), c.size-needed.ensures))
     (omega (arith, c.if-needed-free.false, c.free.ensures.value, ap free_of c.self.view_is))
 
 all : (c : goal.After-of) → IsKept (record { buffer = c.push.new.self; taken = c.take_least-id.new.self; refusals = c.self.inside.refusals; last_refused = c.self.inside.last_refused })
