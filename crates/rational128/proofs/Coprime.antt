@@ -1,12 +1,12 @@
 -- Numbers without a common divisor, and divisors of signed numbers.
-use Rattle.std.proofs.Common.{◌≡◌, ℕ, zero, suc, ◌+◌, ◌*◌, ◌/◌, ◌<◌, ◌≤◌, ℤ, pos, negsuc, ◌+ℤ◌, ◌-ℤ◌, ◌*ℤ◌, neg_ℤ, refl, sym, ap, ◌∙◌, subst, arith}
-use Rattle.std.specs.Prelude.{nat_abs, unsigned_abs}
+use Rattle.std.proofs.Common.{◌≡◌, ℕ, zero, suc, ◌*◌, ◌/◌, ◌<◌, ℤ, pos, negsuc, ◌+ℤ◌, ◌*ℤ◌, neg_ℤ, refl, sym, ◌∙◌, subst, arith}
+use Rattle.std.specs.Prelude.{nat_abs}
 use Rattle.std.specs.Int.{IsGcd, ◌∣◌}
 use Rattle.std.proofs.lemmas.Int.{ints, unsigned_abs-mul}
-use Rattle.std.proofs.lemmas.Nat.Gcd.{dvd_refl, dvd_trans, IsGcd-swap}
-use Rattle.std.proofs.Math.Nat.{mul-div_cancel', div-mul_cancel, dvd-mul_right, dvd-mul_left, one-dvd, pos_of_dvd_of_pos, eq-one_of_dvd-one}
+use Rattle.std.proofs.lemmas.Nat.Gcd.{dvd_trans}
+use Rattle.std.proofs.Math.Nat.{dvd-mul_left, one-dvd, pos_of_dvd_of_pos}
 use Rattle.calc_terms.specs.Gcd.{gauss, divided}
-use Rattle.calc_terms.specs.Fractions.{over, over_back, over_abs}
+use Rattle.calc_terms.specs.Fractions.{over, over_back}
 use Rattle.calc_terms.specs.Integers.{parts, diffs, eq_diff}
 
 -- only 1 divides both

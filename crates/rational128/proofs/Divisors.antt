@@ -4,7 +4,7 @@ use Rattle.std.specs.Int.{IsGcd, Width, w128, trailing_zeros, bit_at, ◌∣◌}
 use Rattle.std.proofs.lemmas.Nat.{mod-pow-add, pow_pos, pow-add, shr_le}
 use Rattle.std.proofs.lemmas.Nat.Bits.{bit_at-trailing_zeros}
 use Rattle.std.proofs.lemmas.Nat.Gcd.{IsGcd-swap, IsGcd-from_sub, IsGcd-from_zero, dvd_refl, le_of_dvd, dvd_of_mod-eq-zero}
-use Rattle.std.proofs.Math.Nat.{mul-div_cancel', dvd-mul_right, dvd-mul_left_of_dvd, pow-suc}
+use Rattle.std.proofs.Math.Nat.{mul-div_cancel', dvd-mul_right, dvd-mul_left_of_dvd, one-dvd, pow-suc}
 use Rattle.calc_terms.specs.Gcd.{IsGcd-scaled}
 use mir.Val.{bits}
 
@@ -184,3 +184,8 @@ IsGcd-from_odd a b g m a-positive b-positive a-small b-small h m-is =
     let small : 2 ^ (min i j) * g ≤ a = le_of_dvd a-positive (whole.0) in
     let fits : g * 2 ^ m % 2 ^ 128 ≡ 2 ^ (min i j) * g = omega arith in
     subst (λ n. IsGcd a b n) (sym fits) whole
+
+-- 1 has no other divisor
+pub IsGcd-one : (a b : ℕ) → (a ≡ 1) ⊎ ((a ≡ 1 → ⊥) × (b ≡ 1)) → IsGcd a b 1
+IsGcd-one a b (inl e) = (one-dvd a, one-dvd b, λ d da db. subst (λ n. d ∣ n) e da)
+IsGcd-one a b (inr h) = (one-dvd a, one-dvd b, λ d da db. subst (λ n. d ∣ n) (h.1) db)

@@ -1,13 +1,13 @@
 -- Fractions by their parts in lowest terms.
-use Rattle.std.proofs.Common.{◌≡◌, ℕ, ◌*◌, ◌/◌, ◌<◌, ◌≤◌, ◌^◌, ℤ, pos, ◌*ℤ◌, Bool, true, false, ◌&&◌, refl, sym, ap, ◌∙◌, subst, arith}
+use Rattle.std.proofs.Common.{◌≡◌, ℕ, ◌<◌, ℤ, pos, ◌*ℤ◌, Bool, true, false, ◌&&◌, refl, sym, ap, ◌∙◌, subst, arith}
 use Rattle.std.specs.Prelude.{nat_abs}
 use Rattle.std.specs.Int.{IsGcd}
 use Rattle.std.proofs.lemmas.Bool.{lt-ltb, eq-eqb, eqb-true}
 use Rattle.std.proofs.lemmas.Nat.Gcd.{same_from_IsGcd}
 use Rattle.std.proofs.Math.Nat.{one-dvd}
-use Rattle.calc_terms.specs.Gcd.{gcd, gcd_is}
-use Rattle.calc_terms.specs.Fractions.{Fraction, Holds, is_lowest, lowest, held, second_held, den_pos, lowest_parts, same_lowest, fraction_path}
-use Rattle.calc_terms.specs.Ratio.{Ratio, IsRat}
+use Rattle.calc_terms.specs.Gcd.{gcd_is}
+use Rattle.calc_terms.specs.Fractions.{Fraction, Holds, is_lowest, lowest, second_held, lowest_parts, same_lowest, fraction_path}
+use Rattle.calc_terms.specs.Ratio.{Ratio}
 use Rattle.calc_terms.specs.declared.rat.Rat.{Rat}
 use Rattle.calc_terms.specs.Rat.{ratio_of, value_of}
 use Rattle.rational128.proofs.Coprime.{IsCoprime, IsCoprime-from_gcd}

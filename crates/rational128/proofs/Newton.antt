@@ -1,9 +1,8 @@
 -- Newton's method for the integer square root.
-use Rattle.std.proofs.Common.{◌≡◌, ℕ, zero, suc, ◌+◌, ◌-◌, ◌*◌, ◌/◌, ◌%◌, ◌^◌, ◌<◌, ◌≤◌, ◌⊎◌, inl, inr, refl, sym, ap, ◌∙◌, arith}
+use Rattle.std.proofs.Common.{◌≡◌, ℕ, zero, suc, ◌+◌, ◌-◌, ◌*◌, ◌/◌, ◌%◌, ◌^◌, ◌<◌, ◌≤◌, ◌⊎◌, inl, inr, refl, ap, arith}
 use lib.Count.{count_leading_zeros}
 use Rattle.std.proofs.lemmas.Nat.{leading_length, pow-add, div_below, mod_below, mul-le, div-add-mod', one_shl, pow_pos}
 use Rattle.std.proofs.Math.Nat.{pow-le-pow_right}
-
 
 -- four times a product is at most the square of the sum
 four_products : (a b : ℕ) → 4 * (a * b) ≤ (a + b) * (a + b)

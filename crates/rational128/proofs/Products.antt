@@ -3,9 +3,8 @@ use Rattle.std.proofs.Common.{◌≡◌, ℕ, ◌*◌, ◌/◌, ◌<◌, ◌^◌
 use Rattle.std.specs.Prelude.{nat_abs}
 use Rattle.std.specs.Int.{IsGcd, ◌∣◌}
 use Rattle.std.proofs.lemmas.Int.{unsigned_abs-mul}
-use Rattle.std.proofs.lemmas.Nat.Gcd.{dvd_refl}
 use Rattle.std.proofs.Math.Nat.{mul-div_cancel', pos_of_dvd_of_pos}
-use Rattle.calc_terms.specs.Integers.{parts, diffs, eq_diff, combine}
+use Rattle.calc_terms.specs.Integers.{parts, diffs, eq_diff}
 use Rattle.calc_terms.specs.Fractions.{Fraction, times, lowest, over, over_back, over_abs, den_pos, mul_pos}
 use Rattle.calc_terms.specs.Fits.{fits, fraction_fits}
 use Rattle.rational128.proofs.Coprime.{IsCoprime, IsGcd-from_coprime, IsCoprime-swap, IsCoprime-divisors, IsCoprime-mul, quotients_coprime, factor_divides, positive_factor}

@@ -1,10 +1,9 @@
 -- Negatives and reciprocals by their parts.
-use Rattle.std.proofs.Common.{◌≡◌, ◌≢◌, ℕ, zero, suc, ◌*◌, ◌<◌, ◌≤◌, ◌^◌, ℤ, pos, negsuc, ◌*ℤ◌, ◌-ℤ◌, neg_ℤ, ◌<ℤ◌, ◌≤ℤ◌, refl, sym, ap, ◌∙◌, subst, arith, to_z, of_z}
+use Rattle.std.proofs.Common.{◌≡◌, ◌≢◌, ℕ, zero, suc, ◌*◌, ◌<◌, ◌^◌, ℤ, pos, negsuc, ◌*ℤ◌, ◌-ℤ◌, neg_ℤ, ◌<ℤ◌, ◌≤ℤ◌, refl, sym, ap, ◌∙◌, subst, arith, to_z, of_z}
 use Rattle.std.specs.Prelude.{nat_abs}
 use Rattle.std.specs.Int.{IsGcd, w128}
-use Rattle.std.proofs.lemmas.Int.{ints, to_z_pos, to_z-of_z, fits_signed_from_abs}
-use Rattle.calc_terms.specs.Integers.{parts, diffs, eq_diff}
-use Rattle.calc_terms.specs.Fractions.{Fraction, lowest, times, negative, inverse, inverse_of, zero_fraction, one_fraction, den_pos, lowest_parts, same_lowest, times_lowest, mul_pos}
+use Rattle.std.proofs.lemmas.Int.{ints}
+use Rattle.calc_terms.specs.Fractions.{Fraction, lowest, times, negative, inverse, inverse_of, one_fraction, den_pos, lowest_parts, same_lowest, times_lowest, mul_pos}
 use Rattle.rational128.proofs.Coprime.{IsCoprime, IsCoprime-swap, IsGcd-from_coprime}
 use Rattle.rational128.proofs.LowestTerms.{HasParts, parts_themselves, is_lowest_from, fraction_coprime}
 use Rattle.rational128.proofs.Signed.{told}
@@ -56,28 +55,24 @@ times_inverse_of (negsuc n) d positive k =
     product n zero = omega (arith, ints)
     product n (suc d) = ap pos (omega arith)
 
-nonzero : (f : Fraction) → f ≢ zero_fraction → 0 < nat_abs f.num
-unfolding zero_fraction
-nonzero f h = by f.num refl
-  where
-    by : (p : ℤ) → f.num ≡ p → 0 < nat_abs p
-    by (pos zero) e = absurd (h (lowest_parts f ∙ ap (λ z. lowest z f.den) e ∙ same_lowest (pos 0) (pos 0) f.den 1 (den_pos f) (omega arith) (omega (arith, ints))))
-    by (pos (suc n)) e = omega arith
-    by (negsuc n) e = omega arith
+nonzero : (p : ℤ) → p ≢ pos 0 → 0 < nat_abs p
+nonzero (pos zero) h = absurd (h refl)
+nonzero (pos (suc n)) h = omega arith
+nonzero (negsuc n) h = omega arith
 
-inverse_itself : (f : Fraction) → f ≢ zero_fraction → IsInverse f (signed_as f.num f.den) (nat_abs f.num)
+inverse_itself : (f : Fraction) → f.num ≢ pos 0 → IsInverse f (signed_as f.num f.den) (nat_abs f.num)
 unfolding one_fraction
 inverse_itself f h =
-    let parts = inverse_of_parts f.num f.den (nonzero f h) (fraction_coprime f) (den_pos f) in
+    let parts = inverse_of_parts f.num f.den (nonzero f.num h) (fraction_coprime f) (den_pos f) in
     record {
-      positive = nonzero f h;
+      positive = nonzero f.num h;
       lowest = parts.0;
       parts = parts.1;
-      product = ap (λ (g : Fraction). times g (inverse f)) (lowest_parts f) ∙ times_inverse_of f.num f.den (nonzero f h) (den_pos f);
+      product = ap (λ (g : Fraction). times g (inverse f)) (lowest_parts f) ∙ times_inverse_of f.num f.den (nonzero f.num h) (den_pos f);
     }
 
 -- the program's numbers: p/d is f, m the magnitude of p, and n is d with the sign of p
-pub inverts : (f : Fraction) (p n : ℤ) (d m : ℕ) → f ≢ zero_fraction → p ≡ f.num → d ≡ f.den → m ≡ nat_abs p → (p <ℤ pos 0 → n ≡ neg_ℤ (pos d)) → (pos 0 ≤ℤ p → n ≡ pos d) → IsInverse f n m
+pub inverts : (f : Fraction) (p n : ℤ) (d m : ℕ) → f.num ≢ pos 0 → p ≡ f.num → d ≡ f.den → m ≡ nat_abs p → (p <ℤ pos 0 → n ≡ neg_ℤ (pos d)) → (pos 0 ≤ℤ p → n ≡ pos d) → IsInverse f n m
 inverts f p n d m h p-is d-is m-is below above = subst (λ k. IsInverse f n k) (sym (m-is ∙ ap nat_abs p-is)) (subst (λ z. IsInverse f z (nat_abs f.num)) (sym n-is) (inverse_itself f h))
   where
     by : (q : ℤ) → p ≡ q → n ≡ signed_as q d

@@ -1,11 +1,11 @@
 -- The sum of two fractions over the greatest common divisor of their denominators.
-use Rattle.std.proofs.Common.{◌≡◌, ℕ, zero, suc, ◌+◌, ◌*◌, ◌/◌, ◌<◌, ◌≤◌, ◌^◌, ℤ, pos, ◌+ℤ◌, ◌*ℤ◌, Bool, true, false, ◌&&◌, refl, sym, ap, ◌∙◌, subst, arith}
-use Rattle.std.specs.Prelude.{nat_abs, nat_lt}
+use Rattle.std.proofs.Common.{◌≡◌, ℕ, ◌*◌, ◌/◌, ◌<◌, ◌^◌, ℤ, pos, ◌+ℤ◌, ◌*ℤ◌, Bool, true, false, ◌&&◌, refl, sym, ap, ◌∙◌, subst, arith}
+use Rattle.std.specs.Prelude.{nat_abs}
 use Rattle.std.specs.Int.{IsGcd, ◌∣◌}
 use Rattle.std.proofs.lemmas.Int.{ints, unsigned_abs-mul}
 use Rattle.std.proofs.lemmas.Nat.Gcd.{dvd_refl, dvd_trans, same_from_IsGcd}
-use Rattle.std.proofs.Math.Nat.{mul-div_cancel', dvd-mul_right, dvd-mul_left, pos_of_dvd_of_pos}
-use Rattle.calc_terms.specs.Gcd.{gcd, gcd_is}
+use Rattle.std.proofs.Math.Nat.{mul-div_cancel', dvd-mul_left, pos_of_dvd_of_pos}
+use Rattle.calc_terms.specs.Gcd.{gcd_is}
 use Rattle.calc_terms.specs.Integers.{parts, diffs, eq_diff, combine}
 use Rattle.calc_terms.specs.Fractions.{Fraction, plus, lowest, over, over_back, over_abs, den_pos, mul_pos}
 use Rattle.calc_terms.specs.Fits.{fits, sum_fits}

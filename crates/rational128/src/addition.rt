@@ -5,12 +5,11 @@ ghost use Rattle.calc_terms.specs.Fractions.{plus};
 ghost use Rattle.calc_terms.specs.Fits.{sum_fits};
 ghost use Rattle.rational128.specs.Refusals.{DoesNotFit, Answers};
 
-use calc_terms::Rat;
-
 use crate::divisor::gcd;
 use crate::fitting::{multiple, product, quotient, sum};
 use crate::overflow::{Op, Overflow};
 use crate::parts::{parts, rational};
+use calc_terms::Rat;
 
 /// The sum in lowest terms.
 pub fn add(a: Rat, b: Rat) -> Result<Rat, Overflow>

@@ -12,6 +12,9 @@ pub fn gcd(a: u128, b: u128) -> u128
     if b == 0 {
         return a;
     }
+    if a == 1 || b == 1 {
+        return 1;
+    }
     let first = a.trailing_zeros();
     let second = b.trailing_zeros();
     odd_gcd(a >> first, b >> second) << first.min(second)

@@ -5,12 +5,11 @@ ghost use Rattle.calc_terms.specs.Fractions.{times};
 ghost use Rattle.calc_terms.specs.Fits.{fraction_fits};
 ghost use Rattle.rational128.specs.Refusals.{DoesNotFit, Answers};
 
-use calc_terms::Rat;
-
 use crate::divisor::gcd;
 use crate::fitting::{product, quotient, signed_product};
 use crate::overflow::{Op, Overflow};
 use crate::parts::{parts, rational};
+use calc_terms::Rat;
 
 /// The product in lowest terms.
 pub fn mul(a: Rat, b: Rat) -> Result<Rat, Overflow>

@@ -8,11 +8,10 @@ ghost use Rattle.calc_terms.specs.Fractions.{whole_fraction};
 ghost use Rattle.calc_terms.specs.Fits.{fraction_fits, fraction_power};
 ghost use Rattle.rational128.specs.Refusals.{DoesNotFit, Answers};
 
-use calc_terms::Rat;
-
 use crate::fitting::product;
 use crate::overflow::{Op, Overflow};
 use crate::parts::{parts, rational};
+use calc_terms::Rat;
 
 /// The least power of 2 that does not fit, and so of each greater number.
 const FIRST_UNFIT_EXPONENT: u128 = 127;

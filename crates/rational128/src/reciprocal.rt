@@ -1,11 +1,10 @@
 //! Negatives and reciprocals, which always fit.
-ghost use Rattle.std.specs.Prelude.{◌≡◌, ◌≢◌};
-ghost use Rattle.calc_terms.specs.Rat.{value_of};
-ghost use Rattle.calc_terms.specs.Fractions.{times, negative, inverse, zero_fraction, one_fraction};
-
-use calc_terms::Rat;
+ghost use Rattle.std.specs.Prelude.{◌≡◌, ◌≢◌, pos};
+ghost use Rattle.calc_terms.specs.Rat.{value_of, ratio_of};
+ghost use Rattle.calc_terms.specs.Fractions.{times, negative, inverse, one_fraction};
 
 use crate::parts::{parts, rational};
+use calc_terms::Rat;
 
 /// -a
 pub fn neg(a: Rat) -> Rat
@@ -15,9 +14,9 @@ pub fn neg(a: Rat) -> Rat
     rational(-num, den)
 }
 
-/// 1/a
+/// 1/a, where a is not 0.
 pub fn invert(a: Rat) -> Rat
-    requires { value_of a ≢ zero_fraction }
+    requires { (ratio_of a).num ≢ pos 0 }
     ensures inverse { value_of result ≡ inverse (value_of a) }
     ensures product { times (value_of a) (value_of result) ≡ one_fraction }
 {

@@ -1,6 +1,6 @@
-use Rattle.std.proofs.Common.{◌≡◌, ℕ, ℤ, ◌<◌, ◌^◌, ◌*◌, ◌/◌, ◌+ℤ◌, ◌*ℤ◌, pos, subst, sym, ap, ◌∙◌, arith, to_z, of_z}
+use Rattle.std.proofs.Common.{◌≡◌, ◌<◌, ◌^◌, ◌*◌, ◌/◌, ◌+ℤ◌, ◌*ℤ◌, pos, subst, sym, ap, ◌∙◌}
 use Rattle.std.specs.Prelude.{nat_abs}
-use Rattle.std.specs.Int.{w128, IsGcd}
+use Rattle.std.specs.Int.{IsGcd}
 use Rattle.calc_terms.specs.Fractions.{over}
 use Rattle.calc_terms.specs.Rat.{value_of}
 use Rattle.rational128.proofs.LowestTerms.{HasParts, same_parts}

@@ -1,7 +1,10 @@
 use Rattle.std.proofs.Common.{arith}
 use Rattle.std.specs.Int.{w128}
-use Rattle.rational128.proofs.Divisors.{splits_twos, IsGcd-from_odd}
+use Rattle.rational128.proofs.Divisors.{splits_twos, IsGcd-from_odd, IsGcd-one}
 use Rattle.rational128.proofs.divisor.gcd.Goals as goal
+
+pub returns-then-a-eq1 : goal.returns-then-a-eq1
+returns-then-a-eq1 c = IsGcd-one _ _ c.then-a-eq1.either
 
 pub odd_gcd-requires-clause-a_is_odd : goal.odd_gcd-requires-clause-a_is_odd
 odd_gcd-requires-clause-a_is_odd c = (splits_twos w128 _ (omega arith) (omega arith)).odd

@@ -1,6 +1,6 @@
-use Rattle.std.proofs.Common.{◌-◌, arith}
+use Rattle.std.proofs.Common.{arith}
 use Rattle.std.specs.Int.{w128}
-use Rattle.rational128.proofs.Divisors.{IsTurn, turns, IsGcd-same, IsGcd-ordered}
+use Rattle.rational128.proofs.Divisors.{turns, IsGcd-same, IsGcd-ordered}
 use Rattle.rational128.proofs.divisor.odd_gcd.Goals as goal
 
 pub overflow_shr-y : goal.overflow_shr-y

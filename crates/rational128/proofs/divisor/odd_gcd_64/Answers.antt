@@ -1,6 +1,6 @@
-use Rattle.std.proofs.Common.{◌-◌, arith}
+use Rattle.std.proofs.Common.{arith}
 use Rattle.std.specs.Int.{w64}
-use Rattle.rational128.proofs.Divisors.{IsTurn, turns, IsGcd-same}
+use Rattle.rational128.proofs.Divisors.{turns, IsGcd-same}
 use Rattle.rational128.proofs.divisor.odd_gcd_64.Goals as goal
 
 pub overflow_shr-y : goal.overflow_shr-y

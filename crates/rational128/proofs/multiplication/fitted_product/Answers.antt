@@ -1,4 +1,4 @@
-use Rattle.std.proofs.Common.{◌≡◌, ℕ, ℤ, ◌<◌, ◌^◌, ◌*◌, ◌/◌, ◌*ℤ◌, pos, subst, sym, ap, ◌∙◌, arith, to_z, of_z}
+use Rattle.std.proofs.Common.{◌≡◌, ◌<◌, ◌^◌, ◌*◌, ◌/◌, ◌*ℤ◌, subst, sym, ap, ◌∙◌, to_z, of_z}
 use Rattle.std.specs.Prelude.{nat_abs}
 use Rattle.std.specs.Int.{w128, IsGcd}
 use Rattle.std.proofs.lemmas.Int.{unsigned_abs-mul}

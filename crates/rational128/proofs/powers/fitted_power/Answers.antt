@@ -1,6 +1,6 @@
-use Rattle.std.proofs.Common.{◌≡◌, ℤ, ◌<◌, ◌^◌, refl, ap, sym, ◌∙◌, subst, arith, to_z, of_z}
+use Rattle.std.proofs.Common.{◌≡◌, ◌<◌, ◌^◌, refl, ap, sym, ◌∙◌, subst, to_z, of_z}
 use Rattle.std.specs.Prelude.{nat_abs}
-use Rattle.std.specs.Int.{w128, IsGcd, int_pow}
+use Rattle.std.specs.Int.{w128, int_pow}
 use Rattle.calc_terms.specs.Rat.{value_of}
 use Rattle.rational128.proofs.LowestTerms.{same_parts}
 use Rattle.rational128.proofs.Signed.{told}
@@ -39,6 +39,7 @@ rational-requires-clause-positive c = (power c (num_told (goal.at.rational-requi
 pub returns : goal.returns
 returns c =
     let (is, small) = num_told (goal.at.returns c).In_ok-num in
-    let p = power (goal.at.returns c).In_ok-den is in
-    ( parts_fit _ _ _ p.parts (subst (λ z. nat_abs z < 2 ^ 127) (sym is) small) (subst (λ d. d < 2 ^ 127) (sym c.in_ok-den.ensures.1) c.in_ok-den.ensures.0),
-      same_parts _ _ _ _ (record { num = c.rational.ensures.num; den = c.rational.ensures.den }) p.parts )
+    let p = power (goal.at.returns c).In_ok-den is in (
+      parts_fit _ _ _ p.parts (subst (λ z. nat_abs z < 2 ^ 127) (sym is) small) (subst (λ d. d < 2 ^ 127) (sym c.in_ok-den.ensures.1) c.in_ok-den.ensures.0),
+      same_parts _ _ _ _ (record { num = c.rational.ensures.num; den = c.rational.ensures.den }) p.parts,
+    )

@@ -5,7 +5,7 @@ use lib.Signed.{lt_z}
 use Rattle.std.proofs.lemmas.Int.{ints, to_z_pos}
 use Rattle.calc_terms.specs.Fractions.{times, inverse as inverse_of_fraction}
 use Rattle.calc_terms.specs.Rat.{value_of}
-use Rattle.rational128.proofs.LowestTerms.{same_parts}
+use Rattle.rational128.proofs.LowestTerms.{same_parts, ratio_parts}
 use Rattle.rational128.proofs.Signed.{told}
 use Rattle.rational128.proofs.Reciprocals.{IsInverse, inverts}
 use Rattle.rational128.proofs.reciprocal.invert.Goals as goal
@@ -15,7 +15,7 @@ inverse : (c : After-unsigned_abs) → IsInverse (value_of c.args.a) (to_z w128 
 inverse c =
     let p-told : to_z w128 (of_z w128 (c.parts-num.result.0)) ≡ c.parts-num.result.0 = told (c.parts-num.result.0) c.parts-num.ensures.num_fits in
     let d-told : to_z w128 (c.parts-num.result.1) ≡ pos (c.parts-num.result.1) = to_z_pos w128 (c.parts-num.result.1) c.parts-num.ensures.den_fits in
-    inverts (value_of c.args.a) (c.parts-num.result.0) _ (c.parts-num.result.1) _ c.requires c.parts-num.ensures.num c.parts-num.ensures.den (c.unsigned_abs.ensures.value ∙ ap nat_abs p-told)
+    inverts (value_of c.args.a) (c.parts-num.result.0) _ (c.parts-num.result.1) _ (λ e. c.requires (sym (ratio_parts c.args.a).num ∙ e)) c.parts-num.ensures.num c.parts-num.ensures.den (c.unsigned_abs.ensures.value ∙ ap nat_abs p-told)
     (λ h. elim c.if-num-lt0.branch [ then-num-lt0 w ↦ omega (arith, ints, w.rational-is) | else-num-lt0 w ↦ absurd (not_below w.if-num-lt0.false p-told h) ])
     (λ h. elim c.if-num-lt0.branch [ then-num-lt0 w ↦ absurd (not_at_least w.if-num-lt0.true p-told h) | else-num-lt0 w ↦ w.rational-is ∙ d-told ])
   where

@@ -1,5 +1,5 @@
 use Rattle.std.proofs.Common.{refl, arith}
-use Rattle.rational128.proofs.Newton.{IsUpper, starts, steps, quotient_bound, at_most_root}
+use Rattle.rational128.proofs.Newton.{starts, steps, quotient_bound}
 use Rattle.rational128.proofs.square_root.isqrt_64.Goals as goal
 
 pub loop-root-init : goal.loop-root-init
