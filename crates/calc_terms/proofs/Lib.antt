@@ -34,3 +34,4 @@ pub mod InverseLaws
 pub mod PowerLaws
 pub mod NumberUniqueness
 pub mod MeaningRewrites
+pub mod PowerRewrites
