@@ -35,3 +35,4 @@ pub mod PowerLaws
 pub mod NumberUniqueness
 pub mod MeaningRewrites
 pub mod PowerRewrites
+pub mod NumberRewrites
