@@ -38,3 +38,5 @@ pub mod NumberRewrites
 pub mod NumberShapes
 pub mod NumberClasses
 pub mod NumberUniqueness
+pub mod UndefRewrites
+pub mod EasyLaws
