@@ -230,3 +230,9 @@ same_parts t u e =
 -- a coefficient in place of another
 pub with_coefficient : (c d p : Tree) → KeepsMeanings c d → KeepsMeanings (mult (two c p)) (mult (two d p))
 with_coefficient c d p h = KeepsMeanings-product_more h (KeepsMeanings-refl (mult (more p none)))
+
+-- c times a term is c times its coefficient, times its part
+pub term_scaled : (c t : Tree) → KeepsMeanings (mult (two c t)) (mult (two (mult (two c (coefficient_of t))) (part_of t)))
+term_scaled c t =
+    KeepsMeanings-trans (KeepsMeanings-product_more (KeepsMeanings-refl c) (KeepsMeanings-product_more (coefficient_times_part t) (KeepsMeanings-refl (mult none))))
+    (KeepsMeanings-trans (KeepsMeanings-product_more (KeepsMeanings-refl c) (flat_product (two (coefficient_of t) (part_of t)) none)) (nested_product (two c (coefficient_of t)) (more (part_of t) none)))

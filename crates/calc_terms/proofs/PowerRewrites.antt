@@ -50,6 +50,10 @@ pub to_power_one : (b : Tree) → KeepsMeanings b (power b (num one_fraction))
 unfolding one_fraction
 to_power_one b = record { means = λ f once v m. power_whole f b (pos 1) v v m (Same-refl v) }
 
+-- 1 ^ e is 1
+pub one_to_power : (e : Tree) → KeepsMeanings (power (num one_fraction) e) (num one_fraction)
+one_to_power e = record { means = λ f once v m. power_of_one m.1 v (IsPower-Same m.2 (Same-refl m.1) (Same-refl v) m.4) }
+
 -- ---- quotients
 
 -- a / b is a * b ^ -1
