@@ -2,7 +2,7 @@
 use Rattle.std.proofs.Common.{◌≡◌, ℕ, zero, suc, ◌+◌, ◌*◌, ◌/◌, ◌%◌, ◌-◌, ◌≤◌, ◌<◌, ◌^◌, ◌⊎◌, inl, inr, true, refl, sym, ap, ◌∙◌, arith, subst}
 use Rattle.std.specs.Int.{IsGcd}
 use Rattle.std.proofs.lemmas.Nat.Gcd.{dvd_trans, mod-eq-zero_of_dvd, dvd_of_mod-eq-zero}
-use native.Mathlib.Nat.{mul-dvd-mul_left, dvd-mul_right, dvd-mul_left, dvd-zero, one-dvd, mul-div_cancel', mul-div_cancel_left, dvd_refl}
+use native.Mathlib.Nat.{mul-one, mul-dvd-mul_left, dvd-mul_right, dvd-mul_left, dvd-zero, one-dvd, mul-div_cancel', mul-div_cancel_left, dvd_refl}
 use Prim.Native.Nat.{◌∣◌}
 use Rattle.calc_terms.specs.Clean.{without, left_from, left_of, is_clean, IsClean}
 use Rattle.calc_terms.specs.Fractions.{mul_pos}
@@ -110,11 +110,14 @@ clean_positive (suc r) c = omega arith
 order : (a b : ℕ) → (a ≤ b) ⊎ (b < a)
 order a b = grind arith
 
--- a clean radicand below 10^12 has no square divisor above 1
-pub clean_square_free : (r : ℕ) → IsClean r → r < 10 ^ 12 → IsSquareFree r
+-- a clean radicand is no square of a number above 1 times a number up to 10,000
+clean_square_times_small : (r d k : ℕ) → IsClean r → 1 < d → d * d * k ≡ r → k < 10001 → ⊥
 unfolding left_of
-clean_square_free r c l d h x = by (order d 10000)
+clean_square_times_small r d k c h e l = by (order d 10000)
   where
+    x : d * d ∣ r
+    x = subst (λ n. d * d ∣ n) e (dvd-mul_right (d * d) k)
+
     apart : (c : ℕ) → 2 ≤ c → c < 10001 → (m : ℕ) → c ∣ d * d * m → c ∣ m
     apart e u v m y =
         let one : IsGcd d e 1 = (one-dvd d, one-dvd e, common) in
@@ -138,11 +141,23 @@ clean_square_free r c l d h x = by (order d 10000)
     by : (d ≤ 10000) ⊎ (10000 < d) → ⊥
     by (inl u) = c.no_square d h u x
     by (inr u) =
-        let k : ℕ = r / (d * d) in
-        let e : d * d * k ≡ r = mul-div_cancel' (d * d) x in
         let kp : 0 < k = factor_pos (d * d) k r e (clean_positive r c) in
-        let f : left_from 9999 2 (d * d * k) ≡ d * d = left_from_is 9999 2 (d * d) k (omega arith) kp (mul_pos d d (omega arith) (omega arith)) (few_left d k r u e l) apart (λ c a b. absurd (omega arith)) in
+        let f : left_from 9999 2 (d * d * k) ≡ d * d = left_from_is 9999 2 (d * d) k (omega arith) kp (mul_pos d d (omega arith) (omega arith)) l apart (λ c a b. absurd (omega arith)) in
         c.no_rest d h (ap left_of (sym e) ∙ f)
+
+-- a clean radicand below 10^12 has no square divisor above 1
+pub clean_square_free : (r : ℕ) → IsClean r → r < 10 ^ 12 → IsSquareFree r
+clean_square_free r c l d h x =
+    let e : d * d * (r / (d * d)) ≡ r = mul-div_cancel' (d * d) x in
+    by (order d 10000) e
+  where
+    by : (d ≤ 10000) ⊎ (10000 < d) → d * d * (r / (d * d)) ≡ r → ⊥
+    by (inl u) e = c.no_square d h u x
+    by (inr u) e = clean_square_times_small r d (r / (d * d)) c h e (few_left d (r / (d * d)) r u e l)
+
+-- a clean radicand is no square above 1, however great
+pub clean_no_square : (d : ℕ) → IsClean (d * d) → 1 < d → ⊥
+clean_no_square d c h = clean_square_times_small (d * d) d 1 c h (mul-one (d * d)) (omega arith)
 
 -- the same from the test
 pub is_clean_square_free : (r : ℕ) → is_clean r ≡ true → r < 10 ^ 12 → IsSquareFree r

@@ -32,5 +32,11 @@ pub mod TermLaws
 pub mod CleanLaws
 pub mod InverseLaws
 pub mod PowerLaws
-pub mod NumberUniqueness
 pub mod MeaningRewrites
+pub mod PowerRewrites
+pub mod NumberRewrites
+pub mod NumberShapes
+pub mod NumberClasses
+pub mod NumberUniqueness
+pub mod UndefRewrites
+pub mod EasyLaws

@@ -330,6 +330,20 @@ joined_in_sum t u x ts h = KeepsMeanings-trans (nested_sum (two t u) ts) (KeepsM
 pub joined_in_product : (t u x : Tree) (ts : Trees) → KeepsMeanings (mult (two t u)) x → KeepsMeanings (mult (more t (more u ts))) (mult (more x ts))
 joined_in_product t u x ts h = KeepsMeanings-trans (nested_product (two t u) ts) (KeepsMeanings-product_more h (KeepsMeanings-refl (mult ts)))
 
+-- two terms that stand apart become one, in the place of the first
+pub joined_apart_in_sum : (as' : Trees) (t : Tree) (bs : Trees) (u : Tree) (cs : Trees) (x : Tree) → KeepsMeanings (add (two t u)) x
+    → KeepsMeanings (add (append as' (more t (append bs (more u cs))))) (add (append as' (more x (append bs cs))))
+joined_apart_in_sum as' t bs u cs x h =
+    KeepsMeanings-sum_append (KeepsMeanings-refl (add as'))
+    (KeepsMeanings-trans (permuted_sum (permuted_more {t = t} (Permuted-to_front bs u cs))) (joined_in_sum t u x (append bs cs) h))
+
+-- two factors that stand apart become one, in the place of the first
+pub joined_apart_in_product : (as' : Trees) (t : Tree) (bs : Trees) (u : Tree) (cs : Trees) (x : Tree) → KeepsMeanings (mult (two t u)) x
+    → KeepsMeanings (mult (append as' (more t (append bs (more u cs))))) (mult (append as' (more x (append bs cs))))
+joined_apart_in_product as' t bs u cs x h =
+    KeepsMeanings-product_append (KeepsMeanings-refl (mult as'))
+    (KeepsMeanings-trans (permuted_product (permuted_more {t = t} (Permuted-to_front bs u cs))) (joined_in_product t u x (append bs cs) h))
+
 -- ---- zero and one
 
 -- a term that is zero goes
@@ -342,6 +356,9 @@ zero_term_of_sum ts = record {
 
 pub zero_goes : (t : Tree) (ts : Trees) → KeepsMeanings t (num zero_fraction) → KeepsMeanings (add (more t ts)) (add ts)
 zero_goes t ts h = KeepsMeanings-trans (KeepsMeanings-sum_more h (KeepsMeanings-refl (add ts))) (zero_term_of_sum ts)
+
+pub zero_goes_at : (ts : Trees) (t : Tree) (us : Trees) → KeepsMeanings t (num zero_fraction) → KeepsMeanings (add (append ts (more t us))) (add (append ts us))
+zero_goes_at ts t us h = KeepsMeanings-sum_append (KeepsMeanings-refl (add ts)) (zero_goes t us h)
 
 -- a product with the factor zero is zero
 pub zero_product : (ts : Trees) → KeepsMeanings (mult (more (num zero_fraction) ts)) (num zero_fraction)
@@ -359,7 +376,14 @@ one_factor_of_product ts = record {
       Means-Same (mult ts) f p.rest v p.rest_means (Same-sym (Same-trans p.same (Same-trans (Same-surd_times p.first_means (Same-refl p.rest)) (Same-eq (surd_times-surd_one p.rest)))));
 }
 
--- and comes
+pub one_goes_at : (ts : Trees) (t : Tree) (us : Trees) → KeepsMeanings t (num one_fraction) → KeepsMeanings (mult (append ts (more t us))) (mult (append ts us))
+one_goes_at ts t us h = KeepsMeanings-product_append (KeepsMeanings-refl (mult ts)) (KeepsMeanings-trans (KeepsMeanings-product_more h (KeepsMeanings-refl (mult us))) (one_factor_of_product us))
+
+-- zero in a product makes it zero
+pub zero_product_at : (ts : Trees) (t : Tree) (us : Trees) → KeepsMeanings t (num zero_fraction) → KeepsMeanings (mult (append ts (more t us))) (num zero_fraction)
+zero_product_at ts t us h = KeepsMeanings-trans (permuted_product (Permuted-to_front ts t us)) (KeepsMeanings-trans (KeepsMeanings-product_more h (KeepsMeanings-refl (mult (append ts us)))) (zero_product (append ts us)))
+
+-- a factor 1 comes
 pub to_one_factor : (ts : Trees) → KeepsMeanings (mult ts) (mult (more (num one_fraction) ts))
 to_one_factor ts = record { means = λ f once v m. product_more f (num one_fraction) ts v surd_one v (Same-refl surd_one) m (Same-eq (sym (surd_times-surd_one v))) }
 

@@ -1,5 +1,8 @@
 -- Surds term by term: what respects sameness, terms of one class joined, squares taken out, products of two terms, and the order of terms.
-use Rattle.std.proofs.Common.{◌≡◌, ℕ, zero, suc, ◌*◌, ◌/◌, ◌<◌, pos, [], ◌∷◌, ◌++◌, Bool, true, false, if◌then◌else◌, refl, sym, ap, ◌∙◌, arith, append_assoc}
+use Rattle.std.proofs.Common.{length, get_or, set, subst, ◌≡◌, ℕ, zero, suc, ◌*◌, ◌/◌, ◌<◌, pos, [], ◌∷◌, ◌++◌, Bool, true, false, if◌then◌else◌, refl, sym, ap, ◌∙◌, arith, append_assoc}
+use Rattle.std.specs.List.Sorted.{IsPermutation}
+use Rattle.std.proofs.lemmas.List.Edits.{swap_is}
+use Rattle.std.proofs.lemmas.List.Sorted.{IsPermutation-keeps}
 use Rattle.std.specs.Int.{◌∣◌}
 use Rattle.std.proofs.Math.Nat.{mul-div_cancel'}
 use native.Mathlib.Nat.{one-mul}
@@ -50,6 +53,26 @@ Agree-to_front v t w =
 
 pub Same-to_front : (v : Surd) (t : Term) (w : Surd) → Same (v ++ (t ∷ w)) (t ∷ (v ++ w))
 Same-to_front v t w = Agree-Same (Agree-to_front v t w)
+
+exchanged_first : (t : Term) (v : Surd) (j : ℕ) (d : Term) → j < length v → Agree (t ∷ v) (get_or v j d ∷ set v j t)
+exchanged_first t [] j d h = absurd (omega arith)
+exchanged_first t (u ∷ v) zero d h = Agree-to_front (t ∷ []) u v
+exchanged_first t (u ∷ v) (suc j) d h =
+    Agree-trans (Agree-to_front (t ∷ []) u v)
+    (Agree-trans (Agree-append {v = u ∷ []} {v' = u ∷ []} (Agree-refl (u ∷ [])) (exchanged_first t v j d (omega arith))) (Agree-to_front (u ∷ []) (get_or v j d) (set v j t)))
+
+exchanged : (v : Surd) (i j : ℕ) (d : Term) → i < length v → j < length v → Agree v (set (set v i (get_or v j d)) j (get_or v i d))
+exchanged [] i j d h k = absurd (omega arith)
+exchanged (t ∷ v) zero zero d h k = Agree-refl (t ∷ v)
+exchanged (t ∷ v) zero (suc j) d h k = exchanged_first t v j d (omega arith)
+exchanged (t ∷ v) (suc i) zero d h k = exchanged_first t v i d (omega arith)
+exchanged (t ∷ v) (suc i) (suc j) d h k = Agree-append {v = t ∷ []} {v' = t ∷ []} (Agree-refl (t ∷ [])) (exchanged v i j d (omega arith) (omega arith))
+
+-- the same terms in another order
+pub Same-permutation : (v w : Surd) → IsPermutation v w → Same v w
+Same-permutation v w h =
+    let d : Term = term zero_fraction 1 in
+    Agree-Same (IsPermutation-keeps v (λ x. Agree v x) (Agree-refl v) (λ x i j p q k. Agree-trans k (subst (λ y. Agree x y) (swap_is x i j d p q) (exchanged x i j d p q))) w h)
 
 -- ---- the share of one term
 

@@ -1,6 +1,6 @@
 //! Laws of the definitions, each the contract of a function without a body.
 
-ghost use Rattle.std.specs.Prelude.{◌≡◌, ◌↔◌, ◌⊎◌, false, ℕ, ◌<◌, ◌*◌, ℤ, pos, neg_ℤ, ◌+ℤ◌, ◌*ℤ◌, List, ◌++◌, true, ◌^◌, Contains, ◌≤◌};
+ghost use Rattle.std.specs.Prelude.{◌≡◌, ◌↔◌, ◌⊎◌, false, ℕ, ◌<◌, ◌*◌, ℤ, pos, neg_ℤ, ◌+ℤ◌, ◌*ℤ◌, List, [], ◌++◌, true, ◌^◌, Contains, ◌≤◌};
 ghost use Rattle.std.specs.Int.{◌∣◌, IsGcd};
 ghost use Rattle.calc_terms.specs.Gcd.{gcd as gcd_of};
 ghost use Rattle.calc_terms.specs.SquareRoots.{square_root, IsSquareRoot};
@@ -12,7 +12,7 @@ ghost use Rattle.calc_terms.specs.Trees.{Tree, is_undef, IsComplete};
 ghost use Rattle.calc_terms.specs.TreeOrder.{tree_cmp};
 ghost use Rattle.calc_terms.specs.Surds.{Surd, surd_one, surd_scale, surd_times, surd_power};
 ghost use Rattle.calc_terms.specs.SquareClasses.{are_alike, class_coefficient, radicands, Same, Inverts};
-ghost use Rattle.calc_terms.specs.Meanings.{Assignment, IsAssignment, Means};
+ghost use Rattle.calc_terms.specs.Meanings.{Assignment, IsAssignment, IsWholePower, Means};
 ghost use Rattle.calc_terms.specs.Tokens.{digits_value};
 ghost use Rattle.calc_terms.specs.Reads.{Reads};
 ghost use Rattle.calc_terms.specs.Texts.{decimal, text as text_of, IsWritable, HasNames};
@@ -20,7 +20,7 @@ ghost use Rattle.calc_terms.specs.Faces.{face};
 ghost use Rattle.calc_terms.specs.Clean.{is_clean, IsClean, trial_limit, left_of, IsTried};
 ghost use Rattle.calc_terms.specs.Numbers.{is_number, IsNumber, value};
 ghost use Rattle.calc_terms.specs.Reduced.{is_reduced, IsReduced};
-ghost use Rattle.calc_terms.specs.BadAndEasy.{IsBad, IsEasy, HasValue};
+ghost use Rattle.calc_terms.specs.BadAndEasy.{IsBad, IsEasy, IsShort, HasValue};
 
 /// The numbers that definitions compute are those that their names say.
 pub fn computed_numbers()
@@ -94,6 +94,20 @@ pub fn surds_are_a_ring()
 /// A surd has at most one inverse.
 pub fn one_inverse()
     ensures { (y z w : Surd) → Inverts y w → Inverts z w → Same y z }
+{}
+
+/// What has an inverse is not zero, and what has at most two terms and is not zero has one.
+pub fn which_have_inverses()
+    ensures not_zero { (y w : Surd) → Inverts y w → ¬ (Same w []) }
+    ensures two_terms { (w : Surd) → IsShort w → ¬ (Same w []) → (y : Surd) × Inverts y w }
+{}
+
+/// Whole powers follow the laws of exponents.
+pub fn laws_of_exponents()
+    ensures added { (m n : ℤ) (w u v : Surd) → IsWholePower m w u → IsWholePower n w v → IsWholePower (m +ℤ n) w (surd_times u v) }
+    ensures multiplied { (m n : ℤ) (w u v : Surd) → IsWholePower m w u → IsWholePower n u v → IsWholePower (m *ℤ n) w v }
+    ensures of_a_product { (n : ℤ) (u w v : Surd) → IsWholePower n (surd_times u w) v
+        → (p q : Surd) × IsWholePower n u p × IsWholePower n w q × Same v (surd_times p q) }
 {}
 
 /// A surd that is the same as a meaning is one too.
