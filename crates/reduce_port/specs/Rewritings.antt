@@ -1,0 +1,33 @@
+-- What a rewriting of a tree keeps.
+use Rattle.std.specs.Prelude.{ℕ, ◌≡◌, true, List, Contains}
+use Rattle.calc_terms.specs.Meanings.{Assignment, IsAssignment, Means}
+use Rattle.calc_terms.specs.Reduced.{is_reduced}
+use Rattle.calc_terms.specs.Surds.{Surd}
+use Rattle.calc_terms.specs.Trees.{Tree, names}
+use Rattle.node_pool.specs.State.{State}
+use Rattle.tree_handles.specs.Expressions.{plain}
+use Rattle.tree_handles.specs.Roots.{root_tree}
+use Rattle.tree_handles.specs.Standing.{forest}
+
+-- under every assignment, each meaning of the old tree is one of the new
+pub record KeepsMeanings (old new : Tree) : Type 0 where
+  pub means : (f : Assignment) → IsAssignment f → (v : Surd) → Means old f v → Means new f v
+
+-- each name in the new tree is one in the old
+pub record HasNoNewName (old new : Tree) : Type 0 where
+  pub name : (x : List ℕ) → Contains (names new) x → Contains (names old) x
+
+-- the new tree has no new name, and every meaning of the old
+pub record Rewrites (old new : Tree) : Type 0 where
+  pub no_new_name : HasNoNewName old new
+  pub meanings : KeepsMeanings old new
+
+-- the new tree is reduced, has no new name, and every meaning of the old
+pub record Reduces (old new : Tree) : Type 0 where
+  pub reduced : is_reduced new ≡ true
+  pub no_new_name : HasNoNewName old new
+  pub meanings : KeepsMeanings old new
+
+-- the plain tree of a root
+abbrev pub tree_of : ℕ → State → Tree
+tree_of i s = plain (root_tree i (forest s))
