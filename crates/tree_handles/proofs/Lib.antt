@@ -1,0 +1,15 @@
+pub mod Tests
+pub mod Forests
+pub mod Counted
+pub mod Joins
+pub mod Parts
+pub mod Walks
+pub mod Roots
+pub mod Distinct
+pub mod Plains
+pub mod Readings
+pub mod Releases
+pub mod Held
+pub mod Adding
+pub mod Copies
+pub mod Copying

@@ -1,0 +1,172 @@
+-- Laws of roots that need no more than the tests.
+use Rattle.std.proofs.Common.{◌≡◌, ℕ, ◌≤◌, cond, eqb, refl, sym, ap, ◌∙◌, subst, arith, Bool, true, false}
+use Rattle.std.proofs.lemmas.Bool.{eqb-true, eq-eqb}
+use Rattle.tree_handles.specs.Forest.{Label, Forest, empty, tree, join, arity, kids, root_id, AllNodes}
+use Rattle.tree_handles.specs.Inside.{holds}
+use Rattle.tree_handles.specs.Roots.{has_root, root_tree, without_root, put}
+use Rattle.tree_handles.proofs.Tests.{by_test, or_true, not_left, not_right, eqb-sym}
+
+-- ---- a root is a node
+
+pub root_held : (i : ℕ) (f : Forest) → has_root i f ≡ true → holds i f ≡ true
+root_held i empty h = absurd cc
+root_held i (tree l k r) h =
+    by_test (λ t. cond t true (has_root i r) ≡ true → cond t true (cond (holds i k) true (holds i r)) ≡ true) (eqb l.id i) (λ e h. refl)
+    (λ e h. ap (cond (holds i k) true) (root_held i r h) ∙ or_true (holds i k)) h
+
+pub no_root : (i : ℕ) (f : Forest) → holds i f ≡ false → has_root i f ≡ false
+no_root i f h = by_test (λ t. has_root i f ≡ t → t ≡ false) (has_root i f) (λ e q. absurd (cc (sym (root_held i f q), h))) (λ e q. refl) refl
+
+-- what a root's tree is
+pub record IsTop (i : ℕ) (f : Forest) : Type 0 where
+  pub left : Forest
+  pub right : Forest
+  pub label : Label
+  pub kids-are : Forest
+  pub id-is : label.id ≡ i
+  pub tree-is : root_tree i f ≡ tree label kids-are empty
+  pub whole : f ≡ join left (tree label kids-are right)
+  pub without : without_root i f ≡ join left right
+  pub clear : has_root i left ≡ false
+
+top_here : (i : ℕ) (l : Label) (k r : Forest) → eqb l.id i ≡ true → IsTop i (tree l k r)
+top_here i l k r e = record { left = empty; right = r; label = l; kids-are = k; id-is = eqb-true l.id i e; tree-is = rw e refl; whole = refl; without = rw e refl; clear = refl }
+
+top_behind : (i : ℕ) (l : Label) (k r : Forest) → eqb l.id i ≡ false → IsTop i r → IsTop i (tree l k r)
+top_behind i l k r e p = record {
+  left = tree l k p.left;
+  right = p.right;
+  label = p.label;
+  kids-are = p.kids-are;
+  id-is = p.id-is;
+  tree-is = rw e p.tree-is;
+  whole = ap (λ (x : Forest). tree l k x) p.whole;
+  without = rw e (ap (λ (x : Forest). tree l k x) p.without);
+  clear = rw e p.clear;
+}
+
+pub top : (i : ℕ) (f : Forest) → has_root i f ≡ true → IsTop i f
+top i empty h = absurd cc
+top i (tree l k r) h =
+    by_test (λ t. eqb l.id i ≡ t → cond t true (has_root i r) ≡ true → IsTop i (tree l k r)) (eqb l.id i)
+    (λ e q h. top_here i l k r q) (λ e q h. top_behind i l k r q (top i r h)) refl h
+
+pub root_arity : (i : ℕ) (f : Forest) → has_root i f ≡ true → arity (root_tree i f) ≡ 1
+root_arity i f h = ap arity (top i f h).tree-is
+
+pub root_id-root_tree : (i : ℕ) (f : Forest) → has_root i f ≡ true → root_id (root_tree i f) ≡ i
+root_id-root_tree i f h = let p = top i f h in ap root_id p.tree-is ∙ p.id-is
+
+-- ---- two forests
+
+pub root-left : (i : ℕ) (f g : Forest) → has_root i f ≡ true → has_root i (join f g) ≡ true
+root-left i empty g h = absurd cc
+root-left i (tree l k r) g h =
+    by_test (λ t. cond t true (has_root i r) ≡ true → cond t true (has_root i (join r g)) ≡ true) (eqb l.id i) (λ e h. refl) (λ e h. root-left i r g h) h
+
+pub root-right : (i : ℕ) (f g : Forest) → has_root i f ≡ false → has_root i (join f g) ≡ has_root i g
+root-right i empty g h = refl
+root-right i (tree l k r) g h =
+    by_test (λ t. cond t true (has_root i r) ≡ false → cond t true (has_root i (join r g)) ≡ has_root i g) (eqb l.id i) (λ e h. absurd cc) (λ e h. root-right i r g h) h
+
+pub tree-left : (i : ℕ) (f g : Forest) → has_root i f ≡ true → root_tree i (join f g) ≡ root_tree i f
+tree-left i empty g h = absurd cc
+tree-left i (tree l k r) g h =
+    by_test (λ t. cond t true (has_root i r) ≡ true → cond t (tree l k empty) (root_tree i (join r g)) ≡ cond t (tree l k empty) (root_tree i r)) (eqb l.id i) (λ e h. refl) (λ e h. tree-left i r g h) h
+
+pub tree-right : (i : ℕ) (f g : Forest) → has_root i f ≡ false → root_tree i (join f g) ≡ root_tree i g
+tree-right i empty g h = refl
+tree-right i (tree l k r) g h =
+    by_test (λ t. cond t true (has_root i r) ≡ false → cond t (tree l k empty) (root_tree i (join r g)) ≡ root_tree i g) (eqb l.id i) (λ e h. absurd cc) (λ e h. tree-right i r g h) h
+
+pub without-left : (i : ℕ) (f g : Forest) → has_root i f ≡ true → without_root i (join f g) ≡ join (without_root i f) g
+without-left i empty g h = absurd cc
+without-left i (tree l k r) g h =
+    by_test (λ t. cond t true (has_root i r) ≡ true → cond t (join r g) (tree l k (without_root i (join r g))) ≡ join (cond t r (tree l k (without_root i r))) g) (eqb l.id i)
+    (λ e h. refl) (λ e h. ap (λ (x : Forest). tree l k x) (without-left i r g h)) h
+
+pub without-right : (i : ℕ) (f g : Forest) → has_root i f ≡ false → without_root i (join f g) ≡ join f (without_root i g)
+without-right i empty g h = refl
+without-right i (tree l k r) g h =
+    by_test (λ t. cond t true (has_root i r) ≡ false → cond t (join r g) (tree l k (without_root i (join r g))) ≡ tree l k (join r (without_root i g))) (eqb l.id i)
+    (λ e h. absurd cc) (λ e h. ap (λ (x : Forest). tree l k x) (without-right i r g h)) h
+
+pub put-left : (i : ℕ) (n f g : Forest) → has_root i f ≡ true → put i n (join f g) ≡ join (put i n f) g
+put-left i n empty g h = absurd cc
+put-left i n (tree l k r) g h =
+    by_test (λ t. cond t true (has_root i r) ≡ true → cond t (tree l n (join r g)) (tree l k (put i n (join r g))) ≡ join (cond t (tree l n r) (tree l k (put i n r))) g) (eqb l.id i)
+    (λ e h. refl) (λ e h. ap (λ (x : Forest). tree l k x) (put-left i n r g h)) h
+
+pub put-right : (i : ℕ) (n f g : Forest) → has_root i f ≡ false → put i n (join f g) ≡ join f (put i n g)
+put-right i n empty g h = refl
+put-right i n (tree l k r) g h =
+    by_test (λ t. cond t true (has_root i r) ≡ false → cond t (tree l n (join r g)) (tree l k (put i n (join r g))) ≡ tree l k (join r (put i n g))) (eqb l.id i)
+    (λ e h. absurd cc) (λ e h. ap (λ (x : Forest). tree l k x) (put-right i n r g h)) h
+
+-- ---- another root
+
+pub root-without : (i j : ℕ) (f : Forest) → eqb i j ≡ false → has_root j (without_root i f) ≡ has_root j f
+root-without i j empty d = refl
+root-without i j (tree l k r) d =
+    by_test (λ t. eqb l.id i ≡ t → has_root j (cond t r (tree l k (without_root i r))) ≡ cond (eqb l.id j) true (has_root j r)) (eqb l.id i)
+    (λ e q. sym (ap (λ (t : Bool). cond t true (has_root j r)) (ap (λ (x : ℕ). eqb x j) (eqb-true l.id i q) ∙ d)))
+    (λ e q. ap (cond (eqb l.id j) true) (root-without i j r d)) refl
+
+pub tree-without : (i j : ℕ) (f : Forest) → eqb i j ≡ false → root_tree j (without_root i f) ≡ root_tree j f
+tree-without i j empty d = refl
+tree-without i j (tree l k r) d =
+    by_test (λ t. eqb l.id i ≡ t → root_tree j (cond t r (tree l k (without_root i r))) ≡ cond (eqb l.id j) (tree l k empty) (root_tree j r)) (eqb l.id i)
+    (λ e q. sym (ap (λ (t : Bool). cond t (tree l k empty) (root_tree j r)) (ap (λ (x : ℕ). eqb x j) (eqb-true l.id i q) ∙ d)))
+    (λ e q. ap (cond (eqb l.id j) (tree l k empty)) (tree-without i j r d)) refl
+
+-- two roots go in either order
+pub without-swap : (i j : ℕ) (f : Forest) → eqb i j ≡ false → without_root i (without_root j f) ≡ without_root j (without_root i f)
+without-swap i j empty d = refl
+without-swap i j (tree l k r) d =
+    by_test (λ u. eqb l.id j ≡ u → without_root i (cond u r (tree l k (without_root j r))) ≡ without_root j (cond (eqb l.id i) r (tree l k (without_root i r)))) (eqb l.id j)
+    (λ e q.
+        let other : eqb l.id i ≡ false = ap (λ (x : ℕ). eqb x i) (eqb-true l.id j q) ∙ eqb-sym i j d in
+        sym (ap (λ (t : Bool). without_root j (cond t r (tree l k (without_root i r)))) other ∙ ap (λ (t : Bool). cond t (without_root i r) (tree l k (without_root j (without_root i r)))) q))
+    (λ e q. by_test (λ t. cond t (without_root j r) (tree l k (without_root i (without_root j r))) ≡ without_root j (cond t r (tree l k (without_root i r)))) (eqb l.id i)
+        (λ u. refl) (λ u. ap (λ (x : Forest). tree l k x) (without-swap i j r d) ∙ sym (ap (λ (t : Bool). cond t (without_root i r) (tree l k (without_root j (without_root i r)))) q))) refl
+
+-- ---- other children
+
+pub root-put : (i j : ℕ) (n f : Forest) → has_root j (put i n f) ≡ has_root j f
+root-put i j n empty = refl
+root-put i j n (tree l k r) = by_test (λ t. has_root j (cond t (tree l n r) (tree l k (put i n r))) ≡ cond (eqb l.id j) true (has_root j r)) (eqb l.id i) (λ e. refl) (λ e. ap (cond (eqb l.id j) true) (root-put i j n r))
+
+pub kids-put : (i : ℕ) (n f : Forest) → has_root i f ≡ true → kids (root_tree i (put i n f)) ≡ n
+kids-put i n empty h = absurd cc
+kids-put i n (tree l k r) h =
+    by_test (λ t. eqb l.id i ≡ t → cond t true (has_root i r) ≡ true → kids (root_tree i (cond t (tree l n r) (tree l k (put i n r)))) ≡ n) (eqb l.id i)
+    (λ e q h. ap (λ (t : Bool). kids (cond t (tree l n empty) (root_tree i r))) q) (λ e q h. ap (λ (t : Bool). kids (cond t (tree l k empty) (root_tree i (put i n r)))) q ∙ kids-put i n r h) refl h
+
+-- the tree of another root
+pub tree-put : (i j : ℕ) (n f : Forest) → eqb i j ≡ false → root_tree j (put i n f) ≡ root_tree j f
+tree-put i j n empty d = refl
+tree-put i j n (tree l k r) d =
+    by_test (λ t. eqb l.id i ≡ t → root_tree j (cond t (tree l n r) (tree l k (put i n r))) ≡ cond (eqb l.id j) (tree l k empty) (root_tree j r)) (eqb l.id i)
+    (λ e q. let other : eqb l.id j ≡ false = ap (λ (x : ℕ). eqb x j) (eqb-true l.id i q) ∙ d in rw other refl)
+    (λ e q. ap (cond (eqb l.id j) (tree l k empty)) (tree-put i j n r d)) refl
+
+pub put-put : (i : ℕ) (a b f : Forest) → put i a (put i b f) ≡ put i a f
+put-put i a b empty = refl
+put-put i a b (tree l k r) =
+    by_test (λ t. eqb l.id i ≡ t → put i a (cond t (tree l b r) (tree l k (put i b r))) ≡ cond t (tree l a r) (tree l k (put i a r))) (eqb l.id i)
+    (λ e q. ap (λ (t : Bool). cond t (tree l a r) (tree l b (put i a r))) q) (λ e q. ap (λ (t : Bool). cond t (tree l a (put i b r)) (tree l k (put i a (put i b r)))) q ∙ ap (λ (x : Forest). tree l k x) (put-put i a b r)) refl
+
+pub put-same : (i : ℕ) (f : Forest) → put i (kids (root_tree i f)) f ≡ f
+put-same i empty = refl
+put-same i (tree l k r) = by_test (λ t. cond t (tree l (kids (cond t (tree l k empty) (root_tree i r))) r) (tree l k (put i (kids (cond t (tree l k empty) (root_tree i r))) r)) ≡ tree l k r) (eqb l.id i) (λ e. refl) (λ e. ap (λ (x : Forest). tree l k x) (put-same i r))
+
+-- a root goes beside one with other children
+pub without-put : (i j : ℕ) (n f : Forest) → eqb i j ≡ false → without_root j (put i n f) ≡ put i n (without_root j f)
+without-put i j n empty d = refl
+without-put i j n (tree l k r) d =
+    by_test (λ u. eqb l.id j ≡ u → without_root j (cond (eqb l.id i) (tree l n r) (tree l k (put i n r))) ≡ put i n (cond u r (tree l k (without_root j r)))) (eqb l.id j)
+    (λ e q.
+        let other : eqb l.id i ≡ false = ap (λ (x : ℕ). eqb x i) (eqb-true l.id j q) ∙ eqb-sym i j d in
+        ap (λ (t : Bool). without_root j (cond t (tree l n r) (tree l k (put i n r)))) other ∙ ap (λ (t : Bool). cond t (put i n r) (tree l k (without_root j (put i n r)))) q)
+    (λ e q. by_test (λ t. without_root j (cond t (tree l n r) (tree l k (put i n r))) ≡ cond t (tree l n (without_root j r)) (tree l k (put i n (without_root j r)))) (eqb l.id i)
+        (λ u. ap (λ (t : Bool). cond t r (tree l n (without_root j r))) q) (λ u. ap (λ (t : Bool). cond t (put i n r) (tree l k (without_root j (put i n r)))) q ∙ ap (λ (x : Forest). tree l k x) (without-put i j n r d))) refl

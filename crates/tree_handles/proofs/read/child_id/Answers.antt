@@ -1,0 +1,44 @@
+use Rattle.std.proofs.Common.{◌≡◌, ◌<◌, ℕ, true, ap, sym, ◌∙◌, subst}
+use Rattle.calc_terms.specs.declared.leaf.Header.{Header}
+use Rattle.node_pool.specs.Lists.{used, first_of, since}
+use Rattle.tree_handles.specs.Expressions.{plain, AllExpressions}
+use Rattle.tree_handles.specs.Forest.{Forest, root_id, tree_nth, rest_trees}
+use Rattle.tree_handles.specs.Inside.{holds, kids_of, tree_at}
+use Rattle.tree_handles.specs.Standing.{forest}
+use Rattle.tree_handles.proofs.Distinct.{held_parent, distinct, IsChild, child_tree}
+use Rattle.tree_handles.proofs.Parts.{live_node, child_seen, root_nth}
+use Rattle.tree_handles.proofs.Readings.{expression_child, whole_child}
+use Rattle.tree_handles.proofs.read.child_id.Goals as goal
+
+pub child_place-place-requires : goal.child_place-place-requires
+child_place-place-requires c = record { live = live_node c.args.parent c.args.pool.now c.requires.stands (held_parent c.args.at c.args.parent (forest c.args.pool.now) c.requires.within) }
+
+pub header-requires-clause-inside : goal.header-requires-clause-inside
+header-requires-clause-inside c = (child_seen c.args.parent c.args.at c.child_place-place.result c.args.pool.now c.requires.stands (held_parent c.args.at c.args.parent (forest c.args.pool.now) c.requires.within) c.requires.within c.child_place-place.ensures.boundary c.child_place-place.ensures.rest).0
+
+value : (c : goal.After-of) → c.of.result ≡ root_id (tree_nth c.args.at (kids_of c.args.parent (forest c.args.pool.now)))
+value c =
+    c.of.ensures ∙ ap (λ (h : Header). h.id) c.header.ensures.value
+    ∙ (child_seen c.args.parent c.args.at c.child_place-place.result c.args.pool.now c.requires.stands (held_parent c.args.at c.args.parent (forest c.args.pool.now) c.requires.within) c.requires.within c.child_place-place.ensures.boundary c.child_place-place.ensures.rest).1
+    ∙ root_nth c.args.at (kids_of c.args.parent (forest c.args.pool.now))
+
+child : (c : goal.After-of) → (holds c.of.result (forest c.args.pool.now) ≡ true) × (tree_at c.of.result (forest c.args.pool.now) ≡ tree_nth c.args.at (kids_of c.args.parent (forest c.args.pool.now)))
+child c =
+    let f = forest c.args.pool.now in
+    let x = child_tree c.args.at c.args.parent f (distinct c.args.pool.now c.requires.stands) c.requires.within in
+    (ap (λ (i : ℕ). holds i f) (value c) ∙ x.live, ap (λ (i : ℕ). tree_at i f) (value c) ∙ x.tree-is)
+
+pub returns-clause-value : goal.returns-clause-value
+returns-clause-value c = value c
+
+pub returns-clause-live : goal.returns-clause-live
+returns-clause-live c = (child c).0
+
+pub returns-clause-tree : goal.returns-clause-tree
+returns-clause-tree c = (child c).1
+
+pub returns-clause-expression : goal.returns-clause-expression
+returns-clause-expression c = λ h. record { live = (child c).0; whole = subst AllExpressions (sym (child c).1) (whole_child c.args.at c.args.parent (forest c.args.pool.now) h.whole) }
+
+pub returns-clause-plain : goal.returns-clause-plain
+returns-clause-plain c = λ h. ap plain (child c).1 ∙ expression_child c.args.at c.args.parent (forest c.args.pool.now) h

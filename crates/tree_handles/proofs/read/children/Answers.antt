@@ -1,0 +1,7 @@
+use Rattle.std.proofs.Common.{sym, ◌∙◌}
+use Rattle.tree_handles.proofs.Readings.{expression_children}
+use Rattle.tree_handles.specs.Standing.{forest}
+use Rattle.tree_handles.proofs.read.children.Goals as goal
+
+pub returns-clause-plain : goal.returns-clause-plain
+returns-clause-plain c = λ h. c.header.ensures.children ∙ sym (expression_children c.args.id (forest c.args.pool.now) h)

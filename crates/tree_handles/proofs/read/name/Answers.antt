@@ -1,0 +1,20 @@
+use Rattle.std.proofs.Common.{◌≡◌, sym, ap, ◌∙◌}
+use Rattle.calc_terms.specs.Leaf.{name_of}
+use Rattle.calc_terms.specs.Payload.{kind_of_payload, named}
+use Rattle.tree_handles.specs.Inside.{tree_at, payload_in}
+use Rattle.tree_handles.specs.Standing.{forest}
+use Rattle.tree_handles.proofs.Parts.{live_node}
+use Rattle.tree_handles.proofs.Plains.{holds_symbol}
+use Rattle.tree_handles.proofs.Readings.{payload_seen, plain_symbol}
+use Rattle.tree_handles.proofs.read.name.Goals as goal
+
+pub name-requires-clause-live : goal.name-requires-clause-live
+name-requires-clause-live c = live_node c.args.id c.args.pool.now c.requires.stands c.requires.live
+
+pub name-requires-clause-symbol : goal.name-requires-clause-symbol
+name-requires-clause-symbol c = ap kind_of_payload (payload_seen c.args.id c.args.pool.now c.requires.stands c.requires.live) ∙ holds_symbol (tree_at c.args.id (forest c.args.pool.now)) c.requires.symbol
+
+pub returns : goal.returns
+returns c =
+    let value : payload_in c.args.id (forest c.args.pool.now) ≡ named (name_of c.name.result) = sym (payload_seen c.args.id c.args.pool.now c.requires.stands c.requires.live) ∙ c.name.ensures.value in
+    record { value = value; plain = plain_symbol c.args.id (forest c.args.pool.now) (name_of c.name.result) c.requires.live value }

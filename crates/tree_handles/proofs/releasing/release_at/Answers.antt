@@ -1,0 +1,66 @@
+use Rattle.std.proofs.Common.{◌≡◌, ℕ, ◌-◌, ◌+◌, ◌<◌, ◌≤◌, ap, subst, ◌∙◌, arith, refl}
+use Rattle.calc_terms.specs.declared.leaf.Header.{Header}
+use Rattle.node_pool.specs.State.{State}
+use Rattle.node_pool.specs.Lists.{first_of, since, with_count, without}
+use Rattle.tree_handles.specs.Walks.{IsNearer, released_at}
+use Rattle.tree_handles.proofs.Releases.{owed_start, owed_done, owed_boundary, owed_inside, owed_live, owed_now, nearer_end, held, held_boundary, kept_others}
+use Rattle.tree_handles.proofs.releasing.release_at.Goals as goal
+
+pub loop-owed-init : goal.loop-owed-init
+loop-owed-init c = record { owed = owed_start c.args.pool.now.nodes c.args.at c.requires.boundary c.requires.inside c.requires.trees; pool = c.requires.pool; others = refl }
+
+pub step-requires-clause-boundary : goal.step-requires-clause-boundary
+step-requires-clause-boundary c = owed_boundary c.loop-owed.pool.nodes c.loop-owed.place c.loop-owed.owed (released_at c.args.at 1 c.args.pool.now.nodes) c.loop-owed.invariant.owed
+
+pub step-requires-clause-inside : goal.step-requires-clause-inside
+step-requires-clause-inside c = owed_inside c.loop-owed.pool.nodes c.loop-owed.place c.loop-owed.owed (released_at c.args.at 1 c.args.pool.now.nodes) c.loop-owed.invariant.owed c.loop-owed-test.true
+
+pub set_count-requires : goal.set_count-requires
+set_count-requires c =
+    let id : c.of.result ≡ (first_of (since c.loop-owed.place c.loop-owed.pool.nodes)).id = c.of.ensures ∙ ap (λ (h : Header). h.id) c.step.ensures.header in
+    rw id (owed_live c.loop-owed.pool.nodes c.loop-owed.place c.loop-owed.owed (released_at c.args.at 1 c.args.pool.now.nodes) c.loop-owed.invariant.owed c.loop-owed-test.true)
+
+counted : (c : goal.After-set_count) → c.set_count.new.self.nodes ≡ with_count (first_of (since c.loop-owed.place c.loop-owed.pool.nodes)).id ((first_of (since c.loop-owed.place c.loop-owed.pool.nodes)).count - 1) c.loop-owed.pool.nodes
+counted c =
+    let id : c.of.result ≡ (first_of (since c.loop-owed.place c.loop-owed.pool.nodes)).id = c.of.ensures ∙ ap (λ (h : Header). h.id) c.step.ensures.header in
+    ap (λ (s : State). s.nodes) c.set_count.ensures.nodes ∙ rw (id, c.step.ensures.header) refl
+
+pub behind-place-requires : goal.behind-place-requires
+behind-place-requires c = record { boundary = held_boundary c.loop-owed.pool.nodes c.set_count.new.self.nodes c.loop-owed.place c.loop-owed.owed (released_at c.args.at 1 c.args.pool.now.nodes) c.loop-owed.invariant.owed c.loop-owed-test.true c.step.ensures.pool.distinct (counted c) }
+
+held-next : (c : goal.After-behind-place) → IsNearer c.loop-owed.pool.nodes c.set_count.new.self.nodes c.loop-owed.place c.loop-owed.owed c.behind-place.result (c.loop-owed.owed - 1) (released_at c.args.at 1 c.args.pool.now.nodes)
+held-next c =
+    let ns = c.loop-owed.pool.nodes in
+    let many : 1 < (first_of (since c.loop-owed.place ns)).count = subst (λ (h : Header). 1 < h.count) c.step.ensures.header c.if-header-gt1.true in
+    let id : c.of.result ≡ (first_of (since c.loop-owed.place ns)).id = c.of.ensures ∙ ap (λ (h : Header). h.id) c.step.ensures.header in
+    let now : c.set_count.new.self.nodes ≡ with_count (first_of (since c.loop-owed.place ns)).id ((first_of (since c.loop-owed.place ns)).count - 1) ns = ap (λ (s : State). s.nodes) c.set_count.ensures.nodes ∙ rw (id, c.step.ensures.header) refl in
+    held ns c.set_count.new.self.nodes c.loop-owed.place c.loop-owed.owed c.behind-place.result (released_at c.args.at 1 c.args.pool.now.nodes) c.loop-owed.invariant.owed c.loop-owed-test.true c.step.ensures.pool.distinct many now c.behind-place.ensures.boundary c.behind-place.ensures.rest
+
+pub loop-owed-smaller-then-header-gt1 : goal.loop-owed-smaller-then-header-gt1
+loop-owed-smaller-then-header-gt1 c = (held-next c).less
+
+pub loop-owed-preserved-then-header-gt1 : goal.loop-owed-preserved-then-header-gt1
+loop-owed-preserved-then-header-gt1 c = record { owed = (held-next c).now; pool = c.set_count.ensures.pool; others = kept_others c.args.pool.now c.loop-owed.pool c.set_count.new.self _ c.loop-owed.invariant.others c.set_count.ensures.nodes }
+
+pub gone-end-requires-clause-owed : goal.gone-end-requires-clause-owed
+gone-end-requires-clause-owed c = owed_now c.loop-owed.pool.nodes c.loop-owed.place c.loop-owed.owed (released_at c.args.at 1 c.args.pool.now.nodes) c.loop-owed.invariant.owed
+
+pub gone-end-requires-clause-alone : goal.gone-end-requires-clause-alone
+gone-end-requires-clause-alone c = subst (λ (h : Header). h.count ≤ 1) c.step.ensures.header c.if-header-gt1.false
+
+pub remove_block-requires-clause-from : goal.remove_block-requires-clause-from
+remove_block-requires-clause-from c = owed_boundary c.loop-owed.pool.nodes c.loop-owed.place c.loop-owed.owed (released_at c.args.at 1 c.args.pool.now.nodes) c.loop-owed.invariant.owed
+
+gone-next : (c : goal.After-remove_block) → IsNearer c.loop-owed.pool.nodes c.remove_block.new.self.nodes c.loop-owed.place c.loop-owed.owed c.loop-owed.place c.gone-end.result.1 (released_at c.args.at 1 c.args.pool.now.nodes)
+gone-next c =
+    let ns = c.loop-owed.pool.nodes in
+    let place = c.loop-owed.place in
+    let end : place + (c.gone-end.result.0 - place) ≡ c.gone-end.result.0 = omega (arith, c.gone-end.ensures.order) in
+    let now : c.remove_block.new.self.nodes ≡ without place c.gone-end.result.0 ns = ap (λ (s : State). s.nodes) c.remove_block.ensures.nodes ∙ ap (λ (k : ℕ). without place k ns) end in
+    rw now (nearer_end ns _ place c.loop-owed.owed place c.gone-end.result.1 (released_at c.args.at 1 c.args.pool.now.nodes) c.loop-owed.invariant.owed c.gone-end.ensures.nearer)
+
+pub loop-owed-smaller : goal.loop-owed-smaller
+loop-owed-smaller c = (gone-next c).less
+
+pub loop-owed-preserved : goal.loop-owed-preserved
+loop-owed-preserved c = record { owed = (gone-next c).now; pool = c.remove_block.ensures.pool; others = kept_others c.args.pool.now c.loop-owed.pool c.remove_block.new.self _ c.loop-owed.invariant.others c.remove_block.ensures.nodes }

@@ -1,0 +1,18 @@
+use Rattle.std.proofs.Common.{◌∙◌, ap, sym, arith}
+use Rattle.node_pool.proofs.Cuts.{boundary_le}
+use Rattle.node_pool.specs.Lists.{since}
+use Rattle.tree_handles.specs.Walks.{skip}
+use Rattle.tree_handles.proofs.Walks.{owed_end}
+use Rattle.tree_handles.proofs.walk.behind.Goals as goal
+
+pub loop-owed-init : goal.loop-owed-init
+loop-owed-init c = record {
+  boundary = c.requires.boundary;
+  within = boundary_le c.args.at c.args.pool.now.nodes c.requires.boundary;
+  order = omega arith;
+  rest = ap (λ n. skip n (since c.args.at c.args.pool.now.nodes)) c.from-owed.ensures;
+  few = omega arith;
+}
+
+pub returns-else-place-end-clause-rest : goal.returns-else-place-end-clause-rest
+returns-else-place-end-clause-rest c = sym (owed_end c.args.pool.now.nodes c.loop-owed.place c.loop-owed.owed (omega arith)) ∙ c.loop-owed.invariant.rest

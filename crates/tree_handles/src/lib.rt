@@ -1,0 +1,17 @@
+//! Trees in a pool, held by handles.
+#![tactic(auto)]
+
+mod copy;
+mod counts;
+mod handle;
+mod moving;
+mod read;
+mod releasing;
+mod walk;
+
+pub use copy::copy_tree;
+pub use counts::{child, retain};
+pub use handle::{Handle, node, number};
+pub use moving::{add_child, take_child};
+pub use read::{child_id, children, count, kind, name, rational};
+pub use releasing::release;

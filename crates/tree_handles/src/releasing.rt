@@ -1,0 +1,76 @@
+//! Releasing trees.
+ghost use Rattle.std.specs.Prelude.{◌≡◌, ◌<◌, ◌≤◌, ◌+◌, ◌-◌, ℕ, true};
+ghost use Rattle.node_pool.specs.Lists.{used, since, first_of, without, IsBoundary};
+ghost use Rattle.node_pool.specs.State.{IsPool};
+ghost use Rattle.tree_handles.specs.Forest.{forest_of, flatten};
+ghost use Rattle.tree_handles.specs.Handed.{IsOwned};
+ghost use Rattle.tree_handles.specs.Inside.{released_in};
+ghost use Rattle.tree_handles.specs.Roots.{IsReleasable, without_root};
+ghost use Rattle.tree_handles.specs.Standing.{Stands, forest, KeepsRefusals};
+ghost use Rattle.tree_handles.specs.Walks.{IsOwed, IsNearer, released_at};
+
+use crate::handle::Handle;
+use crate::walk::{behind, step};
+use node_pool::{Id, Pool};
+
+/// One unit of a node's count goes. Where none is left the node goes, and its children are
+/// released; a subtree that is still held stays as a root where it stood.
+pub fn release(pool: &mut Pool, handle: Handle)
+    requires stands { Stands pool.old }
+    requires releasable { IsReleasable handle (forest pool.old) }
+    ensures forest { forest pool.new ≡ released_in handle (forest pool.old) }
+    ensures owned { IsOwned handle (forest pool.old) → forest pool.new ≡ without_root handle (forest pool.old) }
+    ensures kept { KeepsRefusals pool.old pool.new }
+    ensures stands { Stands pool.new }
+{
+    let at = pool.locate(handle.id());
+    release_at(pool, at);
+}
+
+/// The tree that begins at a place loses one unit of its count.
+fn release_at(pool: &mut Pool, at: u32)
+    requires boundary { IsBoundary at pool.old.nodes }
+    requires inside { at < used pool.old.nodes }
+    requires trees { since at pool.old.nodes ≡ flatten (forest_of (since at pool.old.nodes)) }
+    requires pool { IsPool pool.old }
+    ensures nodes { pool.new ≡ record pool.old { nodes = released_at at 1 pool.old.nodes } }
+    ensures pool { IsPool pool.new }
+{
+    let mut place = at;
+    let mut owed = 1u64;
+    while owed > 0 {
+        let (header, _) = step(pool, place);
+        if header.count > 1 {
+            pool.set_count(Id::of(header.id), header.count - 1);
+            place = behind(pool, place, 1);
+            owed -= 1;
+        } else {
+            let (end, left) = gone(pool, place, owed);
+            pool.remove_block(place, end - place);
+            owed = left;
+        }
+    }
+}
+
+/// The place behind the nodes that go, up to the next one that is held, and how many trees are
+/// still owed there.
+fn gone(pool: &Pool, place: u32, owed: u64) -> (u32, u64)
+    requires owed { IsOwed pool.now.nodes place owed (released_at place owed pool.now.nodes) }
+    requires some { 0 < owed }
+    requires alone { (first_of (since place pool.now.nodes)).count ≤ 1 }
+    ensures boundary { IsBoundary result.0 pool.now.nodes }
+    ensures order { place ≤ result.0 }
+    ensures nearer { IsNearer pool.now.nodes (without place result.0 pool.now.nodes) place owed place result.1 (released_at place owed pool.now.nodes) }
+{
+    let (first, mut at) = step(pool, place);
+    let mut owed = owed - 1 + u64::from(first.children);
+    while owed > 0 {
+        let (header, next) = step(pool, at);
+        if header.count > 1 {
+            break;
+        }
+        at = next;
+        owed = owed - 1 + u64::from(header.children);
+    }
+    (at, owed)
+}
