@@ -92,3 +92,11 @@ with_kids-with_kids i a b (tree l k r) h =
     (λ e q h. by_test (λ u. holds i k ≡ u → cond u true (holds i r) ≡ true → with_kids i a (cond u (tree l (with_kids i b k) r) (tree l k (with_kids i b r))) ≡ cond u (tree l (with_kids i a k) r) (tree l k (with_kids i a r))) (holds i k)
         (λ u v w. rw (q, holds-with_kids i b k v) (ap (λ (x : Forest). tree l x r) (with_kids-with_kids i a b k v)))
         (λ u v w. rw (q, v) (ap (λ (x : Forest). tree l k x) (with_kids-with_kids i a b r w))) refl h) refl h
+
+pub with_kids-same : (i : ℕ) (f : Forest) → with_kids i (kids_of i f) f ≡ f
+with_kids-same i empty = refl
+with_kids-same i (tree l k r) =
+    by_test (λ t. cond t (tree l (kids (cond t (tree l k empty) (cond (holds i k) (tree_at i k) (tree_at i r)))) r)
+        (cond (holds i k) (tree l (with_kids i (kids (cond t (tree l k empty) (cond (holds i k) (tree_at i k) (tree_at i r)))) k) r) (tree l k (with_kids i (kids (cond t (tree l k empty) (cond (holds i k) (tree_at i k) (tree_at i r)))) r))) ≡ tree l k r) (eqb l.id i) (λ e. refl)
+    (λ e. by_test (λ t. cond t (tree l (with_kids i (kids (cond t (tree_at i k) (tree_at i r))) k) r) (tree l k (with_kids i (kids (cond t (tree_at i k) (tree_at i r))) r)) ≡ tree l k r) (holds i k)
+        (λ q. ap (λ (x : Forest). tree l x r) (with_kids-same i k)) (λ q. ap (λ (x : Forest). tree l k x) (with_kids-same i r)))

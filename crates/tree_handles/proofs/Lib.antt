@@ -13,3 +13,6 @@ pub mod Held
 pub mod Adding
 pub mod Copies
 pub mod Copying
+pub mod Nths
+pub mod Replacing
+pub mod Swapping

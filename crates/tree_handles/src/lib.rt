@@ -12,6 +12,6 @@ mod walk;
 pub use copy::copy_tree;
 pub use counts::{child, retain};
 pub use handle::{Handle, node, number};
-pub use moving::{add_child, take_child};
+pub use moving::{add_child, merge_children, move_last, replace_child, swap_children, take_child};
 pub use read::{child_id, children, count, kind, name, rational};
 pub use releasing::release;

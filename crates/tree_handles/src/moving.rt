@@ -1,14 +1,14 @@
 //! Moving children.
 ghost use Rattle.std.specs.Prelude.{◌≡◌, ◌<◌, ◌≤◌, ◌+◌, ◌-◌, ℕ, true, false};
-ghost use Rattle.tree_handles.specs.Forest.{join, arity, tree_nth, without_nth, with_nth, root_id};
+ghost use Rattle.tree_handles.specs.Forest.{join, arity, tree_nth, without_nth, with_nth, set_nth, swapped_nth, merged_nth, root_id, root_count};
 ghost use Rattle.tree_handles.specs.Inside.{holds, kids_of, with_kids};
 ghost use Rattle.tree_handles.specs.Roots.{has_root, root_tree, without_root};
 ghost use Rattle.tree_handles.specs.Standing.{Stands, forest, KeepsRefusals};
 
 use crate::handle::Handle;
 use crate::read::{child_id, children};
-use crate::walk::{behind, child_place};
-use node_pool::Pool;
+use crate::walk::{behind, child_place, step};
+use node_pool::{Id, Pool};
 
 /// A child's tree becomes the last root, and the parent's unit of its count becomes the handle's.
 pub fn take_child(pool: &mut Pool, parent: &Handle, at: u16) -> Handle
@@ -50,4 +50,88 @@ pub fn add_child(pool: &mut Pool, parent: &Handle, at: u16, child: Handle)
     let to = child_place(pool, owner, at);
     pool.move_block(from, end - from, to);
     pool.set_children(owner, children + 1);
+}
+
+/// A root takes the place of a child, whose tree becomes the last root.
+pub fn replace_child(pool: &mut Pool, parent: &Handle, at: u16, new: Handle) -> Handle
+    requires stands { Stands pool.old }
+    requires within { at < arity (kids_of parent.now (forest pool.old)) }
+    requires root { has_root new (forest pool.old) ≡ true }
+    requires apart { holds parent.now (root_tree new (forest pool.old)) ≡ false }
+    ensures forest { let old = forest pool.old in
+        let kids = kids_of parent.now old in
+        forest pool.new ≡ join (with_kids parent.now (set_nth at (root_tree new old) kids) (without_root new old)) (tree_nth at kids) }
+    ensures handle { result ≡ root_id (tree_nth at (kids_of parent.now (forest pool.old))) }
+    ensures kept { KeepsRefusals pool.old pool.new }
+    ensures stands { Stands pool.new }
+{
+    let old = take_child(pool, parent, at);
+    add_child(pool, parent, at, new);
+    old
+}
+
+/// Two children change places.
+pub fn swap_children(pool: &mut Pool, parent: &Handle, i: u16, j: u16)
+    requires stands { Stands pool.old }
+    requires first { i < arity (kids_of parent.now (forest pool.old)) }
+    requires second { j < arity (kids_of parent.now (forest pool.old)) }
+    ensures forest { forest pool.new ≡ with_kids parent.now (swapped_nth i j (kids_of parent.now (forest pool.old))) (forest pool.old) }
+    ensures kept { KeepsRefusals pool.old pool.new }
+    ensures stands { Stands pool.new }
+{
+    let owner = parent.id();
+    if i < j {
+        swap_apart(pool, owner, i, j);
+    } else if j < i {
+        swap_apart(pool, owner, j, i);
+    }
+}
+
+/// Two children change places, the first of them given first.
+fn swap_apart(pool: &mut Pool, parent: Id, low: u16, high: u16)
+    requires stands { Stands pool.old }
+    requires order { low < high }
+    requires within { high < arity (kids_of parent (forest pool.old)) }
+    ensures forest { forest pool.new ≡ with_kids parent (swapped_nth low high (kids_of parent (forest pool.old))) (forest pool.old) }
+    ensures kept { KeepsRefusals pool.old pool.new }
+    ensures stands { Stands pool.new }
+{
+    let first = child_place(pool, parent, low);
+    let mid = behind(pool, first, 1);
+    let second = child_place(pool, parent, high);
+    let end = behind(pool, second, 1);
+    let len = end - second;
+    pool.move_block(second, len, first);
+    pool.move_block(first + len, mid - first, end);
+}
+
+/// The children of a child take its place, and its node goes. No other handle holds that child.
+pub fn merge_children(pool: &mut Pool, parent: &Handle, at: u16)
+    requires stands { Stands pool.old }
+    requires within { at < arity (kids_of parent.now (forest pool.old)) }
+    requires unshared { root_count (tree_nth at (kids_of parent.now (forest pool.old))) ≡ 1 }
+    ensures forest { forest pool.new ≡ with_kids parent.now (merged_nth at (kids_of parent.now (forest pool.old))) (forest pool.old) }
+    ensures kept { KeepsRefusals pool.old pool.new }
+    ensures stands { Stands pool.new }
+{
+    let owner = parent.id();
+    let children = children(pool, owner);
+    let from = child_place(pool, owner, at);
+    let (header, next) = step(pool, from);
+    pool.remove_block(from, next - from);
+    pool.set_children(owner, children - 1 + header.children);
+}
+
+/// A root's tree goes behind all others.
+pub fn move_last(pool: &mut Pool, handle: &Handle)
+    requires stands { Stands pool.old }
+    requires root { has_root handle.now (forest pool.old) ≡ true }
+    ensures forest { forest pool.new ≡ join (without_root handle.now (forest pool.old)) (root_tree handle.now (forest pool.old)) }
+    ensures kept { KeepsRefusals pool.old pool.new }
+    ensures stands { Stands pool.new }
+{
+    let from = pool.locate(handle.id());
+    let end = behind(pool, from, 1);
+    let used = pool.used();
+    pool.move_block(from, end - from, used);
 }

@@ -1,0 +1,85 @@
+-- A root beside a node whose children change.
+use Rattle.std.proofs.Common.{◌≡◌, ℕ, ◌+◌, ◌-◌, ◌<◌, ◌≤◌, cond, eqb, refl, sym, ap, ◌∙◌, subst, arith, Bool, true, false}
+use Rattle.tree_handles.specs.Forest.{Label, Forest, empty, tree, join, arity, tree_nth, without_nth, with_nth, set_nth}
+use Rattle.tree_handles.specs.Inside.{holds, kids_of, with_kids}
+use Rattle.tree_handles.specs.Roots.{has_root, root_tree, without_root}
+use Rattle.tree_handles.proofs.Distinct.{held_parent}
+use Rattle.tree_handles.proofs.Forests.{arity-without_nth}
+use Rattle.tree_handles.proofs.Joins.{holds-left, kids_of-join_left, with_kids-join_left, holds-with_kids, kids_of-with_kids, with_kids-with_kids}
+use Rattle.tree_handles.proofs.Nths.{with_nth-without_nth}
+use Rattle.tree_handles.proofs.Roots.{root-left, tree-left, without-left, root_held}
+use Rattle.tree_handles.proofs.Tests.{by_test, or_true, not_left, not_right}
+
+pub has_root-with_kids : (c p : ℕ) (n f : Forest) → has_root c (with_kids p n f) ≡ has_root c f
+has_root-with_kids c p n empty = refl
+has_root-with_kids c p n (tree l k r) =
+    by_test (λ t. has_root c (cond t (tree l n r) (cond (holds p k) (tree l (with_kids p n k) r) (tree l k (with_kids p n r)))) ≡ cond (eqb l.id c) true (has_root c r)) (eqb l.id p) (λ e. refl)
+    (λ e. by_test (λ t. has_root c (cond t (tree l (with_kids p n k) r) (tree l k (with_kids p n r))) ≡ cond (eqb l.id c) true (has_root c r)) (holds p k) (λ q. refl) (λ q. ap (cond (eqb l.id c) true) (has_root-with_kids c p n r)))
+
+-- the node is not in the tree of the root
+neither : (t u : Bool) → cond t true (cond u true false) ≡ false → (t ≡ false) × (u ≡ false)
+neither true u h = absurd cc
+neither false true h = absurd cc
+neither false false h = (refl, refl)
+
+pub root_tree-with_kids : (c p : ℕ) (n f : Forest) → holds p (root_tree c f) ≡ false → root_tree c (with_kids p n f) ≡ root_tree c f
+root_tree-with_kids c p n empty a = refl
+root_tree-with_kids c p n (tree l k r) a =
+    by_test (λ t. eqb l.id c ≡ t → holds p (cond t (tree l k empty) (root_tree c r)) ≡ false
+        → root_tree c (cond (eqb l.id p) (tree l n r) (cond (holds p k) (tree l (with_kids p n k) r) (tree l k (with_kids p n r)))) ≡ cond t (tree l k empty) (root_tree c r)) (eqb l.id c)
+    (λ e q a. let x = neither (eqb l.id p) (holds p k) a in rw (x.0, x.1, q) refl)
+    (λ e q a. by_test (λ t. root_tree c (cond t (tree l n r) (cond (holds p k) (tree l (with_kids p n k) r) (tree l k (with_kids p n r)))) ≡ root_tree c r) (eqb l.id p)
+        (λ u. rw q refl)
+        (λ u. by_test (λ t. root_tree c (cond t (tree l (with_kids p n k) r) (tree l k (with_kids p n r))) ≡ root_tree c r) (holds p k) (λ v. rw q refl) (λ v. rw q (root_tree-with_kids c p n r a)))) refl a
+
+pub without_root-with_kids : (c p : ℕ) (n f : Forest) → holds p (root_tree c f) ≡ false → without_root c (with_kids p n f) ≡ with_kids p n (without_root c f)
+without_root-with_kids c p n empty a = refl
+without_root-with_kids c p n (tree l k r) a =
+    by_test (λ t. eqb l.id c ≡ t → holds p (cond t (tree l k empty) (root_tree c r)) ≡ false
+        → without_root c (cond (eqb l.id p) (tree l n r) (cond (holds p k) (tree l (with_kids p n k) r) (tree l k (with_kids p n r)))) ≡ with_kids p n (cond t r (tree l k (without_root c r)))) (eqb l.id c)
+    (λ e q a. let x = neither (eqb l.id p) (holds p k) a in rw (x.0, x.1, q) refl)
+    (λ e q a. by_test (λ t. without_root c (cond t (tree l n r) (cond (holds p k) (tree l (with_kids p n k) r) (tree l k (with_kids p n r))))
+            ≡ cond t (tree l n (without_root c r)) (cond (holds p k) (tree l (with_kids p n k) (without_root c r)) (tree l k (with_kids p n (without_root c r))))) (eqb l.id p)
+        (λ u. rw q refl)
+        (λ u. by_test (λ t. without_root c (cond t (tree l (with_kids p n k) r) (tree l k (with_kids p n r))) ≡ cond t (tree l (with_kids p n k) (without_root c r)) (tree l k (with_kids p n (without_root c r)))) (holds p k)
+            (λ v. rw q refl) (λ v. rw q (ap (λ (x : Forest). tree l k x) (without_root-with_kids c p n r a))))) refl a
+
+-- a node that is not in the tree of a root is among the others
+pub held_beside : (c p : ℕ) (f : Forest) → holds p (root_tree c f) ≡ false → holds p f ≡ true → holds p (without_root c f) ≡ true
+held_beside c p empty a h = absurd cc
+held_beside c p (tree l k r) a h =
+    by_test (λ t. holds p (cond t (tree l k empty) (root_tree c r)) ≡ false → cond (eqb l.id p) true (cond (holds p k) true (holds p r)) ≡ true → holds p (cond t r (tree l k (without_root c r))) ≡ true) (eqb l.id c)
+    (λ e a h. let x = neither (eqb l.id p) (holds p k) a in subst (λ (t : Bool). cond t true (holds p r) ≡ true) x.1 (subst (λ (t : Bool). cond t true (cond (holds p k) true (holds p r)) ≡ true) x.0 h))
+    (λ e a h. by_test (λ t. cond t true (cond (holds p k) true (holds p r)) ≡ true → cond t true (cond (holds p k) true (holds p (without_root c r))) ≡ true) (eqb l.id p) (λ q h. refl)
+        (λ q h. by_test (λ t. cond t true (holds p r) ≡ true → cond t true (holds p (without_root c r)) ≡ true) (holds p k) (λ v w. refl) (λ v w. held_beside c p r a w) h) h) a h
+
+-- ---- a child goes, and a root comes in its stead
+
+pub record IsReplaced (p n c : ℕ) (f g : Forest) : Type 0 where
+  pub live : holds p g ≡ true
+  pub within : n ≤ arity (kids_of p g)
+  pub root : has_root c g ≡ true
+  pub apart : holds p (root_tree c g) ≡ false
+  pub done : with_kids p (with_nth n (root_tree c g) (kids_of p g)) (without_root c g) ≡ join (with_kids p (set_nth n (root_tree c f) (kids_of p f)) (without_root c f)) (tree_nth n (kids_of p f))
+
+pub replaced : (p n c : ℕ) (f g : Forest) → n < arity (kids_of p f) → has_root c f ≡ true → holds p (root_tree c f) ≡ false → g ≡ join (with_kids p (without_nth n (kids_of p f)) f) (tree_nth n (kids_of p f)) → IsReplaced p n c f g
+replaced p n c f g within root apart e =
+    let k = kids_of p f in
+    let t = tree_nth n k in
+    let less = without_nth n k in
+    let f1 = with_kids p less f in
+    let live : holds p f ≡ true = held_parent n p f within in
+    let live1 : holds p f1 ≡ true = holds-with_kids p less f live in
+    let root1 : has_root c f1 ≡ true = has_root-with_kids c p less f ∙ root in
+    let kids-are : kids_of p g ≡ less = ap (kids_of p) e ∙ kids_of-join_left p f1 t live1 ∙ kids_of-with_kids p less f live in
+    let tree-is : root_tree c g ≡ root_tree c f = ap (root_tree c) e ∙ tree-left c f1 t root1 ∙ root_tree-with_kids c p less f apart in
+    let rest-is : without_root c g ≡ join (with_kids p less (without_root c f)) t = ap (without_root c) e ∙ without-left c f1 t root1 ∙ ap (λ (x : Forest). join x t) (without_root-with_kids c p less f apart) in
+    let beside : holds p (without_root c f) ≡ true = held_beside c p f apart live in
+    record {
+      live = ap (holds p) e ∙ holds-left p f1 t live1;
+      within = omega (arith, ap arity kids-are, arity-without_nth n k within, within);
+      root = ap (has_root c) e ∙ root-left c f1 t root1;
+      apart = ap (holds p) tree-is ∙ apart;
+      done = rw (tree-is, kids-are, rest-is, with_nth-without_nth n (root_tree c f) k within, with_kids-join_left p (set_nth n (root_tree c f) k) (with_kids p less (without_root c f)) t (holds-with_kids p less (without_root c f) beside))
+          (ap (λ (x : Forest). join x t) (with_kids-with_kids p (set_nth n (root_tree c f) k) less (without_root c f) beside));
+    }
