@@ -16,3 +16,4 @@ pub mod Copying
 pub mod Nths
 pub mod Replacing
 pub mod Swapping
+pub mod Measures

@@ -1,0 +1,16 @@
+use Rattle.std.proofs.Common.{◌≡◌, ◌-◌, sym, ◌∙◌}
+use Rattle.tree_handles.specs.Forest.{bytes_in}
+use Rattle.tree_handles.specs.Inside.{tree_at}
+use Rattle.tree_handles.specs.Standing.{forest}
+use Rattle.tree_handles.proofs.Copying.{tree_here}
+use Rattle.tree_handles.proofs.Parts.{live_node}
+use Rattle.tree_handles.proofs.Plains.{size-plain}
+use Rattle.tree_handles.proofs.measure.tree_bytes.Goals as goal
+
+pub locate-from-requires : goal.locate-from-requires
+locate-from-requires c = live_node c.args.id c.args.pool.now c.requires.stands c.requires.live
+
+pub returns : goal.returns
+returns c =
+    let t = tree_here c.args.id c.locate-from.result c.behind.result c.args.pool.now c.requires.stands c.requires.live c.locate-from.ensures.value c.behind.ensures.boundary c.behind.ensures.rest in
+    record { value = t.size; plain = λ h. t.size ∙ sym (size-plain (tree_at c.args.id (forest c.args.pool.now)) t.one h.whole) }

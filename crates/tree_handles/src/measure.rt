@@ -1,0 +1,71 @@
+//! The bytes, the nodes and the depth of a tree, each in one walk over its nodes.
+ghost use Rattle.std.specs.Prelude.{◌≡◌, ◌<◌, ◌≤◌, ◌+◌, ◌-◌, ℕ, true};
+ghost use Rattle.calc_terms.specs.Trees.{size, nodes, depth};
+ghost use Rattle.tree_handles.specs.Expressions.{IsExpression, plain};
+ghost use Rattle.tree_handles.specs.Forest.{bytes_in, nodes_in, depth_in};
+ghost use Rattle.tree_handles.specs.Inside.{holds, tree_at};
+ghost use Rattle.tree_handles.specs.Standing.{Stands, forest};
+
+use crate::walk::{behind, step};
+use node_pool::{Id, Pool};
+
+/// A pool has at most 65,535 nodes, so a walk has at most one level more than that open.
+const LEVELS: usize = 65_536;
+
+/// The bytes of a tree's nodes.
+pub fn tree_bytes(pool: &Pool, id: Id) -> u32
+    requires stands { Stands pool.now }
+    requires live { holds id (forest pool.now) ≡ true }
+    ensures value { result ≡ bytes_in (tree_at id (forest pool.now)) }
+    ensures plain { IsExpression id (forest pool.now) → result ≡ size (plain (tree_at id (forest pool.now))) }
+{
+    let from = pool.locate(id);
+    behind(pool, from, 1) - from
+}
+
+/// The number of a tree's nodes.
+pub fn tree_nodes(pool: &Pool, id: Id) -> u32
+    requires stands { Stands pool.now }
+    requires live { holds id (forest pool.now) ≡ true }
+    ensures value { result ≡ nodes_in (tree_at id (forest pool.now)) }
+    ensures plain { IsExpression id (forest pool.now) → result ≡ nodes (plain (tree_at id (forest pool.now))) }
+{
+    let mut at = pool.locate(id);
+    let mut owed = 1u64;
+    let mut nodes = 0u32;
+    while owed > 0 {
+        let (header, next) = step(pool, at);
+        owed = owed - 1 + u64::from(header.children);
+        nodes += 1;
+        at = next;
+    }
+    nodes
+}
+
+/// The depth of a tree: 1 for a single node, and else one more than its deepest child's.
+pub fn tree_depth(pool: &Pool, id: Id) -> u32
+    requires stands { Stands pool.now }
+    requires live { holds id (forest pool.now) ≡ true }
+    ensures value { result ≡ depth_in (tree_at id (forest pool.now)) }
+    ensures plain { IsExpression id (forest pool.now) → result ≡ depth (plain (tree_at id (forest pool.now))) }
+{
+    let mut at = pool.locate(id);
+    // How many nodes are still owed on each open level.
+    let mut owed = [0u16; LEVELS];
+    owed[0] = 1;
+    let mut height = 1usize;
+    let mut deepest = 0u32;
+    while height > 0 {
+        if owed[height - 1] == 0 {
+            height -= 1;
+        } else {
+            let (header, next) = step(pool, at);
+            owed[height - 1] -= 1;
+            deepest = deepest.max(height as u32);
+            owed[height] = header.children;
+            height += 1;
+            at = next;
+        }
+    }
+    deepest
+}
