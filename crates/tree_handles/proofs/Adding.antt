@@ -4,8 +4,11 @@ use Rattle.std.proofs.lemmas.Bool.{eqb-true, cases_Bool}
 use Rattle.std.proofs.lemmas.List.{length-append}
 use Rattle.calc_terms.specs.Node.{Node}
 use Rattle.node_pool.specs.State.{State, IsPool}
-use Rattle.node_pool.specs.Lists.{has, used, since, place_of, moved, with_children, IsBoundary, AreDistinct}
-use Rattle.node_pool.proofs.Lists.{since-append, or_is_false, has-append, used-append, length_le_used, size_from}
+use Rattle.node_pool.specs.Nodes.{has, used, place_of, with_children, AreDistinct}
+use Rattle.node_pool.specs.Places.{since, moved, IsBoundary}
+use Rattle.node_pool.proofs.Sizes.{used-append, length_le_used, size_from}
+use Rattle.node_pool.proofs.Ids.{or_is_false, has-append}
+use Rattle.node_pool.proofs.Cuts.{since-append}
 use Rattle.node_pool.proofs.Splits.{place_of-append, moved_left, moved_right, with_children-append}
 use Rattle.tree_handles.specs.Standing.{forest, Stands, IsCounted}
 use Rattle.tree_handles.specs.Forest.{Label, Forest, empty, tree, join, arity, kids, node_of, flatten, first_trees, rest_trees, with_nth, AllNodes}

@@ -3,15 +3,16 @@ use Rattle.std.proofs.Common.{◌≡◌, ℕ, suc, ◌+◌, ◌<◌, List, [], �
 use Rattle.calc_terms.specs.declared.leaf.Header.{Header}
 use Rattle.calc_terms.specs.Node.{Node, IsNode, size_of, header_of, fresh}
 use Rattle.calc_terms.specs.Payload.{Payload, kind_of_payload}
-use Rattle.node_pool.specs.Lists.{has, used, since, until, first_of, leaf_of, IsBoundary, AreNodes, AreDistinct, with_children}
+use Rattle.node_pool.specs.Nodes.{has, used, first_of, payload_of_id, AreNodes, AreDistinct, with_children}
+use Rattle.node_pool.specs.Places.{since, until, IsBoundary}
 use Rattle.node_pool.specs.State.{State, IsPool}
-use Rattle.node_pool.proofs.Lists.{until-since}
+use Rattle.node_pool.proofs.Cuts.{until-since}
 use Rattle.node_pool.proofs.Cuts.{step, AreNodes-since}
 use Rattle.node_pool.proofs.Splits.{with_children-append}
 use Rattle.tree_handles.specs.Copies.{IsCopy, AreCopies, copy_of}
 use Rattle.tree_handles.specs.Forest.{Label, Forest, empty, tree, arity, node_of, flatten}
 use Rattle.tree_handles.proofs.Parts.{has_mid}
-use Rattle.tree_handles.proofs.Readings.{leaf_of-append}
+use Rattle.tree_handles.proofs.Readings.{payload_of_id-append}
 use Rattle.tree_handles.proofs.Distinct.{not_before}
 
 -- one copy more
@@ -70,11 +71,11 @@ copied (tree l k r) (m ∷ ms) h =
 
 pub record IsThere (n : Node) (ns : List Node) : Type 0 where
   pub live : has n.id ns ≡ true
-  pub payload-is : leaf_of n.id ns ≡ n.payload
+  pub payload-is : payload_of_id n.id ns ≡ n.payload
   pub valid : IsNode n
 
 there_split : (a : List Node) (n : Node) (b : List Node) → AreDistinct (a ++ n ∷ b) → IsNode n → IsThere n (a ++ n ∷ b)
-there_split a n b d v = record { live = has_mid n.id a n b refl; payload-is = leaf_of-append n.id a n b (not_before a n b d) refl; valid = v }
+there_split a n b d v = record { live = has_mid n.id a n b refl; payload-is = payload_of_id-append n.id a n b (not_before a n b d) refl; valid = v }
 
 first_valid : (ns b : List Node) → ns ≡ first_of ns ∷ b → AreNodes ns → IsNode (first_of ns)
 first_valid [] b e h = absurd cc
@@ -90,11 +91,11 @@ there s at p b lt =
     subst (IsThere n) whole (there_split (until at s.nodes) n rest (subst AreDistinct (sym whole) p.distinct) v)
 
 pub told_there : (s : State) (at : ℕ) (h : Header) (id : ℕ) → IsPool s → IsBoundary at s.nodes → at < used s.nodes → h ≡ header_of (first_of (since at s.nodes)) → id ≡ h.id
-    → (has id s.nodes ≡ true) × (leaf_of id s.nodes ≡ (first_of (since at s.nodes)).payload) × (kind_of_payload (leaf_of id s.nodes) ≡ h.kind)
+    → (has id s.nodes ≡ true) × (payload_of_id id s.nodes ≡ (first_of (since at s.nodes)).payload) × (kind_of_payload (payload_of_id id s.nodes) ≡ h.kind)
 told_there s at h id p b lt e q =
     let t = there s at p b lt in
     let i : id ≡ (first_of (since at s.nodes)).id = q ∙ ap (λ (x : Header). x.id) e in
-    let l : leaf_of id s.nodes ≡ (first_of (since at s.nodes)).payload = ap (λ (j : ℕ). leaf_of j s.nodes) i ∙ t.payload-is in
+    let l : payload_of_id id s.nodes ≡ (first_of (since at s.nodes)).payload = ap (λ (j : ℕ). payload_of_id j s.nodes) i ∙ t.payload-is in
     (ap (λ (j : ℕ). has j s.nodes) i ∙ t.live, l, ap kind_of_payload l ∙ sym (ap (λ (x : Header). x.kind) e))
 
 -- the new node with its number of children

@@ -2,10 +2,12 @@
 use Rattle.std.proofs.Common.{◌≡◌, ℕ, suc, ◌+◌, ◌-◌, ◌<◌, ◌≤◌, List, [], ◌∷◌, ◌++◌, refl, sym, ap, ◌∙◌, subst, arith, append_assoc, true}
 use Rattle.std.proofs.lemmas.List.{append-nil}
 use Rattle.calc_terms.specs.Node.{Node, size_of}
-use Rattle.node_pool.specs.Lists.{used, since, until, between, first_of, place_of, IsBoundary}
+use Rattle.node_pool.specs.Nodes.{used, first_of, place_of}
+use Rattle.node_pool.specs.Places.{since, until, between, IsBoundary}
 use Rattle.node_pool.specs.State.{IsPool, State, free_of}
-use Rattle.node_pool.proofs.Lists.{used-append, until-since, since-append, size_from}
-use Rattle.node_pool.proofs.Cuts.{step, cut, boundary_le, between_more, between_none}
+use Rattle.node_pool.proofs.Sizes.{used-append, size_from}
+use Rattle.node_pool.proofs.Cuts.{until-since, since-append}
+use Rattle.node_pool.proofs.Cuts.{step, cut, boundary_le, between_next, between_none}
 use Rattle.node_pool.proofs.Splits.{boundary-append, between-append, place_of-append}
 use Rattle.tree_handles.specs.Copies.{AreCopies, copy_of, IsCopy}
 use Rattle.tree_handles.specs.Expressions.{nth, plains, plain, AllExpressions, IsExpression}
@@ -69,7 +71,7 @@ has_room s t from at end c b e low lt room =
     let nodes : t.nodes ≡ ns ++ c.made = ap (λ (x : State). x.nodes) c.state in
     let size : t.size ≡ s.size = ap (λ (x : State). x.size) c.state in
     let first : first_of (since at t.nodes) ≡ first_of (since at ns) = ap (λ (x : List Node). first_of (since at x)) nodes ∙ first_same at ns c.made b inside in
-    let more = (between_more at end ns (first_of (since at ns)) b e lt (step at ns b inside).rest).1 in
+    let more = (between_next at (size_of (first_of (since at ns))) end ns b e lt (step at ns b inside).rest refl).1 in
     record {
       boundary = subst (IsBoundary at) (sym nodes) (boundary_more at ns c.made b);
       inside = omega (arith, ap used nodes, used-append ns c.made);
@@ -105,7 +107,7 @@ copied_more s t u from at end next id c a b e low lt q h =
       };
       boundary = subst (λ (k : ℕ). IsBoundary k ns) (sym next-is) x.boundary;
       low = omega arith;
-      high = omega (arith, (between_more at end ns n b e lt x.rest).1);
+      high = omega (arith, (between_next at (size_of n) end ns b e lt x.rest refl).1);
     }
 
 pub copying_start : (s : State) (from : ℕ) → IsCopying s s from from

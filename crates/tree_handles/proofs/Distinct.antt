@@ -3,9 +3,9 @@ use Rattle.std.proofs.Common.{◌≡◌, ℕ, zero, suc, ◌<◌, ◌≤◌, Lis
 use Rattle.std.proofs.lemmas.Bool.{eqb-true, eq-eqb}
 use Rattle.std.proofs.lemmas.List.{append-nil}
 use Rattle.calc_terms.specs.Node.{Node}
-use Rattle.node_pool.specs.Lists.{has, AreDistinct}
+use Rattle.node_pool.specs.Nodes.{has, AreDistinct}
 use Rattle.node_pool.specs.State.{State}
-use Rattle.node_pool.proofs.Lists.{has-append, AreDistinct-parts, AreDistinct-append, AreApart, AreApart-parts, AreApart-sym}
+use Rattle.node_pool.proofs.Ids.{has-append, AreDistinct-parts, AreDistinct-append, AreApart, AreApart-parts, AreApart-sym}
 use Rattle.tree_handles.specs.Forest.{Label, Forest, empty, tree, join, arity, node_of, flatten, first_trees, rest_trees, tree_nth, kids, root_id}
 use Rattle.tree_handles.specs.Inside.{holds, tree_at, kids_of, with_kids}
 use Rattle.tree_handles.specs.Roots.{has_root, root_tree, without_root, put}

@@ -3,8 +3,10 @@ use Rattle.std.proofs.Common.{◌≡◌, ℕ, suc, ◌<◌, ◌⊎◌, inl, inr,
 use Rattle.std.proofs.lemmas.Bool.{eqb-true, eq-eqb}
 use Rattle.calc_terms.specs.Node.{Node}
 use Rattle.node_pool.specs.State.{State, IsPool}
-use Rattle.node_pool.specs.Lists.{has, used, since, until, place_of, AreDistinct}
-use Rattle.node_pool.proofs.Lists.{has-append, or_is_false, since-append, until-append}
+use Rattle.node_pool.specs.Nodes.{has, used, place_of, AreDistinct}
+use Rattle.node_pool.specs.Places.{since, until}
+use Rattle.node_pool.proofs.Ids.{has-append, or_is_false}
+use Rattle.node_pool.proofs.Cuts.{since-append, until-append}
 use Rattle.node_pool.proofs.Splits.{place_of-append}
 use Rattle.tree_handles.specs.Forest.{Label, Forest, empty, tree, join, arity, root_count, node_of, flatten, forest_of}
 use Rattle.tree_handles.specs.Handed.{AllOnce, IsOwned}

@@ -4,9 +4,11 @@ use Rattle.std.proofs.lemmas.List.{length-append, append-nil, get_or-set_other, 
 use Rattle.std.proofs.Math.ListN.{set}
 use Rattle.calc_terms.specs.declared.leaf.Header.{Header}
 use Rattle.calc_terms.specs.Node.{Node, size_of, header_of}
-use Rattle.node_pool.specs.Lists.{used, since, until, place_of, first_of, IsBoundary}
+use Rattle.node_pool.specs.Nodes.{used, place_of, first_of}
+use Rattle.node_pool.specs.Places.{since, until, IsBoundary}
 use Rattle.node_pool.specs.State.{State}
-use Rattle.node_pool.proofs.Lists.{since-append, until-since, used-append, length_le_used, size_from}
+use Rattle.node_pool.proofs.Sizes.{used-append, length_le_used, size_from}
+use Rattle.node_pool.proofs.Cuts.{since-append, until-since}
 use Rattle.node_pool.proofs.Splits.{place_of-append}
 use Rattle.tree_handles.specs.Forest.{Label, Forest, empty, tree, join, arity, node_of, flatten, first_trees, rest_trees, nodes_in, depth_in}
 use Rattle.tree_handles.specs.Inside.{holds, tree_at, kids_of}
@@ -103,7 +105,7 @@ nodes_tree_at i (tree l k r) =
 pub left_few : (at owed count total : ℕ) (s : State) → Stands s → IsLeft at owed count total s.nodes → (owed ≤ 65535) × (count ≤ total)
 left_few at owed count total s st x =
     let nodes = ap length (until-since at s.nodes) in
-    (omega (arith, x.all, arity_le x.trees, nodes, length-append (until at s.nodes) (since at s.nodes), ap length x.nodes, length-append (flatten x.trees) x.behind, length_le_used s.nodes, st.pool.fits, st.pool.small), omega (arith, x.sum))
+    (omega (arith, x.all, arity_le x.trees, nodes, length-append (until at s.nodes) (since at s.nodes), ap length x.nodes, length-append (flatten x.trees) x.behind, length_le_used s.nodes, st.pool.fits, st.pool.size.most), omega (arith, x.sum))
 
 pub left_done : (at owed count total : ℕ) (ns : List Node) → IsLeft at owed count total ns → owed ≡ 0 → count ≡ total
 left_done at owed count total ns x z = none_left x.trees (x.all ∙ z) x.sum
@@ -114,7 +116,7 @@ left_done at owed count total ns x z = none_left x.trees (x.all ∙ z) x.sum
 
 -- a tree has no more nodes than the pool
 pub few_in : (i : ℕ) (s : State) → Stands s → nodes_in (tree_at i (forest s)) ≤ 65535
-few_in i s st = omega (arith, nodes_tree_at i (forest s), nodes-flatten (forest s), ap length st.flat, length_le_used s.nodes, st.pool.fits, st.pool.small)
+few_in i s st = omega (arith, nodes_tree_at i (forest s), nodes-flatten (forest s), ap length st.flat, length_le_used s.nodes, st.pool.fits, st.pool.size.most)
 
 -- it is one tree
 pub one_at : (i : ℕ) (f : Forest) → holds i f ≡ true → arity (tree_at i f) ≡ 1

@@ -4,8 +4,11 @@ use Rattle.std.proofs.lemmas.Bool.{eqb-true, eq-eqb}
 use Rattle.std.proofs.lemmas.List.{append_cancel_right, append-nil}
 use Rattle.calc_terms.specs.Node.{Node}
 use Rattle.node_pool.specs.State.{State}
-use Rattle.node_pool.specs.Lists.{has, used, since, until, place_of, first_of, IsBoundary, moved, with_children, with_count}
-use Rattle.node_pool.proofs.Lists.{has-append, or_is_false, used-append, since-append, until-since, size_from}
+use Rattle.node_pool.specs.Nodes.{has, used, place_of, first_of, with_children, with_count}
+use Rattle.node_pool.specs.Places.{since, until, IsBoundary, moved}
+use Rattle.node_pool.proofs.Sizes.{used-append, size_from}
+use Rattle.node_pool.proofs.Ids.{has-append, or_is_false}
+use Rattle.node_pool.proofs.Cuts.{since-append, until-since}
 use Rattle.node_pool.proofs.Splits.{place_of-append, moved_right, with_children-append, with_count-append}
 use Rattle.tree_handles.specs.Standing.{forest, Stands, IsCounted}
 use Rattle.tree_handles.specs.Forest.{Label, Forest, empty, tree, join, arity, node_of, flatten, first_trees, rest_trees, root_id, root_count, tree_nth, without_nth, AllNodes}

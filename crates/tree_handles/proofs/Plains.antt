@@ -184,28 +184,12 @@ nodes_of-plains (tree l k r) h =
     let d : nodes t ≡ suc (nodes_in k) = nodes_grown t ∙ ap suc (ap nodes_of (grown_whole l k r h).children-are ∙ nodes_of-plains k h.1) in
     rw (d, nodes_of-plains r h.2) (omega arith)
 
-kind_size : (k : Kind) (n : ℕ) → takes_kind k n ≡ true → size_of_kind k ≡ size_of_payload (bare k)
-kind_size kind.Undef n h = refl
-kind_size kind.Add n h = refl
-kind_size kind.Mult n h = refl
-kind_size kind.Pow n h = refl
-kind_size kind.Root n h = refl
-kind_size kind.Neg n h = refl
-kind_size kind.Sub n h = refl
-kind_size kind.Div n h = refl
-kind_size k n h = absurd cc
-
-payload_size : (x : Payload) (n : ℕ) → takes x n ≡ true → size_of_kind (kind_of_payload x) ≡ size_of_payload x
-payload_size (rational r) n h = refl
-payload_size (named x) n h = refl
-payload_size (bare k) n h = kind_size k n h
-
 pub sizes-plains : (f : Forest) → AllExpressions f → sizes (plains f) ≡ bytes_in f
 sizes-plains empty h = refl
 sizes-plains (tree l k r) h =
     let t = grown l.payload (plains k) in
     let g = grown_whole l k r h in
-    let d : size t ≡ size_of_payload l.payload + bytes_in k = size_grown t ∙ rw (g.kind-is, g.children-are, payload_size l.payload (arity k) h.0, sizes-plains k h.1) refl in
+    let d : size t ≡ size_of_payload l.payload + bytes_in k = size_grown t ∙ rw (g.kind-is, g.children-are, sizes-plains k h.1) refl in
     rw (d, sizes-plains r h.2) (omega arith)
 
 -- ---- one tree

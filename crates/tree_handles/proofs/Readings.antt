@@ -8,9 +8,11 @@ use Rattle.calc_terms.specs.Node.{Node, IsNode, header_of}
 use Rattle.calc_terms.specs.Payload.{Payload, rational, named, kind_of_payload, IsPayload}
 use Rattle.calc_terms.specs.Ratio.{Ratio}
 use Rattle.calc_terms.specs.Trees.{num, symbol, is_num, is_symbol, root_kind, count}
-use Rattle.node_pool.specs.Lists.{has, since, place_of, first_of, leaf_of, AreNodes, used}
+use Rattle.node_pool.specs.Nodes.{has, place_of, first_of, payload_of_id, AreNodes, used}
+use Rattle.node_pool.specs.Places.{since}
 use Rattle.node_pool.specs.State.{State}
-use Rattle.node_pool.proofs.Lists.{since-append, AreNodes-right}
+use Rattle.node_pool.proofs.Sizes.{AreNodes-right}
+use Rattle.node_pool.proofs.Cuts.{since-append}
 use Rattle.node_pool.proofs.Splits.{place_of-append}
 use Rattle.tree_handles.specs.Forest.{Label, Forest, empty, tree, arity, node_of, flatten, kids, root_id, root_payload, root_count, tree_nth, rest_trees}
 use Rattle.tree_handles.specs.Inside.{holds, tree_at, kids_of, count_of, payload_in}
@@ -24,15 +26,15 @@ leaf_step : (t : Bool) (m : Node) (x y : Payload) (b : Bool) → cond t true b �
 leaf_step true m x y b h k = absurd cc
 leaf_step false m x y b h k = k h
 
-pub leaf_of-append : (i : ℕ) (a : List Node) (n : Node) (b : List Node) → has i a ≡ false → n.id ≡ i → leaf_of i (a ++ n ∷ b) ≡ n.payload
-leaf_of-append i [] n b h e = ap (λ (t : Bool). cond t n.payload (leaf_of i b)) (eq-eqb n.id i e)
-leaf_of-append i (m ∷ a) n b h e = leaf_step (eqb m.id i) m (leaf_of i (a ++ n ∷ b)) n.payload (has i a) h (λ k. leaf_of-append i a n b k e)
+pub payload_of_id-append : (i : ℕ) (a : List Node) (n : Node) (b : List Node) → has i a ≡ false → n.id ≡ i → payload_of_id i (a ++ n ∷ b) ≡ n.payload
+payload_of_id-append i [] n b h e = ap (λ (t : Bool). cond t n.payload (payload_of_id i b)) (eq-eqb n.id i e)
+payload_of_id-append i (m ∷ a) n b h e = leaf_step (eqb m.id i) m (payload_of_id i (a ++ n ∷ b)) n.payload (has i a) h (λ k. payload_of_id-append i a n b k e)
 
 -- a node of the forest, as the pool shows it
 pub record IsSeen (i place : ℕ) (s : State) : Type 0 where
   pub label : Label
   pub node : first_of (since place s.nodes) ≡ node_of label (kids_of i (forest s))
-  pub leaf : leaf_of i s.nodes ≡ label.payload
+  pub leaf : payload_of_id i s.nodes ≡ label.payload
   pub tree-is : tree_at i (forest s) ≡ tree label (kids_of i (forest s)) empty
   pub valid : IsPayload label.payload
 
@@ -48,7 +50,7 @@ seen i place s st h e =
     record {
       label = p.label;
       node = ap first_of there;
-      leaf = ap (leaf_of i) whole ∙ leaf_of-append i p.before m rest p.first p.id-is;
+      leaf = ap (payload_of_id i) whole ∙ payload_of_id-append i p.before m rest p.first p.id-is;
       tree-is = p.tree-is;
       valid = (AreNodes-right p.before (m ∷ rest) nodes).0.payload;
     }
@@ -70,7 +72,7 @@ told i place s h st live e q =
     }
 
 -- what it holds
-pub payload_seen : (i : ℕ) (s : State) → Stands s → holds i (forest s) ≡ true → leaf_of i s.nodes ≡ payload_in i (forest s)
+pub payload_seen : (i : ℕ) (s : State) → Stands s → holds i (forest s) ≡ true → payload_of_id i s.nodes ≡ payload_in i (forest s)
 payload_seen i s st h = let x = seen i _ s st h refl in x.leaf ∙ sym (ap root_payload x.tree-is)
 
 pub number_seen : (i : ℕ) (s : State) → Stands s → holds i (forest s) ≡ true → kind_of_payload (payload_in i (forest s)) ≡ kind.Num → is_num (plain (tree_at i (forest s))) ≡ true

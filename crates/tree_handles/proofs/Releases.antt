@@ -3,9 +3,11 @@ use Rattle.std.proofs.Common.{◌≡◌, ℕ, zero, suc, ◌+◌, ◌-◌, ◌<�
 use Rattle.std.proofs.lemmas.Bool.{lt-ltb, le-ltb}
 use Rattle.std.proofs.lemmas.List.{length-append}
 use Rattle.calc_terms.specs.Node.{Node, size_of}
-use Rattle.node_pool.specs.Lists.{has, used, until, since, first_of, between, without, with_count, IsBoundary, AreDistinct}
+use Rattle.node_pool.specs.Nodes.{has, used, first_of, with_count, AreDistinct}
+use Rattle.node_pool.specs.Places.{until, since, between, without, IsBoundary}
 use Rattle.node_pool.specs.State.{State, IsPool}
-use Rattle.node_pool.proofs.Lists.{used-append, since-append, until-append, until-since, size_from, length_le_used}
+use Rattle.node_pool.proofs.Sizes.{used-append, size_from, length_le_used}
+use Rattle.node_pool.proofs.Cuts.{since-append, until-append, until-since}
 use Rattle.node_pool.proofs.Cuts.{cut}
 use Rattle.node_pool.proofs.Splits.{boundary-append, with_count-append, without-append}
 use Rattle.tree_handles.specs.Forest.{Label, Forest, empty, tree, join, arity, node_of, flatten, first_trees, rest_trees, forest_of}
@@ -197,7 +199,7 @@ pub owed_few : (ns : List Node) (at owed : ℕ) (end : List Node) → IsOwed ns 
 owed_few ns at owed end o = omega (arith, o.few, arity_le o.trees, ap length o.whole, length-append o.before (flatten o.trees))
 
 pub few_nodes : (s : State) → IsPool s → length s.nodes ≤ 65535
-few_nodes s p = omega (arith, length_le_used s.nodes, p.fits, p.small)
+few_nodes s p = omega (arith, length_le_used s.nodes, p.fits, p.size.most)
 
 -- ---- a run of nodes that go
 

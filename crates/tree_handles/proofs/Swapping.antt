@@ -2,9 +2,11 @@
 use Rattle.std.proofs.Common.{◌≡◌, ℕ, suc, ◌+◌, ◌-◌, ◌<◌, ◌≤◌, ◌⊎◌, inl, inr, List, [], ◌∷◌, ◌++◌, length, drop, refl, sym, ap, ◌∙◌, subst, arith, append_assoc, true, false}
 use Rattle.std.proofs.lemmas.List.{append-nil, length-append}
 use Rattle.calc_terms.specs.Node.{Node, size_of}
-use Rattle.node_pool.specs.Lists.{has, used, since, place_of, first_of, moved, without, with_children, IsBoundary, AreDistinct}
+use Rattle.node_pool.specs.Nodes.{has, used, place_of, first_of, with_children, AreDistinct}
+use Rattle.node_pool.specs.Places.{since, moved, without, IsBoundary}
 use Rattle.node_pool.specs.State.{State}
-use Rattle.node_pool.proofs.Lists.{used-append, since-append, size_from}
+use Rattle.node_pool.proofs.Sizes.{used-append, size_from}
+use Rattle.node_pool.proofs.Cuts.{since-append}
 use Rattle.node_pool.proofs.Splits.{boundary-append, place_of-append, moved_left, moved_right, without-append, with_children-append}
 use Rattle.tree_handles.specs.Forest.{Label, Forest, empty, tree, join, arity, kids, root_id, node_of, flatten, first_trees, rest_trees, tree_nth, set_nth, swapped_nth, merged_nth, AllNodes}
 use Rattle.tree_handles.specs.Inside.{holds, tree_at, kids_of, with_kids}

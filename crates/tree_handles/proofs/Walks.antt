@@ -6,30 +6,16 @@ use Rattle.calc_terms.specs.declared.kind.Kind.TheVariants as kind
 use Rattle.calc_terms.specs.Kind.{size_of_kind}
 use Rattle.calc_terms.specs.Node.{Node, size_of, header_of, size_of_header}
 use Rattle.calc_terms.specs.Payload.{Payload, rational, named, bare, IsPayload, size_of_payload, kind_of_payload, is_bare}
-use Rattle.node_pool.specs.Lists.{used, since, first_of, IsBoundary, AreNodes}
+use Rattle.node_pool.specs.Nodes.{used, first_of, AreNodes}
+use Rattle.node_pool.specs.Places.{since, IsBoundary}
 use Rattle.node_pool.specs.State.{State, IsPool}
 use Rattle.node_pool.proofs.Cuts.{step, AreNodes-since}
 use Rattle.node_pool.proofs.Walk.{since_end}
 use Rattle.tree_handles.specs.Walks.{skip}
 
-bare_size : (k : Kind) → is_bare k ≡ true → size_of_kind k ≡ 8
-bare_size kind.Num h = absurd cc
-bare_size kind.Sym h = absurd cc
-bare_size k h = refl
-
-payload_size : (x : Payload) → IsPayload x → size_of_kind (kind_of_payload x) ≡ size_of_payload x
-payload_size (rational f) h = refl
-payload_size (named t) h = refl
-payload_size (bare k) h = bare_size k h
-
-first_size : (ns : List Node) (b : List Node) → ns ≡ first_of ns ∷ b → AreNodes ns → size_of_header (header_of (first_of ns)) ≡ size_of (first_of ns)
-first_size [] b e h = absurd cc
-first_size (n ∷ ns) b e h = payload_size n.payload h.0.payload
-
 -- the size that a header tells
-pub size_at : (s : State) (at size : ℕ) (h : Header) → IsPool s → IsBoundary at s.nodes → at < used s.nodes → h ≡ header_of (first_of (since at s.nodes)) → size ≡ size_of_header h → size ≡ size_of (first_of (since at s.nodes))
-size_at s at size h p b lt e q =
-    q ∙ ap size_of_header e ∙ first_size (since at s.nodes) _ (step at s.nodes b lt).rest (AreNodes-since at s.nodes p.nodes)
+pub size_at : (s : State) (at size : ℕ) (h : Header) → h ≡ header_of (first_of (since at s.nodes)) → size ≡ size_of_header h → size ≡ size_of (first_of (since at s.nodes))
+size_at s at size h e q = q ∙ ap size_of_header e
 
 -- one node of the trees that are owed
 pub owed_more : (ns : List Node) (at next owed children : ℕ) (h : Header) → 0 < owed → since at ns ≡ first_of (since at ns) ∷ since next ns → h ≡ header_of (first_of (since at ns)) → children ≡ h.children

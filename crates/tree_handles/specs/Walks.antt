@@ -1,7 +1,8 @@
 -- Walks over nodes in prefix order.
 use Rattle.std.specs.Prelude.{ℕ, zero, suc, ◌+◌, ◌≡◌, ◌≤◌, ◌<◌, List, [], ◌∷◌, ◌++◌, length}
 use Rattle.calc_terms.specs.Node.{Node}
-use Rattle.node_pool.specs.Lists.{used, since, until}
+use Rattle.node_pool.specs.Nodes.{used}
+use Rattle.node_pool.specs.Places.{since, until}
 use Rattle.tree_handles.specs.Forest.{Forest, join, arity, flatten, first_trees, rest_trees, forest_of}
 use Rattle.tree_handles.specs.Inside.{released}
 

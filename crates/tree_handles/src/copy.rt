@@ -2,7 +2,8 @@
 ghost use Rattle.std.specs.Prelude.{◌≡◌, ◌<◌, ◌≤◌, ◌+◌, ◌-◌, ◌++◌, ◌∷◌, [], ◌↔◌, ℕ, true, false, IfOk, IfErr, IsOk, OnOk, List};
 ghost use Rattle.calc_terms.specs.Leaf.{payload_of, IsUsable};
 ghost use Rattle.calc_terms.specs.Node.{Node, header_of, size_of};
-ghost use Rattle.node_pool.specs.Lists.{used, has, since, between, first_of, IsBoundary};
+ghost use Rattle.node_pool.specs.Nodes.{used, has, first_of};
+ghost use Rattle.node_pool.specs.Places.{since, between, IsBoundary};
 ghost use Rattle.node_pool.specs.State.{IsPool, free_of};
 ghost use Rattle.tree_handles.specs.Copies.{AddsCopy, AreCopies, copy_of};
 ghost use Rattle.tree_handles.specs.Expressions.{IsExpression, plain};

@@ -1,7 +1,7 @@
 //! Handles, and new roots.
 ghost use Rattle.std.specs.Prelude.{◌≡◌, ◌≤◌, ◌↔◌, IfOk, IfErr, IsOk, OnOk, ℕ, true, false};
-ghost use Rattle.calc_terms.specs.Leaf.{payload_of, IsUsable};
-ghost use Rattle.calc_terms.specs.Payload.{rational, bare, is_bare, size_of_payload};
+ghost use Rattle.calc_terms.specs.Leaf.{payload_of, name_of, IsUsable};
+ghost use Rattle.calc_terms.specs.Payload.{rational, named, bare, is_bare, size_of_payload};
 ghost use Rattle.calc_terms.specs.Rat.{ratio_of};
 ghost use Rattle.node_pool.specs.State.{free_of};
 ghost use Rattle.tree_handles.specs.Forest.{empty, one_tree};
@@ -9,7 +9,7 @@ ghost use Rattle.tree_handles.specs.Handed.{Ends};
 ghost use Rattle.tree_handles.specs.Inside.{holds};
 ghost use Rattle.tree_handles.specs.Standing.{Stands, forest, KeepsRefusals, IsRefused};
 
-use calc_terms::{Kind, Leaf, Rat};
+use calc_terms::{Kind, Leaf, Name, Rat};
 use node_pool::{Full, Id, Pool};
 use std::marker::Model;
 
@@ -53,6 +53,19 @@ pub fn number(pool: &mut Pool, value: Rat) -> Result<Handle, Full>
     ensures stands { Stands pool.new }
 {
     place(pool, Leaf::Num(value))
+}
+
+/// A new root that holds a name.
+pub fn symbol(pool: &mut Pool, name: Name) -> Result<Handle, Full>
+    requires { Stands pool.old }
+    ensures ok { IfOk result (λ h. Ends h (one_tree h (named (name_of name)) empty) (forest pool.old) (forest pool.new)) }
+    ensures fresh { IfOk result (λ h. holds h (forest pool.old) ≡ false) }
+    ensures kept { OnOk result (KeepsRefusals pool.old pool.new) }
+    ensures full { IfErr result (IsRefused (size_of_payload (named (name_of name))) pool.old pool.new) }
+    ensures exactly { IsOk result ↔ (size_of_payload (named (name_of name)) ≤ free_of pool.old) }
+    ensures stands { Stands pool.new }
+{
+    place(pool, Leaf::Sym(name))
 }
 
 /// A new root without children, of a kind other than `Num` and `Sym`.

@@ -12,7 +12,7 @@ mod walk;
 
 pub use copy::copy_tree;
 pub use counts::{child, retain};
-pub use handle::{Handle, node, number};
+pub use handle::{Handle, node, number, symbol};
 pub use measure::{tree_bytes, tree_depth, tree_nodes};
 pub use moving::{add_child, merge_children, move_last, replace_child, swap_children, take_child};
 pub use read::{child_id, children, count, kind, name, rational};

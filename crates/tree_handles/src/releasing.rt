@@ -1,6 +1,7 @@
 //! Releasing trees.
 ghost use Rattle.std.specs.Prelude.{◌≡◌, ◌<◌, ◌≤◌, ◌+◌, ◌-◌, ℕ, true};
-ghost use Rattle.node_pool.specs.Lists.{used, since, first_of, without, IsBoundary};
+ghost use Rattle.node_pool.specs.Nodes.{used, first_of};
+ghost use Rattle.node_pool.specs.Places.{since, without, IsBoundary};
 ghost use Rattle.node_pool.specs.State.{IsPool};
 ghost use Rattle.tree_handles.specs.Forest.{forest_of, flatten};
 ghost use Rattle.tree_handles.specs.Handed.{IsOwned};

@@ -1,7 +1,8 @@
 //! Steps over nodes in prefix order.
 ghost use Rattle.std.specs.Prelude.{◌≡◌, ◌<◌, ◌≤◌, ◌+◌, ◌∷◌, true, drop};
 ghost use Rattle.calc_terms.specs.Node.{header_of, size_of};
-ghost use Rattle.node_pool.specs.Lists.{used, has, since, first_of, place_of, IsBoundary};
+ghost use Rattle.node_pool.specs.Nodes.{used, has, first_of, place_of};
+ghost use Rattle.node_pool.specs.Places.{since, IsBoundary};
 ghost use Rattle.node_pool.specs.State.{IsPool};
 ghost use Rattle.tree_handles.specs.Walks.{skip};
 

@@ -36,10 +36,10 @@ pub returns-in-Ok-clause-stands : goal.returns-in-Ok-clause-stands
 returns-in-Ok-clause-stands c = (copy_done c.args.source c.locate-from.result c.behind-end.result c.used-place.result c.args.pool.now c.ask.new.self c.copy_nodes.new.pool c.requires.stands (tree_here c.args.source c.locate-from.result c.behind-end.result c.args.pool.now c.requires.stands c.requires.live c.locate-from.ensures.value c.behind-end.ensures.boundary c.behind-end.ensures.rest) c.in-Ok.ensures.ok c.used-place.ensures.value c.copy_nodes.ensures).stands c.header.ensures.pool
 
 pub returns-in-Err-clause-full : goal.returns-in-Err-clause-full
-returns-in-Err-clause-full c = is_refused _ c.args.pool.now c.ask.new.self c.in-Err.full (c.in-Err.ensures.full.0 ∙ ap (λ (n : ℕ). record { needed = n; free = free_of c.args.pool.now }) (tree_here c.args.source c.locate-from.result c.behind-end.result c.args.pool.now c.requires.stands c.requires.live c.locate-from.ensures.value c.behind-end.ensures.boundary c.behind-end.ensures.rest).size) c.in-Err.ensures.full.1
+returns-in-Err-clause-full c = is_refused _ c.args.pool.now c.ask.new.self c.in-Err.full (c.in-Err.ensures.full ∙ ap (λ (n : ℕ). record { needed = n; free = free_of c.args.pool.now }) (tree_here c.args.source c.locate-from.result c.behind-end.result c.args.pool.now c.requires.stands c.requires.live c.locate-from.ensures.value c.behind-end.ensures.boundary c.behind-end.ensures.rest).size) c.in-Err.ensures.counted
 
 pub returns-in-Err-clause-exactly : goal.returns-in-Err-clause-exactly
 returns-in-Err-clause-exactly c = fits_iff (◌≡◌ {A = Bool} false true) _ _ (free_of c.args.pool.now) (tree_here c.args.source c.locate-from.result c.behind-end.result c.args.pool.now c.requires.stands c.requires.live c.locate-from.ensures.value c.behind-end.ensures.boundary c.behind-end.ensures.rest).size c.in-Err.ensures.exactly
 
 pub returns-in-Err-clause-stands : goal.returns-in-Err-clause-stands
-returns-in-Err-clause-stands c = stands_refused c.args.pool.now c.ask.new.self c.in-Err.full c.in-Err.ensures.full.1 c.ask.ensures.pool c.requires.stands
+returns-in-Err-clause-stands c = stands_refused c.args.pool.now c.ask.new.self c.in-Err.full c.in-Err.ensures.counted c.ask.ensures.pool c.requires.stands

@@ -18,4 +18,4 @@ pub returns-in-Num-clause-payload : goal.returns-in-Num-clause-payload
 returns-in-Num-clause-payload c = sym c.rational.ensures ∙ (told_there c.args.pool.now c.args.at c.args.header c.of-id.result c.requires.pool c.requires.boundary c.requires.inside c.requires.header c.of-id.ensures).1
 
 pub returns-in-Sym-clause-payload : goal.returns-in-Sym-clause-payload
-returns-in-Sym-clause-payload c = sym c.name.ensures.value ∙ (told_there c.args.pool.now c.args.at c.args.header c.of-id.result c.requires.pool c.requires.boundary c.requires.inside c.requires.header c.of-id.ensures).1
+returns-in-Sym-clause-payload c = sym c.name.ensures ∙ (told_there c.args.pool.now c.args.at c.args.header c.of-id.result c.requires.pool c.requires.boundary c.requires.inside c.requires.header c.of-id.ensures).1

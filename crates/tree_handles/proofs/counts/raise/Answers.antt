@@ -1,6 +1,6 @@
 use Rattle.std.proofs.Common.{◌≡◌, ◌+◌, refl, ap, ◌∙◌, arith}
 use Rattle.node_pool.specs.State.{State}
-use Rattle.node_pool.specs.Lists.{with_count}
+use Rattle.node_pool.specs.Nodes.{with_count}
 use Rattle.tree_handles.specs.Inside.{with_count_in, count_of}
 use Rattle.tree_handles.specs.Standing.{Stands, forest}
 use Rattle.tree_handles.proofs.Forests.{stands, keeps}

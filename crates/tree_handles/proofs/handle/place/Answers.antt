@@ -1,7 +1,7 @@
 use Rattle.std.proofs.Common.{◌≡◌, false, refl, sym, ap, ◌∙◌, arith}
 use Rattle.calc_terms.specs.Leaf.{payload_of}
 use Rattle.node_pool.specs.State.{State}
-use Rattle.node_pool.specs.Lists.{has}
+use Rattle.node_pool.specs.Nodes.{has}
 use Rattle.tree_handles.specs.Forest.{empty, join, one_tree}
 use Rattle.tree_handles.specs.Inside.{holds}
 use Rattle.tree_handles.specs.Standing.{Stands, forest, IsCounted}
@@ -11,14 +11,14 @@ use Rattle.tree_handles.proofs.handle.place.Goals as goal
 
 all : (c : goal.In-Ok) → (forest c.place.new.self ≡ join (forest c.args.pool.now) (one_tree c.in-Ok.id (payload_of c.args.leaf) empty)) × Stands c.place.new.self
 all c =
-    let now = ap (λ (s : State). s.nodes) c.in-Ok.ensures.ok.1 in
+    let now = ap (λ (s : State). s.nodes) c.in-Ok.ensures.ok in
     let f = forest c.args.pool.now in
     let new = one_tree c.in-Ok.id (payload_of c.args.leaf) empty in
     stands c.place.new.self (join f new) (placed f c.args.pool.now.nodes c.place.new.self.nodes c.in-Ok.id (payload_of c.args.leaf) c.requires.stands.flat now) c.place.ensures.pool
     (all-join IsCounted f new c.requires.stands.counted (omega arith, tt, tt))
 
 fresh : (c : goal.In-Ok) → holds c.in-Ok.id (forest c.args.pool.now) ≡ false
-fresh c = sym (ap (has c.in-Ok.id) c.requires.stands.flat ∙ has-flatten c.in-Ok.id (forest c.args.pool.now)) ∙ c.in-Ok.ensures.ok.0.free
+fresh c = sym (ap (has c.in-Ok.id) c.requires.stands.flat ∙ has-flatten c.in-Ok.id (forest c.args.pool.now)) ∙ c.in-Ok.ensures.least.free
 
 pub returns-in-Ok-clause-ok : goal.returns-in-Ok-clause-ok
 returns-in-Ok-clause-ok c = record { whole = (all c).0; alone = refl; root = refl; clear = no_root c.in-Ok.id (forest c.args.pool.now) (fresh c) }
@@ -27,13 +27,13 @@ pub returns-in-Ok-clause-fresh : goal.returns-in-Ok-clause-fresh
 returns-in-Ok-clause-fresh c = fresh c
 
 pub returns-in-Ok-clause-kept : goal.returns-in-Ok-clause-kept
-returns-in-Ok-clause-kept c = keeps c.args.pool.now c.place.new.self _ c.in-Ok.ensures.ok.1
+returns-in-Ok-clause-kept c = keeps c.args.pool.now c.place.new.self _ c.in-Ok.ensures.ok
 
 pub returns-in-Ok-clause-stands : goal.returns-in-Ok-clause-stands
 returns-in-Ok-clause-stands c = (all c).1
 
 pub returns-in-Err-clause-full : goal.returns-in-Err-clause-full
-returns-in-Err-clause-full c = is_refused _ c.args.pool.now c.place.new.self c.in-Err.full c.in-Err.ensures.full.0 c.in-Err.ensures.full.1
+returns-in-Err-clause-full c = is_refused _ c.args.pool.now c.place.new.self c.in-Err.full c.in-Err.ensures.full c.in-Err.ensures.counted
 
 pub returns-in-Err-clause-stands : goal.returns-in-Err-clause-stands
-returns-in-Err-clause-stands c = stands_refused c.args.pool.now c.place.new.self c.in-Err.full c.in-Err.ensures.full.1 c.place.ensures.pool c.requires.stands
+returns-in-Err-clause-stands c = stands_refused c.args.pool.now c.place.new.self c.in-Err.full c.in-Err.ensures.counted c.place.ensures.pool c.requires.stands

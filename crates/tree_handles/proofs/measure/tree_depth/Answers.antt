@@ -21,10 +21,10 @@ loop-height-init c = record {
 }
 
 pub offset_bounds-owed-height : goal.offset_bounds-owed-height
-offset_bounds-owed-height c = record { fits = omega (arith, c.loop-height.invariant.walked.high, boundary_le c.loop-height.at c.args.pool.now.nodes c.loop-height.invariant.boundary, c.requires.stands.pool.fits, c.requires.stands.pool.small) }
+offset_bounds-owed-height c = record { fits = omega (arith, c.loop-height.invariant.walked.high, boundary_le c.loop-height.at c.args.pool.now.nodes c.loop-height.invariant.boundary, c.requires.stands.pool.fits, c.requires.stands.pool.size.most) }
 
 pub bounds-owed-height : goal.bounds-owed-height
-bounds-owed-height c = omega (arith, c.loop-height.invariant.walked.high, boundary_le c.loop-height.at c.args.pool.now.nodes c.loop-height.invariant.boundary, c.requires.stands.pool.fits, c.requires.stands.pool.small)
+bounds-owed-height c = omega (arith, c.loop-height.invariant.walked.high, boundary_le c.loop-height.at c.args.pool.now.nodes c.loop-height.invariant.boundary, c.requires.stands.pool.fits, c.requires.stands.pool.size.most)
 
 pub loop-height-preserved-then-owed-height-eq0 : goal.loop-height-preserved-then-owed-height-eq0
 loop-height-preserved-then-owed-height-eq0 c = record {
@@ -40,7 +40,7 @@ pub loop-height-preserved : goal.loop-height-preserved
 loop-height-preserved c =
     let deeper : c.max-deepest.result ≡ max c.loop-height.deepest c.loop-height.height = c.max-deepest.ensures in
     let inside = walked_in c.loop-height.at c.loop-height.height c.loop-height.deepest (depth_in (tree_at c.args.id (forest c.args.pool.now))) c.loop-height.owed c.args.pool.now.nodes c.loop-height.invariant.boundary c.loop-height.invariant.walked c.loop-height-test.true (omega (arith, c.if-owed-height-eq0.false)) in
-    let room : c.loop-height.height < length c.loop-height.owed = omega (arith, inside, c.loop-height.invariant.levels, c.loop-height.invariant.walked.high, c.requires.stands.pool.fits, c.requires.stands.pool.small) in
+    let room : c.loop-height.height < length c.loop-height.owed = omega (arith, inside, c.loop-height.invariant.levels, c.loop-height.invariant.walked.high, c.requires.stands.pool.fits, c.requires.stands.pool.size.most) in
     record {
       walked = rw deeper (walked_deeper c.loop-height.at c.step-next.result.1 c.loop-height.height c.loop-height.deepest (depth_in (tree_at c.args.id (forest c.args.pool.now))) c.step-next.result.0.children c.loop-height.owed c.args.pool.now.nodes c.step-next.result.0 c.loop-height.invariant.walked c.loop-height-test.true room (omega (arith, c.if-owed-height-eq0.false)) c.step-next.ensures.header c.step-next.ensures.rest c.step-next.ensures.next refl);
       boundary = c.step-next.ensures.boundary;

@@ -1,5 +1,6 @@
 use Rattle.std.proofs.Common.{◌-◌}
-use Rattle.node_pool.specs.Lists.{used, IsBoundary}
+use Rattle.node_pool.specs.Nodes.{used}
+use Rattle.node_pool.specs.Places.{IsBoundary}
 use Rattle.tree_handles.specs.Forest.{nodes_in}
 use Rattle.tree_handles.specs.Inside.{tree_at}
 use Rattle.tree_handles.specs.Standing.{forest}

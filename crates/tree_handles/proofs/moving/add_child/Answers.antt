@@ -1,6 +1,7 @@
 use Rattle.std.proofs.Common.{◌≡◌, refl, ℕ, ◌-◌, ◌+◌, ◌≤◌, ◌⊎◌, true, ap, ◌∙◌, arith, inl, inr}
 use Rattle.node_pool.specs.State.{State}
-use Rattle.node_pool.specs.Lists.{has, place_of, moved, with_children}
+use Rattle.node_pool.specs.Nodes.{has, place_of, with_children}
+use Rattle.node_pool.specs.Places.{moved}
 use Rattle.tree_handles.specs.Forest.{arity, with_nth}
 use Rattle.tree_handles.specs.Inside.{kids_of, with_kids}
 use Rattle.tree_handles.specs.Roots.{root_tree, without_root}

@@ -1,6 +1,7 @@
 use Rattle.std.proofs.Common.{◌≡◌, ℕ, ◌+◌, ◌-◌, ap, ◌∙◌, arith, inl, inr}
 use Rattle.node_pool.specs.State.{State}
-use Rattle.node_pool.specs.Lists.{moved, used}
+use Rattle.node_pool.specs.Nodes.{used}
+use Rattle.node_pool.specs.Places.{moved}
 use Rattle.node_pool.proofs.Cuts.{boundary_le}
 use Rattle.tree_handles.specs.Forest.{swapped_nth}
 use Rattle.tree_handles.specs.Inside.{kids_of, with_kids}
@@ -21,7 +22,7 @@ pub move_block-requires-clause-outside : goal.move_block-requires-clause-outside
 move_block-requires-clause-outside c = inl (omega (arith, (swaps c.args.parent c.args.low c.args.high c.child_place-first.result c.behind-mid.result c.child_place-second.result c.behind-end.result c.args.pool.now c.requires.stands c.requires.order c.requires.within c.child_place-first.ensures.boundary c.child_place-first.ensures.rest c.child_place-second.ensures.boundary c.child_place-second.ensures.rest c.behind-mid.ensures.boundary c.behind-mid.ensures.rest c.behind-end.ensures.boundary c.behind-end.ensures.rest).low, (swaps c.args.parent c.args.low c.args.high c.child_place-first.result c.behind-mid.result c.child_place-second.result c.behind-end.result c.args.pool.now c.requires.stands c.requires.order c.requires.within c.child_place-first.ensures.boundary c.child_place-first.ensures.rest c.child_place-second.ensures.boundary c.child_place-second.ensures.rest c.behind-mid.ensures.boundary c.behind-mid.ensures.rest c.behind-end.ensures.boundary c.behind-end.ensures.rest).some))
 
 pub overflow_add-first : goal.overflow_add-first
-overflow_add-first c = record { fits = omega (arith, (swaps c.args.parent c.args.low c.args.high c.child_place-first.result c.behind-mid.result c.child_place-second.result c.behind-end.result c.args.pool.now c.requires.stands c.requires.order c.requires.within c.child_place-first.ensures.boundary c.child_place-first.ensures.rest c.child_place-second.ensures.boundary c.child_place-second.ensures.rest c.behind-mid.ensures.boundary c.behind-mid.ensures.rest c.behind-end.ensures.boundary c.behind-end.ensures.rest).low, (swaps c.args.parent c.args.low c.args.high c.child_place-first.result c.behind-mid.result c.child_place-second.result c.behind-end.result c.args.pool.now c.requires.stands c.requires.order c.requires.within c.child_place-first.ensures.boundary c.child_place-first.ensures.rest c.child_place-second.ensures.boundary c.child_place-second.ensures.rest c.behind-mid.ensures.boundary c.behind-mid.ensures.rest c.behind-end.ensures.boundary c.behind-end.ensures.rest).some, boundary_le c.behind-end.result c.args.pool.now.nodes c.behind-end.ensures.boundary, c.requires.stands.pool.fits, c.requires.stands.pool.small) }
+overflow_add-first c = record { fits = omega (arith, (swaps c.args.parent c.args.low c.args.high c.child_place-first.result c.behind-mid.result c.child_place-second.result c.behind-end.result c.args.pool.now c.requires.stands c.requires.order c.requires.within c.child_place-first.ensures.boundary c.child_place-first.ensures.rest c.child_place-second.ensures.boundary c.child_place-second.ensures.rest c.behind-mid.ensures.boundary c.behind-mid.ensures.rest c.behind-end.ensures.boundary c.behind-end.ensures.rest).low, (swaps c.args.parent c.args.low c.args.high c.child_place-first.result c.behind-mid.result c.child_place-second.result c.behind-end.result c.args.pool.now c.requires.stands c.requires.order c.requires.within c.child_place-first.ensures.boundary c.child_place-first.ensures.rest c.child_place-second.ensures.boundary c.child_place-second.ensures.rest c.behind-mid.ensures.boundary c.behind-mid.ensures.rest c.behind-end.ensures.boundary c.behind-end.ensures.rest).some, boundary_le c.behind-end.result c.args.pool.now.nodes c.behind-end.ensures.boundary, c.requires.stands.pool.fits, c.requires.stands.pool.size.most) }
 
 pub move_block-requires-2-clause-from : goal.move_block-requires-2-clause-from
 move_block-requires-2-clause-from c = rw (ap (λ (s : State). s.nodes) c.move_block.ensures.nodes) (swaps c.args.parent c.args.low c.args.high c.child_place-first.result c.behind-mid.result c.child_place-second.result c.behind-end.result c.args.pool.now c.requires.stands c.requires.order c.requires.within c.child_place-first.ensures.boundary c.child_place-first.ensures.rest c.child_place-second.ensures.boundary c.child_place-second.ensures.rest c.behind-mid.ensures.boundary c.behind-mid.ensures.rest c.behind-end.ensures.boundary c.behind-end.ensures.rest).begins

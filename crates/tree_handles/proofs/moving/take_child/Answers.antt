@@ -1,6 +1,7 @@
 use Rattle.std.proofs.Common.{◌≡◌, refl, ℕ, ◌-◌, ap, ◌∙◌, arith, inr}
 use Rattle.node_pool.specs.State.{State}
-use Rattle.node_pool.specs.Lists.{used, moved, with_children}
+use Rattle.node_pool.specs.Nodes.{used, with_children}
+use Rattle.node_pool.specs.Places.{moved}
 use Rattle.node_pool.proofs.Cuts.{boundary_le}
 use Rattle.tree_handles.specs.Forest.{arity, tree_nth, join, without_nth, root_id}
 use Rattle.tree_handles.specs.Inside.{kids_of, with_kids}

@@ -1,6 +1,7 @@
 use Rattle.std.proofs.Common.{◌≡◌, ◌<◌, ℕ, true, ap, sym, ◌∙◌, subst}
 use Rattle.calc_terms.specs.declared.leaf.Header.{Header}
-use Rattle.node_pool.specs.Lists.{used, first_of, since}
+use Rattle.node_pool.specs.Nodes.{used, first_of}
+use Rattle.node_pool.specs.Places.{since}
 use Rattle.tree_handles.specs.Expressions.{plain, AllExpressions}
 use Rattle.tree_handles.specs.Forest.{Forest, root_id, tree_nth, rest_trees}
 use Rattle.tree_handles.specs.Inside.{holds, kids_of, tree_at}

@@ -16,5 +16,5 @@ name-requires-clause-symbol c = ap kind_of_payload (payload_seen c.args.id c.arg
 
 pub returns : goal.returns
 returns c =
-    let value : payload_in c.args.id (forest c.args.pool.now) ≡ named (name_of c.name.result) = sym (payload_seen c.args.id c.args.pool.now c.requires.stands c.requires.live) ∙ c.name.ensures.value in
+    let value : payload_in c.args.id (forest c.args.pool.now) ≡ named (name_of c.name.result) = sym (payload_seen c.args.id c.args.pool.now c.requires.stands c.requires.live) ∙ c.name.ensures in
     record { value = value; plain = plain_symbol c.args.id (forest c.args.pool.now) (name_of c.name.result) c.requires.live value }

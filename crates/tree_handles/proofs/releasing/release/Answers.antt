@@ -1,6 +1,6 @@
 use Rattle.std.proofs.Common.{◌≡◌, ℕ, ap, ◌∙◌}
 use Rattle.node_pool.specs.State.{State}
-use Rattle.node_pool.specs.Lists.{place_of}
+use Rattle.node_pool.specs.Nodes.{place_of}
 use Rattle.tree_handles.specs.Inside.{released_in}
 use Rattle.tree_handles.specs.Standing.{forest, Stands}
 use Rattle.tree_handles.proofs.Counted.{counted-released_in}

@@ -1,5 +1,6 @@
 use Rattle.std.proofs.Common.{◌≡◌, ◌-◌, ◌+◌, ◌*◌, ◌≤◌}
-use Rattle.node_pool.specs.Lists.{since, used, IsBoundary}
+use Rattle.node_pool.specs.Nodes.{used}
+use Rattle.node_pool.specs.Places.{since, IsBoundary}
 use Rattle.tree_handles.specs.Walks.{skip}
 use Rattle.tree_handles.proofs.walk.behind.Given as goal
 
