@@ -17,3 +17,5 @@ pub mod Nths
 pub mod Replacing
 pub mod Swapping
 pub mod Measures
+pub mod Lasts
+pub mod AtRoots

@@ -4,7 +4,7 @@ use Rattle.calc_terms.specs.declared.kind.Kind.{Kind}
 use Rattle.calc_terms.specs.declared.kind.Kind.TheVariants as kind
 use Rattle.calc_terms.specs.Fractions.{lowest}
 use Rattle.calc_terms.specs.Payload.{Payload, rational, named, bare}
-use Rattle.calc_terms.specs.Trees.{Tree, num, symbol, undef, add, mult, power, root, neg, sub, div, Trees, none, more}
+use Rattle.calc_terms.specs.Trees.{Tree, num, symbol, undef, add, mult, power, root, neg, sub, div, Trees, none, more, append}
 use Rattle.tree_handles.specs.Forest.{Label, Forest, empty, tree, arity, AllNodes}
 use Rattle.tree_handles.specs.Inside.{holds, tree_at}
 
@@ -39,6 +39,12 @@ plains (tree l k r) = more (grown l.payload (plains k)) (plains r)
 -- the plain tree of its first tree
 abbrev pub plain : Forest → Tree
 plain f = nth 0 (plains f)
+
+-- trees put in at a place among others, counted from 0
+abbrev pub inserted : ℕ → Trees → Trees → Trees
+inserted zero us ts = append us ts
+inserted (suc n) us none = us
+inserted (suc n) us (more t ts) = more t (inserted n us ts)
 
 -- ---- the right number of children
 

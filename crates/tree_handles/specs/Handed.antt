@@ -1,11 +1,11 @@
 -- What a call that is handed whole trees wants and promises.
 use Rattle.std.specs.Prelude.{ℕ, ◌≡◌, List, [], ◌∷◌, true, false}
-use Rattle.calc_terms.specs.Trees.{Tree}
+use Rattle.calc_terms.specs.Trees.{Tree, Trees}
 use Rattle.node_pool.specs.State.{State}
 use Rattle.tree_handles.specs.Forest.{Label, Forest, join, arity, root_id, AllNodes}
 use Rattle.tree_handles.specs.Roots.{has_root, root_tree}
 use Rattle.tree_handles.specs.Standing.{forest}
-use Rattle.tree_handles.specs.Expressions.{plain, AllExpressions}
+use Rattle.tree_handles.specs.Expressions.{plains, plain, AllExpressions}
 
 abbrev pub IsOnce : Label → ℕ → Type 0
 IsOnce l n = l.count ≡ 1
@@ -25,12 +25,26 @@ pub record IsHanded (i : ℕ) (f : Forest) : Type 0 where
   pub once : AllOnce (root_tree i f)
   pub whole : AllExpressions (root_tree i f)
 
+-- trees of the language, each node held once, whose plain trees are these
+pub record Represents (f : Forest) (ts : Trees) : Type 0 where
+  pub once : AllOnce f
+  pub whole : AllExpressions f
+  pub plains-are : plains f ≡ ts
+
 -- one tree stands behind the others, and none of these has its root's identifier
 pub record Ends (i : ℕ) (t others f : Forest) : Type 0 where
   pub whole : f ≡ join others t
   pub alone : arity t ≡ 1
   pub root : root_id t ≡ i
   pub clear : has_root i others ≡ false
+
+-- the answer of a call: one new tree of the language, each of its nodes held once, stands last, behind the others as they were; and what it is
+pub record Gives (others : Forest) (new : State) (id : ℕ) (Told : Tree → Type 0) : Type 0 where
+  pub tree : Forest
+  pub ends : Ends id tree others (forest new)
+  pub once : AllOnce tree
+  pub whole : AllExpressions tree
+  pub told : Told (plain tree)
 
 -- some trees stand first
 pub record Starts (first f : Forest) : Type 0 where
@@ -45,11 +59,3 @@ AreNoRoots (i ∷ is) f = (has_root i f ≡ false) × AreNoRoots is f
 -- whatever stood first, with none of the handed trees in it, still stands first, as it was
 abbrev pub KeepsFront : List ℕ → Forest → Forest → Type 0
 KeepsFront handed old new = (first : Forest) → Starts first old → AreNoRoots handed first → Starts first new
-
--- the answer of a call: one new tree of the language, each of its counts 1, stands last, behind the others as they were; and what it is
-pub record Gives (others : Forest) (new : State) (id : ℕ) (Told : Tree → Type 0) : Type 0 where
-  pub tree : Forest
-  pub ends : Ends id tree others (forest new)
-  pub once : AllOnce tree
-  pub whole : AllExpressions tree
-  pub told : Told (plain tree)

@@ -1,8 +1,9 @@
 //! Moving children.
 ghost use Rattle.std.specs.Prelude.{◌≡◌, ◌<◌, ◌≤◌, ◌+◌, ◌-◌, ℕ, true, false};
-ghost use Rattle.tree_handles.specs.Forest.{join, arity, tree_nth, without_nth, with_nth, set_nth, swapped_nth, merged_nth, root_id, root_count};
+ghost use Rattle.tree_handles.specs.Forest.{Forest, join, arity, kids, with_root_kids, tree_nth, without_nth, with_nth, set_nth, swapped_nth, merged_nth, root_id, root_count};
+ghost use Rattle.tree_handles.specs.Handed.{Ends};
 ghost use Rattle.tree_handles.specs.Inside.{holds, kids_of, with_kids};
-ghost use Rattle.tree_handles.specs.Roots.{has_root, root_tree, without_root};
+ghost use Rattle.tree_handles.specs.Roots.{has_root, root_tree, without_root, put};
 ghost use Rattle.tree_handles.specs.Standing.{Stands, forest, KeepsRefusals};
 
 use crate::handle::Handle;
@@ -17,6 +18,10 @@ pub fn take_child(pool: &mut Pool, parent: &Handle, at: u16) -> Handle
     ensures forest { let kids = kids_of parent.now (forest pool.old) in
         forest pool.new ≡ join (with_kids parent.now (without_nth at kids) (forest pool.old)) (tree_nth at kids) }
     ensures handle { result ≡ root_id (tree_nth at (kids_of parent.now (forest pool.old))) }
+    // From a root.
+    ensures last { let old = forest pool.old in
+        let kids = kids (root_tree parent.now old) in
+        has_root parent.now old ≡ true → Ends result (tree_nth at kids) (put parent.now (without_nth at kids) old) (forest pool.new) }
     ensures kept { KeepsRefusals pool.old pool.new }
     ensures stands { Stands pool.new }
 {
@@ -40,6 +45,15 @@ pub fn add_child(pool: &mut Pool, parent: &Handle, at: u16, child: Handle)
     requires apart { holds parent.now (root_tree child (forest pool.old)) ≡ false }
     ensures forest { let old = forest pool.old in
         forest pool.new ≡ with_kids parent.now (with_nth at (root_tree child old) (kids_of parent.now old)) (without_root child old) }
+    ensures live { holds parent.now (forest pool.new) ≡ true }
+    ensures many { arity (kids_of parent.now (forest pool.new)) ≡ arity (kids_of parent.now (forest pool.old)) + 1 }
+    // To a root; to the last root, from the trees before it; and to it from just before it.
+    ensures root { let old = forest pool.old in
+        has_root parent.now old ≡ true → forest pool.new ≡ put parent.now (with_nth at (root_tree child old) (kids (root_tree parent.now old))) (without_root child old) }
+    ensures last { (t others : Forest) → Ends parent.now t others (forest pool.old) → has_root child others ≡ true
+        → Ends parent.now (with_root_kids (with_nth at (root_tree child others) (kids t)) t) (without_root child others) (forest pool.new) }
+    ensures next { (t before u others : Forest) → Ends parent.now t before (forest pool.old) → Ends child u others before
+        → Ends parent.now (with_root_kids (with_nth at u (kids t)) t) others (forest pool.new) }
     ensures kept { KeepsRefusals pool.old pool.new }
     ensures stands { Stands pool.new }
 {
@@ -62,6 +76,10 @@ pub fn replace_child(pool: &mut Pool, parent: &Handle, at: u16, new: Handle) -> 
         let kids = kids_of parent.now old in
         forest pool.new ≡ join (with_kids parent.now (set_nth at (root_tree new old) kids) (without_root new old)) (tree_nth at kids) }
     ensures handle { result ≡ root_id (tree_nth at (kids_of parent.now (forest pool.old))) }
+    // At a root.
+    ensures last { let old = forest pool.old in
+        let kids = kids (root_tree parent.now old) in
+        has_root parent.now old ≡ true → Ends result (tree_nth at kids) (put parent.now (set_nth at (root_tree new old) kids) (without_root new old)) (forest pool.new) }
     ensures kept { KeepsRefusals pool.old pool.new }
     ensures stands { Stands pool.new }
 {
@@ -76,6 +94,8 @@ pub fn swap_children(pool: &mut Pool, parent: &Handle, i: u16, j: u16)
     requires first { i < arity (kids_of parent.now (forest pool.old)) }
     requires second { j < arity (kids_of parent.now (forest pool.old)) }
     ensures forest { forest pool.new ≡ with_kids parent.now (swapped_nth i j (kids_of parent.now (forest pool.old))) (forest pool.old) }
+    ensures root { let old = forest pool.old in
+        has_root parent.now old ≡ true → forest pool.new ≡ put parent.now (swapped_nth i j (kids (root_tree parent.now old))) old }
     ensures kept { KeepsRefusals pool.old pool.new }
     ensures stands { Stands pool.new }
 {
@@ -111,6 +131,8 @@ pub fn merge_children(pool: &mut Pool, parent: &Handle, at: u16)
     requires within { at < arity (kids_of parent.now (forest pool.old)) }
     requires unshared { root_count (tree_nth at (kids_of parent.now (forest pool.old))) ≡ 1 }
     ensures forest { forest pool.new ≡ with_kids parent.now (merged_nth at (kids_of parent.now (forest pool.old))) (forest pool.old) }
+    ensures root { let old = forest pool.old in
+        has_root parent.now old ≡ true → forest pool.new ≡ put parent.now (merged_nth at (kids (root_tree parent.now old))) old }
     ensures kept { KeepsRefusals pool.old pool.new }
     ensures stands { Stands pool.new }
 {
@@ -127,6 +149,7 @@ pub fn move_last(pool: &mut Pool, handle: &Handle)
     requires stands { Stands pool.old }
     requires root { has_root handle.now (forest pool.old) ≡ true }
     ensures forest { forest pool.new ≡ join (without_root handle.now (forest pool.old)) (root_tree handle.now (forest pool.old)) }
+    ensures last { Ends handle.now (root_tree handle.now (forest pool.old)) (without_root handle.now (forest pool.old)) (forest pool.new) }
     ensures kept { KeepsRefusals pool.old pool.new }
     ensures stands { Stands pool.new }
 {

@@ -10,6 +10,7 @@ use Rattle.tree_handles.proofs.Adding.{IsAdded, added, counted_added, root_live}
 use Rattle.tree_handles.proofs.Releases.{few_nodes}
 use Rattle.tree_handles.proofs.Forests.{stands, keeps, keeps_after}
 use Rattle.tree_handles.proofs.Parts.{live_node}
+use Rattle.tree_handles.proofs.AtRoots.{added_root, added_last, added_next, added_more}
 use Rattle.tree_handles.proofs.moving.add_child.Goals as goal
 
 pub children-children-requires-clause-live : goal.children-children-requires-clause-live
@@ -54,3 +55,18 @@ returns-clause-kept c = keeps_after c.args.pool.now c.move_block.new.self c.set_
 
 pub returns-clause-stands : goal.returns-clause-stands
 returns-clause-stands c = (all c).1
+
+pub returns-clause-live : goal.returns-clause-live
+returns-clause-live c = (added_more c.args.parent.now c.args.at c.args.child (forest c.args.pool.now) (forest c.set_children.new.self) c.requires.live c.requires.within c.requires.root c.requires.apart (all c).0).live
+
+pub returns-clause-many : goal.returns-clause-many
+returns-clause-many c = (added_more c.args.parent.now c.args.at c.args.child (forest c.args.pool.now) (forest c.set_children.new.self) c.requires.live c.requires.within c.requires.root c.requires.apart (all c).0).many
+
+pub returns-clause-root : goal.returns-clause-root
+returns-clause-root c = added_root c.args.parent.now c.args.at c.args.child c.args.pool.now c.set_children.new.self c.requires.stands c.requires.root c.requires.apart (all c).0
+
+pub returns-clause-last : goal.returns-clause-last
+returns-clause-last c = added_last c.args.parent.now c.args.at c.args.child c.args.pool.now c.set_children.new.self c.requires.stands c.requires.root c.requires.apart (all c).0
+
+pub returns-clause-next : goal.returns-clause-next
+returns-clause-next c = added_next c.args.parent.now c.args.at c.args.child c.args.pool.now c.set_children.new.self c.requires.stands c.requires.root c.requires.apart (all c).0

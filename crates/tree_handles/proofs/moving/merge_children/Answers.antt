@@ -11,6 +11,7 @@ use Rattle.tree_handles.proofs.Forests.{stands}
 use Rattle.tree_handles.proofs.Parts.{live_node}
 use Rattle.tree_handles.proofs.Releases.{few_nodes}
 use Rattle.tree_handles.proofs.Swapping.{merges, counted_merged}
+use Rattle.tree_handles.proofs.AtRoots.{changed_root}
 use Rattle.tree_handles.proofs.moving.merge_children.Goals as goal
 
 pub children-children-requires-clause-live : goal.children-children-requires-clause-live
@@ -51,3 +52,6 @@ returns-clause-forest c = (all c).0
 
 pub returns-clause-stands : goal.returns-clause-stands
 returns-clause-stands c = (all c).1
+
+pub returns-clause-root : goal.returns-clause-root
+returns-clause-root c = changed_root c.args.parent.now c.args.pool.now c.set_children.new.self (λ k. merged_nth c.args.at k) c.requires.stands (all c).0

@@ -8,6 +8,7 @@ use Rattle.tree_handles.specs.Standing.{forest, Stands}
 use Rattle.tree_handles.proofs.Adding.{root_live}
 use Rattle.tree_handles.proofs.Forests.{stands}
 use Rattle.tree_handles.proofs.Swapping.{block, counted_last}
+use Rattle.tree_handles.proofs.AtRoots.{moved_last}
 use Rattle.tree_handles.proofs.moving.move_last.Goals as goal
 
 pub locate-from-requires : goal.locate-from-requires
@@ -27,3 +28,6 @@ returns-clause-forest c = (all c).0
 
 pub returns-clause-stands : goal.returns-clause-stands
 returns-clause-stands c = (all c).1
+
+pub returns-clause-last : goal.returns-clause-last
+returns-clause-last c = moved_last c.args.handle.now c.args.pool.now c.move_block.new.self c.requires.stands (all c).1 c.requires.root (all c).0

@@ -9,6 +9,7 @@ use Rattle.tree_handles.specs.Standing.{forest, Stands}
 use Rattle.tree_handles.proofs.Distinct.{held_parent}
 use Rattle.tree_handles.proofs.Forests.{stands, keeps, keeps_after}
 use Rattle.tree_handles.proofs.Parts.{child_taken, counted_taken, live_node}
+use Rattle.tree_handles.proofs.AtRoots.{taken_root}
 use Rattle.tree_handles.proofs.moving.take_child.Goals as goal
 
 pub child_id-id-requires-clause-within : goal.child_id-id-requires-clause-within
@@ -55,3 +56,6 @@ returns-clause-kept c = keeps_after c.args.pool.now c.move_block.new.self c.set_
 
 pub returns-clause-stands : goal.returns-clause-stands
 returns-clause-stands c = (all c).1
+
+pub returns-clause-last : goal.returns-clause-last
+returns-clause-last c = λ root. taken_root c.args.parent.now c.args.at c.of.result c.args.pool.now c.set_children.new.self c.requires.stands (all c).1 c.requires.within (all c).0 (c.of.ensures ∙ c.child_id-id.ensures.value ∙ rw c.id-owner.ensures refl) root

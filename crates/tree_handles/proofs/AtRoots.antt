@@ -1,0 +1,113 @@
+-- The calls at roots, in words of roots.
+use Rattle.std.proofs.Common.{◌≡◌, ℕ, ◌+◌, ◌-◌, ◌<◌, ◌≤◌, ◌∷◌, cond, eqb, refl, sym, ap, ◌∙◌, subst, arith, Bool, true, false}
+use Rattle.std.proofs.lemmas.Bool.{eqb-true, eq-eqb}
+use Rattle.calc_terms.specs.Node.{Node}
+use Rattle.node_pool.specs.Nodes.{AreDistinct}
+use Rattle.node_pool.specs.State.{State}
+use Rattle.node_pool.proofs.Ids.{AreDistinct-parts, AreDistinct-append, AreApart-parts}
+use Rattle.tree_handles.specs.Forest.{Forest, empty, tree, join, arity, kids, root_id, node_of, flatten, tree_nth, without_nth, with_nth, set_nth, swapped_nth, merged_nth, with_root_kids}
+use Rattle.tree_handles.specs.Handed.{Ends}
+use Rattle.tree_handles.specs.Inside.{holds, kids_of, with_kids}
+use Rattle.tree_handles.specs.Roots.{has_root, root_tree, without_root, put}
+use Rattle.tree_handles.specs.Standing.{Stands, forest}
+use Rattle.tree_handles.proofs.Distinct.{Distinct, distinct, put-root, clear_front}
+use Rattle.tree_handles.proofs.Forests.{flatten-join, arity-with_nth, arity-tree_nth}
+use Rattle.tree_handles.proofs.Joins.{holds-left, holds-with_kids, kids_of-with_kids}
+use Rattle.tree_handles.proofs.Lasts.{kids_of_root, last_root, takes_root, takes_next}
+use Rattle.tree_handles.proofs.Replacing.{held_beside}
+use Rattle.tree_handles.proofs.Roots.{top, root_arity, root-without, root_held, no_root, root_id-root_tree}
+use Rattle.tree_handles.proofs.Tests.{by_test, eqb-sym}
+
+pub distinct-without : (i : ℕ) (f : Forest) → Distinct f → has_root i f ≡ true → Distinct (without_root i f)
+distinct-without i f d h =
+    let p = top i f h in
+    let m = tree p.label p.kids-are p.right in
+    let all = AreDistinct-parts (flatten p.left) (flatten m) (subst AreDistinct (ap flatten p.whole ∙ flatten-join p.left m) d) in
+    let below = AreDistinct-parts (flatten p.kids-are) (flatten p.right) all.1.1 in
+    subst AreDistinct (sym (ap flatten p.without ∙ flatten-join p.left p.right))
+    (AreDistinct-append (flatten p.left) (flatten p.right) all.0 below.1 (AreApart-parts (flatten p.left) (node_of p.label p.kids-are ∷ flatten p.kids-are) (flatten p.right) all.2).1)
+
+-- a node that is not in the tree of a root is another than the root
+pub other_than : (i j : ℕ) (f : Forest) → holds i (root_tree j f) ≡ false → has_root j f ≡ true → eqb i j ≡ false
+other_than i j f a h =
+    let p = top j f h in
+    by_test (λ t. eqb i j ≡ t → t ≡ false) (eqb i j)
+    (λ e q. absurd (cc (a, ap (holds i) p.tree-is, ap (λ (t : Bool). cond t true (cond (holds i p.kids-are) true false)) (eq-eqb p.label.id i (p.id-is ∙ sym (eqb-true i j q))))))
+    (λ e q. refl) refl
+
+-- ---- a root takes another as a child
+
+pub added_root : (i at j : ℕ) (s t : State) → Stands s → has_root j (forest s) ≡ true → holds i (root_tree j (forest s)) ≡ false → forest t ≡ with_kids i (with_nth at (root_tree j (forest s)) (kids_of i (forest s))) (without_root j (forest s))
+    → has_root i (forest s) ≡ true → forest t ≡ put i (with_nth at (root_tree j (forest s)) (kids (root_tree i (forest s)))) (without_root j (forest s))
+added_root i at j s t st root a e top_i =
+    let f = forest s in
+    let d = distinct s st in
+    let n = other_than i j f a root in
+    e ∙ put-root i (with_nth at (root_tree j f) (kids_of i f)) (without_root j f) (distinct-without j f d root) (root-without j i f (eqb-sym i j n) ∙ top_i)
+    ∙ ap (λ (k : Forest). put i (with_nth at (root_tree j f) k) (without_root j f)) (kids_of_root i s st top_i)
+
+pub added_last : (i at j : ℕ) (s t : State) → Stands s → has_root j (forest s) ≡ true → holds i (root_tree j (forest s)) ≡ false → forest t ≡ with_kids i (with_nth at (root_tree j (forest s)) (kids_of i (forest s))) (without_root j (forest s))
+    → (u g : Forest) → Ends i u g (forest s) → has_root j g ≡ true → Ends i (with_root_kids (with_nth at (root_tree j g) (kids u)) u) (without_root j g) (forest t)
+added_last i at j s t st root a e u g h r = takes_root j at i u g (forest s) (forest t) h r (added_root i at j s t st root a e (last_root i u g (forest s) h))
+
+pub added_next : (i at j : ℕ) (s t : State) → Stands s → has_root j (forest s) ≡ true → holds i (root_tree j (forest s)) ≡ false → forest t ≡ with_kids i (with_nth at (root_tree j (forest s)) (kids_of i (forest s))) (without_root j (forest s))
+    → (u f v g : Forest) → Ends i u f (forest s) → Ends j v g f → Ends i (with_root_kids (with_nth at v (kids u)) u) g (forest t)
+added_next i at j s t st root a e u f v g h k = takes_next j at i u v g f (forest s) (forest t) k h (added_root i at j s t st root a e (last_root i u f (forest s) h))
+
+-- its children are one more
+pub record IsMore (i : ℕ) (f g : Forest) : Type 0 where
+  pub live : holds i g ≡ true
+  pub many : arity (kids_of i g) ≡ arity (kids_of i f) + 1
+
+pub added_more : (i at j : ℕ) (f g : Forest) → holds i f ≡ true → at ≤ arity (kids_of i f) → has_root j f ≡ true → holds i (root_tree j f) ≡ false → g ≡ with_kids i (with_nth at (root_tree j f) (kids_of i f)) (without_root j f) → IsMore i f g
+added_more i at j f g live within root a e =
+    let beside = held_beside j i f a live in
+    let n = with_nth at (root_tree j f) (kids_of i f) in
+    record {
+      live = ap (holds i) e ∙ holds-with_kids i n (without_root j f) beside;
+      many = ap arity (ap (kids_of i) e ∙ kids_of-with_kids i n (without_root j f) beside) ∙ omega (arith, arity-with_nth at (root_tree j f) (kids_of i f) within, root_arity j f root);
+    }
+
+-- ---- a root's child becomes the last root
+
+pub taken_last : (i at h : ℕ) (s t : State) (g : Forest) → Stands s → Stands t → at < arity (kids_of i (forest s)) → forest t ≡ join g (tree_nth at (kids_of i (forest s))) → h ≡ root_id (tree_nth at (kids_of i (forest s))) → Ends h (tree_nth at (kids_of i (forest s))) g (forest t)
+taken_last i at h s t g st sn within e q =
+    let c = tree_nth at (kids_of i (forest s)) in
+    let one = arity-tree_nth at (kids_of i (forest s)) within in
+    record { whole = e; alone = one; root = sym q; clear = clear_front h g c (forest t) e q one (distinct t sn) }
+
+-- from a root
+pub taken_root : (i at h : ℕ) (s t : State) → Stands s → Stands t → at < arity (kids_of i (forest s)) → forest t ≡ join (with_kids i (without_nth at (kids_of i (forest s))) (forest s)) (tree_nth at (kids_of i (forest s))) → h ≡ root_id (tree_nth at (kids_of i (forest s)))
+    → has_root i (forest s) ≡ true → Ends h (tree_nth at (kids (root_tree i (forest s)))) (put i (without_nth at (kids (root_tree i (forest s)))) (forest s)) (forest t)
+taken_root i at h s t st sn within e q root =
+    let f = forest s in
+    let k = kids_of_root i s st root in
+    let now : forest t ≡ join (put i (without_nth at (kids_of i f)) f) (tree_nth at (kids_of i f)) = e ∙ ap (λ (x : Forest). join x (tree_nth at (kids_of i f))) (put-root i (without_nth at (kids_of i f)) f (distinct s st) root) in
+    subst (λ (x : Forest). Ends h (tree_nth at x) (put i (without_nth at x) f) (forest t)) k (taken_last i at h s t (put i (without_nth at (kids_of i f)) f) st sn within now q)
+
+-- another root takes its place
+pub exchanged_root : (i at j h : ℕ) (s t : State) → Stands s → Stands t → at < arity (kids_of i (forest s)) → has_root j (forest s) ≡ true → holds i (root_tree j (forest s)) ≡ false
+    → forest t ≡ join (with_kids i (set_nth at (root_tree j (forest s)) (kids_of i (forest s))) (without_root j (forest s))) (tree_nth at (kids_of i (forest s))) → h ≡ root_id (tree_nth at (kids_of i (forest s)))
+    → has_root i (forest s) ≡ true → Ends h (tree_nth at (kids (root_tree i (forest s)))) (put i (set_nth at (root_tree j (forest s)) (kids (root_tree i (forest s)))) (without_root j (forest s))) (forest t)
+exchanged_root i at j h s t st sn within root a e q top_i =
+    let f = forest s in
+    let k = kids_of_root i s st top_i in
+    let n = other_than i j f a root in
+    let new = set_nth at (root_tree j f) (kids_of i f) in
+    let now : forest t ≡ join (put i new (without_root j f)) (tree_nth at (kids_of i f)) = e ∙ ap (λ (x : Forest). join x (tree_nth at (kids_of i f))) (put-root i new (without_root j f) (distinct-without j f (distinct s st) root) (root-without j i f (eqb-sym i j n) ∙ top_i)) in
+    subst (λ (x : Forest). Ends h (tree_nth at x) (put i (set_nth at (root_tree j f) x) (without_root j f)) (forest t)) k (taken_last i at h s t (put i new (without_root j f)) st sn within now q)
+
+-- ---- other children of a root
+
+pub changed_root : (i : ℕ) (s t : State) (new : Forest → Forest) → Stands s → forest t ≡ with_kids i (new (kids_of i (forest s))) (forest s) → has_root i (forest s) ≡ true → forest t ≡ put i (new (kids (root_tree i (forest s)))) (forest s)
+changed_root i s t new st e root =
+    let f = forest s in
+    e ∙ put-root i (new (kids_of i f)) f (distinct s st) root ∙ ap (λ (x : Forest). put i (new x) f) (kids_of_root i s st root)
+
+-- ---- a root that moves behind all others
+
+pub moved_last : (i : ℕ) (s t : State) → Stands s → Stands t → has_root i (forest s) ≡ true → forest t ≡ join (without_root i (forest s)) (root_tree i (forest s)) → Ends i (root_tree i (forest s)) (without_root i (forest s)) (forest t)
+moved_last i s t st sn root e =
+    let f = forest s in
+    let id = root_id-root_tree i f root in
+    record { whole = e; alone = root_arity i f root; root = id; clear = clear_front i (without_root i f) (root_tree i f) (forest t) e (sym id) (root_arity i f root) (distinct t sn) }

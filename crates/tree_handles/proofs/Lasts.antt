@@ -1,0 +1,156 @@
+-- The tree that stands last.
+use Rattle.std.proofs.Common.{◌≡◌, ℕ, ◌+◌, ◌<◌, ◌≤◌, cond, eqb, refl, sym, ap, ◌∙◌, subst, arith, Bool, true, false}
+use Rattle.std.proofs.lemmas.Bool.{eqb-true, eq-eqb}
+use Rattle.node_pool.specs.State.{State}
+use Rattle.tree_handles.specs.Expressions.{AllExpressions}
+use Rattle.tree_handles.specs.Forest.{Label, Forest, empty, tree, join, arity, kids, root_id, with_root_kids, with_nth, one_tree, AllNodes}
+use Rattle.tree_handles.specs.Handed.{AllOnce, IsOwned, IsHanded, Ends}
+use Rattle.tree_handles.specs.Inside.{holds, tree_at, kids_of}
+use Rattle.tree_handles.specs.Roots.{has_root, root_tree, without_root, put}
+use Rattle.tree_handles.specs.Standing.{Stands, forest}
+use Rattle.tree_handles.proofs.Distinct.{Distinct, distinct, distinct_parts, tree_at-root}
+use Rattle.tree_handles.proofs.Forests.{join-empty, join_assoc}
+use Rattle.tree_handles.proofs.Roots.{root_held, root-left, root-right, tree-left, tree-right, without-left, without-right, put-left, put-right, root-without, root-put}
+use Rattle.tree_handles.proofs.Tests.{by_test, or_true, not_left, not_right, eqb-sym}
+
+-- one tree, by its root's identifier
+alone_tree : (i : ℕ) (t : Forest) → arity t ≡ 1 → root_id t ≡ i → (has_root i t ≡ true) × (root_tree i t ≡ t) × (without_root i t ≡ empty) × ((n : Forest) → put i n t ≡ with_root_kids n t)
+alone_tree i empty a r = absurd (omega arith)
+alone_tree i (tree l k empty) a r = let e : eqb l.id i ≡ true = eq-eqb l.id i r in (rw e refl, rw e refl, rw e refl, λ n. rw e refl)
+alone_tree i (tree l k (tree m j s)) a r = absurd (omega arith)
+
+pub last_root : (i : ℕ) (t g f : Forest) → Ends i t g f → has_root i f ≡ true
+last_root i t g f h = ap (has_root i) h.whole ∙ root-right i g t h.clear ∙ (alone_tree i t h.alone h.root).0
+
+pub last_held : (i : ℕ) (t g f : Forest) → Ends i t g f → holds i f ≡ true
+last_held i t g f h = root_held i f (last_root i t g f h)
+
+pub last_tree : (i : ℕ) (t g f : Forest) → Ends i t g f → root_tree i f ≡ t
+last_tree i t g f h = ap (root_tree i) h.whole ∙ tree-right i g t h.clear ∙ (alone_tree i t h.alone h.root).1
+
+pub last_rest : (i : ℕ) (t g f : Forest) → Ends i t g f → without_root i f ≡ g
+last_rest i t g f h = ap (without_root i) h.whole ∙ without-right i g t h.clear ∙ ap (join g) (alone_tree i t h.alone h.root).2 ∙ join-empty g
+
+pub last_put : (i : ℕ) (n t g f : Forest) → Ends i t g f → put i n f ≡ join g (with_root_kids n t)
+last_put i n t g f h = ap (put i n) h.whole ∙ put-right i n g t h.clear ∙ ap (join g) ((alone_tree i t h.alone h.root).3 n)
+
+-- ---- another root
+
+pub other_root : (j i : ℕ) (t g f : Forest) → Ends i t g f → has_root j g ≡ true → has_root j f ≡ true
+other_root j i t g f h r = ap (has_root j) h.whole ∙ root-left j g t r
+
+pub other_tree : (j i : ℕ) (t g f : Forest) → Ends i t g f → has_root j g ≡ true → root_tree j f ≡ root_tree j g
+other_tree j i t g f h r = ap (root_tree j) h.whole ∙ tree-left j g t r
+
+pub other_apart : (j i : ℕ) (t g f : Forest) → Ends i t g f → has_root j g ≡ true → eqb i j ≡ false
+other_apart j i t g f h r = by_test (λ u. eqb i j ≡ u → u ≡ false) (eqb i j) (λ e q. absurd (cc (r, ap (λ (x : ℕ). has_root x g) (eqb-true i j q), h.clear))) (λ e q. refl) refl
+
+pub other_rest : (j i : ℕ) (t g f : Forest) → Ends i t g f → has_root j g ≡ true → without_root j f ≡ join (without_root j g) t
+other_rest j i t g f h r = ap (without_root j) h.whole ∙ without-left j g t r
+
+pub other_owned : (j i : ℕ) (t g f : Forest) → Ends i t g f → IsOwned j g → IsOwned j f
+other_owned j i t g f h r = record { root = other_root j i t g f h r.root; once = subst AllOnce (sym (other_tree j i t g f h r.root)) r.once }
+
+pub other_handed : (j i : ℕ) (t g f : Forest) → Ends i t g f → IsHanded j g → IsHanded j f
+other_handed j i t g f h r = record {
+  root = other_root j i t g f h r.root;
+  once = subst AllOnce (sym (other_tree j i t g f h r.root)) r.once;
+  whole = subst AllExpressions (sym (other_tree j i t g f h r.root)) r.whole;
+}
+
+-- a root that stays once the last tree is gone
+pub still_root : (j i : ℕ) (t g f : Forest) → Ends i t g f → has_root j g ≡ true → has_root j (without_root i f) ≡ true
+still_root j i t g f h r = ap (has_root j) (last_rest i t g f h) ∙ r
+
+-- another root goes, or has other children
+pub ends_without : (j i : ℕ) (t g f : Forest) → Ends i t g f → has_root j g ≡ true → Ends i t (without_root j g) (without_root j f)
+ends_without j i t g f h r = record {
+  whole = other_rest j i t g f h r;
+  alone = h.alone;
+  root = h.root;
+  clear = root-without j i g (eqb-sym i j (other_apart j i t g f h r)) ∙ h.clear;
+}
+
+pub ends_put : (j i : ℕ) (n t g f : Forest) → Ends i t g f → has_root j g ≡ true → Ends i t (put j n g) (put j n f)
+ends_put j i n t g f h r = record {
+  whole = ap (put j n) h.whole ∙ put-left j n g t r;
+  alone = h.alone;
+  root = h.root;
+  clear = root-put j i n g ∙ h.clear;
+}
+
+-- the same forest
+pub ends_at : (i : ℕ) (t g f new : Forest) → Ends i t g f → new ≡ f → Ends i t g new
+ends_at i t g f new h e = record { whole = e ∙ h.whole; alone = h.alone; root = h.root; clear = h.clear }
+
+-- ---- the last tree takes a child
+
+with_kids_alone : (n t : Forest) → arity (with_root_kids n t) ≡ arity t
+with_kids_alone n empty = refl
+with_kids_alone n (tree l k r) = refl
+
+with_kids_root : (n t : Forest) → root_id (with_root_kids n t) ≡ root_id t
+with_kids_root n empty = refl
+with_kids_root n (tree l k r) = refl
+
+-- a root from those before it
+pub takes_root : (j at i : ℕ) (t g f new : Forest) → Ends i t g f → has_root j g ≡ true → new ≡ put i (with_nth at (root_tree j f) (kids (root_tree i f))) (without_root j f)
+    → Ends i (with_root_kids (with_nth at (root_tree j g) (kids t)) t) (without_root j g) new
+takes_root j at i t g f new h r e =
+    let still = ends_without j i t g f h r in
+    let n = with_nth at (root_tree j g) (kids t) in
+    record {
+      whole = e ∙ rw (other_tree j i t g f h r, last_tree i t g f h) (last_put i n t (without_root j g) (without_root j f) still);
+      alone = with_kids_alone n t ∙ h.alone;
+      root = with_kids_root n t ∙ h.root;
+      clear = still.clear;
+    }
+
+-- the tree just before it
+pub takes_next : (j at i : ℕ) (t u g f two new : Forest) → Ends j u g f → Ends i t f two → new ≡ put i (with_nth at (root_tree j two) (kids (root_tree i two))) (without_root j two)
+    → Ends i (with_root_kids (with_nth at u (kids t)) t) g new
+takes_next j at i t u g f two new h p e =
+    let q = takes_root j at i t f two new p (last_root j u g f h) e in
+    subst (λ (x : Forest). Ends i (with_root_kids (with_nth at x (kids t)) t) g new) (last_tree j u g f h)
+    (subst (λ (x : Forest). Ends i (with_root_kids (with_nth at (root_tree j f) (kids t)) t) x new) (last_rest j u g f h) q)
+
+-- ---- roots are apart
+
+holds_tree : (i j : ℕ) (f : Forest) → holds i f ≡ false → holds i (root_tree j f) ≡ false
+holds_tree i j empty h = refl
+holds_tree i j (tree l k r) h =
+    by_test (λ t. cond t true (cond (holds i k) true (holds i r)) ≡ false → holds i (cond (eqb l.id j) (tree l k empty) (root_tree j r)) ≡ false) (eqb l.id i) (λ e h. absurd cc)
+    (λ e h. by_test (λ t. eqb l.id i ≡ false → holds i (cond t (tree l k empty) (root_tree j r)) ≡ false) (eqb l.id j)
+        (λ u v. rw (v, not_left (holds i k) (holds i r) h) refl) (λ u v. holds_tree i j r (not_right (holds i k) (holds i r) h)) e) h
+
+-- another root is not in the tree of a root
+pub roots_apart : (i j : ℕ) (f : Forest) → Distinct f → eqb i j ≡ false → has_root i f ≡ true → has_root j f ≡ true → holds i (root_tree j f) ≡ false
+roots_apart i j empty d n ha hb = refl
+roots_apart i j (tree l k r) d n ha hb =
+    let p = distinct_parts l k r d in
+    by_test (λ t. eqb l.id j ≡ t → cond (eqb l.id i) true (has_root i r) ≡ true → cond t true (has_root j r) ≡ true → holds i (cond t (tree l k empty) (root_tree j r)) ≡ false) (eqb l.id j)
+    (λ e q h g.
+        let not_here : eqb l.id i ≡ false = ap (λ (x : ℕ). eqb x i) (eqb-true l.id j q) ∙ eqb-sym i j n in
+        let behind : has_root i r ≡ true = ap (λ (t : Bool). cond t true (has_root i r)) (sym not_here) ∙ h in
+        rw (not_here, p.apart i (root_held i r behind)) refl)
+    (λ e q h g.
+        by_test (λ t. eqb l.id i ≡ t → cond t true (has_root i r) ≡ true → holds i (root_tree j r) ≡ false) (eqb l.id i)
+        (λ u v w. holds_tree i j r (subst (λ (x : ℕ). holds x r ≡ false) (eqb-true l.id i v) p.not_behind))
+        (λ u v w. roots_apart i j r p.behind n w g) refl h) refl ha hb
+
+pub apart : (i j : ℕ) (s : State) → Stands s → eqb i j ≡ false → has_root i (forest s) ≡ true → has_root j (forest s) ≡ true → holds i (root_tree j (forest s)) ≡ false
+apart i j s st n a b = roots_apart i j (forest s) (distinct s st) n a b
+
+pub last_apart : (i j : ℕ) (t g : Forest) (s : State) → Stands s → Ends i t g (forest s) → has_root j g ≡ true → holds i (root_tree j (forest s)) ≡ false
+last_apart i j t g s st h r = apart i j s st (other_apart j i t g (forest s) h r) (last_root i t g (forest s) h) (other_root j i t g (forest s) h r)
+
+-- ---- a root's tree by its identifier
+
+pub tree_of_root : (i : ℕ) (s : State) → Stands s → has_root i (forest s) ≡ true → tree_at i (forest s) ≡ root_tree i (forest s)
+tree_of_root i s st h = tree_at-root i (forest s) (distinct s st) h
+
+pub kids_of_root : (i : ℕ) (s : State) → Stands s → has_root i (forest s) ≡ true → kids_of i (forest s) ≡ kids (root_tree i (forest s))
+kids_of_root i s st h = ap kids (tree_of_root i s st h)
+
+pub kids_of_last : (i : ℕ) (t g : Forest) (s : State) → Stands s → Ends i t g (forest s) → kids_of i (forest s) ≡ kids t
+kids_of_last i t g s st h = kids_of_root i s st (last_root i t g (forest s) h) ∙ ap kids (last_tree i t g (forest s) h)
