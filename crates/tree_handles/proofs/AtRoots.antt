@@ -44,15 +44,15 @@ added_root i at j s t st root a e top_i =
     let d = distinct s st in
     let n = other_than i j f a root in
     e ∙ put-root i (with_nth at (root_tree j f) (kids_of i f)) (without_root j f) (distinct-without j f d root) (root-without j i f (eqb-sym i j n) ∙ top_i)
-    ∙ ap (λ (k : Forest). put i (with_nth at (root_tree j f) k) (without_root j f)) (kids_of_root i s st top_i)
+    ∙ ap (λ (k : Forest). put i (with_nth at (root_tree j f) k) (without_root j f)) (kids_of_root i st top_i)
 
 pub added_last : (i at j : ℕ) (s t : State) → Stands s → has_root j (forest s) ≡ true → holds i (root_tree j (forest s)) ≡ false → forest t ≡ with_kids i (with_nth at (root_tree j (forest s)) (kids_of i (forest s))) (without_root j (forest s))
     → (u g : Forest) → Ends i u g (forest s) → has_root j g ≡ true → Ends i (with_root_kids (with_nth at (root_tree j g) (kids u)) u) (without_root j g) (forest t)
-added_last i at j s t st root a e u g h r = takes_root j at i u g (forest s) (forest t) h r (added_root i at j s t st root a e (last_root i u g (forest s) h))
+added_last i at j s t st root a e u g h r = takes_root j at h r (added_root i at j s t st root a e (last_root h))
 
 pub added_next : (i at j : ℕ) (s t : State) → Stands s → has_root j (forest s) ≡ true → holds i (root_tree j (forest s)) ≡ false → forest t ≡ with_kids i (with_nth at (root_tree j (forest s)) (kids_of i (forest s))) (without_root j (forest s))
     → (u f v g : Forest) → Ends i u f (forest s) → Ends j v g f → Ends i (with_root_kids (with_nth at v (kids u)) u) g (forest t)
-added_next i at j s t st root a e u f v g h k = takes_next j at i u v g f (forest s) (forest t) k h (added_root i at j s t st root a e (last_root i u f (forest s) h))
+added_next i at j s t st root a e u f v g h k = takes_next at k h (added_root i at j s t st root a e (last_root h))
 
 -- its children are one more
 pub record IsMore (i : ℕ) (f g : Forest) : Type 0 where
@@ -81,7 +81,7 @@ pub taken_root : (i at h : ℕ) (s t : State) → Stands s → Stands t → at <
     → has_root i (forest s) ≡ true → Ends h (tree_nth at (kids (root_tree i (forest s)))) (put i (without_nth at (kids (root_tree i (forest s)))) (forest s)) (forest t)
 taken_root i at h s t st sn within e q root =
     let f = forest s in
-    let k = kids_of_root i s st root in
+    let k = kids_of_root i st root in
     let now : forest t ≡ join (put i (without_nth at (kids_of i f)) f) (tree_nth at (kids_of i f)) = e ∙ ap (λ (x : Forest). join x (tree_nth at (kids_of i f))) (put-root i (without_nth at (kids_of i f)) f (distinct s st) root) in
     subst (λ (x : Forest). Ends h (tree_nth at x) (put i (without_nth at x) f) (forest t)) k (taken_last i at h s t (put i (without_nth at (kids_of i f)) f) st sn within now q)
 
@@ -91,7 +91,7 @@ pub exchanged_root : (i at j h : ℕ) (s t : State) → Stands s → Stands t �
     → has_root i (forest s) ≡ true → Ends h (tree_nth at (kids (root_tree i (forest s)))) (put i (set_nth at (root_tree j (forest s)) (kids (root_tree i (forest s)))) (without_root j (forest s))) (forest t)
 exchanged_root i at j h s t st sn within root a e q top_i =
     let f = forest s in
-    let k = kids_of_root i s st top_i in
+    let k = kids_of_root i st top_i in
     let n = other_than i j f a root in
     let new = set_nth at (root_tree j f) (kids_of i f) in
     let now : forest t ≡ join (put i new (without_root j f)) (tree_nth at (kids_of i f)) = e ∙ ap (λ (x : Forest). join x (tree_nth at (kids_of i f))) (put-root i new (without_root j f) (distinct-without j f (distinct s st) root) (root-without j i f (eqb-sym i j n) ∙ top_i)) in
@@ -102,7 +102,7 @@ exchanged_root i at j h s t st sn within root a e q top_i =
 pub changed_root : (i : ℕ) (s t : State) (new : Forest → Forest) → Stands s → forest t ≡ with_kids i (new (kids_of i (forest s))) (forest s) → has_root i (forest s) ≡ true → forest t ≡ put i (new (kids (root_tree i (forest s)))) (forest s)
 changed_root i s t new st e root =
     let f = forest s in
-    e ∙ put-root i (new (kids_of i f)) f (distinct s st) root ∙ ap (λ (x : Forest). put i (new x) f) (kids_of_root i s st root)
+    e ∙ put-root i (new (kids_of i f)) f (distinct s st) root ∙ ap (λ (x : Forest). put i (new x) f) (kids_of_root i st root)
 
 -- ---- a root that moves behind all others
 

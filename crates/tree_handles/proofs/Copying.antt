@@ -219,7 +219,7 @@ copy_done i from end place s m t st x e h g =
     copy_tree_is i from end place s t st x (h ∙ ap (λ (y : State). used y.nodes) e) (subst (λ (y : State). (made : List Node) × (t ≡ record y { nodes = y.nodes ++ made }) × AreCopies (between from end y.nodes) made) e g)
 
 -- the copy as an answer
-pub copy_given : (i h place : ℕ) (s t : State) (x : IsCopyTree i place s t) → h ≡ root_id x.copy → Stands t → IsExpression i (forest s) → Gives (forest s) t h (λ u. u ≡ plain (tree_at i (forest s)))
+pub copy_given : (i h place : ℕ) (s t : State) (x : IsCopyTree i place s t) → h ≡ root_id x.copy → Stands t → IsExpression i (forest s) → Gives (forest s) (forest t) h (λ u. u ≡ plain (tree_at i (forest s)))
 copy_given i h place s t x e st w = record {
   tree = x.copy;
   ends = record { whole = x.forest-is; alone = x.alone; root = sym e; clear = clear_front h (forest s) x.copy (forest t) x.forest-is e x.alone (distinct t st) };

@@ -19,69 +19,68 @@ alone_tree i empty a r = absurd (omega arith)
 alone_tree i (tree l k empty) a r = let e : eqb l.id i ≡ true = eq-eqb l.id i r in (rw e refl, rw e refl, rw e refl, λ n. rw e refl)
 alone_tree i (tree l k (tree m j s)) a r = absurd (omega arith)
 
-pub last_root : (i : ℕ) (t g f : Forest) → Ends i t g f → has_root i f ≡ true
-last_root i t g f h = ap (has_root i) h.whole ∙ root-right i g t h.clear ∙ (alone_tree i t h.alone h.root).0
+pub last_root : {i : ℕ} {t g f : Forest} → Ends i t g f → has_root i f ≡ true
+last_root {i = i} {t = t} {g = g} h = ap (has_root i) h.whole ∙ root-right i g t h.clear ∙ (alone_tree i t h.alone h.root).0
 
-pub last_held : (i : ℕ) (t g f : Forest) → Ends i t g f → holds i f ≡ true
-last_held i t g f h = root_held i f (last_root i t g f h)
+pub last_held : {i : ℕ} {t g f : Forest} → Ends i t g f → holds i f ≡ true
+last_held {i = i} {f = f} h = root_held i f (last_root h)
 
-pub last_tree : (i : ℕ) (t g f : Forest) → Ends i t g f → root_tree i f ≡ t
-last_tree i t g f h = ap (root_tree i) h.whole ∙ tree-right i g t h.clear ∙ (alone_tree i t h.alone h.root).1
+pub last_tree : {i : ℕ} {t g f : Forest} → Ends i t g f → root_tree i f ≡ t
+last_tree {i = i} {t = t} {g = g} h = ap (root_tree i) h.whole ∙ tree-right i g t h.clear ∙ (alone_tree i t h.alone h.root).1
 
-pub last_rest : (i : ℕ) (t g f : Forest) → Ends i t g f → without_root i f ≡ g
-last_rest i t g f h = ap (without_root i) h.whole ∙ without-right i g t h.clear ∙ ap (join g) (alone_tree i t h.alone h.root).2 ∙ join-empty g
+pub last_rest : {i : ℕ} {t g f : Forest} → Ends i t g f → without_root i f ≡ g
+last_rest {i = i} {t = t} {g = g} h = ap (without_root i) h.whole ∙ without-right i g t h.clear ∙ ap (join g) (alone_tree i t h.alone h.root).2 ∙ join-empty g
 
-pub last_put : (i : ℕ) (n t g f : Forest) → Ends i t g f → put i n f ≡ join g (with_root_kids n t)
-last_put i n t g f h = ap (put i n) h.whole ∙ put-right i n g t h.clear ∙ ap (join g) ((alone_tree i t h.alone h.root).3 n)
+pub last_put : {i : ℕ} {t g f : Forest} (n : Forest) → Ends i t g f → put i n f ≡ join g (with_root_kids n t)
+last_put {i = i} {t = t} {g = g} n h = ap (put i n) h.whole ∙ put-right i n g t h.clear ∙ ap (join g) ((alone_tree i t h.alone h.root).3 n)
 
 -- ---- another root
 
-pub other_root : (j i : ℕ) (t g f : Forest) → Ends i t g f → has_root j g ≡ true → has_root j f ≡ true
-other_root j i t g f h r = ap (has_root j) h.whole ∙ root-left j g t r
+pub other_root : {i : ℕ} {t g f : Forest} (j : ℕ) → Ends i t g f → has_root j g ≡ true → has_root j f ≡ true
+other_root {t = t} {g = g} j h r = ap (has_root j) h.whole ∙ root-left j g t r
 
-pub other_tree : (j i : ℕ) (t g f : Forest) → Ends i t g f → has_root j g ≡ true → root_tree j f ≡ root_tree j g
-other_tree j i t g f h r = ap (root_tree j) h.whole ∙ tree-left j g t r
+pub other_tree : {i : ℕ} {t g f : Forest} (j : ℕ) → Ends i t g f → has_root j g ≡ true → root_tree j f ≡ root_tree j g
+other_tree {t = t} {g = g} j h r = ap (root_tree j) h.whole ∙ tree-left j g t r
 
-pub other_apart : (j i : ℕ) (t g f : Forest) → Ends i t g f → has_root j g ≡ true → eqb i j ≡ false
-other_apart j i t g f h r = by_test (λ u. eqb i j ≡ u → u ≡ false) (eqb i j) (λ e q. absurd (cc (r, ap (λ (x : ℕ). has_root x g) (eqb-true i j q), h.clear))) (λ e q. refl) refl
+pub other_apart : {i : ℕ} {t g f : Forest} (j : ℕ) → Ends i t g f → has_root j g ≡ true → eqb i j ≡ false
+other_apart {i = i} {g = g} j h r = by_test (λ u. eqb i j ≡ u → u ≡ false) (eqb i j) (λ e q. absurd (cc (r, ap (λ (x : ℕ). has_root x g) (eqb-true i j q), h.clear))) (λ e q. refl) refl
 
-pub other_rest : (j i : ℕ) (t g f : Forest) → Ends i t g f → has_root j g ≡ true → without_root j f ≡ join (without_root j g) t
-other_rest j i t g f h r = ap (without_root j) h.whole ∙ without-left j g t r
+pub other_rest : {i : ℕ} {t g f : Forest} (j : ℕ) → Ends i t g f → has_root j g ≡ true → without_root j f ≡ join (without_root j g) t
+other_rest {t = t} {g = g} j h r = ap (without_root j) h.whole ∙ without-left j g t r
 
-pub other_owned : (j i : ℕ) (t g f : Forest) → Ends i t g f → IsOwned j g → IsOwned j f
-other_owned j i t g f h r = record { root = other_root j i t g f h r.root; once = subst AllOnce (sym (other_tree j i t g f h r.root)) r.once }
+pub other_owned : {i j : ℕ} {t g f : Forest} → Ends i t g f → IsOwned j g → IsOwned j f
+other_owned {j = j} h r = record { root = other_root j h r.root; once = subst AllOnce (sym (other_tree j h r.root)) r.once }
 
-pub other_handed : (j i : ℕ) (t g f : Forest) → Ends i t g f → IsHanded j g → IsHanded j f
-other_handed j i t g f h r = record {
-  root = other_root j i t g f h r.root;
-  once = subst AllOnce (sym (other_tree j i t g f h r.root)) r.once;
-  whole = subst AllExpressions (sym (other_tree j i t g f h r.root)) r.whole;
+pub other_handed : {i j : ℕ} {t g f : Forest} → Ends i t g f → IsHanded j g → IsHanded j f
+other_handed {j = j} h r = record {
+  root = other_root j h r.root;
+  once = subst AllOnce (sym (other_tree j h r.root)) r.once;
+  whole = subst AllExpressions (sym (other_tree j h r.root)) r.whole;
 }
-
--- a root that stays once the last tree is gone
-pub still_root : (j i : ℕ) (t g f : Forest) → Ends i t g f → has_root j g ≡ true → has_root j (without_root i f) ≡ true
-still_root j i t g f h r = ap (has_root j) (last_rest i t g f h) ∙ r
 
 -- another root goes, or has other children
-pub ends_without : (j i : ℕ) (t g f : Forest) → Ends i t g f → has_root j g ≡ true → Ends i t (without_root j g) (without_root j f)
-ends_without j i t g f h r = record {
-  whole = other_rest j i t g f h r;
+pub ends_without : {i : ℕ} {t g f : Forest} (j : ℕ) → Ends i t g f → has_root j g ≡ true → Ends i t (without_root j g) (without_root j f)
+ends_without {i = i} {g = g} j h r = record {
+  whole = other_rest j h r;
   alone = h.alone;
   root = h.root;
-  clear = root-without j i g (eqb-sym i j (other_apart j i t g f h r)) ∙ h.clear;
+  clear = root-without j i g (eqb-sym i j (other_apart j h r)) ∙ h.clear;
 }
 
-pub ends_put : (j i : ℕ) (n t g f : Forest) → Ends i t g f → has_root j g ≡ true → Ends i t (put j n g) (put j n f)
-ends_put j i n t g f h r = record {
+pub ends_put : {i : ℕ} {t g f : Forest} (j : ℕ) (n : Forest) → Ends i t g f → has_root j g ≡ true → Ends i t (put j n g) (put j n f)
+ends_put {i = i} {t = t} {g = g} j n h r = record {
   whole = ap (put j n) h.whole ∙ put-left j n g t r;
   alone = h.alone;
   root = h.root;
   clear = root-put j i n g ∙ h.clear;
 }
 
--- the same forest
-pub ends_at : (i : ℕ) (t g f new : Forest) → Ends i t g f → new ≡ f → Ends i t g new
-ends_at i t g f new h e = record { whole = e ∙ h.whole; alone = h.alone; root = h.root; clear = h.clear }
+-- the same forest, and others in other words
+pub ends_at : {i : ℕ} {t g f new : Forest} → Ends i t g f → new ≡ f → Ends i t g new
+ends_at h e = record { whole = e ∙ h.whole; alone = h.alone; root = h.root; clear = h.clear }
+
+pub ends_as : {i : ℕ} {t u g h f : Forest} → Ends i t g f → t ≡ u → g ≡ h → Ends i u h f
+ends_as {i = i} {u = u} {g = g} {f = f} e p q = subst (λ (x : Forest). Ends i u x f) q (subst (λ (x : Forest). Ends i x g f) p e)
 
 -- ---- the last tree takes a child
 
@@ -94,25 +93,22 @@ with_kids_root n empty = refl
 with_kids_root n (tree l k r) = refl
 
 -- a root from those before it
-pub takes_root : (j at i : ℕ) (t g f new : Forest) → Ends i t g f → has_root j g ≡ true → new ≡ put i (with_nth at (root_tree j f) (kids (root_tree i f))) (without_root j f)
+pub takes_root : {i : ℕ} {t g f new : Forest} (j at : ℕ) → Ends i t g f → has_root j g ≡ true → new ≡ put i (with_nth at (root_tree j f) (kids (root_tree i f))) (without_root j f)
     → Ends i (with_root_kids (with_nth at (root_tree j g) (kids t)) t) (without_root j g) new
-takes_root j at i t g f new h r e =
-    let still = ends_without j i t g f h r in
+takes_root {i = i} {t = t} {g = g} {f = f} {new = new} j at h r e =
+    let still = ends_without j h r in
     let n = with_nth at (root_tree j g) (kids t) in
     record {
-      whole = e ∙ rw (other_tree j i t g f h r, last_tree i t g f h) (last_put i n t (without_root j g) (without_root j f) still);
+      whole = e ∙ rw (other_tree j h r, last_tree h) (last_put n still);
       alone = with_kids_alone n t ∙ h.alone;
       root = with_kids_root n t ∙ h.root;
       clear = still.clear;
     }
 
 -- the tree just before it
-pub takes_next : (j at i : ℕ) (t u g f two new : Forest) → Ends j u g f → Ends i t f two → new ≡ put i (with_nth at (root_tree j two) (kids (root_tree i two))) (without_root j two)
+pub takes_next : {i j : ℕ} {t u g f two new : Forest} (at : ℕ) → Ends j u g f → Ends i t f two → new ≡ put i (with_nth at (root_tree j two) (kids (root_tree i two))) (without_root j two)
     → Ends i (with_root_kids (with_nth at u (kids t)) t) g new
-takes_next j at i t u g f two new h p e =
-    let q = takes_root j at i t f two new p (last_root j u g f h) e in
-    subst (λ (x : Forest). Ends i (with_root_kids (with_nth at x (kids t)) t) g new) (last_tree j u g f h)
-    (subst (λ (x : Forest). Ends i (with_root_kids (with_nth at (root_tree j f) (kids t)) t) x new) (last_rest j u g f h) q)
+takes_next {i = i} {j = j} {t = t} {f = f} {new = new} at h p e = ends_as (takes_root j at p (last_root h) e) (ap (λ (x : Forest). with_root_kids (with_nth at x (kids t)) t) (last_tree h)) (last_rest h)
 
 -- ---- roots are apart
 
@@ -138,19 +134,19 @@ roots_apart i j (tree l k r) d n ha hb =
         (λ u v w. holds_tree i j r (subst (λ (x : ℕ). holds x r ≡ false) (eqb-true l.id i v) p.not_behind))
         (λ u v w. roots_apart i j r p.behind n w g) refl h) refl ha hb
 
-pub apart : (i j : ℕ) (s : State) → Stands s → eqb i j ≡ false → has_root i (forest s) ≡ true → has_root j (forest s) ≡ true → holds i (root_tree j (forest s)) ≡ false
-apart i j s st n a b = roots_apart i j (forest s) (distinct s st) n a b
+pub apart : {s : State} (i j : ℕ) → Stands s → eqb i j ≡ false → has_root i (forest s) ≡ true → has_root j (forest s) ≡ true → holds i (root_tree j (forest s)) ≡ false
+apart {s = s} i j st n a b = roots_apart i j (forest s) (distinct s st) n a b
 
-pub last_apart : (i j : ℕ) (t g : Forest) (s : State) → Stands s → Ends i t g (forest s) → has_root j g ≡ true → holds i (root_tree j (forest s)) ≡ false
-last_apart i j t g s st h r = apart i j s st (other_apart j i t g (forest s) h r) (last_root i t g (forest s) h) (other_root j i t g (forest s) h r)
+pub last_apart : {s : State} {i : ℕ} {t g : Forest} (j : ℕ) → Stands s → Ends i t g (forest s) → has_root j g ≡ true → holds i (root_tree j (forest s)) ≡ false
+last_apart {i = i} j st h r = apart i j st (other_apart j h r) (last_root h) (other_root j h r)
 
 -- ---- a root's tree by its identifier
 
-pub tree_of_root : (i : ℕ) (s : State) → Stands s → has_root i (forest s) ≡ true → tree_at i (forest s) ≡ root_tree i (forest s)
-tree_of_root i s st h = tree_at-root i (forest s) (distinct s st) h
+pub tree_of_root : {s : State} (i : ℕ) → Stands s → has_root i (forest s) ≡ true → tree_at i (forest s) ≡ root_tree i (forest s)
+tree_of_root {s = s} i st h = tree_at-root i (forest s) (distinct s st) h
 
-pub kids_of_root : (i : ℕ) (s : State) → Stands s → has_root i (forest s) ≡ true → kids_of i (forest s) ≡ kids (root_tree i (forest s))
-kids_of_root i s st h = ap kids (tree_of_root i s st h)
+pub kids_of_root : {s : State} (i : ℕ) → Stands s → has_root i (forest s) ≡ true → kids_of i (forest s) ≡ kids (root_tree i (forest s))
+kids_of_root i st h = ap kids (tree_of_root i st h)
 
-pub kids_of_last : (i : ℕ) (t g : Forest) (s : State) → Stands s → Ends i t g (forest s) → kids_of i (forest s) ≡ kids t
-kids_of_last i t g s st h = kids_of_root i s st (last_root i t g (forest s) h) ∙ ap kids (last_tree i t g (forest s) h)
+pub kids_of_last : {s : State} {i : ℕ} {t g : Forest} → Stands s → Ends i t g (forest s) → kids_of i (forest s) ≡ kids t
+kids_of_last {i = i} st h = kids_of_root i st (last_root h) ∙ ap kids (last_tree h)

@@ -19,3 +19,5 @@ pub mod Swapping
 pub mod Measures
 pub mod Lasts
 pub mod AtRoots
+pub mod Given
+pub mod Fronts

@@ -194,7 +194,7 @@ sizes-plains (tree l k r) h =
 
 -- ---- one tree
 
-alone : (t : Forest) → arity t ≡ 1 → plains t ≡ more (plain t) none
+pub alone : (t : Forest) → arity t ≡ 1 → plains t ≡ more (plain t) none
 alone empty e = absurd (omega arith)
 alone (tree l k empty) e = refl
 alone (tree l k (tree m j s)) e = absurd (omega arith)

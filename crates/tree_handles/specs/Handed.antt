@@ -1,10 +1,8 @@
 -- What a call that is handed whole trees wants and promises.
 use Rattle.std.specs.Prelude.{ℕ, ◌≡◌, List, [], ◌∷◌, true, false}
 use Rattle.calc_terms.specs.Trees.{Tree, Trees}
-use Rattle.node_pool.specs.State.{State}
 use Rattle.tree_handles.specs.Forest.{Label, Forest, join, arity, root_id, AllNodes}
 use Rattle.tree_handles.specs.Roots.{has_root, root_tree}
-use Rattle.tree_handles.specs.Standing.{forest}
 use Rattle.tree_handles.specs.Expressions.{plains, plain, AllExpressions}
 
 abbrev pub IsOnce : Label → ℕ → Type 0
@@ -39,9 +37,9 @@ pub record Ends (i : ℕ) (t others f : Forest) : Type 0 where
   pub clear : has_root i others ≡ false
 
 -- the answer of a call: one new tree of the language, each of its nodes held once, stands last, behind the others as they were; and what it is
-pub record Gives (others : Forest) (new : State) (id : ℕ) (Told : Tree → Type 0) : Type 0 where
+pub record Gives (others new : Forest) (id : ℕ) (Told : Tree → Type 0) : Type 0 where
   pub tree : Forest
-  pub ends : Ends id tree others (forest new)
+  pub ends : Ends id tree others new
   pub once : AllOnce tree
   pub whole : AllExpressions tree
   pub told : Told (plain tree)
@@ -57,5 +55,5 @@ AreNoRoots [] f = Unit {0}
 AreNoRoots (i ∷ is) f = (has_root i f ≡ false) × AreNoRoots is f
 
 -- whatever stood first, with none of the handed trees in it, still stands first, as it was
-abbrev pub KeepsFront : List ℕ → Forest → Forest → Type 0
-KeepsFront handed old new = (first : Forest) → Starts first old → AreNoRoots handed first → Starts first new
+pub record KeepsFront (handed : List ℕ) (old new : Forest) : Type 0 where
+  pub keeps : (first : Forest) → Starts first old → AreNoRoots handed first → Starts first new

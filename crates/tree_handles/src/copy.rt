@@ -22,7 +22,7 @@ pub fn copy_tree(pool: &mut Pool, source: Id) -> Result<Handle, Full>
     requires stands { Stands pool.old }
     requires live { holds source (forest pool.old) ≡ true }
     ensures ok { IfOk result (AddsCopy (tree_at source (forest pool.old)) (forest pool.old) (forest pool.new)) }
-    ensures given { IsExpression source (forest pool.old) → IfOk result (λ h. Gives (forest pool.old) pool.new h (λ t. t ≡ plain (tree_at source (forest pool.old)))) }
+    ensures given { IsExpression source (forest pool.old) → IfOk result (λ h. Gives (forest pool.old) (forest pool.new) h (λ t. t ≡ plain (tree_at source (forest pool.old)))) }
     ensures kept { OnOk result (KeepsRefusals pool.old pool.new) }
     ensures full { IfErr result (IsRefused (bytes_in (tree_at source (forest pool.old))) pool.old pool.new) }
     ensures exactly { IsOk result ↔ (bytes_in (tree_at source (forest pool.old)) ≤ free_of pool.old) }

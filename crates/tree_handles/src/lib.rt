@@ -1,6 +1,7 @@
 //! Trees in a pool, held by handles.
 #![tactic(auto)]
 
+mod building;
 mod copy;
 mod counts;
 mod handle;
@@ -8,8 +9,10 @@ mod measure;
 mod moving;
 mod read;
 mod releasing;
+mod upper;
 mod walk;
 
+pub use building::{node_over, node_over_two};
 pub use copy::copy_tree;
 pub use counts::{child, retain};
 pub use handle::{Handle, node, number, symbol};
@@ -17,3 +20,4 @@ pub use measure::{tree_bytes, tree_depth, tree_nodes};
 pub use moving::{add_child, merge_children, move_last, replace_child, swap_children, take_child};
 pub use read::{child_id, children, count, kind, name, rational};
 pub use releasing::release;
+pub use upper::difference;

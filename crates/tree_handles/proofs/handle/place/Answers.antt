@@ -3,9 +3,11 @@ use Rattle.calc_terms.specs.Leaf.{payload_of}
 use Rattle.node_pool.specs.State.{State}
 use Rattle.node_pool.specs.Nodes.{has}
 use Rattle.tree_handles.specs.Forest.{empty, join, one_tree}
+use Rattle.tree_handles.specs.Handed.{Ends}
 use Rattle.tree_handles.specs.Inside.{holds}
 use Rattle.tree_handles.specs.Standing.{Stands, forest, IsCounted}
 use Rattle.tree_handles.proofs.Forests.{placed, stands, has-flatten, all-join, keeps, is_refused, stands_refused}
+use Rattle.tree_handles.proofs.Fronts.{front_same, front_end, front_at}
 use Rattle.tree_handles.proofs.Roots.{no_root}
 use Rattle.tree_handles.proofs.handle.place.Goals as goal
 
@@ -20,8 +22,17 @@ all c =
 fresh : (c : goal.In-Ok) → holds c.in-Ok.id (forest c.args.pool.now) ≡ false
 fresh c = sym (ap (has c.in-Ok.id) c.requires.stands.flat ∙ has-flatten c.in-Ok.id (forest c.args.pool.now)) ∙ c.in-Ok.ensures.least.free
 
+ends : (c : goal.In-Ok) → Ends c.in-Ok.id (one_tree c.in-Ok.id (payload_of c.args.leaf) empty) (forest c.args.pool.now) (forest c.place.new.self)
+ends c = record { whole = (all c).0; alone = refl; root = refl; clear = no_root c.in-Ok.id (forest c.args.pool.now) (fresh c) }
+
 pub returns-in-Ok-clause-ok : goal.returns-in-Ok-clause-ok
-returns-in-Ok-clause-ok c = record { whole = (all c).0; alone = refl; root = refl; clear = no_root c.in-Ok.id (forest c.args.pool.now) (fresh c) }
+returns-in-Ok-clause-ok c = ends c
+
+pub returns-in-Ok-clause-front : goal.returns-in-Ok-clause-front
+returns-in-Ok-clause-front c = front_end (ends c) front_same
+
+pub returns-in-Err-clause-front : goal.returns-in-Err-clause-front
+returns-in-Err-clause-front c = front_at front_same (ap forest c.in-Err.ensures.counted)
 
 pub returns-in-Ok-clause-fresh : goal.returns-in-Ok-clause-fresh
 returns-in-Ok-clause-fresh c = fresh c

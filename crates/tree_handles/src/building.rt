@@ -1,0 +1,49 @@
+//! Nodes over trees that are handed.
+ghost use Rattle.std.specs.Prelude.{◌≡◌, ◌==◌, true, false, IfOk, IfErr, OnOk, [], ◌∷◌};
+ghost use Rattle.calc_terms.specs.Trees.{none, more};
+ghost use Rattle.tree_handles.specs.Expressions.{plain, compound, takes_kind};
+ghost use Rattle.tree_handles.specs.Handed.{IsHanded, Gives, KeepsFront};
+ghost use Rattle.tree_handles.specs.Roots.{root_tree, without_root};
+ghost use Rattle.tree_handles.specs.Standing.{Stands, forest, KeepsRefusals, Refuses};
+
+use crate::handle::{Handle, node};
+use crate::moving::add_child;
+use calc_terms::Kind;
+use node_pool::{Full, Pool};
+
+/// A new last tree of one child.
+pub fn node_over(pool: &mut Pool, kind: Kind, child: Handle) -> Result<Handle, Full>
+    requires stands { Stands pool.old }
+    requires takes { takes_kind kind 1 ≡ true }
+    requires handed { IsHanded child (forest pool.old) }
+    ensures ok { let old = forest pool.old in
+        IfOk result (λ h. Gives (without_root child old) (forest pool.new) h (λ t. t ≡ compound kind (more (plain (root_tree child old)) none))) }
+    ensures front { KeepsFront (child ∷ []) (forest pool.old) (forest pool.new) }
+    ensures kept { OnOk result (KeepsRefusals pool.old pool.new) }
+    ensures full { IfErr result (Refuses pool.old pool.new) }
+    ensures stands { Stands pool.new }
+{
+    let over = node(pool, kind)?;
+    add_child(pool, &over, 0, child);
+    Ok(over)
+}
+
+/// A new last tree of two children.
+pub fn node_over_two(pool: &mut Pool, kind: Kind, left: Handle, right: Handle) -> Result<Handle, Full>
+    requires stands { Stands pool.old }
+    requires takes { takes_kind kind 2 ≡ true }
+    requires first { IsHanded left (forest pool.old) }
+    requires second { IsHanded right (forest pool.old) }
+    requires apart { (left == right) ≡ false }
+    ensures ok { let old = forest pool.old in
+        IfOk result (λ h. Gives (without_root right (without_root left old)) (forest pool.new) h (λ t. t ≡ compound kind (more (plain (root_tree left old)) (more (plain (root_tree right old)) none)))) }
+    ensures front { KeepsFront (left ∷ right ∷ []) (forest pool.old) (forest pool.new) }
+    ensures kept { OnOk result (KeepsRefusals pool.old pool.new) }
+    ensures full { IfErr result (Refuses pool.old pool.new) }
+    ensures stands { Stands pool.new }
+{
+    let over = node(pool, kind)?;
+    add_child(pool, &over, 0, left);
+    add_child(pool, &over, 1, right);
+    Ok(over)
+}

@@ -1,0 +1,32 @@
+//! Trial upper calls.
+ghost use Rattle.std.specs.Prelude.{◌≡◌, ◌==◌, ℕ, true, false, IfOk, IfErr, OnOk, [], ◌∷◌, pos, neg_ℤ};
+ghost use Rattle.calc_terms.specs.Fractions.{lowest};
+ghost use Rattle.calc_terms.specs.Trees.{Tree, num, add, mult, none, more};
+ghost use Rattle.tree_handles.specs.Expressions.{plain};
+ghost use Rattle.tree_handles.specs.Forest.{Forest};
+ghost use Rattle.tree_handles.specs.Handed.{IsHanded, Gives, KeepsFront};
+ghost use Rattle.tree_handles.specs.Roots.{root_tree, without_root};
+ghost use Rattle.tree_handles.specs.Standing.{Stands, forest, KeepsRefusals, Refuses};
+
+use crate::{Handle, node_over_two, number};
+use calc_terms::{Kind, Rat};
+use node_pool::{Full, Pool};
+
+/// `a + (-1)×b`.
+pub fn difference(pool: &mut Pool, a: Handle, b: Handle) -> Result<Handle, Full>
+    requires stands { Stands pool.old }
+    requires first { IsHanded a (forest pool.old) }
+    requires second { IsHanded b (forest pool.old) }
+    requires apart { (b == a) ≡ false }
+    ensures ok { let old = forest pool.old in
+        IfOk result (λ h. Gives (without_root a (without_root b old)) (forest pool.new) h (λ t. t ≡ add (more (plain (root_tree a old)) (more (mult (more (num (lowest (neg_ℤ (pos 1)) 1)) (more (plain (root_tree b old)) none))) none)))) }
+    ensures front { KeepsFront (b ∷ a ∷ []) (forest pool.old) (forest pool.new) }
+    ensures kept { OnOk result (KeepsRefusals pool.old pool.new) }
+    ensures full { IfErr result (Refuses pool.old pool.new) }
+    ensures stands { Stands pool.new }
+{
+    let one = number(pool, Rat::whole(-1))?;
+    let product = node_over_two(pool, Kind::Mult, one, b)?;
+    let sum = node_over_two(pool, Kind::Add, a, product)?;
+    Ok(sum)
+}
