@@ -6,3 +6,4 @@ pub mod Expressions
 pub mod Handed
 pub mod Copies
 pub mod Walks
+pub mod Faults

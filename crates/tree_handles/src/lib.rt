@@ -4,6 +4,7 @@
 mod building;
 mod copy;
 mod counts;
+mod fault;
 mod handle;
 mod measure;
 mod moving;
@@ -15,6 +16,7 @@ mod walk;
 pub use building::{node_over, node_over_two};
 pub use copy::copy_tree;
 pub use counts::{child, retain};
+pub use fault::NumberFault;
 pub use handle::{Handle, node, number, symbol};
 pub use measure::{tree_bytes, tree_depth, tree_nodes};
 pub use moving::{add_child, merge_children, move_last, replace_child, swap_children, take_child};
