@@ -2,7 +2,7 @@
 use Rattle.std.proofs.Common.{◌≡◌, ℕ, ◌+◌, ◌<◌, ◌≤◌, cond, eqb, refl, sym, ap, ◌∙◌, subst, arith, Bool, true, false}
 use Rattle.std.proofs.lemmas.Bool.{eqb-true, eq-eqb}
 use Rattle.node_pool.specs.State.{State}
-use Rattle.tree_handles.specs.Expressions.{AllExpressions}
+use Rattle.tree_handles.specs.Expressions.{plain, AllExpressions, IsExpression}
 use Rattle.tree_handles.specs.Forest.{Label, Forest, empty, tree, join, arity, kids, root_id, with_root_kids, with_nth, one_tree, AllNodes}
 use Rattle.tree_handles.specs.Handed.{AllOnce, IsOwned, IsHanded, Ends}
 use Rattle.tree_handles.specs.Inside.{holds, tree_at, kids_of}
@@ -150,3 +150,10 @@ kids_of_root i st h = ap kids (tree_of_root i st h)
 
 pub kids_of_last : {s : State} {i : ℕ} {t g : Forest} → Stands s → Ends i t g (forest s) → kids_of i (forest s) ≡ kids t
 kids_of_last {i = i} st h = kids_of_root i st (last_root h) ∙ ap kids (last_tree h)
+
+-- a handed tree as the readers see it
+pub expression_root : {s : State} {i : ℕ} → Stands s → IsHanded i (forest s) → IsExpression i (forest s)
+expression_root {s = s} {i = i} st h = record { live = root_held i (forest s) h.root; whole = subst AllExpressions (sym (tree_of_root i st h.root)) h.whole }
+
+pub plain_root : {s : State} (i : ℕ) → Stands s → has_root i (forest s) ≡ true → plain (tree_at i (forest s)) ≡ plain (root_tree i (forest s))
+plain_root i st h = ap plain (tree_of_root i st h)

@@ -1,14 +1,16 @@
 //! Trial upper calls.
-ghost use Rattle.std.specs.Prelude.{◌≡◌, ◌==◌, ℕ, true, false, IfOk, IfErr, OnOk, [], ◌∷◌, pos, neg_ℤ};
+ghost use Rattle.std.specs.Prelude.{◌≡◌, ◌==◌, ◌⊎◌, ℕ, true, false, IfOk, IfErr, OnOk, [], ◌∷◌, pos, neg_ℤ};
 ghost use Rattle.calc_terms.specs.Fractions.{lowest};
-ghost use Rattle.calc_terms.specs.Trees.{Tree, num, add, mult, none, more};
+ghost use Rattle.calc_terms.specs.Rat.{value_of};
+ghost use Rattle.calc_terms.specs.Trees.{Tree, num, add, mult, none, more, is_num};
 ghost use Rattle.tree_handles.specs.Expressions.{plain};
 ghost use Rattle.tree_handles.specs.Forest.{Forest};
 ghost use Rattle.tree_handles.specs.Handed.{IsHanded, Gives, KeepsFront};
 ghost use Rattle.tree_handles.specs.Roots.{root_tree, without_root};
 ghost use Rattle.tree_handles.specs.Standing.{Stands, forest, KeepsRefusals, Refuses};
 
-use crate::{Handle, node_over_two, number};
+
+use crate::{Handle, node_over_two, number, rational, release};
 use calc_terms::{Kind, Rat};
 use node_pool::{Full, Pool};
 
@@ -29,4 +31,34 @@ pub fn difference(pool: &mut Pool, a: Handle, b: Handle) -> Result<Handle, Full>
     let product = node_over_two(pool, Kind::Mult, one, b)?;
     let sum = node_over_two(pool, Kind::Add, a, product)?;
     Ok(sum)
+}
+
+/// One of two numbers, which both go.
+pub fn larger(pool: &mut Pool, a: Handle, b: Handle) -> Result<Handle, Full>
+    requires stands { Stands pool.old }
+    requires first { IsHanded a (forest pool.old) }
+    requires second { IsHanded b (forest pool.old) }
+    requires apart { (a == b) ≡ false }
+    requires first_number { is_num (plain (root_tree a (forest pool.old))) ≡ true }
+    requires second_number { is_num (plain (root_tree b (forest pool.old))) ≡ true }
+    ensures ok { let old = forest pool.old in
+        IfOk result (λ h. Gives (without_root b (without_root a old)) (forest pool.new) h (λ t. (t ≡ plain (root_tree a old)) ⊎ (t ≡ plain (root_tree b old)))) }
+    ensures front { KeepsFront (a ∷ b ∷ []) (forest pool.old) (forest pool.new) }
+    ensures kept { OnOk result (KeepsRefusals pool.old pool.new) }
+    ensures full { IfErr result (Refuses pool.old pool.new) }
+    ensures stands { Stands pool.new }
+{
+    let x = rational(pool, a.id());
+    let y = rational(pool, b.id());
+    release(pool, a);
+    release(pool, b);
+    let value = chosen(x, y);
+    let number = number(pool, value)?;
+    Ok(number)
+}
+
+fn chosen(x: Rat, y: Rat) -> Rat
+    ensures { (value_of result ≡ value_of x) ⊎ (value_of result ≡ value_of y) }
+{
+    if x.den() == 1 { y } else { x }
 }
