@@ -1,0 +1,49 @@
+-- How a run ends, by what is open.
+use Rattle.std.specs.Prelude.{ℕ, ◌≡◌, ◌⊎◌, List, [], ◌∷◌, Option, Some, None}
+use Rattle.std.proofs.Common.{refl, sym, ap, ◌∙◌, inl, inr}
+use Rattle.calc_terms.specs.Tokens.{Token}
+use Rattle.calc_parser.specs.declared.nesting.Open.{Open}
+use Rattle.calc_parser.specs.declared.reader.Expects.{Expects}
+use Rattle.calc_parser.specs.declared.reader.Expects.TheVariants.{Operand, Parenthesis, Operator}
+use Rattle.calc_parser.specs.Postfix.{Node}
+use Rattle.calc_parser.specs.Automaton.{State, state, Ended, end_product, sum_nodes, when_closed, at_operand, at_parenthesis, at_operator, step, finish}
+use Rattle.calc_parser.specs.Reader.{innermost}
+
+pub not_finished : (x : Expects) (s : List Open) (o : List Node) → (x ≡ Operand) ⊎ (x ≡ Parenthesis) → finish (state x s o) ≡ None
+unfolding finish
+not_finished x s o (inl e) = ap (λ x. finish (state x s o)) e
+not_finished x s o (inr e) = ap (λ x. finish (state x s o)) e
+
+-- the state when the sum has ended
+module _ (x y : Expects) (s s' : List Open) (o o' : List Node) (operator : x ≡ Operator) (ends : state y s' o' ≡ state x ((end_product s o).nesting) (sum_nodes (end_product s o))) where
+  finish_closes : finish (state x s o) ≡ when_closed (end_product s o)
+  unfolding finish
+  finish_closes = ap (λ x. finish (state x s o)) operator
+
+  pub nothing_open : None ≡ innermost s' → finish (state x s o) ≡ Some o'
+  nothing_open e = finish_closes ∙ by ((end_product s o).nesting) (ap (λ st. innermost st.nesting) ends) ∙ ap (λ st. Some st.nodes) (sym ends)
+    where
+      by : (r : List Open) → innermost s' ≡ innermost r → elim r as (λ r. Option (List Node)) [ [] ↦ Some (sum_nodes (end_product s o)) | z ∷ r ↦ None ] ≡ Some (sum_nodes (end_product s o))
+      by [] f = refl
+      by (z ∷ r) f = cc
+
+  pub something_open : (z : Open) → Some z ≡ innermost s' → finish (state x s o) ≡ None
+  something_open z e = finish_closes ∙ by ((end_product s o).nesting) (ap (λ st. innermost st.nesting) ends)
+    where
+      by : (r : List Open) → innermost s' ≡ innermost r → elim r as (λ r. Option (List Node)) [ [] ↦ Some (sum_nodes (end_product s o)) | z ∷ r ↦ None ] ≡ None
+      by [] f = cc
+      by (z ∷ r) f = refl
+
+-- ---- a step, by what is expected
+module _ (x : Expects) (s : List Open) (o : List Node) (m : Token) where
+  pub operand_step : x ≡ Operand → at_operand m s o ≡ step (state x s o) m
+  unfolding step
+  operand_step e = ap (λ x. step (state x s o) m) (sym e)
+
+  pub parenthesis_step : x ≡ Parenthesis → at_parenthesis m s o ≡ step (state x s o) m
+  unfolding step
+  parenthesis_step e = ap (λ x. step (state x s o) m) (sym e)
+
+  pub operator_step : x ≡ Operator → at_operator m s o ≡ step (state x s o) m
+  unfolding step
+  operator_step e = ap (λ x. step (state x s o) m) (sym e)

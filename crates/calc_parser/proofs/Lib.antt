@@ -1,0 +1,10 @@
+pub mod ReadsSums
+pub mod OnlySums
+pub mod Room
+pub mod Steps
+pub mod Finishes
+pub mod Operators
+pub mod Runs
+pub mod Measures
+pub mod Checks
+pub mod Answered

@@ -1,0 +1,424 @@
+-- What is a sum is read, and its nodes in postfix order are found.
+use Rattle.std.specs.Prelude.{ℕ, suc, ◌+◌, ◌≡◌, ◌≤◌, List, [], ◌∷◌, ◌++◌, Bool, true, false, Option, Some, None, ◌==◌, if◌then◌else◌}
+use Rattle.std.proofs.Common.{refl, sym, ap, ◌∙◌, arith, append_assoc, append-nil}
+use Rattle.std.proofs.lemmas.Bool.{eqb-true}
+use Rattle.calc_terms.specs.declared.kind.Kind.{Kind}
+use Rattle.calc_terms.specs.declared.kind.Kind.TheVariants as kind
+use Rattle.calc_terms.specs.Tokens.{Token, literal, name, undef_mark, root_mark, plus_mark, minus_mark, times_mark, slash_mark, caret_mark, left_mark, right_mark, arrow_mark}
+use Rattle.calc_terms.specs.Trees.{Tree, num, symbol, undef, add, mult, power, root, neg, sub, div, Trees, none, more, append, count}
+use Rattle.calc_terms.specs.Grammar.{IsSum, SoFar, single, summed, multiplied, as_tree, plus_term, minus_term, times_factor, over_factor, joined_tree, joins, Sum, first_term, plus_more, minus_more, Signed, minus_signed, plain_signed, Product, first_factor, times_more, over_more, Right, minus_right, plain_right, Joined, one_power, another_power, Power, plain_power, raised_power, Exponent, minus_exponent, plain_exponent, Primary, a_literal, a_name, an_undef, parenthesized, a_root}
+use Rattle.calc_parser.specs.declared.nesting.Open.{Open}
+use Rattle.calc_parser.specs.declared.nesting.Open.TheVariants as opened
+use Rattle.calc_parser.specs.declared.nesting.Level.TheVariants as level
+use Rattle.calc_parser.specs.declared.reader.Expects.TheVariants.{Operand, Parenthesis, Operator}
+use Rattle.calc_parser.specs.Postfix.{Node, leaf, parent, postfix, postfixes}
+use Rattle.calc_parser.specs.Automaton.{State, state, Ended, ended, gathered, end_power, end_factor, end_term, end_powers, end_product, sum_nodes, begin_operand, minus_in, leave_parentheses, step, when_closed, finish, then_run, run, start}
+
+-- ---- what goes on behind a part
+
+abbrev pub sum_on : Ended → List Token → Option (List Node)
+sum_on e [] = when_closed e
+sum_on e (plus_mark ∷ c) = run (state Operand (opened.Sum e.count ∷ e.nesting) e.nodes) c
+sum_on e (minus_mark ∷ c) = run (state Operand (opened.Difference ∷ e.nesting) (sum_nodes e)) c
+sum_on e (right_mark ∷ c) = then_run (leave_parentheses e.nesting (sum_nodes e)) (λ st. run st c)
+sum_on e c = None
+
+abbrev pub product_on : Ended → List Token → Option (List Node)
+product_on e (times_mark ∷ c) = run (state Operand (opened.Product e.count ∷ e.nesting) e.nodes) c
+product_on e (slash_mark ∷ c) = run (state Operand (opened.Quotient ∷ e.nesting) (e.nodes ++ gathered kind.Mult e.count)) c
+product_on e c = sum_on (end_term e.nesting (e.nodes ++ gathered kind.Mult e.count)) c
+
+abbrev pub joined_on : Ended → List Token → Option (List Node)
+joined_on e (name x ∷ c) = run (state Operand (opened.Joined e.count ∷ e.nesting) e.nodes) (name x ∷ c)
+joined_on e (undef_mark ∷ c) = run (state Operand (opened.Joined e.count ∷ e.nesting) e.nodes) (undef_mark ∷ c)
+joined_on e (left_mark ∷ c) = run (state Operand (opened.Joined e.count ∷ e.nesting) e.nodes) (left_mark ∷ c)
+joined_on e (root_mark ∷ c) = run (state Operand (opened.Joined e.count ∷ e.nesting) e.nodes) (root_mark ∷ c)
+joined_on e c = product_on (end_factor e.nesting (e.nodes ++ gathered kind.Mult e.count)) c
+
+-- ---- what may come behind
+abbrev pub ends_power : List Token → Bool
+ends_power (caret_mark ∷ c) = false
+ends_power _ = true
+
+abbrev pub ends_joined : List Token → Bool
+ends_joined (caret_mark ∷ c) = false
+ends_joined (name x ∷ c) = false
+ends_joined (undef_mark ∷ c) = false
+ends_joined (left_mark ∷ c) = false
+ends_joined (root_mark ∷ c) = false
+ends_joined _ = true
+
+abbrev pub ends_product : List Token → Bool
+ends_product (times_mark ∷ c) = false
+ends_product (slash_mark ∷ c) = false
+ends_product c = ends_joined c
+
+joined_power : (c : List Token) → ends_joined c ≡ true → ends_power c ≡ true
+joined_power (caret_mark ∷ c) e = e
+joined_power _ e = refl
+
+product_joined : (c : List Token) → ends_product c ≡ true → ends_joined c ≡ true
+product_joined (times_mark ∷ c) e = refl
+product_joined (slash_mark ∷ c) e = refl
+product_joined _ e = e
+
+joins_power : (b c : List Token) → joins b ≡ true → ends_power (b ++ c) ≡ true
+joins_power (caret_mark ∷ b) c e = cc
+joins_power [] c e = cc
+joins_power _ c e = refl
+
+-- behind an operand, but for `^`
+after_operand : (s : List Open) (o : List Node) (c : List Token) → ends_power c ≡ true → run (state Operator s o) c ≡ joined_on (end_power s o) c
+unfolding run step finish
+after_operand s o [] e = refl
+after_operand s o (literal q ∷ c) e = refl
+after_operand s o (name x ∷ c) e = refl
+after_operand s o (undef_mark ∷ c) e = refl
+after_operand s o (root_mark ∷ c) e = refl
+after_operand s o (plus_mark ∷ c) e = refl
+after_operand s o (minus_mark ∷ c) e = refl
+after_operand s o (times_mark ∷ c) e = refl
+after_operand s o (slash_mark ∷ c) e = refl
+after_operand s o (caret_mark ∷ c) e = cc
+after_operand s o (left_mark ∷ c) e = refl
+after_operand s o (right_mark ∷ c) e = refl
+after_operand s o (arrow_mark ∷ c) e = refl
+
+-- ---- where a part may begin
+abbrev pub begins_sum : List Open → Bool
+begins_sum [] = true
+begins_sum (opened.Parentheses ∷ s) = true
+begins_sum (opened.Root ∷ s) = true
+begins_sum s = false
+
+abbrev pub begins_term : List Open → Bool
+begins_term (opened.Sum k ∷ s) = true
+begins_term (opened.Difference ∷ s) = true
+begins_term (opened.NegatedTerm ∷ s) = true
+begins_term s = begins_sum s
+
+abbrev pub begins_right : List Open → Bool
+begins_right (opened.Product k ∷ s) = true
+begins_right (opened.Quotient ∷ s) = true
+begins_right (opened.NegatedFactor ∷ s) = true
+begins_right s = false
+
+abbrev pub begins_exponent : List Open → Bool
+begins_exponent (opened.Power ∷ s) = true
+begins_exponent (opened.NegatedExponent ∷ s) = true
+begins_exponent s = false
+
+abbrev pub begins_factor : List Open → Bool
+begins_factor s = elim (begins_right s) [ true ↦ true | false ↦ begins_term s ]
+
+-- a part that nothing waits for is the first of its kind
+pub sum_alone : (s : List Open) (o : List Node) → begins_sum s ≡ true → end_term s o ≡ ended s o 1
+sum_alone [] o h = refl
+sum_alone (opened.Parentheses ∷ s) o h = refl
+sum_alone (opened.Root ∷ s) o h = refl
+sum_alone _ o h = cc
+
+pub term_alone : (s : List Open) (o : List Node) → begins_term s ≡ true → end_factor s o ≡ ended s o 1
+term_alone [] o h = refl
+term_alone (opened.Parentheses ∷ s) o h = refl
+term_alone (opened.Root ∷ s) o h = refl
+term_alone (opened.Sum k ∷ s) o h = refl
+term_alone (opened.Difference ∷ s) o h = refl
+term_alone (opened.NegatedTerm ∷ s) o h = refl
+term_alone _ o h = cc
+
+pub factor_alone : (s : List Open) (o : List Node) → begins_factor s ≡ true → end_power s o ≡ ended s o 1
+factor_alone [] o h = refl
+factor_alone (opened.Parentheses ∷ s) o h = refl
+factor_alone (opened.Root ∷ s) o h = refl
+factor_alone (opened.Sum k ∷ s) o h = refl
+factor_alone (opened.Difference ∷ s) o h = refl
+factor_alone (opened.NegatedTerm ∷ s) o h = refl
+factor_alone (opened.Product k ∷ s) o h = refl
+factor_alone (opened.Quotient ∷ s) o h = refl
+factor_alone (opened.NegatedFactor ∷ s) o h = refl
+factor_alone _ o h = cc
+
+term_factor : (s : List Open) → begins_term s ≡ true → begins_factor s ≡ true
+term_factor s h = by (begins_right s) h
+  where
+    by : (x : Bool) → begins_term s ≡ true → elim x as (λ x. Bool) [ true ↦ true | false ↦ begins_term s ] ≡ true
+    by true h = refl
+    by false h = h
+
+sum_term : (s : List Open) → begins_sum s ≡ true → begins_term s ≡ true
+sum_term [] h = refl
+sum_term (opened.Parentheses ∷ s) h = refl
+sum_term (opened.Root ∷ s) h = refl
+sum_term _ h = cc
+
+right_factor : (s : List Open) → begins_right s ≡ true → begins_factor s ≡ true
+right_factor s h = by (begins_right s) h
+  where
+    by : (x : Bool) → x ≡ true → elim x as (λ x. Bool) [ true ↦ true | false ↦ begins_term s ] ≡ true
+    by true h = refl
+    by false h = cc
+
+-- ---- the nodes of what was made so far
+
+pub postfixes-append : (ts us : Trees) → postfixes (append ts us) ≡ postfixes ts ++ postfixes us
+postfixes-append none us = refl
+postfixes-append (more t ts) us = ap (λ o. postfix t ++ o) (postfixes-append ts us) ∙ sym (append_assoc (postfix t) (postfixes ts) (postfixes us))
+
+pub postfixes-one_more : (ts : Trees) (u : Tree) → postfixes (append ts (more u none)) ≡ postfixes ts ++ postfix u
+postfixes-one_more ts u = postfixes-append ts (more u none) ∙ ap (λ o. postfixes ts ++ o) (append-nil (postfix u))
+
+pub count-one_more : (ts : Trees) (u : Tree) → count (append ts (more u none)) ≡ count ts + 1
+count-one_more none u = refl
+count-one_more (more t ts) u = let h : count (append ts (more u none)) ≡ count ts + 1 = count-one_more ts u in omega arith
+
+pub gathered_many : (k : Kind) (n : ℕ) → 2 ≤ n → gathered k n ≡ parent k n ∷ []
+gathered_many k n h = by (n == 1) refl
+  where
+    by : (x : Bool) → (n == 1) ≡ x → (if x then [] else parent k n ∷ []) ≡ parent k n ∷ []
+    by true e = let same : n ≡ 1 = eqb-true n 1 e in absurd (omega arith)
+    by false e = refl
+
+pub alone_nodes : (o : List Node) → o ≡ o ++ []
+alone_nodes o = sym (append-nil o)
+
+pub joined_nodes : (ts : Trees) → postfix (joined_tree ts) ≡ postfixes ts ++ gathered kind.Mult (count ts)
+joined_nodes none = refl
+joined_nodes (more t none) = alone_nodes (postfix t) ∙ alone_nodes (postfix t ++ [])
+joined_nodes (more t (more u ts)) = ap (λ o. postfix t ++ (postfix u ++ postfixes ts) ++ o) (sym (gathered_many kind.Mult (count (more t (more u ts))) (omega arith)))
+
+abbrev pub product_nodes : SoFar → List Node
+product_nodes (multiplied ts) = postfixes ts
+product_nodes p = postfix (as_tree p)
+
+abbrev pub product_count : SoFar → ℕ
+product_count (multiplied ts) = count ts
+product_count p = 1
+
+abbrev pub HasFactors : SoFar → Type 0
+HasFactors (multiplied ts) = 2 ≤ count ts
+HasFactors p = Unit {0}
+
+abbrev pub sum_nodes_of : SoFar → List Node
+sum_nodes_of (summed ts) = postfixes ts
+sum_nodes_of p = postfix (as_tree p)
+
+abbrev pub sum_count : SoFar → ℕ
+sum_count (summed ts) = count ts
+sum_count p = 1
+
+abbrev pub HasTerms : SoFar → Type 0
+HasTerms (summed ts) = 2 ≤ count ts
+HasTerms p = Unit {0}
+
+pub whole_product : (p : SoFar) → HasFactors p → postfix (as_tree p) ≡ product_nodes p ++ gathered kind.Mult (product_count p)
+whole_product (single t) h = alone_nodes (postfix t)
+whole_product (summed ts) h = alone_nodes (postfix (add ts))
+whole_product (multiplied ts) h = ap (λ o. postfixes ts ++ o) (sym (gathered_many kind.Mult (count ts) h))
+
+pub whole_sum : (p : SoFar) → HasTerms p → postfix (as_tree p) ≡ sum_nodes_of p ++ gathered kind.Add (sum_count p)
+whole_sum (single t) h = alone_nodes (postfix t)
+whole_sum (multiplied ts) h = alone_nodes (postfix (mult ts))
+whole_sum (summed ts) h = ap (λ o. postfixes ts ++ o) (sym (gathered_many kind.Add (count ts) h))
+
+pub times_nodes : (p : SoFar) (u : Tree) → product_nodes (times_factor p u) ≡ product_nodes p ++ postfix u
+times_nodes (single t) u = ap (λ o. postfix t ++ o) (append-nil (postfix u))
+times_nodes (summed ts) u = ap (λ o. postfix (add ts) ++ o) (append-nil (postfix u))
+times_nodes (multiplied ts) u = postfixes-one_more ts u
+
+pub times_count : (p : SoFar) (u : Tree) → product_count (times_factor p u) ≡ product_count p + 1
+times_count (single t) u = refl
+times_count (summed ts) u = refl
+times_count (multiplied ts) u = count-one_more ts u
+
+pub plus_nodes : (p : SoFar) (u : Tree) → sum_nodes_of (plus_term p u) ≡ sum_nodes_of p ++ postfix u
+plus_nodes (single t) u = ap (λ o. postfix t ++ o) (append-nil (postfix u))
+plus_nodes (multiplied ts) u = ap (λ o. postfix (mult ts) ++ o) (append-nil (postfix u))
+plus_nodes (summed ts) u = postfixes-one_more ts u
+
+pub plus_count : (p : SoFar) (u : Tree) → sum_count (plus_term p u) ≡ sum_count p + 1
+plus_count (single t) u = refl
+plus_count (multiplied ts) u = refl
+plus_count (summed ts) u = count-one_more ts u
+
+times_has : (p : SoFar) (u : Tree) → HasFactors p → HasFactors (times_factor p u)
+times_has (single t) u h = omega arith
+times_has (summed ts) u h = omega arith
+times_has (multiplied ts) u h = let e : count (append ts (more u none)) ≡ count ts + 1 = count-one_more ts u in omega arith
+
+plus_has : (p : SoFar) (u : Tree) → HasTerms p → HasTerms (plus_term p u)
+plus_has (single t) u h = omega arith
+plus_has (multiplied ts) u h = omega arith
+plus_has (summed ts) u h = let e : count (append ts (more u none)) ≡ count ts + 1 = count-one_more ts u in omega arith
+
+pub has_factors : {a : List Token} {p : SoFar} → Product a p → HasFactors p
+has_factors (first_factor d) = tt
+has_factors (times_more {s = p} {u} d e) = times_has p u (has_factors d)
+has_factors (over_more d e) = tt
+
+pub has_terms : {a : List Token} {p : SoFar} → Sum a p → HasTerms p
+has_terms (first_term d) = tt
+has_terms (plus_more {s = p} {u} d e) = plus_has p u (has_terms d)
+has_terms (minus_more d e) = tt
+
+-- ---- the grammar, rule by rule
+
+-- behind powers side by side, at the end of a joined product
+joined_end : (e : Ended) (c : List Token) → ends_joined c ≡ true → joined_on e c ≡ product_on (end_factor e.nesting (e.nodes ++ gathered kind.Mult e.count)) c
+joined_end e (caret_mark ∷ c) h = cc
+joined_end e (name x ∷ c) h = cc
+joined_end e (undef_mark ∷ c) h = cc
+joined_end e (left_mark ∷ c) h = cc
+joined_end e (root_mark ∷ c) h = cc
+joined_end e _ h = refl
+
+joined_next : (e : Ended) (c : List Token) → joins c ≡ true → joined_on e c ≡ run (state Operand (opened.Joined e.count ∷ e.nesting) e.nodes) c
+joined_next e (name x ∷ c) h = refl
+joined_next e (undef_mark ∷ c) h = refl
+joined_next e (left_mark ∷ c) h = refl
+joined_next e (root_mark ∷ c) h = refl
+joined_next e _ h = cc
+
+product_end : (e : Ended) (c : List Token) → ends_product c ≡ true → product_on e c ≡ sum_on (end_term e.nesting (e.nodes ++ gathered kind.Mult e.count)) c
+product_end e (times_mark ∷ c) h = cc
+product_end e (slash_mark ∷ c) h = cc
+product_end e _ h = refl
+
+pub joins_before : (b c : List Token) → joins b ≡ true → joins (b ++ c) ≡ true
+joins_before [] c e = cc
+joins_before (name x ∷ b) c e = refl
+joins_before _ c e = e
+
+-- a minus sign before an exponent, a factor, a term
+minus_exponent_in : (s : List Open) → begins_exponent s ≡ true → minus_in s ≡ opened.NegatedExponent
+minus_exponent_in (opened.Power ∷ s) h = refl
+minus_exponent_in (opened.NegatedExponent ∷ s) h = refl
+minus_exponent_in _ h = cc
+
+minus_factor_in : (s : List Open) → begins_right s ≡ true → minus_in s ≡ opened.NegatedFactor
+minus_factor_in (opened.Product k ∷ s) h = refl
+minus_factor_in (opened.Quotient ∷ s) h = refl
+minus_factor_in (opened.NegatedFactor ∷ s) h = refl
+minus_factor_in _ h = cc
+
+minus_term_in : (s : List Open) → begins_term s ≡ true → minus_in s ≡ opened.NegatedTerm
+minus_term_in [] h = refl
+minus_term_in (opened.Parentheses ∷ s) h = refl
+minus_term_in (opened.Root ∷ s) h = refl
+minus_term_in (opened.Sum k ∷ s) h = refl
+minus_term_in (opened.Difference ∷ s) h = refl
+minus_term_in (opened.NegatedTerm ∷ s) h = refl
+minus_term_in _ h = cc
+
+run_minus : (s : List Open) (o : List Node) (x : Open) (c : List Token) → minus_in s ≡ x → run (state Operand s o) (minus_mark ∷ c) ≡ run (state Operand (x ∷ s) o) c
+unfolding run step
+run_minus s o x c e = ap (λ x. run (state Operand (x ∷ s) o) c) e
+
+binary_nodes : (o m g w u l : List Node) → w ≡ m ++ g → (((o ++ m) ++ g) ++ u) ++ l ≡ o ++ ((w ++ u) ++ l)
+binary_nodes o m g w u l e = rw e (simp append_assoc)
+
+unary_nodes : (o m g w l : List Node) → w ≡ m ++ g → ((o ++ m) ++ g) ++ l ≡ o ++ (w ++ l)
+unary_nodes o m g w l e = rw e (simp append_assoc)
+
+mutual
+  unfolding run step
+
+  pub sum_runs : {a : List Token} {p : SoFar} → Sum a p → (s : List Open) (o : List Node) (c : List Token) → begins_sum s ≡ true → ends_product c ≡ true
+      → run (state Operand s o) (a ++ c) ≡ sum_on (ended s (o ++ sum_nodes_of p) (sum_count p)) c
+  sum_runs (first_term {a} {t} d) s o c h e =
+      signed_runs d s o c (sum_term s h) e ∙ ap (λ x. sum_on x c) (sum_alone s (o ++ postfix t) h)
+  sum_runs (plus_more {a} {b} {s = p} {u} d d') s o c h e =
+      ap (run (state Operand s o)) (append_assoc a (plus_mark ∷ b) c)
+      ∙ sum_runs d s o (plus_mark ∷ b ++ c) h refl
+      ∙ signed_runs d' (opened.Sum (sum_count p) ∷ s) (o ++ sum_nodes_of p) c refl e
+      ∙ ap (λ x. sum_on x c) (ap (λ n. ended s n (sum_count p + 1)) (append_assoc o (sum_nodes_of p) (postfix u) ∙ ap (λ n. o ++ n) (sym (plus_nodes p u))) ∙ ap (λ k. ended s (o ++ sum_nodes_of (plus_term p u)) k) (sym (plus_count p u)))
+  sum_runs (minus_more {a} {b} {s = p} {u} d d') s o c h e =
+      ap (run (state Operand s o)) (append_assoc a (minus_mark ∷ b) c)
+      ∙ sum_runs d s o (minus_mark ∷ b ++ c) h refl
+      ∙ signed_runs d' (opened.Difference ∷ s) ((o ++ sum_nodes_of p) ++ gathered kind.Add (sum_count p)) c refl e
+      ∙ ap (λ n. sum_on (ended s n 1) c) (binary_nodes o (sum_nodes_of p) (gathered kind.Add (sum_count p)) (postfix (as_tree p)) (postfix u) (parent kind.Sub 2 ∷ []) (whole_sum p (has_terms d)))
+
+  signed_runs : {a : List Token} {t : Tree} → Signed a t → (s : List Open) (o : List Node) (c : List Token) → begins_term s ≡ true → ends_product c ≡ true
+      → run (state Operand s o) (a ++ c) ≡ sum_on (end_term s (o ++ postfix t)) c
+  signed_runs (minus_signed {a} {t} d) s o c h e =
+      run_minus s o opened.NegatedTerm (a ++ c) (minus_term_in s h)
+      ∙ signed_runs d (opened.NegatedTerm ∷ s) o c refl e
+      ∙ ap (λ n. sum_on (end_term s n) c) (append_assoc o (postfix t) (parent kind.Neg 1 ∷ []))
+  signed_runs (plain_signed {a} {s = p} d) s o c h e =
+      product_runs d s o c h (product_joined c e) ∙ product_end (ended s (o ++ product_nodes p) (product_count p)) c e
+      ∙ ap (λ n. sum_on (end_term s n) c) (append_assoc o (product_nodes p) (gathered kind.Mult (product_count p)) ∙ ap (λ n. o ++ n) (sym (whole_product p (has_factors d))))
+
+  product_runs : {a : List Token} {p : SoFar} → Product a p → (s : List Open) (o : List Node) (c : List Token) → begins_term s ≡ true → ends_joined c ≡ true
+      → run (state Operand s o) (a ++ c) ≡ product_on (ended s (o ++ product_nodes p) (product_count p)) c
+  product_runs (first_factor {a} {ts} d) s o c h e =
+      joined_runs d s o c (term_factor s h) (joined_power c e) ∙ joined_end (ended s (o ++ postfixes ts) (count ts)) c e
+      ∙ ap (λ x. product_on x c) (ap (end_factor s) (append_assoc o (postfixes ts) (gathered kind.Mult (count ts)) ∙ ap (λ n. o ++ n) (sym (joined_nodes ts))) ∙ term_alone s (o ++ postfix (joined_tree ts)) h)
+  product_runs (times_more {a} {b} {s = p} {u} d d') s o c h e =
+      ap (run (state Operand s o)) (append_assoc a (times_mark ∷ b) c)
+      ∙ product_runs d s o (times_mark ∷ b ++ c) h refl
+      ∙ right_runs d' (opened.Product (product_count p) ∷ s) (o ++ product_nodes p) c refl e
+      ∙ ap (λ x. product_on x c) (ap (λ n. ended s n (product_count p + 1)) (append_assoc o (product_nodes p) (postfix u) ∙ ap (λ n. o ++ n) (sym (times_nodes p u))) ∙ ap (λ k. ended s (o ++ product_nodes (times_factor p u)) k) (sym (times_count p u)))
+  product_runs (over_more {a} {b} {s = p} {u} d d') s o c h e =
+      ap (run (state Operand s o)) (append_assoc a (slash_mark ∷ b) c)
+      ∙ product_runs d s o (slash_mark ∷ b ++ c) h refl
+      ∙ right_runs d' (opened.Quotient ∷ s) ((o ++ product_nodes p) ++ gathered kind.Mult (product_count p)) c refl e
+      ∙ ap (λ n. product_on (ended s n 1) c) (binary_nodes o (product_nodes p) (gathered kind.Mult (product_count p)) (postfix (as_tree p)) (postfix u) (parent kind.Div 2 ∷ []) (whole_product p (has_factors d)))
+
+  right_runs : {a : List Token} {t : Tree} → Right a t → (s : List Open) (o : List Node) (c : List Token) → begins_right s ≡ true → ends_joined c ≡ true
+      → run (state Operand s o) (a ++ c) ≡ product_on (end_factor s (o ++ postfix t)) c
+  right_runs (minus_right {a} {t} d) s o c h e =
+      run_minus s o opened.NegatedFactor (a ++ c) (minus_factor_in s h)
+      ∙ right_runs d (opened.NegatedFactor ∷ s) o c refl e
+      ∙ ap (λ n. product_on (end_factor s n) c) (append_assoc o (postfix t) (parent kind.Neg 1 ∷ []))
+  right_runs (plain_right {a} {ts} d) s o c h e =
+      joined_runs d s o c (right_factor s h) (joined_power c e) ∙ joined_end (ended s (o ++ postfixes ts) (count ts)) c e
+      ∙ ap (λ n. product_on (end_factor s n) c) (append_assoc o (postfixes ts) (gathered kind.Mult (count ts)) ∙ ap (λ n. o ++ n) (sym (joined_nodes ts)))
+
+  joined_runs : {a : List Token} {ts : Trees} → Joined a ts → (s : List Open) (o : List Node) (c : List Token) → begins_factor s ≡ true → ends_power c ≡ true
+      → run (state Operand s o) (a ++ c) ≡ joined_on (ended s (o ++ postfixes ts) (count ts)) c
+  joined_runs (one_power {a} {t} d) s o c h e =
+      power_runs d s o c e ∙ ap (λ x. joined_on x c) (factor_alone s (o ++ postfix t) h ∙ ap (λ n. ended s (o ++ n) 1) (alone_nodes (postfix t)))
+  joined_runs (another_power {a} {b} {ts} {u} d d' j) s o c h e =
+      ap (run (state Operand s o)) (append_assoc a b c)
+      ∙ joined_runs d s o (b ++ c) h (joins_power b c j)
+      ∙ joined_next (ended s (o ++ postfixes ts) (count ts)) (b ++ c) (joins_before b c j)
+      ∙ power_runs d' (opened.Joined (count ts) ∷ s) (o ++ postfixes ts) c e
+      ∙ ap (λ x. joined_on x c) (ap (λ n. ended s n (count ts + 1)) (append_assoc o (postfixes ts) (postfix u) ∙ ap (λ n. o ++ n) (sym (postfixes-one_more ts u))) ∙ ap (λ k. ended s (o ++ postfixes (append ts (more u none))) k) (sym (count-one_more ts u)))
+
+  power_runs : {a : List Token} {t : Tree} → Power a t → (s : List Open) (o : List Node) (c : List Token) → ends_power c ≡ true
+      → run (state Operand s o) (a ++ c) ≡ joined_on (end_power s (o ++ postfix t)) c
+  power_runs (plain_power {a} {t} d) s o c e = primary_runs d s o c ∙ after_operand s (o ++ postfix t) c e
+  power_runs (raised_power {a} {b} {t} {e = x} d d') s o c e =
+      ap (run (state Operand s o)) (append_assoc a (caret_mark ∷ b) c)
+      ∙ primary_runs d s o (caret_mark ∷ b ++ c)
+      ∙ exponent_runs d' (opened.Power ∷ s) (o ++ postfix t) c refl e
+      ∙ ap (λ n. joined_on (end_power s n) c) (ap (λ n. n ++ parent kind.Pow 2 ∷ []) (append_assoc o (postfix t) (postfix x)) ∙ append_assoc o (postfix t ++ postfix x) (parent kind.Pow 2 ∷ []))
+
+  exponent_runs : {a : List Token} {t : Tree} → Exponent a t → (s : List Open) (o : List Node) (c : List Token) → begins_exponent s ≡ true → ends_power c ≡ true
+      → run (state Operand s o) (a ++ c) ≡ joined_on (end_power s (o ++ postfix t)) c
+  exponent_runs (minus_exponent {a} {t} d) s o c h e =
+      run_minus s o opened.NegatedExponent (a ++ c) (minus_exponent_in s h)
+      ∙ exponent_runs d (opened.NegatedExponent ∷ s) o c refl e
+      ∙ ap (λ n. joined_on (end_power s n) c) (append_assoc o (postfix t) (parent kind.Neg 1 ∷ []))
+  exponent_runs (plain_exponent d) s o c h e = power_runs d s o c e
+
+  primary_runs : {a : List Token} {t : Tree} → Primary a t → (s : List Open) (o : List Node) (c : List Token) → run (state Operand s o) (a ++ c) ≡ run (state Operator s (o ++ postfix t)) c
+  primary_runs a_literal s o c = refl
+  primary_runs a_name s o c = refl
+  primary_runs an_undef s o c = refl
+  primary_runs (parenthesized {a} {s = p} d) s o c =
+      ap (run (state Operand (opened.Parentheses ∷ s) o)) (append_assoc a (right_mark ∷ []) c)
+      ∙ sum_runs d (opened.Parentheses ∷ s) o (right_mark ∷ c) refl refl
+      ∙ ap (λ n. run (state Operator s n) c) (append_assoc o (sum_nodes_of p) (gathered kind.Add (sum_count p)) ∙ ap (λ n. o ++ n) (sym (whole_sum p (has_terms d))))
+  primary_runs (a_root {a} {s = p} d) s o c =
+      ap (run (state Operand (opened.Root ∷ s) o)) (append_assoc a (right_mark ∷ []) c)
+      ∙ sum_runs d (opened.Root ∷ s) o (right_mark ∷ c) refl refl
+      ∙ ap (λ n. run (state Operator s n) c) (unary_nodes o (sum_nodes_of p) (gathered kind.Add (sum_count p)) (postfix (as_tree p)) (parent kind.Root 1 ∷ []) (whole_sum p (has_terms d)))
+
+-- the nodes of a sum are found
+pub sum_found : {a : List Token} {p : SoFar} → Sum a p → run start a ≡ Some (postfix (as_tree p))
+sum_found {a} {p} d =
+    ap (run start) (sym (append-nil a)) ∙ sum_runs d [] [] [] refl refl ∙ ap Some (sym (whole_sum p (has_terms d)))
+
+pub sum_is_read : (ts : List Token) (t : Tree) → IsSum ts t → run start ts ≡ Some (postfix t)
+sum_is_read ts t (p, d, e) = sum_found d ∙ ap (λ t. Some (postfix t)) e

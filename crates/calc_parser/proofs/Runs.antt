@@ -1,0 +1,60 @@
+-- A run over a list of tokens, by place.
+use Rattle.std.specs.Prelude.{ℕ, suc, ◌+◌, ◌≡◌, ◌≤◌, ◌<◌, List, [], ◌∷◌, map, length, drop, Option, Some, None, Result, Ok, Err, MatchResult, IfErr, IfOk}
+use Rattle.std.proofs.Common.{refl, sym, ap, ◌∙◌, arith, get_or, drop-cons, add-one}
+use Rattle.std.proofs.lemmas.List.{get_or-map, drop_all}
+use Rattle.calc_terms.specs.Tokens.{Token, undef_mark}
+use Rattle.calc_terms.specs.Trees.{Tree}
+use Rattle.calc_terms.specs.Grammar.{IsSum}
+use Rattle.calc_tokens.specs.declared.tokens.Token.{Token as Placed}
+use Rattle.calc_tokens.specs.Tokens.{token_of}
+use Rattle.calc_parser.specs.declared.postfix.Postfix.{Postfix}
+use Rattle.calc_parser.specs.declared.reader.NoSum.{NoSum}
+use Rattle.calc_parser.specs.Postfix.{Node, postfix}
+use Rattle.calc_parser.specs.Automaton.{State, step, then_run, finish, run, start}
+use Rattle.calc_parser.specs.Reader.{token_in, tokens_in, nodes_in}
+use Rattle.calc_parser.proofs.ReadsSums.{sum_is_read}
+use Rattle.calc_parser.proofs.OnlySums.{only_sums}
+
+-- the token at a place of the list
+pub token_at_place : (tokens : List Placed) (at : ℕ) (t : Placed) → at < length tokens → t ≡ get_or tokens at t → token_in (tokens_in tokens) at ≡ token_of t.what
+token_at_place tokens at t inside is = get_or-map (λ t. token_of t.what) tokens at t undef_mark inside ∙ ap (λ t. token_of t.what) (sym is)
+
+pub count_tokens : (tokens : List Placed) → length (tokens_in tokens) ≡ length tokens
+count_tokens [] = refl
+count_tokens (t ∷ tokens) = ap suc (count_tokens tokens)
+
+-- one step further
+module _ (ts : List Token) (st : State) (at : ℕ) (m : Token) (inside : at < length ts) (is : token_in ts at ≡ m) where
+  parted : run st (drop at ts) ≡ then_run (step st m) (λ st'. run st' (drop (at + 1) ts))
+  unfolding run
+  parted = rw (add-one, drop-cons ts at undef_mark inside) (ap (λ m. then_run (step st m) (λ st'. run st' (drop (suc at) ts))) is)
+
+  pub run_on : (st' : State) (r : Option (List Node)) → step st m ≡ Some st' → run st (drop at ts) ≡ r → run st' (drop (at + 1) ts) ≡ r
+  run_on st' r e f = sym (ap (λ n. then_run n (λ st'. run st' (drop (at + 1) ts))) e) ∙ sym parted ∙ f
+
+  pub run_stops : (r : Option (List Node)) → step st m ≡ None → run st (drop at ts) ≡ r → r ≡ None
+  run_stops r e f = sym f ∙ parted ∙ ap (λ n. then_run n (λ st'. run st' (drop (at + 1) ts))) e
+
+-- all the tokens
+pub run_all : (ts : List Token) (st : State) (at : ℕ) (r : Option (List Node)) → length ts ≤ at → run st (drop at ts) ≡ r → finish st ≡ r
+unfolding run
+run_all ts st at r past e = ap (run st) (sym (drop_all at ts past)) ∙ e
+
+-- where no nodes are found the tokens are no sum
+pub no_sum : (ts : List Token) → run start ts ≡ None → (t : Tree) → IsSum ts t → ⊥
+no_sum ts e t d = let f : run start ts ≡ Some (postfix t) = sum_is_read ts t d in cc
+
+pub on_err : {T E : Type 0} (P : Type 0) (r : Result T E) → P → IfErr r (λ x. P)
+on_err P (Ok x) p = tt
+on_err P (Err e) p = p
+
+abbrev pub Finishes : List Token → State → Result Postfix NoSum → Type 0
+Finishes ts st r = MatchResult r (λ found. finish st ≡ Some (nodes_in ts found)) (λ fault. finish st ≡ None)
+
+pub finished_sum : (ts : List Token) (st : State) (r : Result Postfix NoSum) → finish st ≡ run start ts → Finishes ts st r → IfOk r (λ found. (t : Tree) × IsSum ts t × (nodes_in ts found ≡ postfix t))
+finished_sum ts st (Ok found) e h = only_sums ts (nodes_in ts found) (sym e ∙ h)
+finished_sum ts st (Err fault) e h = tt
+
+pub finished_none : (ts : List Token) (st : State) (r : Result Postfix NoSum) → finish st ≡ run start ts → Finishes ts st r → IfErr r (λ fault. (t : Tree) → IsSum ts t → ⊥)
+finished_none ts st (Ok found) e h = tt
+finished_none ts st (Err fault) e h = no_sum ts (sym e ∙ h)

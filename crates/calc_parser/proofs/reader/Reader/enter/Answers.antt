@@ -1,0 +1,7 @@
+use Rattle.std.proofs.Common.{arith}
+use Rattle.calc_parser.specs.Reader.{open_in}
+use Rattle.calc_parser.proofs.Room.{length_weight}
+use Rattle.calc_parser.proofs.reader.Reader.enter.Goals as goal
+
+pub enter-requires : goal.enter-requires
+enter-requires c = omega (arith, length_weight (open_in c.args.self.now.nesting))

@@ -1,0 +1,7 @@
+use Rattle.std.proofs.Common.{◌≡◌, ◌≤◌, ◌*◌, drop, length}
+use Rattle.calc_parser.specs.Automaton.{run, start}
+use Rattle.calc_parser.specs.Reader.{state_in, room_in, tokens_in}
+use Rattle.calc_parser.proofs.reader.read.Given as goal
+
+abbrev pub invariant-loop-at : goal.invariant-loop-at
+invariant-loop-at l = (run (state_in (tokens_in l.tokens) l.reader) (drop l.at (tokens_in l.tokens)) ≡ run start (tokens_in l.tokens)) × (room_in l.reader ≤ 2 * l.at)

@@ -1,0 +1,15 @@
+-- What each answer of the check says.
+use Rattle.std.specs.Prelude.{◌≤◌, List}
+use Rattle.calc_terms.specs.Tokens.{Token}
+use Rattle.calc_parser.specs.declared.checking.Shape.{Shape}
+use Rattle.calc_parser.specs.declared.checking.ParseFault.{ParseFault}
+use Rattle.calc_parser.specs.declared.checking.ParseFault.TheVariants.{Syntax, Deep}
+use Rattle.calc_parser.specs.Lines.{IsNoLine, IsLineOver, HasShape}
+
+-- a line of this shape, at most 64 deep
+abbrev pub IsShallow : List Token → Shape → Type 0
+IsShallow ts shape = HasShape ts shape × (shape.depth ≤ 64)
+
+abbrev pub IsFaultOf : List Token → ParseFault → Type 0
+IsFaultOf ts Syntax = IsNoLine ts
+IsFaultOf ts Deep = IsLineOver 64 ts

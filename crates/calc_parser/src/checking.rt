@@ -1,0 +1,97 @@
+//! Whether tokens are a line.
+ghost use Rattle.std.specs.Prelude.{◌≡◌, ◌↔◌, ◌≤◌, ℕ, List, Option, length, Err, IfOk, IsOk, MatchResult};
+ghost use Rattle.std.specs.Option.{option_map};
+ghost use Rattle.calc_terms.specs.Leaf.{name_of};
+ghost use Rattle.calc_terms.specs.Trees.{Tree, depth as depth_of};
+ghost use Rattle.calc_tokens.specs.Placed.{bare};
+ghost use Rattle.calc_tokens.specs.Tokens.{token_of, tokens_of};
+ghost use Rattle.calc_parser.specs.Lines.{IsLine, IsNoLine, IsLineOver, HasShape};
+ghost use Rattle.calc_parser.specs.Outcomes.{IsShallow, IsFaultOf};
+ghost use Rattle.calc_parser.specs.Stores.{stored, IsSplit};
+ghost use Rattle.calc_parser.specs.Reader.{tokens_in};
+
+use calc_terms::Name;
+use calc_tokens::{Token, Tokens, What};
+
+use crate::depth::depth;
+use crate::reader::read;
+
+/// The largest depth of a line's tree.
+const MAX_DEPTH: u32 = 64;
+
+/// What a line is like.
+#[derive(Clone, Copy, Debug)]
+pub struct Shape {
+    /// The name behind the arrow, where there is one.
+    pub store: Option<Name>,
+    /// The depth of the tree; that of a leaf is 1.
+    pub depth: u32,
+    /// The number of its nodes.
+    pub nodes: u32,
+}
+
+/// Why tokens are refused.
+#[derive(Clone, Copy, Debug, PartialEq, Eq)]
+pub enum ParseFault {
+    /// They are no line of the grammar.
+    Syntax,
+    /// They are one, and its tree is over 64 deep.
+    Deep,
+}
+
+/// What the line is like that these tokens are.
+pub fn check(tokens: &Tokens) -> Result<Shape, ParseFault>
+    ensures shape { IfOk result (HasShape (bare (tokens_of tokens.now))) }
+    ensures accepts { (store : Option (List ℕ)) (t : Tree) → IsLine (bare (tokens_of tokens.now)) store t → depth_of t ≤ 64 → IsOk result }
+    ensures syntax { (result ≡ Err ParseFault.Syntax) ↔ IsNoLine (bare (tokens_of tokens.now)) }
+    ensures deep { (result ≡ Err ParseFault.Deep) ↔ IsLineOver 64 (bare (tokens_of tokens.now)) }
+{
+    checked(tokens.items())
+}
+
+/// The shape of a line, or why it has none.
+fn checked(tokens: &[Token]) -> Result<Shape, ParseFault>
+    requires { length tokens.now ≤ 1024 }
+    ensures { MatchResult result (IsShallow (tokens_in tokens.now)) (IsFaultOf (tokens_in tokens.now)) }
+{
+    let (sum, store) = without_store(tokens);
+    let Ok(postfix) = read(sum) else {
+        return Err(ParseFault::Syntax);
+    };
+    let steps = postfix.steps();
+    let depth = depth(steps);
+    if depth > MAX_DEPTH {
+        return Err(ParseFault::Deep);
+    }
+    let nodes = steps.len() as u32;
+    Ok(Shape {
+        store,
+        depth,
+        nodes,
+    })
+}
+
+/// The tokens before an arrow and a name, where these end them.
+fn without_store(tokens: &[Token]) -> (&[Token], Option<Name>)
+    ensures split { IsSplit (tokens_in tokens.now) (tokens_in result.0.now) (option_map name_of result.1) }
+    ensures shorter { length result.0.now ≤ length tokens.now }
+{
+    if let Some((last, front)) = tokens.split_last() {
+        if let Some((arrow, sum)) = front.split_last() {
+            if let Some(name) = stored(arrow.what, last.what) {
+                return (sum, Some(name));
+            }
+        }
+    }
+    (tokens, None)
+}
+
+/// The name that the last two tokens store to.
+fn stored(arrow: What, last: What) -> Option<Name>
+    ensures { option_map name_of result ≡ stored (token_of arrow) (token_of last) }
+{
+    match (arrow, last) {
+        (What::Arrow, What::Name(name)) => Some(name),
+        _ => None,
+    }
+}

@@ -1,0 +1,52 @@
+//! The depth of a tree.
+ghost use Rattle.std.specs.Prelude.{◌≡◌, ◌<◌, ◌≤◌, ◌+◌, List, length, map};
+ghost use Rattle.arrayvec.specs.ArrayVec.{array_vec_len};
+ghost use Rattle.calc_terms.specs.Tokens.{Token as Mark};
+ghost use Rattle.calc_terms.specs.Trees.{Tree, depth};
+ghost use Rattle.calc_parser.specs.Postfix.{postfix};
+ghost use Rattle.calc_parser.specs.Depths.{deepest, with_node};
+ghost use Rattle.calc_parser.specs.Reader.{node_of};
+
+use arrayvec::ArrayVec;
+
+use crate::postfix::Step;
+
+/// The depth of the tree that these steps make, by the depths of the trees that stand so far.
+pub(crate) fn depth(steps: &[Step]) -> u32
+    requires { length steps.now ≤ 2048 }
+    ensures { (ts : List Mark) (t : Tree) → map (node_of ts) steps.now ≡ postfix t → result ≡ depth t }
+{
+    let mut depths: ArrayVec<u32, 2048> = ArrayVec::new();
+    for step in steps {
+        add(&mut depths, *step);
+    }
+    depths.as_slice().last().copied().unwrap_or(0)
+}
+
+/// Adds a leaf, or a parent in place of its children.
+fn add(depths: &mut ArrayVec<u32, 2048>, step: Step)
+    requires room { array_vec_len depths.old < 2048 }
+    requires small { deepest depths.old.items < 2048 }
+    ensures added { (ts : List Mark) → depths.new.items ≡ with_node depths.old.items (node_of ts step) }
+    ensures length { array_vec_len depths.new ≤ array_vec_len depths.old + 1 }
+{
+    match step {
+        Step::Leaf(_) => depths.push(1),
+        Step::Node(_, children) => {
+            let first = depths.len().saturating_sub(usize::from(children));
+            let depth = 1 + deepest(&depths.as_slice()[first..]);
+            depths.truncate(first);
+            depths.push(depth);
+        }
+    }
+}
+
+fn deepest(depths: &[u32]) -> u32
+    ensures { result ≡ deepest depths.now }
+{
+    let mut deepest = 0;
+    for depth in depths {
+        deepest = (*depth).max(deepest);
+    }
+    deepest
+}

@@ -1,0 +1,52 @@
+//! Trees in postfix order: children from left to right, then their parent.
+ghost use Rattle.std.specs.Prelude.{◌≡◌, ◌<◌, ◌≤◌, ◌+◌, [], ◌∷◌, ◌++◌, length};
+
+use arrayvec::ArrayVec;
+use calc_terms::Kind;
+
+/// One node of a tree in postfix order.
+#[derive(Clone, Copy, Debug)]
+pub(crate) enum Step {
+    /// The token at this place of the list is a leaf.
+    Leaf(u16),
+    /// The last trees, so many, become the children of a node of this kind.
+    Node(Kind, u16),
+}
+
+impl Default for Step {
+    fn default() -> Step {
+        Step::Leaf(0)
+    }
+}
+
+/// The nodes of trees in postfix order, at most 2,048.
+#[derive(Drop)]
+pub(crate) struct Postfix {
+    steps: ArrayVec<Step, 2048>,
+}
+
+impl Postfix {
+    ghost use Rattle.calc_parser.specs.Reader.{steps_in};
+
+    pub(crate) fn none() -> Postfix
+        ensures { steps_in result ≡ [] }
+    {
+        Postfix {
+            steps: ArrayVec::new(),
+        }
+    }
+
+    pub(crate) fn steps(&self) -> &[Step]
+        ensures steps { result.now ≡ steps_in self.now }
+        ensures fits { length result.now ≤ 2048 }
+    {
+        self.steps.as_slice()
+    }
+
+    pub(crate) fn push(&mut self, step: Step)
+        requires { length (steps_in self.old) < 2048 }
+        ensures { steps_in self.new ≡ steps_in self.old ++ step ∷ [] }
+    {
+        self.steps.push(step);
+    }
+}
