@@ -10,11 +10,10 @@ ghost use Rattle.calc_parser.specs.Outcomes.{IsShallow, IsFaultOf};
 ghost use Rattle.calc_parser.specs.Stores.{stored, IsSplit};
 ghost use Rattle.calc_parser.specs.Reader.{tokens_in};
 
-use calc_terms::Name;
-use calc_tokens::{Token, Tokens, What};
-
 use crate::depth::depth;
 use crate::reader::read;
+use calc_terms::Name;
+use calc_tokens::{Token, Tokens, What};
 
 /// The largest depth of a line's tree.
 const MAX_DEPTH: u32 = 64;
@@ -95,3 +94,6 @@ fn stored(arrow: What, last: What) -> Option<Name>
         _ => None,
     }
 }
+
+#[cfg(test)]
+mod tests;

@@ -5,10 +5,9 @@ ghost use Rattle.calc_terms.specs.Tokens.{Token as Mark};
 ghost use Rattle.calc_parser.specs.Reader.{open_in, innermost, outer, node_of};
 ghost use Rattle.calc_parser.specs.Automaton.{completed, place_in};
 
+use crate::postfix::Step;
 use arrayvec::ArrayVec;
 use calc_terms::Kind;
-
-use crate::postfix::Step;
 
 /// Something that began and has not ended.
 #[derive(Clone, Copy, Debug)]
