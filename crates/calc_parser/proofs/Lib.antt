@@ -1,4 +1,8 @@
 pub mod ReadsSums
+pub mod Contexts
+pub mod Made
+pub mod ReadsSums
+pub mod Spots
 pub mod OnlySums
 pub mod Room
 pub mod Steps

@@ -12,6 +12,7 @@ use Rattle.calc_parser.specs.declared.reader.Expects.TheVariants.{Operand, Paren
 use Rattle.calc_parser.specs.declared.reader.Expects.{Expects}
 use Rattle.calc_parser.specs.Postfix.{Node, leaf, parent, postfix, postfixes}
 use Rattle.calc_parser.specs.Automaton.{State, state, Ended, ended, gathered, end_power, end_factor, end_term, end_powers, end_product, sum_nodes, begin_operand, at_operand, at_parenthesis, at_operator, join_power, minus_in, leave_parentheses, step, when_closed, finish, then_run, run, start}
+<<<<<<< HEAD
 use Rattle.calc_parser.proofs.ReadsSums.{product_nodes, product_count, sum_nodes_of, sum_count, whole_product, whole_sum, has_factors, has_terms, joined_nodes, times_nodes, times_count, plus_nodes, plus_count, postfixes-one_more, count-one_more, alone_nodes, begins_sum, begins_term, begins_right, begins_factor, begins_exponent, sum_alone, term_alone, joins_before}
 
 -- is the part that begins here joined to powers before it
@@ -342,6 +343,12 @@ sum_whole : (a : List Token) (e : Ended) (p : SumAt a e) → sum_nodes e ≡ p.n
 sum_whole a e p =
     ap (λ n. n ++ gathered kind.Add e.count) p.nodes_are ∙ ap (λ k. (p.nodes ++ sum_nodes_of p.made) ++ gathered kind.Add k) p.count_is
     ∙ append_assoc p.nodes (sum_nodes_of p.made) (gathered kind.Add (sum_count p.made)) ∙ ap (λ n. p.nodes ++ n) (sym (whole_sum p.made (has_terms p.derives)))
+=======
+use Rattle.calc_parser.proofs.Contexts.{begins_sum, begins_term, begins_right, begins_exponent, begins_factor, sum_alone, term_alone, factor_alone, term_factor, sum_term, right_factor}
+use Rattle.calc_parser.proofs.Made.{postfixes-append, postfixes-one_more, count-one_more, gathered_many, alone_nodes, joined_nodes, product_nodes, product_count, HasFactors, sum_nodes_of, sum_count, HasTerms, whole_product, whole_sum, times_nodes, times_count, plus_nodes, plus_count, times_has, plus_has, has_factors, has_terms}
+use Rattle.calc_parser.proofs.ReadsSums.{joins_before}
+use Rattle.calc_parser.proofs.Spots.{is_joined, JoinsWhere, Spot, JoinedAt, ProductAt, SumAt, joined_as, product_as, sum_as, power_alone, mark_between, mark_before, unary_group, binary_group, PowerEnds, alone_ends, only_exponents, base_ends, exponent_sign_ends, power_ends, FactorEnds, no_right, times_ends, slash_ends, factor_sign_ends, factor_ends, term_place, powers_end, TermEnds, no_term, first_ends, plus_ends, minus_ends, term_sign_ends, term_ends, product_whole, product_end, sum_whole, at_start, in_parentheses, in_root, behind_plus, behind_minus, behind_term_sign, behind_times, behind_slash, behind_factor_sign, behind_powers, behind_base, behind_exponent_sign}
+>>>>>>> 326be613ef5da7244f882ab774819aa8baed6ba8
 
 -- ---- states
 
@@ -450,7 +457,11 @@ join_valid {a} {s} {o} m st b h e =
     let j : JoinedAt a (end_power s o) = power_at b in
     let spot : Spot (j.before ++ j.last) (opened.Joined (count j.trees) ∷ (end_power s o).nesting) (j.nodes ++ postfixes j.trees) = behind_powers j.spot j.place j.derives in
     let counted : Spot (j.before ++ j.last) (opened.Joined ((end_power s o).count) ∷ (end_power s o).nesting) (j.nodes ++ postfixes j.trees)
+<<<<<<< HEAD
         = subst (λ k. Spot (j.before ++ j.last) (opened.Joined k ∷ (end_power s o).nesting) (j.nodes ++ postfixes j.trees)) (sym j.count_is) spot in
+=======
+    = subst (λ k. Spot (j.before ++ j.last) (opened.Joined k ∷ (end_power s o).nesting) (j.nodes ++ postfixes j.trees)) (sym j.count_is) spot in
+>>>>>>> 326be613ef5da7244f882ab774819aa8baed6ba8
     begin_valid m st (spot_as (sym j.split) (sym j.nodes_are) counted) (λ k. h) e
 
 caret_valid : {a : List Token} {s : List Open} {o : List Node} → BehindOperand a s o → Valid (a ++ caret_mark ∷ []) (state Operand (opened.Power ∷ s) o)

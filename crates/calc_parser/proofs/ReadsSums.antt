@@ -13,6 +13,11 @@ use Rattle.calc_parser.specs.declared.nesting.Level.TheVariants as level
 use Rattle.calc_parser.specs.declared.reader.Expects.TheVariants.{Operand, Parenthesis, Operator}
 use Rattle.calc_parser.specs.Postfix.{Node, leaf, parent, postfix, postfixes}
 use Rattle.calc_parser.specs.Automaton.{State, state, Ended, ended, gathered, end_power, end_factor, end_term, end_powers, end_product, sum_nodes, begin_operand, minus_in, leave_parentheses, step, when_closed, finish, then_run, run, start}
+<<<<<<< HEAD
+=======
+use Rattle.calc_parser.proofs.Contexts.{begins_sum, begins_term, begins_right, begins_exponent, begins_factor, sum_alone, term_alone, factor_alone, term_factor, sum_term, right_factor}
+use Rattle.calc_parser.proofs.Made.{postfixes-append, postfixes-one_more, count-one_more, gathered_many, alone_nodes, joined_nodes, product_nodes, product_count, HasFactors, sum_nodes_of, sum_count, HasTerms, whole_product, whole_sum, times_nodes, times_count, plus_nodes, plus_count, times_has, plus_has, has_factors, has_terms}
+>>>>>>> 326be613ef5da7244f882ab774819aa8baed6ba8
 
 -- ---- what goes on behind a part
 
@@ -84,6 +89,7 @@ after_operand s o (left_mark ∷ c) e = refl
 after_operand s o (right_mark ∷ c) e = refl
 after_operand s o (arrow_mark ∷ c) e = refl
 
+<<<<<<< HEAD
 -- ---- where a part may begin
 abbrev pub begins_sum : List Open → Bool
 begins_sum [] = true
@@ -261,6 +267,8 @@ has_terms (first_term d) = tt
 has_terms (plus_more {s = p} {u} d e) = plus_has p u (has_terms d)
 has_terms (minus_more d e) = tt
 
+=======
+>>>>>>> 326be613ef5da7244f882ab774819aa8baed6ba8
 -- ---- the grammar, rule by rule
 
 -- behind powers side by side, at the end of a joined product

@@ -1,0 +1,115 @@
+-- The nodes of what a sum or a product has made so far.
+use Rattle.std.specs.Prelude.{ℕ, suc, ◌+◌, ◌≡◌, ◌≤◌, List, [], ◌∷◌, ◌++◌, Bool, true, false, Option, Some, None, ◌==◌, if◌then◌else◌}
+use Rattle.std.proofs.Common.{refl, sym, ap, ◌∙◌, arith, append_assoc, append-nil}
+use Rattle.std.proofs.lemmas.Bool.{eqb-true}
+use Rattle.calc_terms.specs.declared.kind.Kind.{Kind}
+use Rattle.calc_terms.specs.declared.kind.Kind.TheVariants as kind
+use Rattle.calc_terms.specs.Tokens.{Token, literal, name, undef_mark, root_mark, plus_mark, minus_mark, times_mark, slash_mark, caret_mark, left_mark, right_mark, arrow_mark}
+use Rattle.calc_terms.specs.Trees.{Tree, num, symbol, undef, add, mult, power, root, neg, sub, div, Trees, none, more, append, count}
+use Rattle.calc_terms.specs.Grammar.{IsSum, SoFar, single, summed, multiplied, as_tree, plus_term, minus_term, times_factor, over_factor, joined_tree, joins, Sum, first_term, plus_more, minus_more, Signed, minus_signed, plain_signed, Product, first_factor, times_more, over_more, Right, minus_right, plain_right, Joined, one_power, another_power, Power, plain_power, raised_power, Exponent, minus_exponent, plain_exponent, Primary, a_literal, a_name, an_undef, parenthesized, a_root}
+use Rattle.calc_parser.specs.declared.nesting.Open.{Open}
+use Rattle.calc_parser.specs.declared.nesting.Open.TheVariants as opened
+use Rattle.calc_parser.specs.declared.nesting.Level.TheVariants as level
+use Rattle.calc_parser.specs.declared.reader.Expects.TheVariants.{Operand, Parenthesis, Operator}
+use Rattle.calc_parser.specs.Postfix.{Node, leaf, parent, postfix, postfixes}
+use Rattle.calc_parser.specs.Automaton.{State, state, Ended, ended, gathered, end_power, end_factor, end_term, end_powers, end_product, sum_nodes, begin_operand, minus_in, leave_parentheses, step, when_closed, finish, then_run, run, start}
+
+pub postfixes-append : (ts us : Trees) → postfixes (append ts us) ≡ postfixes ts ++ postfixes us
+postfixes-append none us = refl
+postfixes-append (more t ts) us = ap (λ o. postfix t ++ o) (postfixes-append ts us) ∙ sym (append_assoc (postfix t) (postfixes ts) (postfixes us))
+
+pub postfixes-one_more : (ts : Trees) (u : Tree) → postfixes (append ts (more u none)) ≡ postfixes ts ++ postfix u
+postfixes-one_more ts u = postfixes-append ts (more u none) ∙ ap (λ o. postfixes ts ++ o) (append-nil (postfix u))
+
+pub count-one_more : (ts : Trees) (u : Tree) → count (append ts (more u none)) ≡ count ts + 1
+count-one_more none u = refl
+count-one_more (more t ts) u = let h : count (append ts (more u none)) ≡ count ts + 1 = count-one_more ts u in omega arith
+
+pub gathered_many : (k : Kind) (n : ℕ) → 2 ≤ n → gathered k n ≡ parent k n ∷ []
+gathered_many k n h = by (n == 1) refl
+  where
+    by : (x : Bool) → (n == 1) ≡ x → (if x then [] else parent k n ∷ []) ≡ parent k n ∷ []
+    by true e = let same : n ≡ 1 = eqb-true n 1 e in absurd (omega arith)
+    by false e = refl
+
+pub alone_nodes : (o : List Node) → o ≡ o ++ []
+alone_nodes o = sym (append-nil o)
+
+pub joined_nodes : (ts : Trees) → postfix (joined_tree ts) ≡ postfixes ts ++ gathered kind.Mult (count ts)
+joined_nodes none = refl
+joined_nodes (more t none) = alone_nodes (postfix t) ∙ alone_nodes (postfix t ++ [])
+joined_nodes (more t (more u ts)) = ap (λ o. postfix t ++ (postfix u ++ postfixes ts) ++ o) (sym (gathered_many kind.Mult (count (more t (more u ts))) (omega arith)))
+
+abbrev pub product_nodes : SoFar → List Node
+product_nodes (multiplied ts) = postfixes ts
+product_nodes p = postfix (as_tree p)
+
+abbrev pub product_count : SoFar → ℕ
+product_count (multiplied ts) = count ts
+product_count p = 1
+
+abbrev pub HasFactors : SoFar → Type 0
+HasFactors (multiplied ts) = 2 ≤ count ts
+HasFactors p = Unit {0}
+
+abbrev pub sum_nodes_of : SoFar → List Node
+sum_nodes_of (summed ts) = postfixes ts
+sum_nodes_of p = postfix (as_tree p)
+
+abbrev pub sum_count : SoFar → ℕ
+sum_count (summed ts) = count ts
+sum_count p = 1
+
+abbrev pub HasTerms : SoFar → Type 0
+HasTerms (summed ts) = 2 ≤ count ts
+HasTerms p = Unit {0}
+
+pub whole_product : (p : SoFar) → HasFactors p → postfix (as_tree p) ≡ product_nodes p ++ gathered kind.Mult (product_count p)
+whole_product (single t) h = alone_nodes (postfix t)
+whole_product (summed ts) h = alone_nodes (postfix (add ts))
+whole_product (multiplied ts) h = ap (λ o. postfixes ts ++ o) (sym (gathered_many kind.Mult (count ts) h))
+
+pub whole_sum : (p : SoFar) → HasTerms p → postfix (as_tree p) ≡ sum_nodes_of p ++ gathered kind.Add (sum_count p)
+whole_sum (single t) h = alone_nodes (postfix t)
+whole_sum (multiplied ts) h = alone_nodes (postfix (mult ts))
+whole_sum (summed ts) h = ap (λ o. postfixes ts ++ o) (sym (gathered_many kind.Add (count ts) h))
+
+pub times_nodes : (p : SoFar) (u : Tree) → product_nodes (times_factor p u) ≡ product_nodes p ++ postfix u
+times_nodes (single t) u = ap (λ o. postfix t ++ o) (append-nil (postfix u))
+times_nodes (summed ts) u = ap (λ o. postfix (add ts) ++ o) (append-nil (postfix u))
+times_nodes (multiplied ts) u = postfixes-one_more ts u
+
+pub times_count : (p : SoFar) (u : Tree) → product_count (times_factor p u) ≡ product_count p + 1
+times_count (single t) u = refl
+times_count (summed ts) u = refl
+times_count (multiplied ts) u = count-one_more ts u
+
+pub plus_nodes : (p : SoFar) (u : Tree) → sum_nodes_of (plus_term p u) ≡ sum_nodes_of p ++ postfix u
+plus_nodes (single t) u = ap (λ o. postfix t ++ o) (append-nil (postfix u))
+plus_nodes (multiplied ts) u = ap (λ o. postfix (mult ts) ++ o) (append-nil (postfix u))
+plus_nodes (summed ts) u = postfixes-one_more ts u
+
+pub plus_count : (p : SoFar) (u : Tree) → sum_count (plus_term p u) ≡ sum_count p + 1
+plus_count (single t) u = refl
+plus_count (multiplied ts) u = refl
+plus_count (summed ts) u = count-one_more ts u
+
+pub times_has : (p : SoFar) (u : Tree) → HasFactors p → HasFactors (times_factor p u)
+times_has (single t) u h = omega arith
+times_has (summed ts) u h = omega arith
+times_has (multiplied ts) u h = let e : count (append ts (more u none)) ≡ count ts + 1 = count-one_more ts u in omega arith
+
+pub plus_has : (p : SoFar) (u : Tree) → HasTerms p → HasTerms (plus_term p u)
+plus_has (single t) u h = omega arith
+plus_has (multiplied ts) u h = omega arith
+plus_has (summed ts) u h = let e : count (append ts (more u none)) ≡ count ts + 1 = count-one_more ts u in omega arith
+
+pub has_factors : {a : List Token} {p : SoFar} → Product a p → HasFactors p
+has_factors (first_factor d) = tt
+has_factors (times_more {s = p} {u} d e) = times_has p u (has_factors d)
+has_factors (over_more d e) = tt
+
+pub has_terms : {a : List Token} {p : SoFar} → Sum a p → HasTerms p
+has_terms (first_term d) = tt
+has_terms (plus_more {s = p} {u} d e) = plus_has p u (has_terms d)
+has_terms (minus_more d e) = tt
