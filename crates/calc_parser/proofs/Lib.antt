@@ -1,4 +1,3 @@
-pub mod ReadsSums
 pub mod Contexts
 pub mod Made
 pub mod ReadsSums

@@ -57,9 +57,5 @@ module _ (w : What) (s s' : List Open) (o o' : List Node) where
       → IsStep r st (at_operator (token_of w) s o)
   join_step k s2 o2 r st j f g i h =
       let same : begin_operand (token_of w) s2 o2 ≡ at_operator (token_of w) s o
-<<<<<<< HEAD
-          = ap (λ s. begin_operand (token_of w) s o2) g ∙ ap (λ o. begin_operand (token_of w) (opened.Joined k ∷ s') o) i ∙ ap (join_power (token_of w)) f ∙ joins_as j in
-=======
       = ap (λ s. begin_operand (token_of w) s o2) g ∙ ap (λ o. begin_operand (token_of w) (opened.Joined k ∷ s') o) i ∙ ap (join_power (token_of w)) f ∙ joins_as j in
->>>>>>> 326be613ef5da7244f882ab774819aa8baed6ba8
       subst (IsStep r st) same h

@@ -10,18 +10,10 @@ ghost use Rattle.calc_parser.specs.Outcomes.{IsShallow, IsFaultOf};
 ghost use Rattle.calc_parser.specs.Stores.{stored, IsSplit};
 ghost use Rattle.calc_parser.specs.Reader.{tokens_in};
 
-<<<<<<< HEAD
-use calc_terms::Name;
-use calc_tokens::{Token, Tokens, What};
-
-use crate::depth::depth;
-use crate::reader::read;
-=======
 use crate::depth::depth;
 use crate::reader::read;
 use calc_terms::Name;
 use calc_tokens::{Token, Tokens, What};
->>>>>>> 326be613ef5da7244f882ab774819aa8baed6ba8
 
 /// The largest depth of a line's tree.
 const MAX_DEPTH: u32 = 64;
@@ -102,9 +94,6 @@ fn stored(arrow: What, last: What) -> Option<Name>
         _ => None,
     }
 }
-<<<<<<< HEAD
-=======
 
 #[cfg(test)]
 mod tests;
->>>>>>> 326be613ef5da7244f882ab774819aa8baed6ba8

@@ -7,14 +7,8 @@ ghost use Rattle.calc_parser.specs.Postfix.{postfix};
 ghost use Rattle.calc_parser.specs.Depths.{deepest, with_node};
 ghost use Rattle.calc_parser.specs.Reader.{node_of};
 
-<<<<<<< HEAD
-use arrayvec::ArrayVec;
-
-use crate::postfix::Step;
-=======
 use crate::postfix::Step;
 use arrayvec::ArrayVec;
->>>>>>> 326be613ef5da7244f882ab774819aa8baed6ba8
 
 /// The depth of the tree that these steps make, by the depths of the trees that stand so far.
 pub(crate) fn depth(steps: &[Step]) -> u32

@@ -5,18 +5,10 @@ ghost use Rattle.calc_terms.specs.Tokens.{Token as Mark};
 ghost use Rattle.calc_parser.specs.Reader.{open_in, innermost, outer, node_of};
 ghost use Rattle.calc_parser.specs.Automaton.{completed, place_in};
 
-<<<<<<< HEAD
-use arrayvec::ArrayVec;
-use calc_terms::Kind;
-
-use crate::postfix::Step;
-
-=======
 use crate::postfix::Step;
 use arrayvec::ArrayVec;
 use calc_terms::Kind;
 
->>>>>>> 326be613ef5da7244f882ab774819aa8baed6ba8
 /// Something that began and has not ended.
 #[derive(Clone, Copy, Debug)]
 pub(crate) enum Open {

@@ -9,18 +9,10 @@ ghost use Rattle.calc_parser.specs.Postfix.{postfix as postfix_of};
 ghost use Rattle.calc_parser.specs.Automaton.{state, ended, gathered, complete as completed_all, end_part, end_powers as powers_ended, end_product as product_ended, sum_nodes, minus_in as sign_in, begin_operand as operand_begun, at_operand, at_parenthesis, at_operator, leave_parentheses as parentheses_left, step, finish as finished, run, start};
 ghost use Rattle.calc_parser.specs.Reader.{open_in, innermost, innermost_completed, innermost_place, node_of, nodes_in, state_in, ended_in, room_in, token_in, tokens_in, IsStep};
 
-<<<<<<< HEAD
-use calc_terms::Kind;
-use calc_tokens::{Token, What};
-
-use crate::nesting::{Level, Nesting, Open, Place};
-use crate::postfix::{Postfix, Step};
-=======
 use crate::nesting::{Level, Nesting, Open, Place};
 use crate::postfix::{Postfix, Step};
 use calc_terms::Kind;
 use calc_tokens::{Token, What};
->>>>>>> 326be613ef5da7244f882ab774819aa8baed6ba8
 
 /// What may come next.
 #[derive(Clone, Copy, Debug)]

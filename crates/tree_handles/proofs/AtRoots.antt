@@ -16,7 +16,7 @@ use Rattle.tree_handles.proofs.Joins.{holds-left, holds-with_kids, kids_of-with_
 use Rattle.tree_handles.proofs.Lasts.{kids_of_root, last_root, takes_root, takes_next}
 use Rattle.tree_handles.proofs.Replacing.{held_beside}
 use Rattle.tree_handles.proofs.Roots.{top, root_arity, root-without, root_held, no_root, root_id-root_tree}
-use Rattle.tree_handles.proofs.Tests.{by_test, eqb-sym}
+use Rattle.tree_handles.proofs.Outcomes.{by_test, eqb-sym}
 
 pub distinct-without : (i : ℕ) (f : Forest) → Distinct f → has_root i f ≡ true → Distinct (without_root i f)
 distinct-without i f d h =

@@ -6,7 +6,7 @@ use Rattle.tree_handles.specs.Inside.{holds, tree_at, kids_of, with_kids, with_c
 use Rattle.tree_handles.specs.Roots.{root_tree, without_root, put}
 use Rattle.tree_handles.specs.Standing.{IsCounted}
 use Rattle.tree_handles.proofs.Forests.{all-join, all-left, all-right, all-first_trees, all-rest_trees}
-use Rattle.tree_handles.proofs.Tests.{by_test}
+use Rattle.tree_handles.proofs.Outcomes.{by_test}
 
 pub all-tree_at : (P : Label → ℕ → Type 0) (i : ℕ) (f : Forest) → AllNodes P f → AllNodes P (tree_at i f)
 all-tree_at P i empty h = tt

@@ -12,7 +12,7 @@ use Rattle.tree_handles.specs.Roots.{has_root, root_tree, without_root, put}
 use Rattle.tree_handles.specs.Standing.{Stands, forest}
 use Rattle.tree_handles.proofs.Forests.{flatten-join, has-flatten, first-rest}
 use Rattle.tree_handles.proofs.Roots.{root_held, no_root}
-use Rattle.tree_handles.proofs.Tests.{by_test, or_true, not_left, not_right, eqb-sym}
+use Rattle.tree_handles.proofs.Outcomes.{by_test, or_true, not_left, not_right, eqb-sym}
 
 abbrev pub Distinct : Forest → Type 0
 Distinct f = AreDistinct (flatten f)

@@ -5,7 +5,7 @@ use Rattle.tree_handles.specs.Handed.{Ends, Starts, AreNoRoots, KeepsFront}
 use Rattle.tree_handles.specs.Roots.{has_root, without_root, put}
 use Rattle.tree_handles.proofs.Forests.{join_assoc}
 use Rattle.tree_handles.proofs.Roots.{root-left, without-right, put-right}
-use Rattle.tree_handles.proofs.Tests.{by_test}
+use Rattle.tree_handles.proofs.Outcomes.{by_test}
 
 pub starts_same : (p f g : Forest) → g ≡ f → Starts p f → Starts p g
 starts_same p f g e s = record { behind = s.behind; whole = e ∙ s.whole }

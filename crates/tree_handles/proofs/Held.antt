@@ -19,7 +19,7 @@ use Rattle.tree_handles.proofs.Forests.{flatten-join, join_assoc, forest_of_whol
 use Rattle.tree_handles.proofs.Joins.{released_in-join_right}
 use Rattle.tree_handles.proofs.Releases.{released_held}
 use Rattle.tree_handles.proofs.Roots.{top, root_held}
-use Rattle.tree_handles.proofs.Tests.{by_test}
+use Rattle.tree_handles.proofs.Outcomes.{by_test}
 
 -- the nodes before, and the trees from the node on
 pub record IsReleased (i : ℕ) (f : Forest) : Type 0 where

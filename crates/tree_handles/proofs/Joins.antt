@@ -3,7 +3,7 @@ use Rattle.std.proofs.Common.{◌≡◌, ℕ, cond, eqb, refl, sym, ap, ◌∙�
 use Rattle.tree_handles.specs.Forest.{Label, Forest, empty, tree, join, kids}
 use Rattle.tree_handles.specs.Inside.{holds, tree_at, kids_of, with_kids, with_count_in, released, released_in}
 use Rattle.tree_handles.proofs.Forests.{join_assoc}
-use Rattle.tree_handles.proofs.Tests.{by_test, or_true}
+use Rattle.tree_handles.proofs.Outcomes.{by_test, or_true}
 
 or_or : (t u v w : Bool) → cond t true (cond u true (cond v true w)) ≡ cond (cond t true (cond u true v)) true w
 or_or true u v w = refl

@@ -1,4 +1,4 @@
-pub mod Tests
+pub mod Outcomes
 pub mod Forests
 pub mod Counted
 pub mod Joins
@@ -21,3 +21,4 @@ pub mod Lasts
 pub mod AtRoots
 pub mod Given
 pub mod Fronts
+pub mod Tested

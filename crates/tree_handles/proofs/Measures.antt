@@ -17,7 +17,7 @@ use Rattle.tree_handles.proofs.Forests.{flatten-join, arity-join, nodes-flatten,
 use Rattle.tree_handles.proofs.Nths.{first_trees-behind}
 use Rattle.tree_handles.proofs.Parts.{at, live_at}
 use Rattle.tree_handles.proofs.Releases.{arity_le}
-use Rattle.tree_handles.proofs.Tests.{by_test}
+use Rattle.tree_handles.proofs.Outcomes.{by_test}
 
 -- the nodes from a tree's place on
 pub record IsBefore (i at : ℕ) (s : State) : Type 0 where

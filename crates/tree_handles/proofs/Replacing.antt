@@ -8,7 +8,7 @@ use Rattle.tree_handles.proofs.Forests.{arity-without_nth}
 use Rattle.tree_handles.proofs.Joins.{holds-left, kids_of-join_left, with_kids-join_left, holds-with_kids, kids_of-with_kids, with_kids-with_kids}
 use Rattle.tree_handles.proofs.Nths.{with_nth-without_nth}
 use Rattle.tree_handles.proofs.Roots.{root-left, tree-left, without-left, root_held}
-use Rattle.tree_handles.proofs.Tests.{by_test, or_true, not_left, not_right}
+use Rattle.tree_handles.proofs.Outcomes.{by_test, or_true, not_left, not_right}
 
 pub has_root-with_kids : (c p : ℕ) (n f : Forest) → has_root c (with_kids p n f) ≡ has_root c f
 has_root-with_kids c p n empty = refl

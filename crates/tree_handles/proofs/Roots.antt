@@ -4,7 +4,7 @@ use Rattle.std.proofs.lemmas.Bool.{eqb-true, eq-eqb}
 use Rattle.tree_handles.specs.Forest.{Label, Forest, empty, tree, join, arity, kids, root_id, AllNodes}
 use Rattle.tree_handles.specs.Inside.{holds}
 use Rattle.tree_handles.specs.Roots.{has_root, root_tree, without_root, put}
-use Rattle.tree_handles.proofs.Tests.{by_test, or_true, not_left, not_right, eqb-sym}
+use Rattle.tree_handles.proofs.Outcomes.{by_test, or_true, not_left, not_right, eqb-sym}
 
 -- ---- a root is a node
 

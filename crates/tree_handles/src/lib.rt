@@ -10,7 +10,6 @@ mod measure;
 mod moving;
 mod read;
 mod releasing;
-mod upper;
 mod walk;
 
 pub use building::{node_over, node_over_two};
@@ -22,4 +21,6 @@ pub use measure::{tree_bytes, tree_depth, tree_nodes};
 pub use moving::{add_child, merge_children, move_last, replace_child, swap_children, take_child};
 pub use read::{child_id, children, count, kind, name, rational};
 pub use releasing::release;
-pub use upper::difference;
+
+#[cfg(test)]
+mod tests;

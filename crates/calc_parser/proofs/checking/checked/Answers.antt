@@ -31,15 +31,6 @@ pub returns : goal.returns
 returns c =
     let us = tokens_in c.without_store-store.result.0.now in
     let (t, d, e) = c.in-Ok.ensures.sum in
-<<<<<<< HEAD
-    let steps : map (node_of us) c.steps-steps.result.now ≡ postfix t = ap (map (node_of us)) c.steps-steps.ensures.steps ∙ e in
-    (record {
-      tree = t;
-      line = line_of_sum (tokens_in c.args.tokens.now) us (option_map name_of c.without_store-store.result.1) t c.without_store-store.ensures.split d;
-      depth_is = c.depth-depth.ensures us t steps;
-      nodes_are = sym (length_map (node_of us) c.steps-steps.result.now) ∙ ap length steps ∙ nodes_found t;
-    }, c.if-depth-gt-MAX_DEPTH.false)
-=======
     let steps : map (node_of us) c.steps-steps.result.now ≡ postfix t = ap (map (node_of us)) c.steps-steps.ensures.steps ∙ e in (
       record {
         tree = t;
@@ -49,4 +40,3 @@ returns c =
       },
       c.if-depth-gt-MAX_DEPTH.false,
     )
->>>>>>> 326be613ef5da7244f882ab774819aa8baed6ba8

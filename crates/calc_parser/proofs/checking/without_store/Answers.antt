@@ -10,14 +10,6 @@ pub returns-clause-split : goal.returns-clause-split
 returns-clause-split c =
     let tokens = c.args.tokens.now in
     elim c.match-split_last.branch [
-<<<<<<< HEAD
-      | in-Some+in-Some-split_last+in_default-stored w ↦ (refl,
-        unstored (tokens_in tokens) (tokens_in w.in-Some-split_last.sum.now) (token_of w.in-Some-split_last.arrow.now.what) (token_of w.in-Some.last.now.what)
-        (tokens_before_two tokens w.in-Some.front.now w.in-Some-split_last.sum.now w.in-Some-split_last.arrow.now w.in-Some.last.now (w.in-Some.ensures.cases.0) (w.in-Some-split_last.ensures.cases.0))
-        w.in_default-stored.ensures)
-      | in-Some+in_default-split_last w ↦ (refl,
-        short_stores_nothing (tokens_in tokens) (omega (arith, count_tokens tokens, w.in_default-split_last.ensures.cases, w.in-Some.ensures.cases.1)))
-=======
       | in-Some+in-Some-split_last+in_default-stored w ↦ (
         refl,
         unstored (tokens_in tokens) (tokens_in w.in-Some-split_last.sum.now) (token_of w.in-Some-split_last.arrow.now.what) (token_of w.in-Some.last.now.what)
@@ -28,6 +20,5 @@ returns-clause-split c =
         refl,
         short_stores_nothing (tokens_in tokens) (omega (arith, count_tokens tokens, w.in_default-split_last.ensures.cases, w.in-Some.ensures.cases.1)),
       )
->>>>>>> 326be613ef5da7244f882ab774819aa8baed6ba8
       | in_default w ↦ (refl, short_stores_nothing (tokens_in tokens) (omega (arith, count_tokens tokens, w.in_default.ensures.cases)))
     ]

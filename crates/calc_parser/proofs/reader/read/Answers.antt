@@ -22,16 +22,10 @@ loop-at-preserved c =
     let tokens = c.args.tokens.now in
     let ts = tokens_in tokens in
     let here : token_in ts c.loop-at.at ≡ token_of c.index-tokens-at.result.what = token_at_place tokens c.loop-at.at c.index-tokens-at.result c.loop-at-test.true c.index-tokens-at.is in
-<<<<<<< HEAD
-    let inside : c.loop-at.at < length ts = omega (arith, count_tokens tokens) in
-    (run_on ts (state_in ts c.loop-at.reader) c.loop-at.at _ inside here (state_in ts c.take.new.self) (run start ts) (c.in_ok-take.ensures.step ts here) (c.loop-at.invariant.0),
-    omega (arith, c.loop-at.invariant.1, c.in_ok-take.ensures.room))
-=======
     let inside : c.loop-at.at < length ts = omega (arith, count_tokens tokens) in (
       run_on ts (state_in ts c.loop-at.reader) c.loop-at.at _ inside here (state_in ts c.take.new.self) (run start ts) (c.in_ok-take.ensures.step ts here) (c.loop-at.invariant.0),
       omega (arith, c.loop-at.invariant.1, c.in_ok-take.ensures.room),
     )
->>>>>>> 326be613ef5da7244f882ab774819aa8baed6ba8
 
 pub returns-clause-sum : goal.returns-clause-sum
 returns-clause-sum c =

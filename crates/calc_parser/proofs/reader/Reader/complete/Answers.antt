@@ -18,13 +18,6 @@ loop-node-preserved c =
     let s = open_in c.loop-node.self.nesting in
     let lighter = completed_weight c.args.level s (node_of [] c.in-Some.node) (c.in-Some.ensures []) in
     let longer = length_pushed (steps_in c.loop-node.self.postfix) (steps_in c.push.new.self) c.in-Some.node c.push.ensures in
-<<<<<<< HEAD
-    let left : weight (open_in c.leave.new.self) ≡ weight (outer s) = ap weight c.leave.ensures in
-    (λ ts.
-      rw (c.leave.ensures, nodes_pushed ts (steps_in c.loop-node.self.postfix) (steps_in c.push.new.self) c.in-Some.node c.push.ensures)
-      (complete_one c.args.level s (nodes_in ts c.loop-node.self.postfix) (node_of ts c.in-Some.node) (c.in-Some.ensures ts) ∙ c.loop-node.invariant.0 ts),
-    c.loop-node.invariant.1, omega (arith, c.loop-node.invariant.2))
-=======
     let left : weight (open_in c.leave.new.self) ≡ weight (outer s) = ap weight c.leave.ensures in (
       λ ts.
           rw (c.leave.ensures, nodes_pushed ts (steps_in c.loop-node.self.postfix) (steps_in c.push.new.self) c.in-Some.node c.push.ensures)
@@ -32,7 +25,6 @@ loop-node-preserved c =
       c.loop-node.invariant.1,
       omega (arith, c.loop-node.invariant.2),
     )
->>>>>>> 326be613ef5da7244f882ab774819aa8baed6ba8
 
 pub returns-clause-ended : goal.returns-clause-ended
 returns-clause-ended c = λ ts. complete_none c.args.level (open_in c.loop-node.self.nesting) (nodes_in ts c.loop-node.self.postfix) (c.in_default.ensures ts) ∙ c.loop-node.invariant.0 ts

@@ -11,7 +11,7 @@ use Rattle.tree_handles.proofs.Fronts.{behind_first, behind_later, front_same, f
 use Rattle.tree_handles.proofs.Given.{gives_as, handed_beside, handed_at, owned}
 use Rattle.tree_handles.proofs.Lasts.{plain_root}
 use Rattle.tree_handles.proofs.Roots.{root_held}
-use Rattle.tree_handles.proofs.upper.larger.Goals as goal
+use Rattle.tree_handles.proofs.tests.upper.larger.Goals as goal
 
 pub rational-x-requires-clause-live : goal.rational-x-requires-clause-live
 rational-x-requires-clause-live c = rw c.id.ensures (root_held c.args.a (forest c.args.pool.now) c.requires.first.root)

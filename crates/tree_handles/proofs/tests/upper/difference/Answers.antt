@@ -9,8 +9,8 @@ use Rattle.tree_handles.specs.Standing.{forest}
 use Rattle.tree_handles.proofs.Fronts.{behind_first, behind_later, behind_new, front_same, front_without, front_after, front_after_two}
 use Rattle.tree_handles.proofs.Given.{given_handed, given_other, given_apart, given_told, given_same, given_rest, given_without, gives_as, handed_beside}
 use Rattle.tree_handles.proofs.Roots.{tree-without}
-use Rattle.tree_handles.proofs.Tests.{eqb-sym}
-use Rattle.tree_handles.proofs.upper.difference.Goals as goal
+use Rattle.tree_handles.proofs.Outcomes.{eqb-sym}
+use Rattle.tree_handles.proofs.tests.upper.difference.Goals as goal
 
 pub node_over_two-requires-clause-first : goal.node_over_two-requires-clause-first
 node_over_two-requires-clause-first c = given_handed c.in_ok-one.ensures.given

@@ -1,0 +1,149 @@
+-- The parts that trial division leaves are clean.
+use Rattle.std.proofs.Common.{◌≡◌, ◌≢◌, ℕ, zero, suc, ◌+◌, ◌*◌, ◌/◌, ◌%◌, ◌^◌, ◌<◌, ◌≤◌, ◌⊎◌, inl, inr, refl, sym, ap, ◌∙◌, subst, arith}
+use Rattle.std.specs.Int.{IsGcd, ◌∣◌}
+use Rattle.std.proofs.lemmas.Bool.{cases_lt}
+use Rattle.std.proofs.lemmas.Nat.Gcd.{dvd_refl, dvd_trans, le_of_dvd}
+use Rattle.std.proofs.Math.Nat.{dvd-mul_right, dvd-mul_left, mul-dvd-mul, eq-one_of_dvd-one}
+use Rattle.calc_terms.specs.Clean.{trial_limit, left_of, IsClean}
+use Rattle.calc_terms.proofs.SquareRootLaws.{square_le}
+use Rattle.rational128.proofs.Coprime.{IsCoprime, IsCoprime-swap, IsCoprime-from_gcd, IsGcd-from_coprime, IsCoprime-divisors, IsCoprime-mul, other_factor}
+use Rattle.square_parts.specs.declared.division.Found.{Found}
+use Rattle.square_parts.specs.Divisors.{IsSmooth, IsSquareFree, HasNoDivisorBelow, HasNoOtherDivisor}
+use Rattle.square_parts.specs.Found.{number_of, IsFound}
+use Rattle.square_parts.proofs.SmoothNumbers.{IsRough, common_or_coprime, IsSmooth-one, IsSmooth-small, IsSmooth-mul}
+use Rattle.square_parts.proofs.LeftOf.{left_of_part}
+use Rattle.square_parts.proofs.Steps.{rest_positive, clean_positive, root_at_most, clean_at_most}
+
+no_root_of_one : (s : ℕ) → 1 < s → 1 ≡ s * s → ⊥
+no_root_of_one s h e = grind arith
+
+square_above : (n : ℕ) → 2 ≤ n → n * n ≤ n → ⊥
+square_above n h le = grind arith
+
+-- nothing is left of a smooth number, so it is clean where it has no square
+smooth_clean : (c : ℕ) → 0 < c → IsSmooth c → ((d : ℕ) → 2 ≤ d → d ≤ trial_limit → d * d ∣ c → ⊥) → IsClean c
+smooth_clean c positive smooth free = record {
+  no_square = free;
+  no_rest = λ s above e. no_root_of_one s above (sym (left_of_part c 1 c positive (omega arith) (omega arith) smooth (record { none = λ d two le d1. let one : d ≡ 1 = eq-one_of_dvd-one d1 in omega arith })) ∙ e);
+}
+
+-- the clean part alone
+pub clean_alone : (f : Found) → IsFound f → IsClean f.clean
+clean_alone f found =
+    smooth_clean f.clean (clean_positive f.root f.clean f.rest found.positive) found.smooth
+    (λ d two le h. let one : d ≡ 1 = found.square_free.only_one d h in omega arith)
+
+-- the clean part times a rest that is no square
+pub clean_with_rest : (f : Found) → IsFound f → HasNoOtherDivisor f.rest → ((s : ℕ) → 1 < s → f.rest ≢ s * s) → IsClean (f.clean * f.rest)
+clean_with_rest f found only not_square = record { no_square = no_square; no_rest = no_rest }
+  where
+    c-positive : 0 < f.clean
+    c-positive = clean_positive f.root f.clean f.rest found.positive
+
+    n-positive : 0 < f.rest
+    n-positive = rest_positive f.root f.clean f.rest found.positive
+
+    apart : IsCoprime f.clean f.rest
+    apart = IsCoprime-from_gcd f.clean f.rest found.apart
+
+    of_clean : (d g : ℕ) → d * d ∣ f.clean * f.rest → 2 ≤ g → g ∣ d → g ∣ f.clean → ⊥
+    of_clean d g h two gd gc =
+        let square : g * g ∣ f.clean * f.rest = dvd_trans (g * g) (mul-dvd-mul g g gd gd) h in
+        let g-rest : IsCoprime f.rest g = IsCoprime-swap g f.rest (IsCoprime-divisors f.clean f.rest g f.rest gc (dvd_refl f.rest) apart) in
+        let one : g ≡ 1 = found.square_free.only_one g (other_factor (g * g) f.rest f.clean (IsCoprime-mul f.rest g g g-rest g-rest) square) in
+        omega arith
+
+    of_rest : (d : ℕ) → 2 ≤ d → d ≤ trial_limit → d * d ∣ f.rest → ⊥
+    of_rest d two le h =
+        let same : d ≡ f.rest = only.whole d two le (dvd_trans d (dvd-mul_right d d) h) in
+        square_above d two (subst (λ n. d * d ≤ n) (sym same) (le_of_dvd n-positive h))
+
+    by : (d : ℕ) → 2 ≤ d → d ≤ trial_limit → d * d ∣ f.clean * f.rest → ((g : ℕ) × (2 ≤ g) × (g ∣ d) × (g ∣ f.clean)) ⊎ IsCoprime d f.clean → ⊥
+    by d two le h (inl (g, g-two, gd, gc)) = of_clean d g h g-two gd gc
+    by d two le h (inr coprime) =
+        let squares : IsCoprime f.clean (d * d) = IsCoprime-mul f.clean d d (IsCoprime-swap d f.clean coprime) (IsCoprime-swap d f.clean coprime) in
+        let turned : d * d ∣ f.rest * f.clean = subst (λ n. d * d ∣ n) (omega arith) h in
+        of_rest d two le (other_factor (d * d) f.clean f.rest squares turned)
+
+    no_square : (d : ℕ) → 2 ≤ d → d ≤ trial_limit → d * d ∣ f.clean * f.rest → ⊥
+    no_square d two le h = by d two le h (common_or_coprime d f.clean c-positive)
+
+    whole-positive : 0 < f.clean * f.rest
+    whole-positive = grind arith
+
+    -- a rest up to the limit is divided out too, and a greater one is all that is left
+    left : (trial_limit < f.rest) ⊎ (f.rest ≤ trial_limit) → (s : ℕ) → 1 < s → left_of (f.clean * f.rest) ≢ s * s
+    left (inl above) s big e =
+        let rough : IsRough f.rest = record { none = λ d two le h. let same : d ≡ f.rest = only.whole d two le h in omega arith } in
+        not_square s big (sym (left_of_part (f.clean * f.rest) f.rest f.clean whole-positive n-positive (omega arith) found.smooth rough) ∙ e)
+    left (inr small) s big e = (smooth_clean (f.clean * f.rest) whole-positive (IsSmooth-mul f.clean f.rest c-positive found.smooth (IsSmooth-small f.rest n-positive small)) no_square).no_rest s big e
+
+    no_rest : (s : ℕ) → 1 < s → left_of (f.clean * f.rest) ≢ s * s
+    no_rest = left (cases_lt trial_limit f.rest)
+
+-- ---- squares
+
+-- a rest up to the square of the limit is no square
+pub small_no_square : (n : ℕ) → HasNoOtherDivisor n → n ≤ 100000000 → (s : ℕ) → 1 < s → n ≢ s * s
+small_no_square n only small s big e = by (cases_lt trial_limit s)
+  where
+    above : (s : ℕ) → 10000 < s → 100000000 < s * s
+    above s h = grind arith
+
+    by : (trial_limit < s) ⊎ (s ≤ trial_limit) → ⊥
+    by (inl far) = absurd (omega (arith, above s far))
+    by (inr near) =
+        let same : s ≡ n = only.whole s (omega arith) near (subst (λ m. s ∣ m) (sym e) (dvd-mul_right s s)) in
+        square_above s (omega arith) (omega arith)
+
+-- the root rounded down decides
+pub rounded_no_square : (n r : ℕ) → r * r ≤ n → n < (r + 1) * (r + 1) → r * r ≢ n → (s : ℕ) → 1 < s → n ≢ s * s
+rounded_no_square n r within next differ s big e =
+    let low : s ≤ r = square_le s r (omega arith) in
+    let high : r ≤ s = square_le r s (omega (arith, more s)) in
+    let same : r ≡ s = omega arith in
+    differ (ap (λ m. m * m) same ∙ sym e)
+  where
+    more : (s : ℕ) → s * s < (s + 1) * (s + 1)
+    more s = omega arith
+
+-- ---- the numbers of the answer
+
+pub square_product : (f : Found) (m : ℕ) → m * m ≡ f.rest → number_of f ≡ (f.root * m) * (f.root * m) * f.clean
+square_product f m e = ap (λ n. f.root * f.root * (f.clean * n)) (sym e) ∙ omega arith
+
+pub square_fits : (f : Found) (m : ℕ) → IsFound f → m * m ≡ f.rest → f.root * m < 2 ^ 127
+square_fits f m found e =
+    let same : number_of f ≡ (f.root * m) * (f.root * m) * (f.clean * 1) = square_product f m e ∙ omega arith in
+    let positive : 1 ≤ (f.root * m) * (f.root * m) * (f.clean * 1) = rw (← same) found.positive in
+    let fits : (f.root * m) * (f.root * m) * (f.clean * 1) < 2 ^ 127 = rw (← same) found.fits in
+    omega (arith, root_at_most (f.root * m) f.clean 1 positive)
+
+-- ---- the number itself, before any division
+
+pub whole_found : (r : ℕ) → 1 ≤ r → r < 2 ^ 127 → IsFound (record { root = 1; clean = 1; rest = r })
+whole_found r positive fits = record {
+  positive = omega arith;
+  fits = omega arith;
+  square_free = record { only_one = λ e h. eq-one_of_dvd-one (dvd_trans e (dvd-mul_right e e) h) };
+  smooth = IsSmooth-one;
+  apart = IsGcd-from_coprime 1 r (record { common = λ d d1 dr. d1 });
+}
+
+pub nothing_below_two : (n : ℕ) → HasNoDivisorBelow 2 n
+nothing_below_two n = record { none = λ e two lt en. absurd (omega arith) }
+
+-- 4 and 6 are multiples of 2
+pub beyond_four : (n : ℕ) → HasNoDivisorBelow 4 n → HasNoDivisorBelow 5 n
+beyond_four n none = record { none = λ e two lt en. by e two lt en (cases_lt e 4) }
+  where
+    by : (e : ℕ) → 2 ≤ e → e < 5 → e ∣ n → (e < 4) ⊎ (4 ≤ e) → ⊥
+    by e two lt en (inl below) = none.none e two below en
+    by e two lt en (inr at) = let same : e ≡ 2 * 2 = omega arith in none.none 2 (omega arith) (omega arith) (dvd_trans 2 (subst (λ m. 2 ∣ m) (sym same) (dvd-mul_right 2 2)) en)
+
+pub beyond_six : (n : ℕ) → HasNoDivisorBelow 6 n → HasNoDivisorBelow 7 n
+beyond_six n none = record { none = λ e two lt en. by e two lt en (cases_lt e 6) }
+  where
+    by : (e : ℕ) → 2 ≤ e → e < 7 → e ∣ n → (e < 6) ⊎ (6 ≤ e) → ⊥
+    by e two lt en (inl below) = none.none e two below en
+    by e two lt en (inr at) = let same : e ≡ 2 * 3 = omega arith in none.none 2 (omega arith) (omega arith) (dvd_trans 2 (subst (λ m. 2 ∣ m) (sym same) (dvd-mul_right 2 3)) en)

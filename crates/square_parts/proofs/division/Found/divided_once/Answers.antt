@@ -1,0 +1,43 @@
+use Rattle.std.proofs.Common.{◌≡◌, ℕ, true, false, ◌*◌, ◌%◌, ◌/◌, refl, sym, arith}
+use Rattle.square_parts.proofs.Steps.{IsStep, square_found, clean_found}
+use Rattle.square_parts.proofs.division.Found.divided_once.Goals as goal
+use Rattle.square_parts.proofs.division.Found.divided_once.Goals.{Then-divides, Else-divides}
+
+-- the steps, at what the quotients and the cast give
+squared : (c : Then-divides) (d' rest : ℕ) → d' ≡ c.args.d → rest ≡ c.quotient-once.result / c.args.d → IsStep c.args.self (record { root = c.args.self.root * d'; clean = c.args.self.clean; rest = rest }) c.args.d
+squared c d' rest d-is rest-is = square_found c.args.self c.args.d d' c.quotient-once.result rest c.requires.found c.requires.below c.requires.at_least_two c.requires.divides c.quotient-once.ensures (c.if-divides.ensures.0 refl) d-is rest-is
+
+cleaned : (c : Else-divides) (d' : ℕ) → d' ≡ c.args.d → IsStep c.args.self (record { root = c.args.self.root; clean = c.args.self.clean * d'; rest = c.quotient-once.result }) c.args.d
+cleaned c d' d-is =
+    clean_found c.args.self c.args.d d' c.quotient-once.result c.requires.found c.requires.below c.requires.at_least_two c.requires.within c.requires.divides c.quotient-once.ensures
+    (λ z. let is : false ≡ true = c.if-divides.ensures.1 z in cc) d-is
+
+pub overflow_mul-result : goal.overflow_mul-result
+overflow_mul-result c = omega (arith, (squared (goal.at.overflow_mul-result c).Then-divides c.from.result _ c.from.ensures refl).root_fits)
+
+pub overflow_mul-result-else-divides : goal.overflow_mul-result-else-divides
+overflow_mul-result-else-divides c = omega (arith, (cleaned (goal.at.overflow_mul-result-else-divides c).Else-divides c.from-else-divides.result c.from-else-divides.ensures).clean_fits)
+
+pub returns-then-divides-clause-same : goal.returns-then-divides-clause-same
+returns-then-divides-clause-same c = (squared (goal.at.returns-then-divides-clause-same c).Then-divides c.from.result c.quotient.result c.from.ensures c.quotient.ensures).same
+
+pub returns-then-divides-clause-found : goal.returns-then-divides-clause-found
+returns-then-divides-clause-found c = (squared (goal.at.returns-then-divides-clause-found c).Then-divides c.from.result c.quotient.result c.from.ensures c.quotient.ensures).found
+
+pub returns-then-divides-clause-below : goal.returns-then-divides-clause-below
+returns-then-divides-clause-below c = (squared (goal.at.returns-then-divides-clause-below c).Then-divides c.from.result c.quotient.result c.from.ensures c.quotient.ensures).below
+
+pub returns-then-divides-clause-less : goal.returns-then-divides-clause-less
+returns-then-divides-clause-less c = (squared (goal.at.returns-then-divides-clause-less c).Then-divides c.from.result c.quotient.result c.from.ensures c.quotient.ensures).less
+
+pub returns-else-divides-clause-same : goal.returns-else-divides-clause-same
+returns-else-divides-clause-same c = (cleaned (goal.at.returns-else-divides-clause-same c).Else-divides c.from-else-divides.result c.from-else-divides.ensures).same
+
+pub returns-else-divides-clause-found : goal.returns-else-divides-clause-found
+returns-else-divides-clause-found c = (cleaned (goal.at.returns-else-divides-clause-found c).Else-divides c.from-else-divides.result c.from-else-divides.ensures).found
+
+pub returns-else-divides-clause-below : goal.returns-else-divides-clause-below
+returns-else-divides-clause-below c = (cleaned (goal.at.returns-else-divides-clause-below c).Else-divides c.from-else-divides.result c.from-else-divides.ensures).below
+
+pub returns-else-divides-clause-less : goal.returns-else-divides-clause-less
+returns-else-divides-clause-less c = (cleaned (goal.at.returns-else-divides-clause-less c).Else-divides c.from-else-divides.result c.from-else-divides.ensures).less

@@ -1,0 +1,23 @@
+//! Laws of square classes and of clean numbers, each the contract of a function without a body.
+ghost use Rattle.std.specs.Prelude.{◌≡◌, ◌↔◌, ℕ, ◌*◌, ◌^◌, ◌<◌, true};
+ghost use Rattle.std.specs.Int.{◌∣◌};
+ghost use Rattle.calc_terms.specs.SquareClasses.{are_alike};
+ghost use Rattle.calc_terms.specs.Clean.{IsClean};
+
+/// Radicands are alike where their product is the square of a number above 0, and this is an equivalence.
+pub fn alike_is_an_equivalence()
+    ensures square { (r s : ℕ) → (are_alike r s ≡ true) ↔ ((t : ℕ) × (0 < t) × (t * t ≡ r * s)) }
+    ensures reflexive { (r : ℕ) → 0 < r → are_alike r r ≡ true }
+    ensures symmetric { (r s : ℕ) → are_alike r s ≡ true → are_alike s r ≡ true }
+    ensures transitive { (r s t : ℕ) → are_alike r s ≡ true → are_alike s t ≡ true → are_alike r t ≡ true }
+{}
+
+/// No square of a number above 1 divides a clean number below 10^12.
+pub fn clean_below_limit_is_square_free()
+    ensures { (r d : ℕ) → IsClean r → r < 10 ^ 12 → 1 < d → d * d ∣ r → ⊥ }
+{}
+
+/// What is left of a clean number without a square factor is clean.
+pub fn clean_without_a_square()
+    ensures { (g a : ℕ) → IsClean (g * a * a) → IsClean g }
+{}

@@ -1,0 +1,10 @@
+//! Square parts of whole numbers by trial division, and whether two radicands lie in one square class.
+#![tactic(auto)]
+
+mod classes;
+mod division;
+pub mod laws;
+mod splitting;
+
+pub use classes::alike;
+pub use splitting::split;

@@ -1,0 +1,21 @@
+use Rattle.std.proofs.Common.{◌∙◌, ap}
+use Rattle.node_pool.specs.Nodes.{has}
+use Rattle.tree_handles.specs.Forest.{Forest}
+use Rattle.tree_handles.specs.Inside.{holds}
+use Rattle.tree_handles.specs.Roots.{root_tree}
+use Rattle.tree_handles.specs.Standing.{forest}
+use Rattle.tree_handles.proofs.Adding.{root_live}
+use Rattle.tree_handles.proofs.Copying.{tree_here}
+use Rattle.tree_handles.proofs.Forests.{has-flatten}
+use Rattle.tree_handles.proofs.Lasts.{tree_of_root}
+use Rattle.tree_handles.proofs.Roots.{root_held}
+use Rattle.tree_handles.proofs.tests.conditions.is_inside.Goals as goal
+
+pub locate-from-requires : goal.locate-from-requires
+locate-from-requires c = root_live c.args.root c.args.pool.now c.requires.stands c.requires.root
+
+pub returns : goal.returns
+returns c =
+    let f = forest c.args.pool.now in
+    let here = tree_here c.args.root c.locate-from.result c.behind-end.result c.args.pool.now c.requires.stands (root_held c.args.root f c.requires.root) c.locate-from.ensures.value c.behind-end.ensures.boundary c.behind-end.ensures.rest in
+    c.is_among.ensures ∙ ap (has c.args.id) here.block ∙ has-flatten c.args.id _ ∙ ap (holds c.args.id) (tree_of_root c.args.root c.requires.stands c.requires.root)

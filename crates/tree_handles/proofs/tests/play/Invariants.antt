@@ -1,0 +1,5 @@
+use Rattle.tree_handles.specs.Standing.{Stands}
+use Rattle.tree_handles.proofs.tests.play.Given as goal
+
+abbrev pub invariant-loop-turn : goal.invariant-loop-turn
+invariant-loop-turn l = Stands l.pool

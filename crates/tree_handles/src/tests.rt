@@ -1,0 +1,375 @@
+mod conditions;
+mod upper;
+
+ghost use Rattle.std.specs.Prelude.{◌<◌, IfOk};
+ghost use Rattle.node_pool.specs.State.{IsPoolSize};
+ghost use Rattle.tree_handles.specs.Standing.{Stands};
+
+use super::*;
+use calc_terms::{Kind, Name, Rat};
+use conditions::{has_root, is_inside, is_node};
+use node_pool::{Full, Id, Pool};
+use std::alloc::{AllocError, Global};
+use std::process::Abort;
+use std::test::Fail;
+
+/// A call, by identifiers and places.
+#[derive(Clone, Copy, Debug)]
+enum Call {
+    Number(i8),
+    Symbol(u8),
+    Node(Kind),
+    Copy(u16),
+    Retain(u16),
+    Child(u16, u16),
+    Add(u16, u16, u16),
+    Take(u16, u16),
+    Replace(u16, u16, u16),
+    Swap(u16, u16, u16),
+    Merge(u16, u16),
+    Release(u16),
+    Last(u16),
+}
+
+/// Makes a call where its conditions hold, and tells whether it was made and not refused.
+fn make(pool: &mut Pool, call: Call) -> bool
+    requires { Stands pool.old }
+    ensures { Stands pool.new }
+{
+    match call {
+        Call::Number(n) => number(pool, Rat::whole(i128::from(n))).is_ok(),
+        Call::Symbol(letter) => call_symbol(pool, letter),
+        Call::Node(kind) => call_node(pool, kind),
+        Call::Copy(id) => call_copy(pool, Id::of(id)),
+        Call::Retain(id) => call_retain(pool, Id::of(id)),
+        Call::Child(parent, at) => call_child(pool, Id::of(parent), at),
+        Call::Add(parent, at, child) => call_add(pool, Id::of(parent), at, Id::of(child)),
+        Call::Take(parent, at) => call_take(pool, Id::of(parent), at),
+        Call::Replace(parent, at, new) => call_replace(pool, Id::of(parent), at, Id::of(new)),
+        Call::Swap(parent, i, j) => call_swap(pool, Id::of(parent), i, j),
+        Call::Merge(parent, at) => call_merge(pool, Id::of(parent), at),
+        Call::Release(id) => call_release(pool, Id::of(id)),
+        Call::Last(id) => call_last(pool, Id::of(id)),
+    }
+}
+
+fn call_symbol(pool: &mut Pool, letter: u8) -> bool
+    requires { Stands pool.old }
+    ensures { Stands pool.new }
+{
+    match Name::read(&[letter]) {
+        Some(name) => symbol(pool, name).is_ok(),
+        None => false,
+    }
+}
+
+fn call_node(pool: &mut Pool, kind: Kind) -> bool
+    requires { Stands pool.old }
+    ensures { Stands pool.new }
+{
+    match kind {
+        Kind::Num => false,
+        Kind::Sym => false,
+        kind => node(pool, kind).is_ok(),
+    }
+}
+
+fn call_copy(pool: &mut Pool, id: Id) -> bool
+    requires { Stands pool.old }
+    ensures { Stands pool.new }
+{
+    is_node(pool, id) && copy_tree(pool, id).is_ok()
+}
+
+fn call_retain(pool: &mut Pool, id: Id) -> bool
+    requires { Stands pool.old }
+    ensures { Stands pool.new }
+{
+    if !is_node(pool, id) || count(pool, id) == u16::MAX {
+        return false;
+    }
+    retain(pool, &Handle::of(id));
+    true
+}
+
+fn call_child(pool: &mut Pool, parent: Id, at: u16) -> bool
+    requires { Stands pool.old }
+    ensures { Stands pool.new }
+{
+    if !is_node(pool, parent) || at >= children(pool, parent) {
+        return false;
+    }
+    let id = child_id(pool, parent, at);
+    if count(pool, id) == u16::MAX {
+        return false;
+    }
+    child(pool, &Handle::of(parent), at);
+    true
+}
+
+fn call_add(pool: &mut Pool, parent: Id, at: u16, child: Id) -> bool
+    requires { Stands pool.old }
+    ensures { Stands pool.new }
+{
+    if !is_node(pool, parent) || at > children(pool, parent) || !has_root(pool, child) {
+        return false;
+    }
+    if is_inside(pool, parent, child) {
+        return false;
+    }
+    add_child(pool, &Handle::of(parent), at, Handle::of(child));
+    true
+}
+
+fn call_take(pool: &mut Pool, parent: Id, at: u16) -> bool
+    requires { Stands pool.old }
+    ensures { Stands pool.new }
+{
+    if !is_node(pool, parent) || at >= children(pool, parent) {
+        return false;
+    }
+    take_child(pool, &Handle::of(parent), at);
+    true
+}
+
+fn call_replace(pool: &mut Pool, parent: Id, at: u16, new: Id) -> bool
+    requires { Stands pool.old }
+    ensures { Stands pool.new }
+{
+    if !is_node(pool, parent) || at >= children(pool, parent) || !has_root(pool, new) {
+        return false;
+    }
+    if is_inside(pool, parent, new) {
+        return false;
+    }
+    replace_child(pool, &Handle::of(parent), at, Handle::of(new));
+    true
+}
+
+fn call_swap(pool: &mut Pool, parent: Id, i: u16, j: u16) -> bool
+    requires { Stands pool.old }
+    ensures { Stands pool.new }
+{
+    if !is_node(pool, parent) || i >= children(pool, parent) || j >= children(pool, parent) {
+        return false;
+    }
+    swap_children(pool, &Handle::of(parent), i, j);
+    true
+}
+
+fn call_merge(pool: &mut Pool, parent: Id, at: u16) -> bool
+    requires { Stands pool.old }
+    ensures { Stands pool.new }
+{
+    if !is_node(pool, parent) || at >= children(pool, parent) {
+        return false;
+    }
+    let id = child_id(pool, parent, at);
+    if count(pool, id) != 1 {
+        return false;
+    }
+    merge_children(pool, &Handle::of(parent), at);
+    true
+}
+
+fn call_release(pool: &mut Pool, id: Id) -> bool
+    requires { Stands pool.old }
+    ensures { Stands pool.new }
+{
+    if has_root(pool, id) {
+        release(pool, Handle::of(id));
+        true
+    } else if is_node(pool, id) && count(pool, id) > 1 {
+        release(pool, Handle::of(id));
+        true
+    } else {
+        false
+    }
+}
+
+fn call_last(pool: &mut Pool, id: Id) -> bool
+    requires { Stands pool.old }
+    ensures { Stands pool.new }
+{
+    if !has_root(pool, id) {
+        return false;
+    }
+    move_last(pool, &Handle::of(id));
+    true
+}
+
+/// A pool with no tree in it.
+fn opened(alloc: Global, size: u32) -> Result<Pool, AllocError>
+    requires { IsPoolSize size }
+    ensures { IfOk result Stands }
+{
+    let pool = Pool::open(alloc, size)?;
+    Ok(pool)
+}
+
+/// Makes the calls one after another.
+fn make_all(rt: &impl Abort, pool: &mut Pool, calls: &[Call])
+    requires { Stands pool.old }
+    ensures { Stands pool.new }
+{
+    for made in calls {
+        assert!(rt; make(pool, *made), "{made:?}");
+    }
+}
+
+/// The bytes, one after another, folded to 64 bits (FNV-1a).
+fn checksum(mut sum: u64, bytes: &[u8]) -> u64 {
+    for b in bytes {
+        sum = (sum ^ u64::from(*b)).wrapping_mul(0x0000_0100_0000_01b3);
+    }
+    sum
+}
+
+const START: u64 = 0xcbf2_9ce4_8422_2325;
+
+/// 2×x is built and copied, x replaced by y + 3, the sum merged, and all released. The expected
+/// checksums come from a model of its own.
+const SCRIPT: [(Call, u64); 21] = [
+    (Call::Number(2), 0x9651_18ce_d162_91b6),
+    (Call::Symbol(b'x'), 0xcd83_358a_5093_84e4),
+    (Call::Node(Kind::Mult), 0xc0e4_d13d_66d1_6862),
+    (Call::Add(2, 0, 0), 0x941c_0d7c_408c_1f0b),
+    (Call::Add(2, 1, 1), 0x1ba0_d723_731a_cd30),
+    (Call::Copy(2), 0x2b73_7c87_eab4_edbc),
+    (Call::Retain(2), 0xd0a2_d35d_eb34_8b7f),
+    (Call::Retain(3), 0x3bfb_05ce_9180_515c),
+    (Call::Swap(3, 0, 1), 0x0e62_3987_19cf_6bcc),
+    (Call::Symbol(b'y'), 0xab57_f954_7329_aab0),
+    (Call::Number(3), 0xed27_649e_4fb2_f35d),
+    (Call::Node(Kind::Add), 0xc361_d4d7_6d3e_ff10),
+    (Call::Add(8, 0, 6), 0x5dff_e310_4f8d_8e99),
+    (Call::Add(8, 1, 7), 0xb724_e5d6_a849_59f2),
+    (Call::Replace(2, 1, 8), 0xd68d_3344_9eae_3b52),
+    (Call::Merge(2, 1), 0x50e6_d7c1_0cfc_3004),
+    (Call::Release(1), 0xa9d4_74bf_f1d2_8996),
+    (Call::Release(2), 0x06a0_6172_9612_a6a5),
+    (Call::Release(2), 0xafec_2be6_1425_673a),
+    (Call::Release(3), 0xfffd_cb14_8559_1639),
+    (Call::Release(3), 0x7da1_44b9_7d05_4b25),
+];
+
+#[test]
+fn a_product_is_built_copied_and_released(rt: HostRuntime) -> Result<(), Fail> {
+    let mut pool = opened(rt.alloc(), 512)?;
+    for (made, bytes) in SCRIPT {
+        assert!(rt; make(&mut pool, made), "{made:?}");
+        assert_eq!(rt; checksum(START, pool.bytes()), bytes, "{made:?}");
+    }
+    assert_eq!(rt; pool.used(), 0);
+    assert!(rt; pool.bytes().iter().all(|b| *b == 0));
+    Ok(())
+}
+
+/// A sum of 64 bytes.
+const SUM: [Call; 5] = [
+    Call::Number(1),
+    Call::Symbol(b'a'),
+    Call::Node(Kind::Add),
+    Call::Add(2, 0, 0),
+    Call::Add(2, 1, 1),
+];
+
+#[test]
+fn a_copy_that_does_not_fit_changes_nothing(rt: HostRuntime) -> Result<(), Fail> {
+    let mut pool = opened(rt.alloc(), 120)?;
+    make_all(&rt, &mut pool, &SUM);
+    let before = checksum(START, pool.bytes());
+    assert_eq!(rt; before, 0x633e_826d_c1d9_d7eb);
+    let sum = Id::of(2);
+    assert!(rt; is_node(&pool, sum));
+    let full = Full {
+        needed: 64,
+        free: 56,
+    };
+    assert_eq!(rt; copy_tree(&mut pool, sum).map(|copy| copy.id()), Err(full));
+    assert_eq!(rt; checksum(START, pool.bytes()), before);
+    assert_eq!(rt; pool.last_refused(), full);
+    Ok(())
+}
+
+/// Numbers drawn one after another.
+#[derive(Drop)]
+struct Draws(u32);
+
+impl Draws {
+    fn next(&mut self, below: u16) -> u16
+        requires { 0 < below }
+        ensures { result < below }
+    {
+        self.0 = (self.0 % 65_537 * 75 + 74) % 65_537;
+        (self.0 % u32::from(below)) as u16
+    }
+
+    fn call(&mut self) -> Call {
+        match self.next(24) {
+            0 => Call::Number(self.next(7) as i8 - 3),
+            1 => Call::Symbol(b'a' + self.next(5) as u8),
+            2 | 3 => Call::Node(self.kind()),
+            4 => Call::Copy(self.next(24)),
+            5 => Call::Retain(self.next(24)),
+            6 => Call::Child(self.next(24), self.next(3)),
+            7..=10 => Call::Add(self.next(24), self.next(3), self.next(24)),
+            11 | 12 => Call::Take(self.next(24), self.next(3)),
+            13..=15 => Call::Replace(self.next(24), self.next(3), self.next(24)),
+            16 | 17 => Call::Swap(self.next(24), self.next(3), self.next(3)),
+            18 => Call::Merge(self.next(24), self.next(3)),
+            19..=22 => Call::Release(self.next(24)),
+            _ => Call::Last(self.next(24)),
+        }
+    }
+
+    fn kind(&mut self) -> Kind {
+        match self.next(4) {
+            0 => Kind::Add,
+            1 => Kind::Mult,
+            2 => Kind::Pow,
+            _ => Kind::Root,
+        }
+    }
+}
+
+/// How many of the drawn calls were made after 400, 800, 1200 and 1600, and the checksum of the
+/// bytes after each call so far, by a model of its own.
+const CHECKED: [(u32, u64); 4] = [
+    (157, 0x9811_6ae4_24f4_22b5),
+    (285, 0xa591_7d91_0064_cdb6),
+    (395, 0x046b_1934_8e39_12bb),
+    (520, 0xdbac_fd3a_08a7_8e3f),
+];
+
+/// Draws 400 calls, and tells how many were made and the checksum after each of them.
+fn play(pool: &mut Pool, draws: &mut Draws, mut sum: u64) -> (u32, u64)
+    requires { Stands pool.old }
+    ensures { Stands pool.new }
+{
+    let mut made = 0u32;
+    for turn in 0..400u32 {
+        if make(pool, draws.call()) {
+            made = made.saturating_add(1);
+        }
+        sum = checksum(sum, pool.bytes());
+    }
+    (made, sum)
+}
+
+#[test]
+fn many_calls_leave_the_bytes_of_the_plain_trees(rt: HostRuntime) -> Result<(), Fail> {
+    let mut pool = opened(rt.alloc(), 480)?;
+    make_all(&rt, &mut pool, &SUM);
+    make_all(&rt, &mut pool, &[Call::Copy(2), Call::Node(Kind::Mult), Call::Copy(3)]);
+    let mut draws = Draws(35);
+    let mut sum = START;
+    let mut made = 0u32;
+    for (count, bytes) in CHECKED {
+        let (more, folded) = play(&mut pool, &mut draws, sum);
+        made = made.saturating_add(more);
+        sum = folded;
+        assert_eq!(rt; (made, sum), (count, bytes));
+    }
+    Ok(())
+}
