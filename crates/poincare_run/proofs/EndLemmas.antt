@@ -3,7 +3,7 @@ use Rattle.std.proofs.Common.{◌≡◌, ◌∙◌, ℕ, ◌-◌, ◌≤◌, ◌
 use Rattle.std.specs.Io.KnownBytes.{Appends, Consumes, IsAtEnd, Keeps}
 use Rattle.poincare_run.specs.declared.dialog.Dialog.{Dialog}
 use Rattle.poincare_run.specs.Lines.{lines_of, line_of_rest, whole_lines, rest_of}
-use Rattle.poincare_run.specs.Steps.{State}
+use Rattle.poincare_run.specs.States.{State}
 use Rattle.poincare_run.specs.Buffer.{Holds}
 use Rattle.poincare_run.specs.Endings.{session_limit, Writes, WritesPart, ReadsAll, ReadsPart, ReadsLimit, WriteStops}
 use Rattle.poincare_run.specs.Progress.{Answered, Continues, Breaks, Goes, IsUnderWay}

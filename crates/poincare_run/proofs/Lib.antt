@@ -1,4 +1,5 @@
 pub mod SumLemmas
+pub mod BuildingLemmas
 pub mod ReplyLemmas
 pub mod BufferLemmas
 pub mod ByteLemmas

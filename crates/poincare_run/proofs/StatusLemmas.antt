@@ -1,11 +1,11 @@
 -- Lemmas on the status of the program, and what it says.
-use Rattle.std.proofs.Common.{◌≡◌, ◌∙◌, ◌⊎◌, ℕ, ◌≤◌, List, [], ◌∷◌, ◌++◌, length, Option, Some, None, IfSome, is_some, true, Contains, inl, inr, refl, sym, ap, arith, length-append}
+use Rattle.std.proofs.Common.{◌≡◌, ◌∙◌, ◌⊎◌, ℕ, ◌≤◌, List, [], ◌∷◌, ◌++◌, length, Option, Some, None, IfSome, Contains, inl, inr, refl, sym, ap, arith, length-append}
 use Rattle.std.proofs.lemmas.List.{append_cancel_right}
 use Rattle.std.specs.Io.KnownBytes.{Consumes}
 use Rattle.calc_edges.specs.Faults.{Rose}
 use Rattle.poincare_run.specs.declared.dialog.Ending.{Ending}
 use Rattle.poincare_run.specs.declared.dialog.Ending.TheVariants.{ReadToEnd, ReadFailed, WriteFailed, LimitReached}
-use Rattle.poincare_run.specs.Steps.{State}
+use Rattle.poincare_run.specs.States.{State}
 use Rattle.poincare_run.specs.Endings.{session_limit, ReadsAll, ReadsPart, ReadsLimit, WriteStops}
 use Rattle.poincare_run.specs.Progress.{EndsAs, status}
 
@@ -26,14 +26,15 @@ nothing_read t input rest status before after =
     let none : length input ≡ 0 = omega (arith, length-append input rest, ap length same) in
     (omega arith, λ all. absurd (omega arith))
 
--- what holds at each value holds at the one that is there
-pub if_some : {X : Type 0} (o : Option X) (P : X → Type 0) → ((x : X) → o ≡ Some x → P x) → IfSome o P
-if_some None P h = tt
-if_some (Some x) P h = h x refl
+-- what holds of the value that is there
+pub if_known : {X : Type 0} (o : Option X) (x : X) (P : X → Type 0) → o ≡ Some x → P x → IfSome o P
+if_known o x P e h = rw e h
 
-pub not_none : {X : Type 0} (o : Option X) → is_some o ≡ true → o ≡ None → ⊥
-not_none None h e = cc
-not_none (Some x) h e = cc
+pub not_there : {X : Type 0} (o : Option X) (x : X) → o ≡ Some x → o ≡ None → ⊥
+not_there o x e none = cc
+
+pub is_no_memory : Contains {X = ℕ} (0 ∷ 2 ∷ 3 ∷ 4 ∷ 5 ∷ 6 ∷ []) 5
+is_no_memory = (4, omega arith, refl)
 
 pub is_status : (ending : Ending) → Contains (0 ∷ 2 ∷ 3 ∷ 4 ∷ 5 ∷ 6 ∷ []) (status ending)
 is_status ReadToEnd = (0, omega arith, refl)

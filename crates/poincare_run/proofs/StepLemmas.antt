@@ -7,7 +7,8 @@ use Rattle.poincare_run.specs.declared.dialog.Dialog.{Dialog}
 use Rattle.poincare_run.specs.Lines.{is_newline, is_blank_line, lines_of, line_of_rest, whole_lines, rest_of}
 use Rattle.poincare_run.specs.Sums.{sum_line}
 use Rattle.poincare_run.specs.Replies.{blank, reply_to, sum_reply, text_of}
-use Rattle.poincare_run.specs.Steps.{State, Step, Steps, written}
+use Rattle.poincare_run.specs.States.{State, free_bytes}
+use Rattle.poincare_run.specs.Steps.{Leaves, Step, Steps, written}
 use Rattle.poincare_run.specs.Buffer.{Holds, StandsFor}
 use Rattle.poincare_run.specs.Progress.{Answered, AnswersLine, FailsAtLine, Continues, Breaks, Goes}
 use Rattle.poincare_run.proofs.SumLemmas.{too_long}
@@ -15,23 +16,25 @@ use Rattle.poincare_run.proofs.ByteLemmas.{Appends-nil, Appends-trans, AppendsPa
 use Rattle.poincare_run.proofs.LineLemmas.{whole_lines-newline, rest_of-newline, whole_lines-other, rest_of-other, whole_lines-front}
 
 -- what is kept of a line is answered as the line is
-same_reply : (kept line : List ℕ) → StandsFor kept line → reply_to kept ≡ reply_to line
+same_reply : (s : State) (kept line : List ℕ) → StandsFor kept line → reply_to s kept ≡ reply_to s line
 unfolding reply_to
-same_reply kept line h = by (nat_le (length line) 1024) refl
+same_reply s kept line h = by (nat_le (length line) 1024) refl
   where
-    by : (b : Bool) → nat_le (length line) 1024 ≡ b → reply_to kept ≡ reply_to line
-    by true e = ap reply_to (h.same (let short = leb-true (length line) 1024 e in omega arith))
+    by : (b : Bool) → nat_le (length line) 1024 ≡ b → reply_to s kept ≡ reply_to s line
+    by true e = ap (reply_to s) (h.same (let short = leb-true (length line) 1024 e in omega arith))
     by false e =
         let long = leb-false (length line) 1024 e in
         let full : length kept ≡ 1025 = h.long (omega arith) in
         let no_sum : sum_line kept ≡ sum_line line = too_long kept (omega arith) ∙ sym (too_long line (omega arith)) in
-        ap (λ t. cond t blank (sum_reply (sum_line kept))) h.blank ∙ ap (λ s. cond (is_blank_line line) blank (sum_reply s)) no_sum
+        ap (λ t. cond t blank (sum_reply (free_bytes s) (sum_line kept))) h.blank ∙ ap (λ r. cond (is_blank_line line) blank (sum_reply (free_bytes s) r)) no_sum
 
 pub step_of_line : (buffer : LineBuffer) (bytes : List ℕ) (s t : State) (text : Option (List ℕ)) → Holds buffer bytes → Step s buffer.kept.items text t → Step s (strip_carriage_return bytes) text t
-step_of_line buffer bytes s t text h step = record {
-  text_is = step.text_is ∙ ap text_of (same_reply buffer.kept.items h.line h.stands ∙ ap reply_to (sym h.line_is));
-  state_is = step.state_is;
-}
+step_of_line buffer bytes s t text h step =
+    let same : reply_to s buffer.kept.items ≡ reply_to s (strip_carriage_return bytes) = same_reply s buffer.kept.items h.line h.stands ∙ ap (reply_to s) (sym h.line_is) in
+    record {
+      text_is = step.text_is ∙ ap text_of same;
+      state_is = subst (λ r. Leaves r s t) same step.state_is;
+    }
 
 -- a chain goes on by one step
 pub steps_more : (s t u : State) (lines : List (List ℕ)) (out : List ℕ) (line : List ℕ) (text : Option (List ℕ))

@@ -4,7 +4,8 @@ use Rattle.std.specs.Prelude.{◌≡◌, ℕ, ◌<◌, ◌≤◌, List, ◌++◌
 use Rattle.std.specs.Io.KnownBytes.{Appends, Consumes, IsAtEnd}
 use Rattle.calc_edges.specs.Taken.{AppendsPart}
 use Rattle.poincare_run.specs.Lines.{lines_of, whole_lines}
-use Rattle.poincare_run.specs.Steps.{State, Transcript}
+use Rattle.poincare_run.specs.States.{State}
+use Rattle.poincare_run.specs.Steps.{Transcript}
 
 -- the most bytes that are read
 abbrev pub session_limit : ℕ

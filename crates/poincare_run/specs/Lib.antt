@@ -1,8 +1,12 @@
 pub mod Lines
 pub mod Sums
+pub mod States
+pub mod Building
+pub mod Pools
 pub mod Replies
 pub mod Steps
 pub mod Seen
+pub mod Kept
 pub mod Answers
 pub mod Buffer
 pub mod Endings

@@ -8,7 +8,8 @@ use Rattle.poincare_run.specs.declared.dialog.Dialog.{Dialog}
 use Rattle.poincare_run.specs.declared.dialog.Ending.{Ending}
 use Rattle.poincare_run.specs.declared.dialog.Ending.TheVariants.{ReadToEnd, ReadFailed, WriteFailed, LimitReached}
 use Rattle.poincare_run.specs.Lines.{whole_lines, rest_of}
-use Rattle.poincare_run.specs.Steps.{State, Step, Steps, Transcript, written}
+use Rattle.poincare_run.specs.States.{State}
+use Rattle.poincare_run.specs.Steps.{Step, Steps, Transcript, written}
 use Rattle.poincare_run.specs.Buffer.{Holds}
 use Rattle.poincare_run.specs.Endings.{session_limit, ReadsAll, ReadsPart, ReadsLimit, WriteStops}
 

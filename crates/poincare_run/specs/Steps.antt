@@ -1,15 +1,20 @@
 -- A session as a chain of steps, one for each line.
 use Rattle.std.specs.Prelude.{◌≡◌, ℕ, List, [], ◌∷◌, ◌++◌, Option, Some, None}
-use Rattle.poincare_run.specs.Replies.{reply_to, text_of}
+use Rattle.calc_terms.specs.Node.{fresh}
+use Rattle.node_pool.specs.Nodes.{IsLeastFree}
+use Rattle.poincare_run.specs.States.{State}
+use Rattle.poincare_run.specs.Sums.{number}
+use Rattle.poincare_run.specs.Replies.{Reply, shown, reply_to, text_of}
 
--- what a session keeps from line to line
-abbrev pub State : Type 0
-State = Unit {0}
+-- What a reply leaves. A sum that is shown is the one tree there is, and it has the least identifier that was free. Any other reply leaves all as it was.
+abbrev pub Leaves : Reply → State → State → Type 0
+Leaves (shown sum) old new = IsLeastFree new.ans old.nodes × (new ≡ record old { ans = new.ans; nodes = fresh new.ans (number sum) ∷ [] })
+Leaves reply old new = new ≡ old
 
 -- From a state a line is answered by a text, or by none, and leaves a state.
 pub record Step (old : State) (line : List ℕ) (text : Option (List ℕ)) (new : State) : Type 0 where
-  pub text_is : text ≡ text_of (reply_to line)
-  pub state_is : new ≡ old
+  pub text_is : text ≡ text_of (reply_to old line)
+  pub state_is : Leaves (reply_to old line) old new
 
 -- a text with a newline behind it
 abbrev pub written : Option (List ℕ) → List ℕ

@@ -1,8 +1,11 @@
 -- Sum lines: whole numbers joined by plus signs.
-use Rattle.std.specs.Prelude.{ℕ, ◌^◌, List, [], ◌∷◌, length, Bool, ◌&&◌, ◌==◌, nat_le, nat_lt, if◌then◌else◌, Option, Some, None}
+use Rattle.std.specs.Prelude.{ℕ, pos, ◌^◌, List, [], ◌∷◌, ◌++◌, length, map, Bool, ◌&&◌, ◌==◌, nat_le, nat_lt, if◌then◌else◌, Option, Some, None}
 use Rattle.std.specs.List.{slice_split, list_all}
 use Rattle.std.specs.Char.{is_ascii_digit}
 use Rattle.std.specs.Str.Parse.{digits_value}
+use Rattle.calc_terms.specs.declared.kind.Kind.TheVariants.{Add}
+use Rattle.calc_terms.specs.Ratio.{whole}
+use Rattle.calc_terms.specs.Payload.{Payload, rational, bare}
 
 -- one or more decimal digits
 abbrev pub is_digits : List ℕ → Bool
@@ -28,3 +31,11 @@ is_plus b = b == 43
 -- the values of the literals of a sum line: at most 1,024 bytes, which are literals joined by plus signs
 unfoldable pub sum_line : List ℕ → Option (List ℕ)
 sum_line line = if nat_le (length line) 1024 then literals (slice_split is_plus line) else None
+
+-- the number of a value
+abbrev pub number : ℕ → Payload
+number value = rational (whole (pos value))
+
+-- what the nodes of a sum hold, in postfix order: its values, and an Add where there are two or more
+abbrev pub sum_nodes : List ℕ → List Payload
+sum_nodes values = map number values ++ (if nat_lt 1 (length values) then bare Add ∷ [] else [])

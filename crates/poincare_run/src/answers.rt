@@ -1,19 +1,14 @@
 //! What a line is answered with.
 use calc_terms::Rat;
-
-/// An operation on rationals.
-#[derive(Clone, Copy, Debug)]
-pub enum Op {
-    Add,
-    Mul,
-    Pow,
-}
+use rational128::Op;
 
 /// Why a line is not answered.
 #[derive(Clone, Copy, Debug)]
 pub enum Refusal {
     /// The line is no sum of whole numbers.
     Form,
+    /// A node needs more bytes than are free in the pool.
+    Full { needed: u32, free: u32 },
     /// The operation on these operands does not fit.
     Overflow { op: Op, a: Rat, b: Rat },
 }

@@ -4,7 +4,8 @@ ghost use Rattle.std.specs.Io.KnownBytes.{Appends, Consumes, IsAtEnd, Keeps};
 ghost use Rattle.calc_edges.specs.Faults.{HasCause};
 ghost use Rattle.calc_edges.specs.Taken.{AppendsPart};
 ghost use Rattle.poincare_run.specs.Lines.{lines_of, whole_lines};
-ghost use Rattle.poincare_run.specs.Steps.{State, Step};
+ghost use Rattle.poincare_run.specs.States.{State};
+ghost use Rattle.poincare_run.specs.Steps.{Step};
 ghost use Rattle.poincare_run.specs.Buffer.{Holds};
 ghost use Rattle.poincare_run.specs.Progress.{Answered, AnswersLine, FailsAtLine, Continues, Breaks, Goes, EndsAs};
 

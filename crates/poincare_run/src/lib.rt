@@ -4,13 +4,14 @@
 mod answers;
 mod buffer;
 mod dialog;
+mod nodes;
 mod session;
 mod sums;
 mod text;
 mod top;
 mod words;
 
-pub use answers::{LineAnswer, Op, Refusal};
+pub use answers::{LineAnswer, Refusal};
 pub use session::Session;
 pub use top::run;
 

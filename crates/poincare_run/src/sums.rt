@@ -1,14 +1,15 @@
-//! Sum lines, from their bytes to their values and the sum of these.
+//! Sum lines: the values of their literals, and the sum of these.
 ghost use Rattle.std.specs.Prelude.{◌≡◌, ◌<◌, ◌≤◌, ◌^◌, [], ◌∷◌, length, Some, None, MatchOption, IfSome, IfOk, All, position};
 ghost use Rattle.std.specs.List.{list_all, slice_split};
 ghost use Rattle.std.specs.Char.{is_ascii_digit};
-ghost use Rattle.poincare_run.specs.Replies.{sum_reply, added_to, overflow as overflow_reply};
+ghost use Rattle.poincare_run.specs.Replies.{added_to, overflow as overflow_reply};
 ghost use Rattle.poincare_run.specs.Answers.{IsSum, IsRefusal};
 ghost use Rattle.poincare_run.specs.Sums.{is_plus, literal as literal_of, sum_line};
 
-use crate::{Op, Refusal};
+use crate::Refusal;
 use arrayvec::ArrayVec;
 use calc_terms::Rat;
+use rational128::Op;
 use std::str;
 
 /// The most bytes of a line.
@@ -18,52 +19,13 @@ const LINE_LIMIT: usize = 1024;
 const VALUE_LIMIT: u128 = 1 << 127;
 
 /// The values of the literals of a line.
-type Values = ArrayVec<u128, 1025>;
-
-/// The sum of a sum line.
-pub fn sum_of(line: &[u8]) -> Result<u128, Refusal>
-    ensures sum { IsSum result (sum_reply (sum_line line.now)) }
-    ensures fits { IfOk result (λ sum. sum < 2 ^ 127) }
-{
-    match read_sum(line) {
-        Some(values) => add(values.as_slice()),
-        None => Err(Refusal::Form),
-    }
-}
-
-/// Adds from left to right.
-fn add(values: &[u128]) -> Result<u128, Refusal>
-    requires { All (λ v. v < 2 ^ 127) values.now }
-    ensures sum { IsSum result (added_to 0 values.now) }
-    ensures fits { IfOk result (λ sum. sum < 2 ^ 127) }
-{
-    let mut sum: u128 = 0;
-    for value in values {
-        let next = sum + *value;
-        if next >= VALUE_LIMIT {
-            return Err(overflow(sum, *value));
-        }
-        sum = next;
-    }
-    Ok(sum)
-}
-
-fn overflow(a: u128, b: u128) -> Refusal
-    requires a_fits { a < 2 ^ 127 }
-    requires b_fits { b < 2 ^ 127 }
-    ensures { IsRefusal result (overflow_reply a b) }
-{
-    Refusal::Overflow {
-        op: Op::Add,
-        a: Rat::whole(a as i128),
-        b: Rat::whole(b as i128),
-    }
-}
+pub type Values = ArrayVec<u128, 1025>;
 
 /// The values of a sum line's literals.
-fn read_sum(line: &[u8]) -> Option<Values>
+pub fn read_sum(line: &[u8]) -> Option<Values>
     ensures values { MatchOption result (sum_line line.now ≡ None) (λ values. sum_line line.now ≡ Some values.items) }
     ensures fit { IfSome result (λ values. All (λ v. v < 2 ^ 127) values.items) }
+    ensures some { IfSome result (λ values. 0 < length values.items) }
 {
     if line.len() > LINE_LIMIT {
         return None;
@@ -115,4 +77,33 @@ fn all_digits(text: &[u8]) -> bool
     ensures { result ≡ list_all is_ascii_digit text.now }
 {
     text.iter().all(|byte| byte.is_ascii_digit())
+}
+
+/// Adds from left to right.
+pub fn add(values: &[u128]) -> Result<u128, Refusal>
+    requires { All (λ v. v < 2 ^ 127) values.now }
+    ensures sum { IsSum result (added_to 0 values.now) }
+    ensures fits { IfOk result (λ sum. sum < 2 ^ 127) }
+{
+    let mut sum: u128 = 0;
+    for value in values {
+        let next = sum + *value;
+        if next >= VALUE_LIMIT {
+            return Err(overflow(sum, *value));
+        }
+        sum = next;
+    }
+    Ok(sum)
+}
+
+fn overflow(a: u128, b: u128) -> Refusal
+    requires a_fits { a < 2 ^ 127 }
+    requires b_fits { b < 2 ^ 127 }
+    ensures { IsRefusal result (overflow_reply a b) }
+{
+    Refusal::Overflow {
+        op: Op::Add,
+        a: Rat::whole(a as i128),
+        b: Rat::whole(b as i128),
+    }
 }

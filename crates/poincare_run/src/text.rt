@@ -2,13 +2,14 @@ ghost use Rattle.std.specs.Prelude.{◌≡◌, ◌+◌, ◌≤◌, ◌++◌, [],
 ghost use Rattle.poincare_run.specs.Answers.{refusal_text, sign_of as sign_text};
 ghost use Rattle.std.specs.Fmt.{signed_decimal};
 
-use crate::{Op, Refusal};
+use crate::Refusal;
 use arrayvec::ArrayVec;
 use itoa::Buffer;
+use rational128::Op;
 use std::marker::Model;
 
 /// The most bytes of a text.
-pub const TEXT_LIMIT: usize = 96;
+pub const TEXT_LIMIT: usize = 128;
 
 /// The text of an answer, in bytes that are taken once.
 #[derive(Drop)]
@@ -70,6 +71,12 @@ pub fn write_refusal(text: &mut Text, refusal: Refusal)
 {
     match refusal {
         Refusal::Form => text.push(b"! form"),
+        Refusal::Full { needed, free } => {
+            text.push(b"! full needed ");
+            text.push_number(i128::from(needed));
+            text.push(b" free ");
+            text.push_number(i128::from(free));
+        }
         Refusal::Overflow { op, a, b } => {
             text.push(b"! overflow ");
             text.push_number(a.num());

@@ -6,7 +6,7 @@ ghost use Rattle.poincare_run.specs.Endings.{session_limit, ReadsAll, ReadsPart,
 
 use crate::Session;
 use crate::dialog::{Dialog, Ending};
-use crate::words::are_form;
+use crate::words::pool_size;
 use calc_edges::{Sink, Source};
 use std::alloc::Global;
 
@@ -43,13 +43,16 @@ pub fn run<S: Source, K: Sink>(alloc: Global, words: &[String], source: &mut S, 
     ensures limit { (input rest : List ℕ) → S.told source.old ≡ Some (input ++ rest) → S.told source.new ≡ Some rest
         → (length input ≤ session_limit) × (length input ≡ session_limit → (result ≡ 6) ⊎ (result ≡ 4)) }
 {
-    if !are_form(words) {
+    let Some(size) = pool_size(words) else {
         return 2;
-    }
+    };
     let Ok(mut piece) = vec![in alloc; 0; PIECE_LIMIT] else {
         return 5;
     };
-    let mut dialog = Dialog::new(Session::open());
+    let Ok(session) = Session::open(alloc, size) else {
+        return 5;
+    };
+    let mut dialog = Dialog::new(session);
     status_of(dialog.serve(piece.as_mut_slice(), source, sink))
 }
 

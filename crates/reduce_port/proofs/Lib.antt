@@ -1,0 +1,5 @@
+pub mod Rewritings
+pub mod Checks
+pub mod Filling
+pub mod Leaves
+pub mod Faults

@@ -1,6 +1,5 @@
 -- The ways in which a reduction is refused.
 use Rattle.std.specs.Prelude.{ℕ, Result, Ok, Err, ⊤}
-use Rattle.breakers.specs.declared.watch.Interrupted.{Interrupted}
 use Rattle.node_pool.specs.State.{State}
 use Rattle.node_pool.specs.declared.full.Full.{Full}
 use Rattle.rational128.specs.declared.overflow.Overflow.{Overflow}

@@ -8,3 +8,6 @@ mod step;
 pub use fault::ReduceFault;
 pub use reducer::Reducer;
 pub use step::Step;
+
+#[cfg(test)]
+mod tests;

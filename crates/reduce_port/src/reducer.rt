@@ -34,7 +34,12 @@ pub trait Reducer {
 
     /// Reduces a tree. The watch is checked once for each of its nodes, children before their parent and from left
     /// to right, each time before that node's own step.
-    fn reduce<B: Breaker>(&self, pool: &mut Pool, tree: Handle, watch: &mut Watch<B>) -> Result<Handle, ReduceFault>
+    fn reduce<B: Breaker>(
+        &self,
+        pool: &mut Pool,
+        tree: Handle,
+        watch: &mut Watch<B>,
+    ) -> Result<Handle, ReduceFault>
         requires stands { Stands pool.old }
         requires handed { IsHanded tree (forest pool.old) }
 

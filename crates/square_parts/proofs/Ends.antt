@@ -1,11 +1,11 @@
 -- Numbers that trial division may skip, and when it may end.
-use Rattle.std.proofs.Common.{◌≡◌, ◌≢◌, ℕ, zero, suc, ◌+◌, ◌*◌, ◌/◌, ◌%◌, ◌<◌, ◌≤◌, ◌⊎◌, inl, inr, refl, sym, ap, ◌∙◌, subst, arith}
+use Rattle.std.proofs.Common.{◌≡◌, ◌≢◌, ℕ, zero, suc, ◌+◌, ◌*◌, ◌/◌, ◌%◌, ◌<◌, ◌≤◌, ◌⊎◌, inl, inr, refl, subst, arith}
 use Rattle.std.specs.Int.{◌∣◌}
 use Rattle.std.proofs.lemmas.Bool.{cases_lt}
-use Rattle.std.proofs.lemmas.Nat.Gcd.{dvd_trans, le_of_dvd, dvd_of_mod-eq-zero}
+use Rattle.std.proofs.lemmas.Nat.Gcd.{dvd_trans, dvd_of_mod-eq-zero}
 use Rattle.std.proofs.Math.Nat.{mul-div_cancel', dvd-mul_left}
 use Rattle.calc_terms.specs.Clean.{trial_limit}
-use Rattle.square_parts.specs.Divisors.{HasNoDivisorBelow, HasNoOtherDivisor, IsCandidate, IsSkipped}
+use Rattle.square_parts.specs.Divisors.{HasNoDivisorBelow, HasNoOtherDivisor, IsSkipped}
 
 -- a multiple of a small number divides n no more than that number does
 no_multiple : (d n p e : ℕ) → HasNoDivisorBelow d n → 2 ≤ p → p < d → e % p ≡ 0 → e ∣ n → ⊥

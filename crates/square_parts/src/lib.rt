@@ -8,3 +8,6 @@ mod splitting;
 
 pub use classes::alike;
 pub use splitting::split;
+
+#[cfg(test)]
+mod tests;

@@ -23,7 +23,13 @@ pub fn split(r: u128) -> (u128, u128)
         clean: 1,
         rest: r,
     };
-    parts_of(whole.divided_by(2).divided_by(3).divided_by(5).divided_by_candidates())
+    parts_of(
+        whole
+            .divided_by(2)
+            .divided_by(3)
+            .divided_by(5)
+            .divided_by_candidates(),
+    )
 }
 
 /// The square part and the clean part, once the numbers up to the trial limit are divided out.

@@ -1,21 +1,21 @@
 -- A root that becomes a child.
-use Rattle.std.proofs.Common.{◌≡◌, ℕ, ◌+◌, ◌-◌, ◌<◌, ◌≤◌, ◌⊎◌, inl, inr, List, ◌∷◌, ◌++◌, length, drop, cond, eqb, refl, sym, ap, ◌∙◌, subst, arith, append_assoc, Bool, true, false}
-use Rattle.std.proofs.lemmas.Bool.{eqb-true, cases_Bool}
+use Rattle.std.proofs.Common.{◌≡◌, ℕ, ◌+◌, ◌-◌, ◌<◌, ◌≤◌, ◌⊎◌, inl, inr, List, ◌∷◌, ◌++◌, length, drop, cond, refl, sym, ap, ◌∙◌, subst, arith, append_assoc, Bool, true, false}
+use Rattle.std.proofs.lemmas.Bool.{cases_Bool}
 use Rattle.std.proofs.lemmas.List.{length-append}
 use Rattle.calc_terms.specs.Node.{Node}
-use Rattle.node_pool.specs.State.{State, IsPool}
+use Rattle.node_pool.specs.State.{State}
 use Rattle.node_pool.specs.Nodes.{has, used, place_of, with_children, AreDistinct}
 use Rattle.node_pool.specs.Places.{since, moved, IsBoundary}
-use Rattle.node_pool.proofs.Sizes.{used-append, length_le_used, size_from}
+use Rattle.node_pool.proofs.Sizes.{used-append, size_from}
 use Rattle.node_pool.proofs.Ids.{or_is_false, has-append}
 use Rattle.node_pool.proofs.Cuts.{since-append}
 use Rattle.node_pool.proofs.Splits.{place_of-append, moved_left, moved_right, with_children-append}
 use Rattle.tree_handles.specs.Standing.{forest, Stands, IsCounted}
-use Rattle.tree_handles.specs.Forest.{Label, Forest, empty, tree, join, arity, kids, node_of, flatten, first_trees, rest_trees, with_nth, AllNodes}
+use Rattle.tree_handles.specs.Forest.{Label, Forest, empty, tree, join, arity, node_of, flatten, first_trees, rest_trees, with_nth, AllNodes}
 use Rattle.tree_handles.specs.Inside.{holds, tree_at, kids_of, with_kids}
 use Rattle.tree_handles.specs.Roots.{has_root, root_tree, without_root}
 use Rattle.tree_handles.specs.Walks.{skip}
-use Rattle.tree_handles.proofs.Forests.{flatten-join, arity-join, first-rest, arity-first_trees, arity-rest_trees, skip-flatten, skip-first, flatten-with_nth, arity-with_nth, has-flatten}
+use Rattle.tree_handles.proofs.Forests.{flatten-join, first-rest, skip-flatten, skip-first, flatten-with_nth, arity-with_nth, has-flatten}
 use Rattle.tree_handles.proofs.Parts.{IsAt, at, place_is, has_mid, live_node}
 use Rattle.tree_handles.proofs.Roots.{IsTop, top, root_held}
 use Rattle.tree_handles.proofs.Counted.{all-with_kids, all-with_nth, all-root_tree, all-without_root, all-kids, all-tree_at}
@@ -194,4 +194,3 @@ counted_added i n ci s st =
 
 pub root_live : (i : ℕ) (s : State) → Stands s → has_root i (forest s) ≡ true → has i s.nodes ≡ true
 root_live i s st h = live_node i s st (root_held i (forest s) h)
-

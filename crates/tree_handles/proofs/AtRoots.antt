@@ -1,21 +1,20 @@
 -- The calls at roots, in words of roots.
-use Rattle.std.proofs.Common.{◌≡◌, ℕ, ◌+◌, ◌-◌, ◌<◌, ◌≤◌, ◌∷◌, cond, eqb, refl, sym, ap, ◌∙◌, subst, arith, Bool, true, false}
+use Rattle.std.proofs.Common.{◌≡◌, ℕ, ◌+◌, ◌<◌, ◌≤◌, ◌∷◌, cond, eqb, refl, sym, ap, ◌∙◌, subst, arith, Bool, true, false}
 use Rattle.std.proofs.lemmas.Bool.{eqb-true, eq-eqb}
-use Rattle.calc_terms.specs.Node.{Node}
 use Rattle.node_pool.specs.Nodes.{AreDistinct}
 use Rattle.node_pool.specs.State.{State}
 use Rattle.node_pool.proofs.Ids.{AreDistinct-parts, AreDistinct-append, AreApart-parts}
-use Rattle.tree_handles.specs.Forest.{Forest, empty, tree, join, arity, kids, root_id, node_of, flatten, tree_nth, without_nth, with_nth, set_nth, swapped_nth, merged_nth, with_root_kids}
+use Rattle.tree_handles.specs.Forest.{Forest, tree, join, arity, kids, root_id, node_of, flatten, tree_nth, without_nth, with_nth, set_nth, with_root_kids}
 use Rattle.tree_handles.specs.Handed.{Ends}
 use Rattle.tree_handles.specs.Inside.{holds, kids_of, with_kids}
 use Rattle.tree_handles.specs.Roots.{has_root, root_tree, without_root, put}
 use Rattle.tree_handles.specs.Standing.{Stands, forest}
 use Rattle.tree_handles.proofs.Distinct.{Distinct, distinct, put-root, clear_front}
 use Rattle.tree_handles.proofs.Forests.{flatten-join, arity-with_nth, arity-tree_nth}
-use Rattle.tree_handles.proofs.Joins.{holds-left, holds-with_kids, kids_of-with_kids}
+use Rattle.tree_handles.proofs.Joins.{holds-with_kids, kids_of-with_kids}
 use Rattle.tree_handles.proofs.Lasts.{kids_of_root, last_root, takes_root, takes_next}
 use Rattle.tree_handles.proofs.Replacing.{held_beside}
-use Rattle.tree_handles.proofs.Roots.{top, root_arity, root-without, root_held, no_root, root_id-root_tree}
+use Rattle.tree_handles.proofs.Roots.{top, root_arity, root-without, root_id-root_tree}
 use Rattle.tree_handles.proofs.Outcomes.{by_test, eqb-sym}
 
 pub distinct-without : (i : ℕ) (f : Forest) → Distinct f → has_root i f ≡ true → Distinct (without_root i f)

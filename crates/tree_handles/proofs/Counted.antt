@@ -1,11 +1,11 @@
 -- Facts of each node, through the changes of a forest.
-use Rattle.std.proofs.Common.{◌≡◌, ℕ, ◌-◌, ◌<◌, ◌≤◌, cond, eqb, ltb, refl, sym, ap, ◌∙◌, subst, arith, Bool, true, false}
+use Rattle.std.proofs.Common.{◌≡◌, ℕ, ◌-◌, ◌<◌, ◌≤◌, cond, eqb, ltb, refl, arith}
 use Rattle.std.proofs.lemmas.Bool.{ltb-true}
-use Rattle.tree_handles.specs.Forest.{Label, Forest, empty, tree, join, arity, first_trees, rest_trees, kids, tree_nth, without_nth, with_nth, set_nth, AllNodes}
-use Rattle.tree_handles.specs.Inside.{holds, tree_at, kids_of, with_kids, with_count_in, released, released_in}
+use Rattle.tree_handles.specs.Forest.{Label, Forest, empty, tree, join, first_trees, rest_trees, kids, tree_nth, without_nth, with_nth, set_nth, AllNodes}
+use Rattle.tree_handles.specs.Inside.{holds, tree_at, with_kids, with_count_in, released, released_in}
 use Rattle.tree_handles.specs.Roots.{root_tree, without_root, put}
 use Rattle.tree_handles.specs.Standing.{IsCounted}
-use Rattle.tree_handles.proofs.Forests.{all-join, all-left, all-right, all-first_trees, all-rest_trees}
+use Rattle.tree_handles.proofs.Forests.{all-join, all-first_trees, all-rest_trees}
 use Rattle.tree_handles.proofs.Outcomes.{by_test}
 
 pub all-tree_at : (P : Label → ℕ → Type 0) (i : ℕ) (f : Forest) → AllNodes P f → AllNodes P (tree_at i f)

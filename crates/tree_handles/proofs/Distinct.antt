@@ -5,14 +5,14 @@ use Rattle.std.proofs.lemmas.List.{append-nil}
 use Rattle.calc_terms.specs.Node.{Node}
 use Rattle.node_pool.specs.Nodes.{has, AreDistinct}
 use Rattle.node_pool.specs.State.{State}
-use Rattle.node_pool.proofs.Ids.{has-append, AreDistinct-parts, AreDistinct-append, AreApart, AreApart-parts, AreApart-sym}
-use Rattle.tree_handles.specs.Forest.{Label, Forest, empty, tree, join, arity, node_of, flatten, first_trees, rest_trees, tree_nth, kids, root_id}
+use Rattle.node_pool.proofs.Ids.{has-append, AreDistinct-parts, AreApart, AreApart-sym}
+use Rattle.tree_handles.specs.Forest.{Label, Forest, empty, tree, join, arity, node_of, flatten, tree_nth, kids, root_id}
 use Rattle.tree_handles.specs.Inside.{holds, tree_at, kids_of, with_kids}
-use Rattle.tree_handles.specs.Roots.{has_root, root_tree, without_root, put}
+use Rattle.tree_handles.specs.Roots.{has_root, root_tree, put}
 use Rattle.tree_handles.specs.Standing.{Stands, forest}
-use Rattle.tree_handles.proofs.Forests.{flatten-join, has-flatten, first-rest}
+use Rattle.tree_handles.proofs.Forests.{flatten-join, has-flatten}
 use Rattle.tree_handles.proofs.Roots.{root_held, no_root}
-use Rattle.tree_handles.proofs.Outcomes.{by_test, or_true, not_left, not_right, eqb-sym}
+use Rattle.tree_handles.proofs.Outcomes.{by_test, or_true, not_left, not_right}
 
 abbrev pub Distinct : Forest → Type 0
 Distinct f = AreDistinct (flatten f)
@@ -76,8 +76,8 @@ holds-tree_at i j (tree l k r) h =
     by_test (λ t. holds j (cond t (tree l k empty) (cond (holds i k) (tree_at i k) (tree_at i r))) ≡ true → cond (eqb l.id j) true (cond (holds j k) true (holds j r)) ≡ true) (eqb l.id i)
     (λ e h. here (eqb l.id j) (holds j k) (holds j r) h)
     (λ e h. by_test (λ t. holds j (cond t (tree_at i k) (tree_at i r)) ≡ true → cond (eqb l.id j) true (cond (holds j k) true (holds j r)) ≡ true) (holds i k)
-        (λ q h. ap (λ (t : Bool). cond (eqb l.id j) true (cond t true (holds j r))) (holds-tree_at i j k h) ∙ or_true (eqb l.id j))
-        (λ q h. ap (λ (t : Bool). cond (eqb l.id j) true (cond (holds j k) true t)) (holds-tree_at i j r h) ∙ ap (cond (eqb l.id j) true) (or_true (holds j k)) ∙ or_true (eqb l.id j)) h) h
+    (λ q h. ap (λ (t : Bool). cond (eqb l.id j) true (cond t true (holds j r))) (holds-tree_at i j k h) ∙ or_true (eqb l.id j))
+    (λ q h. ap (λ (t : Bool). cond (eqb l.id j) true (cond (holds j k) true t)) (holds-tree_at i j r h) ∙ ap (cond (eqb l.id j) true) (or_true (holds j k)) ∙ or_true (eqb l.id j)) h) h
   where
     here : (t u v : Bool) → cond t true (cond u true false) ≡ true → cond t true (cond u true v) ≡ true
     here true u v h = refl
@@ -89,15 +89,15 @@ tree_at-inside i j empty d h = refl
 tree_at-inside i j (tree l k r) d h =
     let p = distinct_parts l k r d in
     by_test (λ t. holds j (cond t (tree l k empty) (cond (holds i k) (tree_at i k) (tree_at i r))) ≡ true
-        → cond (eqb l.id j) (tree l k empty) (cond (holds j k) (tree_at j k) (tree_at j r)) ≡ tree_at j (cond t (tree l k empty) (cond (holds i k) (tree_at i k) (tree_at i r)))) (eqb l.id i)
+    → cond (eqb l.id j) (tree l k empty) (cond (holds j k) (tree_at j k) (tree_at j r)) ≡ tree_at j (cond t (tree l k empty) (cond (holds i k) (tree_at i k) (tree_at i r)))) (eqb l.id i)
     (λ e h. here (eqb l.id j) (holds j k) (tree l k empty) (tree_at j k) (tree_at j r) h)
     (λ e h. by_test (λ t. holds j (cond t (tree_at i k) (tree_at i r)) ≡ true → cond (eqb l.id j) (tree l k empty) (cond (holds j k) (tree_at j k) (tree_at j r)) ≡ tree_at j (cond t (tree_at i k) (tree_at i r))) (holds i k)
-        (λ q h.
-            let inside = holds-tree_at i j k h in
-            rw (other_id l.id j k p.not_below inside, inside) (tree_at-inside i j k p.below h))
-        (λ q h.
-            let inside = holds-tree_at i j r h in
-            rw (other_id l.id j r p.not_behind inside, p.apart j inside) (tree_at-inside i j r p.behind h)) h) h
+    (λ q h.
+    let inside = holds-tree_at i j k h in
+    rw (other_id l.id j k p.not_below inside, inside) (tree_at-inside i j k p.below h))
+    (λ q h.
+    let inside = holds-tree_at i j r h in
+    rw (other_id l.id j r p.not_behind inside, p.apart j inside) (tree_at-inside i j r p.behind h)) h) h
   where
     here : (t u : Bool) (a b c : Forest) → cond t true (cond u true false) ≡ true → cond t a (cond u b c) ≡ cond t a (cond u b empty)
     here true u a b c h = refl

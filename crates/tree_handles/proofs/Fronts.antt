@@ -1,6 +1,6 @@
 -- What stands first stays first.
-use Rattle.std.proofs.Common.{◌≡◌, ℕ, List, [], ◌∷◌, cond, eqb, refl, sym, ap, ◌∙◌, subst, Bool, true, false}
-use Rattle.tree_handles.specs.Forest.{Forest, empty, tree, join}
+use Rattle.std.proofs.Common.{◌≡◌, ℕ, List, [], ◌∷◌, refl, ap, ◌∙◌, false}
+use Rattle.tree_handles.specs.Forest.{Forest, join}
 use Rattle.tree_handles.specs.Handed.{Ends, Starts, AreNoRoots, KeepsFront}
 use Rattle.tree_handles.specs.Roots.{has_root, without_root, put}
 use Rattle.tree_handles.proofs.Forests.{join_assoc}

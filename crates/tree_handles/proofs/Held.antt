@@ -1,8 +1,8 @@
 -- A released node, wherever it stands.
-use Rattle.std.proofs.Common.{◌≡◌, ℕ, suc, ◌<◌, ◌⊎◌, inl, inr, List, [], ◌∷◌, ◌++◌, cond, eqb, refl, sym, ap, ◌∙◌, subst, append_assoc, arith, Bool, true, false}
+use Rattle.std.proofs.Common.{◌≡◌, ℕ, suc, ◌<◌, inl, inr, List, [], ◌∷◌, ◌++◌, cond, eqb, refl, sym, ap, ◌∙◌, subst, append_assoc, arith, Bool, true, false}
 use Rattle.std.proofs.lemmas.Bool.{eqb-true, eq-eqb}
 use Rattle.calc_terms.specs.Node.{Node}
-use Rattle.node_pool.specs.State.{State, IsPool}
+use Rattle.node_pool.specs.State.{State}
 use Rattle.node_pool.specs.Nodes.{has, used, place_of, AreDistinct}
 use Rattle.node_pool.specs.Places.{since, until}
 use Rattle.node_pool.proofs.Ids.{has-append, or_is_false}

@@ -1,8 +1,7 @@
 -- A node in the first or in the last of two forests.
-use Rattle.std.proofs.Common.{◌≡◌, ℕ, cond, eqb, refl, sym, ap, ◌∙◌, Bool, true, false}
-use Rattle.tree_handles.specs.Forest.{Label, Forest, empty, tree, join, kids}
-use Rattle.tree_handles.specs.Inside.{holds, tree_at, kids_of, with_kids, with_count_in, released, released_in}
-use Rattle.tree_handles.proofs.Forests.{join_assoc}
+use Rattle.std.proofs.Common.{◌≡◌, ℕ, cond, eqb, refl, ap, ◌∙◌, Bool, true, false}
+use Rattle.tree_handles.specs.Forest.{Forest, empty, tree, join, kids}
+use Rattle.tree_handles.specs.Inside.{holds, tree_at, kids_of, with_kids, released, released_in}
 use Rattle.tree_handles.proofs.Outcomes.{by_test, or_true}
 
 or_or : (t u v w : Bool) → cond t true (cond u true (cond v true w)) ≡ cond (cond t true (cond u true v)) true w
@@ -73,7 +72,7 @@ holds-with_kids i n (tree l k r) h =
     by_test (λ t. eqb l.id i ≡ t → cond t true (cond (holds i k) true (holds i r)) ≡ true → holds i (cond t (tree l n r) (cond (holds i k) (tree l (with_kids i n k) r) (tree l k (with_kids i n r)))) ≡ true) (eqb l.id i)
     (λ e q h. rw q refl)
     (λ e q h. by_test (λ u. holds i k ≡ u → cond u true (holds i r) ≡ true → holds i (cond u (tree l (with_kids i n k) r) (tree l k (with_kids i n r))) ≡ true) (holds i k)
-        (λ u v w. rw (q, holds-with_kids i n k v) refl) (λ u v w. rw (q, v, holds-with_kids i n r w) refl) refl h) refl h
+    (λ u v w. rw (q, holds-with_kids i n k v) refl) (λ u v w. rw (q, v, holds-with_kids i n r w) refl) refl h) refl h
 
 pub kids_of-with_kids : (i : ℕ) (n f : Forest) → holds i f ≡ true → kids_of i (with_kids i n f) ≡ n
 kids_of-with_kids i n empty h = absurd cc
@@ -81,22 +80,22 @@ kids_of-with_kids i n (tree l k r) h =
     by_test (λ t. eqb l.id i ≡ t → cond t true (cond (holds i k) true (holds i r)) ≡ true → kids_of i (cond t (tree l n r) (cond (holds i k) (tree l (with_kids i n k) r) (tree l k (with_kids i n r)))) ≡ n) (eqb l.id i)
     (λ e q h. rw q refl)
     (λ e q h. by_test (λ u. holds i k ≡ u → cond u true (holds i r) ≡ true → kids_of i (cond u (tree l (with_kids i n k) r) (tree l k (with_kids i n r))) ≡ n) (holds i k)
-        (λ u v w. rw (q, holds-with_kids i n k v) (kids_of-with_kids i n k v)) (λ u v w. rw (q, v) (kids_of-with_kids i n r w)) refl h) refl h
+    (λ u v w. rw (q, holds-with_kids i n k v) (kids_of-with_kids i n k v)) (λ u v w. rw (q, v) (kids_of-with_kids i n r w)) refl h) refl h
 
 pub with_kids-with_kids : (i : ℕ) (a b f : Forest) → holds i f ≡ true → with_kids i a (with_kids i b f) ≡ with_kids i a f
 with_kids-with_kids i a b empty h = absurd cc
 with_kids-with_kids i a b (tree l k r) h =
     by_test (λ t. eqb l.id i ≡ t → cond t true (cond (holds i k) true (holds i r)) ≡ true
-        → with_kids i a (cond t (tree l b r) (cond (holds i k) (tree l (with_kids i b k) r) (tree l k (with_kids i b r)))) ≡ cond t (tree l a r) (cond (holds i k) (tree l (with_kids i a k) r) (tree l k (with_kids i a r)))) (eqb l.id i)
+    → with_kids i a (cond t (tree l b r) (cond (holds i k) (tree l (with_kids i b k) r) (tree l k (with_kids i b r)))) ≡ cond t (tree l a r) (cond (holds i k) (tree l (with_kids i a k) r) (tree l k (with_kids i a r)))) (eqb l.id i)
     (λ e q h. rw q refl)
     (λ e q h. by_test (λ u. holds i k ≡ u → cond u true (holds i r) ≡ true → with_kids i a (cond u (tree l (with_kids i b k) r) (tree l k (with_kids i b r))) ≡ cond u (tree l (with_kids i a k) r) (tree l k (with_kids i a r))) (holds i k)
-        (λ u v w. rw (q, holds-with_kids i b k v) (ap (λ (x : Forest). tree l x r) (with_kids-with_kids i a b k v)))
-        (λ u v w. rw (q, v) (ap (λ (x : Forest). tree l k x) (with_kids-with_kids i a b r w))) refl h) refl h
+    (λ u v w. rw (q, holds-with_kids i b k v) (ap (λ (x : Forest). tree l x r) (with_kids-with_kids i a b k v)))
+    (λ u v w. rw (q, v) (ap (λ (x : Forest). tree l k x) (with_kids-with_kids i a b r w))) refl h) refl h
 
 pub with_kids-same : (i : ℕ) (f : Forest) → with_kids i (kids_of i f) f ≡ f
 with_kids-same i empty = refl
 with_kids-same i (tree l k r) =
     by_test (λ t. cond t (tree l (kids (cond t (tree l k empty) (cond (holds i k) (tree_at i k) (tree_at i r)))) r)
-        (cond (holds i k) (tree l (with_kids i (kids (cond t (tree l k empty) (cond (holds i k) (tree_at i k) (tree_at i r)))) k) r) (tree l k (with_kids i (kids (cond t (tree l k empty) (cond (holds i k) (tree_at i k) (tree_at i r)))) r))) ≡ tree l k r) (eqb l.id i) (λ e. refl)
+    (cond (holds i k) (tree l (with_kids i (kids (cond t (tree l k empty) (cond (holds i k) (tree_at i k) (tree_at i r)))) k) r) (tree l k (with_kids i (kids (cond t (tree l k empty) (cond (holds i k) (tree_at i k) (tree_at i r)))) r))) ≡ tree l k r) (eqb l.id i) (λ e. refl)
     (λ e. by_test (λ t. cond t (tree l (with_kids i (kids (cond t (tree_at i k) (tree_at i r))) k) r) (tree l k (with_kids i (kids (cond t (tree_at i k) (tree_at i r))) r)) ≡ tree l k r) (holds i k)
-        (λ q. ap (λ (x : Forest). tree l x r) (with_kids-same i k)) (λ q. ap (λ (x : Forest). tree l k x) (with_kids-same i r)))
+    (λ q. ap (λ (x : Forest). tree l x r) (with_kids-same i k)) (λ q. ap (λ (x : Forest). tree l k x) (with_kids-same i r)))

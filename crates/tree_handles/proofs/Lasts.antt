@@ -1,17 +1,17 @@
 -- The tree that stands last.
-use Rattle.std.proofs.Common.{◌≡◌, ℕ, ◌+◌, ◌<◌, ◌≤◌, cond, eqb, refl, sym, ap, ◌∙◌, subst, arith, Bool, true, false}
+use Rattle.std.proofs.Common.{◌≡◌, ℕ, cond, eqb, refl, sym, ap, ◌∙◌, subst, arith, Bool, true, false}
 use Rattle.std.proofs.lemmas.Bool.{eqb-true, eq-eqb}
 use Rattle.node_pool.specs.State.{State}
 use Rattle.tree_handles.specs.Expressions.{plain, AllExpressions, IsExpression}
-use Rattle.tree_handles.specs.Forest.{Label, Forest, empty, tree, join, arity, kids, root_id, with_root_kids, with_nth, one_tree, AllNodes}
+use Rattle.tree_handles.specs.Forest.{Forest, empty, tree, join, arity, kids, root_id, with_root_kids, with_nth}
 use Rattle.tree_handles.specs.Handed.{AllOnce, IsOwned, IsHanded, Ends}
 use Rattle.tree_handles.specs.Inside.{holds, tree_at, kids_of}
 use Rattle.tree_handles.specs.Roots.{has_root, root_tree, without_root, put}
 use Rattle.tree_handles.specs.Standing.{Stands, forest}
 use Rattle.tree_handles.proofs.Distinct.{Distinct, distinct, distinct_parts, tree_at-root}
-use Rattle.tree_handles.proofs.Forests.{join-empty, join_assoc}
+use Rattle.tree_handles.proofs.Forests.{join-empty}
 use Rattle.tree_handles.proofs.Roots.{root_held, root-left, root-right, tree-left, tree-right, without-left, without-right, put-left, put-right, root-without, root-put}
-use Rattle.tree_handles.proofs.Outcomes.{by_test, or_true, not_left, not_right, eqb-sym}
+use Rattle.tree_handles.proofs.Outcomes.{by_test, not_left, not_right, eqb-sym}
 
 -- one tree, by its root's identifier
 alone_tree : (i : ℕ) (t : Forest) → arity t ≡ 1 → root_id t ≡ i → (has_root i t ≡ true) × (root_tree i t ≡ t) × (without_root i t ≡ empty) × ((n : Forest) → put i n t ≡ with_root_kids n t)
@@ -117,7 +117,7 @@ holds_tree i j empty h = refl
 holds_tree i j (tree l k r) h =
     by_test (λ t. cond t true (cond (holds i k) true (holds i r)) ≡ false → holds i (cond (eqb l.id j) (tree l k empty) (root_tree j r)) ≡ false) (eqb l.id i) (λ e h. absurd cc)
     (λ e h. by_test (λ t. eqb l.id i ≡ false → holds i (cond t (tree l k empty) (root_tree j r)) ≡ false) (eqb l.id j)
-        (λ u v. rw (v, not_left (holds i k) (holds i r) h) refl) (λ u v. holds_tree i j r (not_right (holds i k) (holds i r) h)) e) h
+    (λ u v. rw (v, not_left (holds i k) (holds i r) h) refl) (λ u v. holds_tree i j r (not_right (holds i k) (holds i r) h)) e) h
 
 -- another root is not in the tree of a root
 pub roots_apart : (i j : ℕ) (f : Forest) → Distinct f → eqb i j ≡ false → has_root i f ≡ true → has_root j f ≡ true → holds i (root_tree j f) ≡ false
@@ -126,13 +126,13 @@ roots_apart i j (tree l k r) d n ha hb =
     let p = distinct_parts l k r d in
     by_test (λ t. eqb l.id j ≡ t → cond (eqb l.id i) true (has_root i r) ≡ true → cond t true (has_root j r) ≡ true → holds i (cond t (tree l k empty) (root_tree j r)) ≡ false) (eqb l.id j)
     (λ e q h g.
-        let not_here : eqb l.id i ≡ false = ap (λ (x : ℕ). eqb x i) (eqb-true l.id j q) ∙ eqb-sym i j n in
-        let behind : has_root i r ≡ true = ap (λ (t : Bool). cond t true (has_root i r)) (sym not_here) ∙ h in
-        rw (not_here, p.apart i (root_held i r behind)) refl)
+    let not_here : eqb l.id i ≡ false = ap (λ (x : ℕ). eqb x i) (eqb-true l.id j q) ∙ eqb-sym i j n in
+    let behind : has_root i r ≡ true = ap (λ (t : Bool). cond t true (has_root i r)) (sym not_here) ∙ h in
+    rw (not_here, p.apart i (root_held i r behind)) refl)
     (λ e q h g.
-        by_test (λ t. eqb l.id i ≡ t → cond t true (has_root i r) ≡ true → holds i (root_tree j r) ≡ false) (eqb l.id i)
-        (λ u v w. holds_tree i j r (subst (λ (x : ℕ). holds x r ≡ false) (eqb-true l.id i v) p.not_behind))
-        (λ u v w. roots_apart i j r p.behind n w g) refl h) refl ha hb
+    by_test (λ t. eqb l.id i ≡ t → cond t true (has_root i r) ≡ true → holds i (root_tree j r) ≡ false) (eqb l.id i)
+    (λ u v w. holds_tree i j r (subst (λ (x : ℕ). holds x r ≡ false) (eqb-true l.id i v) p.not_behind))
+    (λ u v w. roots_apart i j r p.behind n w g) refl h) refl ha hb
 
 pub apart : {s : State} (i j : ℕ) → Stands s → eqb i j ≡ false → has_root i (forest s) ≡ true → has_root j (forest s) ≡ true → holds i (root_tree j (forest s)) ≡ false
 apart {s = s} i j st n a b = roots_apart i j (forest s) (distinct s st) n a b

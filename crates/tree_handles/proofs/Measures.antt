@@ -1,5 +1,5 @@
 -- Walks that measure a tree.
-use Rattle.std.proofs.Common.{◌≡◌, ◌≢◌, ℕ, zero, suc, ◌+◌, ◌-◌, ◌*◌, ◌<◌, ◌≤◌, max, List, [], ◌∷◌, ◌++◌, length, get_or, cond, eqb, refl, sym, ap, ◌∙◌, subst, arith, append_assoc, true}
+use Rattle.std.proofs.Common.{◌≡◌, ◌≢◌, ℕ, suc, ◌+◌, ◌-◌, ◌*◌, ◌<◌, ◌≤◌, max, List, [], ◌∷◌, ◌++◌, length, get_or, cond, eqb, refl, sym, ap, ◌∙◌, subst, arith, append_assoc, true}
 use Rattle.std.proofs.lemmas.List.{length-append, append-nil, get_or-set_other, get_or-set_same, length-set}
 use Rattle.std.proofs.Math.ListN.{set}
 use Rattle.calc_terms.specs.declared.leaf.Header.{Header}
@@ -10,11 +10,10 @@ use Rattle.node_pool.specs.State.{State}
 use Rattle.node_pool.proofs.Sizes.{used-append, length_le_used, size_from}
 use Rattle.node_pool.proofs.Cuts.{since-append, until-since}
 use Rattle.node_pool.proofs.Splits.{place_of-append}
-use Rattle.tree_handles.specs.Forest.{Label, Forest, empty, tree, join, arity, node_of, flatten, first_trees, rest_trees, nodes_in, depth_in}
+use Rattle.tree_handles.specs.Forest.{Label, Forest, empty, tree, join, arity, node_of, flatten, nodes_in, depth_in}
 use Rattle.tree_handles.specs.Inside.{holds, tree_at, kids_of}
 use Rattle.tree_handles.specs.Standing.{Stands, forest}
 use Rattle.tree_handles.proofs.Forests.{flatten-join, arity-join, nodes-flatten, nodes_in-join}
-use Rattle.tree_handles.proofs.Nths.{first_trees-behind}
 use Rattle.tree_handles.proofs.Parts.{at, live_at}
 use Rattle.tree_handles.proofs.Releases.{arity_le}
 use Rattle.tree_handles.proofs.Outcomes.{by_test}

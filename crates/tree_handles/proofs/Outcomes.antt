@@ -1,6 +1,6 @@
 -- Proofs by a test.
 use Rattle.std.proofs.Common.{◌≡◌, ℕ, cond, eqb, refl, sym, Bool, true, false}
-use Rattle.std.proofs.lemmas.Bool.{eqb-true, eqb-false, ne_eqb}
+use Rattle.std.proofs.lemmas.Bool.{eqb-false, ne_eqb}
 
 -- both outcomes of a test
 pub by_test : (P : Bool → Type 0) (t : Bool) → (t ≡ true → P true) → (t ≡ false → P false) → P t

@@ -1,5 +1,5 @@
 -- A node in a forest, with its children and what is around it.
-use Rattle.std.proofs.Common.{◌≡◌, ℕ, zero, suc, ◌+◌, ◌-◌, ◌<◌, ◌≤◌, List, [], ◌∷◌, ◌++◌, drop, cond, eqb, refl, sym, ap, ◌∙◌, subst, arith, append_assoc, Bool, true, false}
+use Rattle.std.proofs.Common.{◌≡◌, ℕ, zero, suc, ◌+◌, ◌-◌, ◌<◌, ◌≤◌, List, [], ◌∷◌, ◌++◌, drop, cond, eqb, refl, sym, ap, ◌∙◌, arith, append_assoc, Bool, true, false}
 use Rattle.std.proofs.lemmas.Bool.{eqb-true, eq-eqb}
 use Rattle.std.proofs.lemmas.List.{append_cancel_right, append-nil}
 use Rattle.calc_terms.specs.Node.{Node}
@@ -11,11 +11,11 @@ use Rattle.node_pool.proofs.Ids.{has-append, or_is_false}
 use Rattle.node_pool.proofs.Cuts.{since-append, until-since}
 use Rattle.node_pool.proofs.Splits.{place_of-append, moved_right, with_children-append, with_count-append}
 use Rattle.tree_handles.specs.Standing.{forest, Stands, IsCounted}
-use Rattle.tree_handles.specs.Forest.{Label, Forest, empty, tree, join, arity, node_of, flatten, first_trees, rest_trees, root_id, root_count, tree_nth, without_nth, AllNodes}
-use Rattle.tree_handles.specs.Inside.{holds, tree_at, kids_of, with_kids, count_of, with_count_in}
+use Rattle.tree_handles.specs.Forest.{Label, Forest, empty, tree, join, arity, node_of, flatten, first_trees, rest_trees, root_id, tree_nth, without_nth, AllNodes}
+use Rattle.tree_handles.specs.Inside.{holds, tree_at, kids_of, with_kids, with_count_in}
 use Rattle.tree_handles.specs.Walks.{skip}
 use Rattle.tree_handles.proofs.Counted.{all-kids, all-tree_at, all-with_kids, all-without_nth, all-tree_nth}
-use Rattle.tree_handles.proofs.Forests.{all-join, has-flatten, skip-flatten, skip-first, first-rest, flatten-join, flatten-first_rest, nth_parts, arity-first_trees, arity-join, arity-rest_trees, arity-tree_nth, arity-without_nth}
+use Rattle.tree_handles.proofs.Forests.{all-join, has-flatten, skip-flatten, skip-first, first-rest, flatten-join, nth_parts, arity-tree_nth, arity-without_nth}
 
 -- where a node stands: its children, and any in their place, are a block
 pub record IsAt (i : ℕ) (f : Forest) : Type 0 where

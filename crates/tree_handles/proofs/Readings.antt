@@ -1,10 +1,10 @@
 -- What a node's header and payload tell of its tree.
-use Rattle.std.proofs.Common.{◌≡◌, ℕ, ◌<◌, List, [], ◌∷◌, ◌++◌, cond, eqb, refl, sym, ap, ◌∙◌, subst, arith, Bool, true, false}
+use Rattle.std.proofs.Common.{◌≡◌, ℕ, List, [], ◌∷◌, ◌++◌, cond, eqb, refl, sym, ap, ◌∙◌, subst, Bool, true, false}
 use Rattle.std.proofs.lemmas.Bool.{eq-eqb}
 use Rattle.calc_terms.specs.declared.leaf.Header.{Header}
 use Rattle.calc_terms.specs.declared.kind.Kind.TheVariants as kind
 use Rattle.calc_terms.specs.Fractions.{lowest}
-use Rattle.calc_terms.specs.Node.{Node, IsNode, header_of}
+use Rattle.calc_terms.specs.Node.{Node, header_of}
 use Rattle.calc_terms.specs.Payload.{Payload, rational, named, kind_of_payload, IsPayload}
 use Rattle.calc_terms.specs.Ratio.{Ratio}
 use Rattle.calc_terms.specs.Trees.{num, symbol, is_num, is_symbol, root_kind, count}
@@ -14,7 +14,7 @@ use Rattle.node_pool.specs.State.{State}
 use Rattle.node_pool.proofs.Sizes.{AreNodes-right}
 use Rattle.node_pool.proofs.Cuts.{since-append}
 use Rattle.node_pool.proofs.Splits.{place_of-append}
-use Rattle.tree_handles.specs.Forest.{Label, Forest, empty, tree, arity, node_of, flatten, kids, root_id, root_payload, root_count, tree_nth, rest_trees}
+use Rattle.tree_handles.specs.Forest.{Label, Forest, empty, tree, arity, node_of, flatten, root_payload, root_count, tree_nth, rest_trees}
 use Rattle.tree_handles.specs.Inside.{holds, tree_at, kids_of, count_of, payload_in}
 use Rattle.tree_handles.specs.Expressions.{nth, grown, plains, plain, IsWhole, IsExpression, AllExpressions, children_of}
 use Rattle.tree_handles.specs.Standing.{Stands, forest}

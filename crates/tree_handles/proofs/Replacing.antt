@@ -1,14 +1,14 @@
 -- A root beside a node whose children change.
-use Rattle.std.proofs.Common.{◌≡◌, ℕ, ◌+◌, ◌-◌, ◌<◌, ◌≤◌, cond, eqb, refl, sym, ap, ◌∙◌, subst, arith, Bool, true, false}
-use Rattle.tree_handles.specs.Forest.{Label, Forest, empty, tree, join, arity, tree_nth, without_nth, with_nth, set_nth}
+use Rattle.std.proofs.Common.{◌≡◌, ℕ, ◌<◌, ◌≤◌, cond, eqb, refl, ap, ◌∙◌, subst, arith, Bool, true, false}
+use Rattle.tree_handles.specs.Forest.{Forest, empty, tree, join, arity, tree_nth, without_nth, with_nth, set_nth}
 use Rattle.tree_handles.specs.Inside.{holds, kids_of, with_kids}
 use Rattle.tree_handles.specs.Roots.{has_root, root_tree, without_root}
 use Rattle.tree_handles.proofs.Distinct.{held_parent}
 use Rattle.tree_handles.proofs.Forests.{arity-without_nth}
 use Rattle.tree_handles.proofs.Joins.{holds-left, kids_of-join_left, with_kids-join_left, holds-with_kids, kids_of-with_kids, with_kids-with_kids}
 use Rattle.tree_handles.proofs.Nths.{with_nth-without_nth}
-use Rattle.tree_handles.proofs.Roots.{root-left, tree-left, without-left, root_held}
-use Rattle.tree_handles.proofs.Outcomes.{by_test, or_true, not_left, not_right}
+use Rattle.tree_handles.proofs.Roots.{root-left, tree-left, without-left}
+use Rattle.tree_handles.proofs.Outcomes.{by_test}
 
 pub has_root-with_kids : (c p : ℕ) (n f : Forest) → has_root c (with_kids p n f) ≡ has_root c f
 has_root-with_kids c p n empty = refl
@@ -26,23 +26,23 @@ pub root_tree-with_kids : (c p : ℕ) (n f : Forest) → holds p (root_tree c f)
 root_tree-with_kids c p n empty a = refl
 root_tree-with_kids c p n (tree l k r) a =
     by_test (λ t. eqb l.id c ≡ t → holds p (cond t (tree l k empty) (root_tree c r)) ≡ false
-        → root_tree c (cond (eqb l.id p) (tree l n r) (cond (holds p k) (tree l (with_kids p n k) r) (tree l k (with_kids p n r)))) ≡ cond t (tree l k empty) (root_tree c r)) (eqb l.id c)
+    → root_tree c (cond (eqb l.id p) (tree l n r) (cond (holds p k) (tree l (with_kids p n k) r) (tree l k (with_kids p n r)))) ≡ cond t (tree l k empty) (root_tree c r)) (eqb l.id c)
     (λ e q a. let x = neither (eqb l.id p) (holds p k) a in rw (x.0, x.1, q) refl)
     (λ e q a. by_test (λ t. root_tree c (cond t (tree l n r) (cond (holds p k) (tree l (with_kids p n k) r) (tree l k (with_kids p n r)))) ≡ root_tree c r) (eqb l.id p)
-        (λ u. rw q refl)
-        (λ u. by_test (λ t. root_tree c (cond t (tree l (with_kids p n k) r) (tree l k (with_kids p n r))) ≡ root_tree c r) (holds p k) (λ v. rw q refl) (λ v. rw q (root_tree-with_kids c p n r a)))) refl a
+    (λ u. rw q refl)
+    (λ u. by_test (λ t. root_tree c (cond t (tree l (with_kids p n k) r) (tree l k (with_kids p n r))) ≡ root_tree c r) (holds p k) (λ v. rw q refl) (λ v. rw q (root_tree-with_kids c p n r a)))) refl a
 
 pub without_root-with_kids : (c p : ℕ) (n f : Forest) → holds p (root_tree c f) ≡ false → without_root c (with_kids p n f) ≡ with_kids p n (without_root c f)
 without_root-with_kids c p n empty a = refl
 without_root-with_kids c p n (tree l k r) a =
     by_test (λ t. eqb l.id c ≡ t → holds p (cond t (tree l k empty) (root_tree c r)) ≡ false
-        → without_root c (cond (eqb l.id p) (tree l n r) (cond (holds p k) (tree l (with_kids p n k) r) (tree l k (with_kids p n r)))) ≡ with_kids p n (cond t r (tree l k (without_root c r)))) (eqb l.id c)
+    → without_root c (cond (eqb l.id p) (tree l n r) (cond (holds p k) (tree l (with_kids p n k) r) (tree l k (with_kids p n r)))) ≡ with_kids p n (cond t r (tree l k (without_root c r)))) (eqb l.id c)
     (λ e q a. let x = neither (eqb l.id p) (holds p k) a in rw (x.0, x.1, q) refl)
     (λ e q a. by_test (λ t. without_root c (cond t (tree l n r) (cond (holds p k) (tree l (with_kids p n k) r) (tree l k (with_kids p n r))))
-            ≡ cond t (tree l n (without_root c r)) (cond (holds p k) (tree l (with_kids p n k) (without_root c r)) (tree l k (with_kids p n (without_root c r))))) (eqb l.id p)
-        (λ u. rw q refl)
-        (λ u. by_test (λ t. without_root c (cond t (tree l (with_kids p n k) r) (tree l k (with_kids p n r))) ≡ cond t (tree l (with_kids p n k) (without_root c r)) (tree l k (with_kids p n (without_root c r)))) (holds p k)
-            (λ v. rw q refl) (λ v. rw q (ap (λ (x : Forest). tree l k x) (without_root-with_kids c p n r a))))) refl a
+    ≡ cond t (tree l n (without_root c r)) (cond (holds p k) (tree l (with_kids p n k) (without_root c r)) (tree l k (with_kids p n (without_root c r))))) (eqb l.id p)
+    (λ u. rw q refl)
+    (λ u. by_test (λ t. without_root c (cond t (tree l (with_kids p n k) r) (tree l k (with_kids p n r))) ≡ cond t (tree l (with_kids p n k) (without_root c r)) (tree l k (with_kids p n (without_root c r)))) (holds p k)
+    (λ v. rw q refl) (λ v. rw q (ap (λ (x : Forest). tree l k x) (without_root-with_kids c p n r a))))) refl a
 
 -- a node that is not in the tree of a root is among the others
 pub held_beside : (c p : ℕ) (f : Forest) → holds p (root_tree c f) ≡ false → holds p f ≡ true → holds p (without_root c f) ≡ true
@@ -51,7 +51,7 @@ held_beside c p (tree l k r) a h =
     by_test (λ t. holds p (cond t (tree l k empty) (root_tree c r)) ≡ false → cond (eqb l.id p) true (cond (holds p k) true (holds p r)) ≡ true → holds p (cond t r (tree l k (without_root c r))) ≡ true) (eqb l.id c)
     (λ e a h. let x = neither (eqb l.id p) (holds p k) a in subst (λ (t : Bool). cond t true (holds p r) ≡ true) x.1 (subst (λ (t : Bool). cond t true (cond (holds p k) true (holds p r)) ≡ true) x.0 h))
     (λ e a h. by_test (λ t. cond t true (cond (holds p k) true (holds p r)) ≡ true → cond t true (cond (holds p k) true (holds p (without_root c r))) ≡ true) (eqb l.id p) (λ q h. refl)
-        (λ q h. by_test (λ t. cond t true (holds p r) ≡ true → cond t true (holds p (without_root c r)) ≡ true) (holds p k) (λ v w. refl) (λ v w. held_beside c p r a w) h) h) a h
+    (λ q h. by_test (λ t. cond t true (holds p r) ≡ true → cond t true (holds p (without_root c r)) ≡ true) (holds p k) (λ v w. refl) (λ v w. held_beside c p r a w) h) h) a h
 
 -- ---- a child goes, and a root comes in its stead
 

@@ -1,10 +1,10 @@
 -- Laws of roots that need no more than the tests.
-use Rattle.std.proofs.Common.{◌≡◌, ℕ, ◌≤◌, cond, eqb, refl, sym, ap, ◌∙◌, subst, arith, Bool, true, false}
-use Rattle.std.proofs.lemmas.Bool.{eqb-true, eq-eqb}
-use Rattle.tree_handles.specs.Forest.{Label, Forest, empty, tree, join, arity, kids, root_id, AllNodes}
+use Rattle.std.proofs.Common.{◌≡◌, ℕ, cond, eqb, refl, sym, ap, ◌∙◌, Bool, true, false}
+use Rattle.std.proofs.lemmas.Bool.{eqb-true}
+use Rattle.tree_handles.specs.Forest.{Label, Forest, empty, tree, join, arity, kids, root_id}
 use Rattle.tree_handles.specs.Inside.{holds}
 use Rattle.tree_handles.specs.Roots.{has_root, root_tree, without_root, put}
-use Rattle.tree_handles.proofs.Outcomes.{by_test, or_true, not_left, not_right, eqb-sym}
+use Rattle.tree_handles.proofs.Outcomes.{by_test, or_true, eqb-sym}
 
 -- ---- a root is a node
 
@@ -125,10 +125,10 @@ without-swap i j empty d = refl
 without-swap i j (tree l k r) d =
     by_test (λ u. eqb l.id j ≡ u → without_root i (cond u r (tree l k (without_root j r))) ≡ without_root j (cond (eqb l.id i) r (tree l k (without_root i r)))) (eqb l.id j)
     (λ e q.
-        let other : eqb l.id i ≡ false = ap (λ (x : ℕ). eqb x i) (eqb-true l.id j q) ∙ eqb-sym i j d in
-        sym (ap (λ (t : Bool). without_root j (cond t r (tree l k (without_root i r)))) other ∙ ap (λ (t : Bool). cond t (without_root i r) (tree l k (without_root j (without_root i r)))) q))
+    let other : eqb l.id i ≡ false = ap (λ (x : ℕ). eqb x i) (eqb-true l.id j q) ∙ eqb-sym i j d in
+    sym (ap (λ (t : Bool). without_root j (cond t r (tree l k (without_root i r)))) other ∙ ap (λ (t : Bool). cond t (without_root i r) (tree l k (without_root j (without_root i r)))) q))
     (λ e q. by_test (λ t. cond t (without_root j r) (tree l k (without_root i (without_root j r))) ≡ without_root j (cond t r (tree l k (without_root i r)))) (eqb l.id i)
-        (λ u. refl) (λ u. ap (λ (x : Forest). tree l k x) (without-swap i j r d) ∙ sym (ap (λ (t : Bool). cond t (without_root i r) (tree l k (without_root j (without_root i r)))) q))) refl
+    (λ u. refl) (λ u. ap (λ (x : Forest). tree l k x) (without-swap i j r d) ∙ sym (ap (λ (t : Bool). cond t (without_root i r) (tree l k (without_root j (without_root i r)))) q))) refl
 
 -- ---- other children
 
@@ -166,7 +166,7 @@ without-put i j n empty d = refl
 without-put i j n (tree l k r) d =
     by_test (λ u. eqb l.id j ≡ u → without_root j (cond (eqb l.id i) (tree l n r) (tree l k (put i n r))) ≡ put i n (cond u r (tree l k (without_root j r)))) (eqb l.id j)
     (λ e q.
-        let other : eqb l.id i ≡ false = ap (λ (x : ℕ). eqb x i) (eqb-true l.id j q) ∙ eqb-sym i j d in
-        ap (λ (t : Bool). without_root j (cond t (tree l n r) (tree l k (put i n r)))) other ∙ ap (λ (t : Bool). cond t (put i n r) (tree l k (without_root j (put i n r)))) q)
+    let other : eqb l.id i ≡ false = ap (λ (x : ℕ). eqb x i) (eqb-true l.id j q) ∙ eqb-sym i j d in
+    ap (λ (t : Bool). without_root j (cond t (tree l n r) (tree l k (put i n r)))) other ∙ ap (λ (t : Bool). cond t (put i n r) (tree l k (without_root j (put i n r)))) q)
     (λ e q. by_test (λ t. without_root j (cond t (tree l n r) (tree l k (put i n r))) ≡ cond t (tree l n (without_root j r)) (tree l k (put i n (without_root j r)))) (eqb l.id i)
-        (λ u. ap (λ (t : Bool). cond t r (tree l n (without_root j r))) q) (λ u. ap (λ (t : Bool). cond t (put i n r) (tree l k (without_root j (put i n r)))) q ∙ ap (λ (x : Forest). tree l k x) (without-put i j n r d))) refl
+    (λ u. ap (λ (t : Bool). cond t r (tree l n (without_root j r))) q) (λ u. ap (λ (t : Bool). cond t (put i n r) (tree l k (without_root j (put i n r)))) q ∙ ap (λ (x : Forest). tree l k x) (without-put i j n r d))) refl

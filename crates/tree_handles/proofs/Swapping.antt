@@ -1,5 +1,5 @@
 -- Blocks of children that move within their parent.
-use Rattle.std.proofs.Common.{◌≡◌, ℕ, suc, ◌+◌, ◌-◌, ◌<◌, ◌≤◌, ◌⊎◌, inl, inr, List, [], ◌∷◌, ◌++◌, length, drop, refl, sym, ap, ◌∙◌, subst, arith, append_assoc, true, false}
+use Rattle.std.proofs.Common.{◌≡◌, ℕ, ◌+◌, ◌-◌, ◌<◌, ◌≤◌, List, [], ◌∷◌, ◌++◌, length, drop, refl, sym, ap, ◌∙◌, subst, arith, append_assoc, true, false}
 use Rattle.std.proofs.lemmas.List.{append-nil, length-append}
 use Rattle.calc_terms.specs.Node.{Node, size_of}
 use Rattle.node_pool.specs.Nodes.{has, used, place_of, first_of, with_children, AreDistinct}
@@ -8,18 +8,18 @@ use Rattle.node_pool.specs.State.{State}
 use Rattle.node_pool.proofs.Sizes.{used-append, size_from}
 use Rattle.node_pool.proofs.Cuts.{since-append}
 use Rattle.node_pool.proofs.Splits.{boundary-append, place_of-append, moved_left, moved_right, without-append, with_children-append}
-use Rattle.tree_handles.specs.Forest.{Label, Forest, empty, tree, join, arity, kids, root_id, node_of, flatten, first_trees, rest_trees, tree_nth, set_nth, swapped_nth, merged_nth, AllNodes}
-use Rattle.tree_handles.specs.Inside.{holds, tree_at, kids_of, with_kids}
+use Rattle.tree_handles.specs.Forest.{Forest, empty, tree, join, arity, kids, node_of, flatten, first_trees, rest_trees, tree_nth, set_nth, swapped_nth, merged_nth, AllNodes}
+use Rattle.tree_handles.specs.Inside.{tree_at, kids_of, with_kids}
 use Rattle.tree_handles.specs.Roots.{has_root, root_tree, without_root}
 use Rattle.tree_handles.specs.Standing.{forest, Stands, IsCounted}
 use Rattle.tree_handles.specs.Walks.{skip}
 use Rattle.tree_handles.proofs.Counted.{all-kids, all-tree_at, all-with_kids, all-tree_nth, all-set_nth, all-root_tree, all-without_root}
 use Rattle.tree_handles.proofs.Distinct.{not_before, held_parent}
-use Rattle.tree_handles.proofs.Forests.{flatten-join, skip-flatten, nth_parts, arity-join, arity-set_nth, arity-tree_nth, IsNth, nth_tree, all-join}
-use Rattle.tree_handles.proofs.Nths.{IsPair, pair}
-use Rattle.tree_handles.proofs.Parts.{IsAt, live_at, IsKidPlace, kid_place, place_is, has_mid}
+use Rattle.tree_handles.proofs.Forests.{flatten-join, skip-flatten, arity-join, arity-set_nth, arity-tree_nth, nth_tree, all-join}
+use Rattle.tree_handles.proofs.Nths.{pair}
+use Rattle.tree_handles.proofs.Parts.{live_at, kid_place, place_is, has_mid}
 use Rattle.tree_handles.proofs.Releases.{arity_le}
-use Rattle.tree_handles.proofs.Roots.{IsTop, top}
+use Rattle.tree_handles.proofs.Roots.{top}
 
 used_some : (f : Forest) → arity f ≡ 1 → 0 < used (flatten f)
 used_some empty h = absurd (omega arith)

@@ -1,5 +1,5 @@
 -- Conditions that the tests try.
-use Rattle.std.proofs.Common.{◌≡◌, ℕ, suc, ◌+◌, ◌-◌, ◌<◌, ◌≤◌, List, [], ◌∷◌, ◌++◌, cond, eqb, refl, sym, ap, ◌∙◌, subst, arith, Bool, true, false}
+use Rattle.std.proofs.Common.{◌≡◌, ℕ, ◌+◌, ◌-◌, ◌<◌, ◌≤◌, List, [], ◌∷◌, ◌++◌, cond, refl, sym, ap, ◌∙◌, subst, arith, Bool, true, false}
 use Rattle.std.proofs.lemmas.Bool.{eq-eqb, ne_eqb}
 use Rattle.calc_terms.specs.Node.{Node, size_of, header_of}
 use Rattle.calc_terms.specs.declared.leaf.Header.{Header}
@@ -10,7 +10,7 @@ use Rattle.node_pool.proofs.Cuts.{until-since, until-append, between_next}
 use Rattle.node_pool.proofs.Sizes.{used-append, size_from}
 use Rattle.node_pool.proofs.Walk.{since-zero}
 use Rattle.std.proofs.lemmas.List.{append-nil}
-use Rattle.tree_handles.specs.Forest.{Label, Forest, empty, tree, arity, node_of, flatten}
+use Rattle.tree_handles.specs.Forest.{Forest, empty, tree, arity, node_of, flatten}
 use Rattle.tree_handles.specs.Roots.{has_root}
 use Rattle.tree_handles.specs.Standing.{Stands, forest}
 use Rattle.tree_handles.specs.Walks.{skip}

@@ -1,15 +1,10 @@
 -- Steps over nodes.
-use Rattle.std.proofs.Common.{◌≡◌, ℕ, zero, suc, ◌+◌, ◌-◌, ◌<◌, ◌≤◌, List, [], ◌∷◌, refl, true, sym, ap, ◌∙◌, arith}
+use Rattle.std.proofs.Common.{◌≡◌, ℕ, zero, suc, ◌+◌, ◌-◌, ◌<◌, ◌≤◌, List, [], ◌∷◌, refl, sym, ap, ◌∙◌, arith}
 use Rattle.calc_terms.specs.declared.leaf.Header.{Header}
-use Rattle.calc_terms.specs.declared.kind.Kind.{Kind}
-use Rattle.calc_terms.specs.declared.kind.Kind.TheVariants as kind
-use Rattle.calc_terms.specs.Kind.{size_of_kind}
 use Rattle.calc_terms.specs.Node.{Node, size_of, header_of, size_of_header}
-use Rattle.calc_terms.specs.Payload.{Payload, rational, named, bare, IsPayload, size_of_payload, kind_of_payload, is_bare}
-use Rattle.node_pool.specs.Nodes.{used, first_of, AreNodes}
-use Rattle.node_pool.specs.Places.{since, IsBoundary}
-use Rattle.node_pool.specs.State.{State, IsPool}
-use Rattle.node_pool.proofs.Cuts.{step, AreNodes-since}
+use Rattle.node_pool.specs.Nodes.{used, first_of}
+use Rattle.node_pool.specs.Places.{since}
+use Rattle.node_pool.specs.State.{State}
 use Rattle.node_pool.proofs.Walk.{since_end}
 use Rattle.tree_handles.specs.Walks.{skip}
 

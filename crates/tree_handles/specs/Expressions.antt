@@ -1,11 +1,11 @@
 -- Labelled trees of the language, and the plain trees that they are.
-use Rattle.std.specs.Prelude.{ℕ, zero, suc, ◌≡◌, ◌==◌, nat_le, Bool, true, false}
+use Rattle.std.specs.Prelude.{ℕ, zero, suc, ◌≡◌, ◌==◌, Bool, true, false}
 use Rattle.calc_terms.specs.declared.kind.Kind.{Kind}
 use Rattle.calc_terms.specs.declared.kind.Kind.TheVariants as kind
 use Rattle.calc_terms.specs.Fractions.{lowest}
 use Rattle.calc_terms.specs.Payload.{Payload, rational, named, bare}
 use Rattle.calc_terms.specs.Trees.{Tree, num, symbol, undef, add, mult, power, root, neg, sub, div, Trees, none, more, append}
-use Rattle.tree_handles.specs.Forest.{Label, Forest, empty, tree, arity, AllNodes}
+use Rattle.tree_handles.specs.Forest.{Label, Forest, empty, tree, AllNodes}
 use Rattle.tree_handles.specs.Inside.{holds, tree_at}
 
 -- the tree at a place among trees, counted from 0; Undef where there is none

@@ -1,5 +1,5 @@
 -- Forests of labelled trees, and their nodes in prefix order.
-use Rattle.std.specs.Prelude.{ℕ, zero, suc, ◌+◌, max, ◌==◌, if◌then◌else◌, List, [], ◌∷◌, ◌++◌, Bool, true, false}
+use Rattle.std.specs.Prelude.{ℕ, zero, suc, ◌+◌, max, List, [], ◌∷◌, ◌++◌}
 use Rattle.calc_terms.specs.declared.kind.Kind.TheVariants as kind
 use Rattle.calc_terms.specs.Payload.{Payload, bare}
 use Rattle.calc_terms.specs.Node.{Node}

@@ -1,7 +1,7 @@
 -- One node of a forest, wherever it stands.
-use Rattle.std.specs.Prelude.{ℕ, ◌-◌, ◌<◌, ◌≡◌, ◌⊎◌, ◌==◌, if◌then◌else◌, Bool, true, false, nat_lt}
+use Rattle.std.specs.Prelude.{ℕ, ◌-◌, ◌==◌, if◌then◌else◌, Bool, true, false, nat_lt}
 use Rattle.calc_terms.specs.Payload.{Payload}
-use Rattle.tree_handles.specs.Forest.{Label, Forest, empty, tree, join, kids, root_count, root_payload}
+use Rattle.tree_handles.specs.Forest.{Forest, empty, tree, join, kids, root_count, root_payload}
 
 -- a node has the identifier
 abbrev pub holds : ℕ → Forest → Bool

@@ -29,7 +29,12 @@ pub fn node_over(pool: &mut Pool, kind: Kind, child: Handle) -> Result<Handle, F
 }
 
 /// A new last tree of two children.
-pub fn node_over_two(pool: &mut Pool, kind: Kind, left: Handle, right: Handle) -> Result<Handle, Full>
+pub fn node_over_two(
+    pool: &mut Pool,
+    kind: Kind,
+    left: Handle,
+    right: Handle,
+) -> Result<Handle, Full>
     requires stands { Stands pool.old }
     requires takes { takes_kind kind 2 ≡ true }
     requires first { IsHanded left (forest pool.old) }

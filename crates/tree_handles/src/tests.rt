@@ -361,7 +361,11 @@ fn play(pool: &mut Pool, draws: &mut Draws, mut sum: u64) -> (u32, u64)
 fn many_calls_leave_the_bytes_of_the_plain_trees(rt: HostRuntime) -> Result<(), Fail> {
     let mut pool = opened(rt.alloc(), 480)?;
     make_all(&rt, &mut pool, &SUM);
-    make_all(&rt, &mut pool, &[Call::Copy(2), Call::Node(Kind::Mult), Call::Copy(3)]);
+    make_all(
+        &rt,
+        &mut pool,
+        &[Call::Copy(2), Call::Node(Kind::Mult), Call::Copy(3)],
+    );
     let mut draws = Draws(35);
     let mut sum = START;
     let mut made = 0u32;
@@ -371,5 +375,60 @@ fn many_calls_leave_the_bytes_of_the_plain_trees(rt: HostRuntime) -> Result<(), 
         sum = folded;
         assert_eq!(rt; (made, sum), (count, bytes));
     }
+    Ok(())
+}
+
+/// What a node is, and the value of a number or the first letter of a name.
+fn read(pool: &Pool, id: Id) -> Option<(Kind, i128)>
+    requires { Stands pool.now }
+{
+    if !is_node(pool, id) {
+        return None;
+    }
+    let kind = kind(pool, id);
+    let value = match kind {
+        Kind::Num => rational(pool, id).num(),
+        Kind::Sym => name(pool, id).bytes().first().map_or(0, |b| i128::from(*b)),
+        _ => i128::from(children(pool, id)),
+    };
+    Some((kind, value))
+}
+
+/// The part of a tree at the end of a path of places.
+fn part(pool: &Pool, root: Id, path: &[u16]) -> Option<Id>
+    requires { Stands pool.now }
+{
+    let mut id = root;
+    for at in path {
+        if !is_node(pool, id) || *at >= children(pool, id) {
+            return None;
+        }
+        id = child_id(pool, id, *at);
+    }
+    Some(id)
+}
+
+#[test]
+fn what_upper_calls_give_is_read(rt: HostRuntime) -> Result<(), Fail> {
+    let mut pool = opened(rt.alloc(), 512)?;
+    let root = upper::root_of_difference(&mut pool, Name::ans()).expect(&rt, "it fits");
+    let parts: [(&[u16], (Kind, i128)); 6] = [
+        (&[], (Kind::Root, 1)),
+        (&[0], (Kind::Add, 2)),
+        (&[0, 0], (Kind::Num, 5)),
+        (&[0, 1], (Kind::Mult, 2)),
+        (&[0, 1, 0], (Kind::Num, -1)),
+        (&[0, 1, 1], (Kind::Sym, i128::from(b'a'))),
+    ];
+    for (path, node) in parts {
+        let id = part(&pool, root.id(), path).expect(&rt, "it is there");
+        assert_eq!(rt; read(&pool, id), Some(node), "{path:?}");
+    }
+    assert!(rt; is_node(&pool, root.id()));
+    assert_eq!(rt; tree_bytes(&pool, root.id()), 120);
+    assert_eq!(rt; tree_nodes(&pool, root.id()), 6);
+    assert_eq!(rt; tree_depth(&pool, root.id()), 4);
+    let larger = upper::one_of_two(&mut pool, 3, 4).expect(&rt, "it fits");
+    assert_eq!(rt; read(&pool, larger.id()), Some((Kind::Num, 4)));
     Ok(())
 }

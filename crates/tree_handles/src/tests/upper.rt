@@ -1,4 +1,4 @@
-//! Trial upper calls.
+//! Calls as the crates above make them: they are handed whole trees and give one.
 ghost use Rattle.std.specs.Prelude.{◌≡◌, ◌==◌, ◌⊎◌, ℕ, true, false, IfOk, IfErr, OnOk, [], ◌∷◌, pos, neg_ℤ};
 ghost use Rattle.calc_terms.specs.Fractions.{lowest};
 ghost use Rattle.calc_terms.specs.Rat.{value_of};
@@ -9,9 +9,8 @@ ghost use Rattle.tree_handles.specs.Handed.{IsHanded, Gives, KeepsFront};
 ghost use Rattle.tree_handles.specs.Roots.{root_tree, without_root};
 ghost use Rattle.tree_handles.specs.Standing.{Stands, forest, KeepsRefusals, Refuses};
 
-
-use crate::{Handle, node_over_two, number, rational, release};
-use calc_terms::{Kind, Rat};
+use crate::{Handle, node_over, node_over_two, number, rational, release, symbol};
+use calc_terms::{Kind, Name, Rat};
 use node_pool::{Full, Pool};
 
 /// `a + (-1)×b`.
@@ -34,7 +33,7 @@ pub fn difference(pool: &mut Pool, a: Handle, b: Handle) -> Result<Handle, Full>
 }
 
 /// One of two numbers, which both go.
-pub fn larger(pool: &mut Pool, a: Handle, b: Handle) -> Result<Handle, Full>
+pub fn kept_number(pool: &mut Pool, a: Handle, b: Handle) -> Result<Handle, Full>
     requires stands { Stands pool.old }
     requires first { IsHanded a (forest pool.old) }
     requires second { IsHanded b (forest pool.old) }
@@ -61,4 +60,27 @@ fn chosen(x: Rat, y: Rat) -> Rat
     ensures { (value_of result ≡ value_of x) ⊎ (value_of result ≡ value_of y) }
 {
     if x.den() == 1 { y } else { x }
+}
+
+/// The root of `5 + (-1)×x`.
+pub fn root_of_difference(pool: &mut Pool, name: Name) -> Result<Handle, Full>
+    requires stands { Stands pool.old }
+    ensures stands { Stands pool.new }
+{
+    let five = number(pool, Rat::whole(5))?;
+    let name = symbol(pool, name)?;
+    let difference = difference(pool, five, name)?;
+    let root = node_over(pool, Kind::Root, difference)?;
+    Ok(root)
+}
+
+/// One of two numbers.
+pub fn one_of_two(pool: &mut Pool, n: i8, m: i8) -> Result<Handle, Full>
+    requires stands { Stands pool.old }
+    ensures stands { Stands pool.new }
+{
+    let n = number(pool, Rat::whole(i128::from(n)))?;
+    let m = number(pool, Rat::whole(i128::from(m)))?;
+    let kept_number = kept_number(pool, n, m)?;
+    Ok(kept_number)
 }

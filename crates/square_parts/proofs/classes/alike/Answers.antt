@@ -1,4 +1,4 @@
-use Rattle.std.proofs.Common.{◌≡◌, ℕ, ◌*◌, ◌/◌, sym, ◌∙◌, refl}
+use Rattle.std.proofs.Common.{sym, refl}
 use Rattle.std.proofs.lemmas.Nat.Gcd.{IsGcd-swap}
 use Rattle.square_parts.proofs.SquareFactors.{divisor_positive, first_square, alike_roots, alike_turned, first_part, second_part}
 use Rattle.square_parts.proofs.classes.alike.Goals as goal
@@ -16,9 +16,10 @@ returns-in_err-a-clause-found c =
 
 pub returns-in_err-b-clause-found : goal.returns-in_err-b-clause-found
 returns-in_err-b-clause-found c =
-    rw c.from_residual-in_err-b.ensures
-    (λ some. cc,
-      λ h. let (u, e) = first_square _ _ _ c.requires.s_positive c.requires.r_positive (IsGcd-swap _ _ _ c.gcd-shared.ensures) (alike_turned _ _ h) in absurd (c.in_err-b.ensures.no_square refl u (sym e)))
+    rw c.from_residual-in_err-b.ensures (
+      λ some. cc,
+      λ h. let (u, e) = first_square _ _ _ c.requires.s_positive c.requires.r_positive (IsGcd-swap _ _ _ c.gcd-shared.ensures) (alike_turned _ _ h) in absurd (c.in_err-b.ensures.no_square refl u (sym e)),
+    )
 
 pub returns-clause-found : goal.returns-clause-found
 returns-clause-found c = (λ some. alike_roots _ _ _ c.requires.r_positive c.requires.s_positive c.gcd-shared.ensures _ _ c.in_ok-a.ensures.square c.in_ok-b.ensures.square, λ h. refl)

@@ -13,6 +13,6 @@ pub returns-clause-clean : goal.returns-clause-clean
 returns-clause-clean c =
     clean_with_rest c.args.found c.requires.found c.requires.no_other
     (elim c.if-found-gt-SQUARE_OF_TRIAL_LIMIT.branch [
-      then-found-gt-SQUARE_OF_TRIAL_LIMIT+else-root-found w ↦ rounded_no_square c.args.found.rest w.isqrt-root.result w.isqrt-root.ensures.square_at_most w.isqrt-root.ensures.next_square_above w.if-root-found.false
-    | else-found-gt-SQUARE_OF_TRIAL_LIMIT w ↦ small_no_square c.args.found.rest c.requires.no_other w.if-found-gt-SQUARE_OF_TRIAL_LIMIT.false
+      | then-found-gt-SQUARE_OF_TRIAL_LIMIT+else-root-found w ↦ rounded_no_square c.args.found.rest w.isqrt-root.result w.isqrt-root.ensures.square_at_most w.isqrt-root.ensures.next_square_above w.if-root-found.false
+      | else-found-gt-SQUARE_OF_TRIAL_LIMIT w ↦ small_no_square c.args.found.rest c.requires.no_other w.if-found-gt-SQUARE_OF_TRIAL_LIMIT.false
     ])

@@ -1,7 +1,5 @@
-use Rattle.std.proofs.Common.{◌≡◌, true, ◌∙◌, ap, refl}
+use Rattle.std.proofs.Common.{refl}
 use Rattle.calc_terms.specs.Payload.{bare}
-use Rattle.tree_handles.specs.Forest.{Forest}
-use Rattle.tree_handles.specs.Roots.{has_root, without_root}
 use Rattle.tree_handles.specs.Standing.{forest}
 use Rattle.tree_handles.proofs.Fronts.{behind_first, behind_later, front_same, front_end, front_without}
 use Rattle.tree_handles.proofs.Given.{represents_none, represents_handed, represents_with, represents_node, gives, handed_beside}

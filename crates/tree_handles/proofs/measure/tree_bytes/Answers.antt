@@ -1,5 +1,4 @@
-use Rattle.std.proofs.Common.{◌≡◌, ◌-◌, sym, ◌∙◌}
-use Rattle.tree_handles.specs.Forest.{bytes_in}
+use Rattle.std.proofs.Common.{sym, ◌∙◌}
 use Rattle.tree_handles.specs.Inside.{tree_at}
 use Rattle.tree_handles.specs.Standing.{forest}
 use Rattle.tree_handles.proofs.Copying.{tree_here}

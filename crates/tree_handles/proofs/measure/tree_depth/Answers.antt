@@ -1,4 +1,4 @@
-use Rattle.std.proofs.Common.{◌≡◌, max, ◌+◌, ◌-◌, ◌≤◌, ◌<◌, ◌≢◌, ℕ, length, get_or, ap, sym, ◌∙◌, arith, refl}
+use Rattle.std.proofs.Common.{◌≡◌, max, ◌-◌, ◌<◌, length, get_or, sym, ◌∙◌, arith, refl}
 use Rattle.std.proofs.lemmas.List.{length-set}
 use Rattle.std.proofs.Math.ListN.{set}
 use Rattle.node_pool.proofs.Cuts.{boundary_le}

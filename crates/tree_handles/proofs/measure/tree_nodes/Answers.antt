@@ -1,8 +1,8 @@
-use Rattle.std.proofs.Common.{◌≡◌, ◌+◌, ◌-◌, ◌≤◌, ℕ, ap, sym, ◌∙◌, arith}
+use Rattle.std.proofs.Common.{◌≡◌, sym, ◌∙◌, arith}
 use Rattle.tree_handles.specs.Forest.{nodes_in}
 use Rattle.tree_handles.specs.Inside.{tree_at}
 use Rattle.tree_handles.specs.Standing.{forest}
-use Rattle.tree_handles.proofs.Measures.{IsBefore, before, left_start, left_in, left_more, left_few, left_done, few_in, one_at}
+use Rattle.tree_handles.proofs.Measures.{before, left_start, left_in, left_more, left_few, left_done, few_in, one_at}
 use Rattle.tree_handles.proofs.Parts.{live_node}
 use Rattle.tree_handles.proofs.Plains.{nodes-plain}
 use Rattle.tree_handles.proofs.measure.tree_nodes.Goals as goal

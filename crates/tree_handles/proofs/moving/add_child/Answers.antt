@@ -1,12 +1,12 @@
-use Rattle.std.proofs.Common.{◌≡◌, refl, ℕ, ◌-◌, ◌+◌, ◌≤◌, ◌⊎◌, true, ap, ◌∙◌, arith, inl, inr}
+use Rattle.std.proofs.Common.{◌≡◌, refl, ℕ, ◌-◌, ◌+◌, ◌≤◌, ◌⊎◌, ap, ◌∙◌, arith, inl, inr}
 use Rattle.node_pool.specs.State.{State}
-use Rattle.node_pool.specs.Nodes.{has, place_of, with_children}
+use Rattle.node_pool.specs.Nodes.{place_of, with_children}
 use Rattle.node_pool.specs.Places.{moved}
 use Rattle.tree_handles.specs.Forest.{arity, with_nth}
 use Rattle.tree_handles.specs.Inside.{kids_of, with_kids}
 use Rattle.tree_handles.specs.Roots.{root_tree, without_root}
-use Rattle.tree_handles.specs.Standing.{forest, Stands, KeepsRefusals}
-use Rattle.tree_handles.proofs.Adding.{IsAdded, added, counted_added, root_live}
+use Rattle.tree_handles.specs.Standing.{forest, Stands}
+use Rattle.tree_handles.proofs.Adding.{added, counted_added, root_live}
 use Rattle.tree_handles.proofs.Releases.{few_nodes}
 use Rattle.tree_handles.proofs.Forests.{stands, keeps, keeps_after}
 use Rattle.tree_handles.proofs.Parts.{live_node}

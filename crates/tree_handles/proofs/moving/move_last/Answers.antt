@@ -1,6 +1,6 @@
 use Rattle.std.proofs.Common.{◌≡◌, ℕ, ◌-◌, ap, ◌∙◌, arith, inr}
 use Rattle.node_pool.specs.State.{State}
-use Rattle.node_pool.specs.Nodes.{used, place_of}
+use Rattle.node_pool.specs.Nodes.{place_of}
 use Rattle.node_pool.specs.Places.{moved}
 use Rattle.tree_handles.specs.Forest.{join}
 use Rattle.tree_handles.specs.Roots.{root_tree, without_root}

@@ -1,6 +1,5 @@
-use Rattle.std.proofs.Common.{◌≡◌, ℕ, ◌+◌, ◌-◌, ap, ◌∙◌, arith, inl, inr}
+use Rattle.std.proofs.Common.{◌≡◌, ◌+◌, ◌-◌, ap, ◌∙◌, arith, inl, inr}
 use Rattle.node_pool.specs.State.{State}
-use Rattle.node_pool.specs.Nodes.{used}
 use Rattle.node_pool.specs.Places.{moved}
 use Rattle.node_pool.proofs.Cuts.{boundary_le}
 use Rattle.tree_handles.specs.Forest.{swapped_nth}

@@ -3,7 +3,7 @@ use Rattle.node_pool.specs.State.{State}
 use Rattle.node_pool.specs.Nodes.{used, with_children}
 use Rattle.node_pool.specs.Places.{moved}
 use Rattle.node_pool.proofs.Cuts.{boundary_le}
-use Rattle.tree_handles.specs.Forest.{arity, tree_nth, join, without_nth, root_id}
+use Rattle.tree_handles.specs.Forest.{arity, tree_nth, join, without_nth}
 use Rattle.tree_handles.specs.Inside.{kids_of, with_kids}
 use Rattle.tree_handles.specs.Standing.{forest, Stands}
 use Rattle.tree_handles.proofs.Distinct.{held_parent}

@@ -6,7 +6,7 @@ use Rattle.tree_handles.specs.Standing.{forest, Stands}
 use Rattle.tree_handles.proofs.Counted.{counted-released_in}
 use Rattle.tree_handles.proofs.Distinct.{distinct}
 use Rattle.tree_handles.proofs.Forests.{stands, keeps}
-use Rattle.tree_handles.proofs.Held.{IsReady, ready, releasable_held, released-owned}
+use Rattle.tree_handles.proofs.Held.{ready, releasable_held, released-owned}
 use Rattle.tree_handles.proofs.Parts.{live_node}
 use Rattle.tree_handles.proofs.releasing.release.Goals as goal
 

@@ -1,5 +1,5 @@
 use Rattle.std.proofs.Common.{◌≤◌, ℕ, List, take}
-use Rattle.poincare_run.specs.Steps.{State}
+use Rattle.poincare_run.specs.States.{State}
 use Rattle.poincare_run.specs.Progress.{Answered, Goes}
 use Rattle.poincare_run.proofs.dialog.Dialog.answer.Given as goal
 

@@ -1,4 +1,4 @@
-use Rattle.std.proofs.Common.{ℕ, ◌*◌, ◌<◌, ◌∙◌, arith, subst}
+use Rattle.std.proofs.Common.{◌<◌, ◌∙◌, arith, subst}
 use Rattle.square_parts.proofs.Steps.{rest_positive}
 use Rattle.square_parts.proofs.Ends.{skip, end_by_square, end_by_limit}
 use Rattle.square_parts.proofs.division.Found.divided_by_candidates.Goals as goal

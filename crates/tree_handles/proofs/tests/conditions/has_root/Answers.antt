@@ -1,4 +1,4 @@
-use Rattle.std.proofs.Common.{◌∙◌, ap, sym, arith}
+use Rattle.std.proofs.Common.{◌∙◌, sym, arith}
 use Rattle.node_pool.proofs.Walk.{starts}
 use Rattle.tree_handles.specs.Roots.{has_root}
 use Rattle.tree_handles.specs.Standing.{forest}

@@ -1,4 +1,4 @@
-use Rattle.std.proofs.Common.{◌≡◌, ◌-◌}
+use Rattle.std.proofs.Common.{◌-◌}
 use Rattle.node_pool.specs.Nodes.{used}
 use Rattle.node_pool.specs.Places.{IsBoundary}
 use Rattle.tree_handles.specs.Roots.{has_root}

@@ -1,7 +1,6 @@
-use Rattle.std.proofs.Common.{◌≡◌, ◌∙◌, ap, sym, arith, false}
-use Rattle.node_pool.specs.Nodes.{has, first_of}
-use Rattle.node_pool.specs.Places.{since, between}
-use Rattle.node_pool.proofs.Cuts.{between_next, between_none, boundary_le}
+use Rattle.std.proofs.Common.{◌∙◌, ap, sym, arith}
+use Rattle.node_pool.specs.Nodes.{has}
+use Rattle.node_pool.proofs.Cuts.{between_none, boundary_le}
 use Rattle.tree_handles.proofs.Tested.{among_here, among_behind, one_more}
 use Rattle.tree_handles.proofs.tests.conditions.is_among.Goals as goal
 

@@ -1,8 +1,6 @@
 use Rattle.std.proofs.Common.{◌∙◌, ap}
 use Rattle.node_pool.specs.Nodes.{has}
-use Rattle.tree_handles.specs.Forest.{Forest}
 use Rattle.tree_handles.specs.Inside.{holds}
-use Rattle.tree_handles.specs.Roots.{root_tree}
 use Rattle.tree_handles.specs.Standing.{forest}
 use Rattle.tree_handles.proofs.Adding.{root_live}
 use Rattle.tree_handles.proofs.Copying.{tree_here}

@@ -1,17 +1,14 @@
-use Rattle.std.proofs.Common.{◌≡◌, ◌⊎◌, inl, inr, true, ℕ, ◌∙◌, ap, sym, subst, refl}
+use Rattle.std.proofs.Common.{◌≡◌, ◌⊎◌, inl, inr, ◌∙◌, ap, sym}
 use Rattle.calc_terms.specs.Fractions.{Fraction}
 use Rattle.calc_terms.specs.Rat.{value_of}
 use Rattle.calc_terms.specs.Trees.{Tree, num, is_num}
-use Rattle.tree_handles.specs.Expressions.{plain}
-use Rattle.tree_handles.specs.Forest.{Forest}
-use Rattle.tree_handles.specs.Handed.{IsHanded, KeepsFront}
-use Rattle.tree_handles.specs.Roots.{root_tree, without_root}
+use Rattle.tree_handles.specs.Roots.{without_root}
 use Rattle.tree_handles.specs.Standing.{forest}
 use Rattle.tree_handles.proofs.Fronts.{behind_first, behind_later, front_same, front_at, front_without, front_after}
 use Rattle.tree_handles.proofs.Given.{gives_as, handed_beside, handed_at, owned}
 use Rattle.tree_handles.proofs.Lasts.{plain_root}
 use Rattle.tree_handles.proofs.Roots.{root_held}
-use Rattle.tree_handles.proofs.tests.upper.larger.Goals as goal
+use Rattle.tree_handles.proofs.tests.upper.kept_number.Goals as goal
 
 pub rational-x-requires-clause-live : goal.rational-x-requires-clause-live
 rational-x-requires-clause-live c = rw c.id.ensures (root_held c.args.a (forest c.args.pool.now) c.requires.first.root)
@@ -38,8 +35,8 @@ returns-clause-ok c =
     let both = c.release-2.ensures.owned (owned (handed_at (handed_beside c.args.a c.requires.apart c.requires.second) gone)) in
     gives_as c.in_ok-number.ensures.given (both ∙ ap (without_root c.args.b) gone)
     (λ t e. one_of (value_of c.chosen-value.result) (value_of c.rational-x.result) (value_of c.rational-y.result) t _ _ e c.chosen-value.ensures
-        (sym (plain_root c.args.a c.requires.stands c.requires.first.root) ∙ rw (← c.id.ensures) c.rational-x.ensures.plain)
-        (sym (plain_root c.args.b c.requires.stands c.requires.second.root) ∙ rw (← c.id-2.ensures) c.rational-y.ensures.plain))
+    (sym (plain_root c.args.a c.requires.stands c.requires.first.root) ∙ rw (← c.id.ensures) c.rational-x.ensures.plain)
+    (sym (plain_root c.args.b c.requires.stands c.requires.second.root) ∙ rw (← c.id-2.ensures) c.rational-y.ensures.plain))
 
 pub returns-clause-front : goal.returns-clause-front
 returns-clause-front c =
