@@ -1,18 +1,14 @@
 -- The nodes of what a sum or a product has made so far.
-use Rattle.std.specs.Prelude.{ℕ, suc, ◌+◌, ◌≡◌, ◌≤◌, List, [], ◌∷◌, ◌++◌, Bool, true, false, Option, Some, None, ◌==◌, if◌then◌else◌}
+use Rattle.std.specs.Prelude.{ℕ, ◌+◌, ◌≡◌, ◌≤◌, List, [], ◌∷◌, ◌++◌, Bool, true, false, ◌==◌, if◌then◌else◌}
 use Rattle.std.proofs.Common.{refl, sym, ap, ◌∙◌, arith, append_assoc, append-nil}
 use Rattle.std.proofs.lemmas.Bool.{eqb-true}
 use Rattle.calc_terms.specs.declared.kind.Kind.{Kind}
 use Rattle.calc_terms.specs.declared.kind.Kind.TheVariants as kind
-use Rattle.calc_terms.specs.Tokens.{Token, literal, name, undef_mark, root_mark, plus_mark, minus_mark, times_mark, slash_mark, caret_mark, left_mark, right_mark, arrow_mark}
-use Rattle.calc_terms.specs.Trees.{Tree, num, symbol, undef, add, mult, power, root, neg, sub, div, Trees, none, more, append, count}
-use Rattle.calc_terms.specs.Grammar.{IsSum, SoFar, single, summed, multiplied, as_tree, plus_term, minus_term, times_factor, over_factor, joined_tree, joins, Sum, first_term, plus_more, minus_more, Signed, minus_signed, plain_signed, Product, first_factor, times_more, over_more, Right, minus_right, plain_right, Joined, one_power, another_power, Power, plain_power, raised_power, Exponent, minus_exponent, plain_exponent, Primary, a_literal, a_name, an_undef, parenthesized, a_root}
-use Rattle.calc_parser.specs.declared.nesting.Open.{Open}
-use Rattle.calc_parser.specs.declared.nesting.Open.TheVariants as opened
-use Rattle.calc_parser.specs.declared.nesting.Level.TheVariants as level
-use Rattle.calc_parser.specs.declared.reader.Expects.TheVariants.{Operand, Parenthesis, Operator}
-use Rattle.calc_parser.specs.Postfix.{Node, leaf, parent, postfix, postfixes}
-use Rattle.calc_parser.specs.Automaton.{State, state, Ended, ended, gathered, end_power, end_factor, end_term, end_powers, end_product, sum_nodes, begin_operand, minus_in, leave_parentheses, step, when_closed, finish, then_run, run, start}
+use Rattle.calc_terms.specs.Tokens.{Token}
+use Rattle.calc_terms.specs.Trees.{Tree, add, mult, Trees, none, more, append, count}
+use Rattle.calc_terms.specs.Grammar.{SoFar, single, summed, multiplied, as_tree, plus_term, times_factor, joined_tree, Sum, first_term, plus_more, minus_more, Product, first_factor, times_more, over_more}
+use Rattle.calc_parser.specs.Postfix.{Node, parent, postfix, postfixes}
+use Rattle.calc_parser.specs.Automaton.{gathered}
 
 pub postfixes-append : (ts us : Trees) → postfixes (append ts us) ≡ postfixes ts ++ postfixes us
 postfixes-append none us = refl

@@ -1,21 +1,18 @@
 -- What is read is a sum.
-use Rattle.std.specs.Prelude.{ℕ, suc, ◌+◌, ◌≡◌, ◌≤◌, List, [], ◌∷◌, ◌++◌, Bool, true, false, Option, Some, None}
-use Rattle.std.proofs.Common.{refl, sym, ap, ◌∙◌, subst, arith, append_assoc, append-nil}
-use Rattle.calc_terms.specs.declared.kind.Kind.{Kind}
+use Rattle.std.specs.Prelude.{◌≡◌, List, [], ◌∷◌, ◌++◌, Bool, true, false, Option, Some, None}
+use Rattle.std.proofs.Common.{refl, sym, ap, ◌∙◌, subst, append_assoc, append-nil}
 use Rattle.calc_terms.specs.declared.kind.Kind.TheVariants as kind
 use Rattle.calc_terms.specs.Tokens.{Token, literal, name, undef_mark, root_mark, plus_mark, minus_mark, times_mark, slash_mark, caret_mark, left_mark, right_mark, arrow_mark}
-use Rattle.calc_terms.specs.Trees.{Tree, num, symbol, undef, add, mult, power, root, neg, sub, div, Trees, none, more, append, count}
-use Rattle.calc_terms.specs.Grammar.{IsSum, SoFar, single, summed, multiplied, as_tree, plus_term, minus_term, times_factor, over_factor, joined_tree, joins, Sum, first_term, plus_more, minus_more, Signed, minus_signed, plain_signed, Product, first_factor, times_more, over_more, Right, minus_right, plain_right, Joined, one_power, another_power, Power, plain_power, raised_power, Exponent, minus_exponent, plain_exponent, Primary, a_literal, a_name, an_undef, parenthesized, a_root}
+use Rattle.calc_terms.specs.Trees.{Tree, num, symbol, undef, root, count}
+use Rattle.calc_terms.specs.Grammar.{IsSum, SoFar, as_tree, joins, Sum, plain_power, Primary, a_literal, a_name, an_undef, parenthesized, a_root}
 use Rattle.calc_parser.specs.declared.nesting.Open.{Open}
 use Rattle.calc_parser.specs.declared.nesting.Open.TheVariants as opened
 use Rattle.calc_parser.specs.declared.reader.Expects.TheVariants.{Operand, Parenthesis, Operator}
 use Rattle.calc_parser.specs.declared.reader.Expects.{Expects}
-use Rattle.calc_parser.specs.Postfix.{Node, leaf, parent, postfix, postfixes}
-use Rattle.calc_parser.specs.Automaton.{State, state, Ended, ended, gathered, end_power, end_factor, end_term, end_powers, end_product, sum_nodes, begin_operand, at_operand, at_parenthesis, at_operator, join_power, minus_in, leave_parentheses, step, when_closed, finish, then_run, run, start}
-use Rattle.calc_parser.proofs.Contexts.{begins_sum, begins_term, begins_right, begins_exponent, begins_factor, sum_alone, term_alone, factor_alone, term_factor, sum_term, right_factor}
-use Rattle.calc_parser.proofs.Made.{postfixes-append, postfixes-one_more, count-one_more, gathered_many, alone_nodes, joined_nodes, product_nodes, product_count, HasFactors, sum_nodes_of, sum_count, HasTerms, whole_product, whole_sum, times_nodes, times_count, plus_nodes, plus_count, times_has, plus_has, has_factors, has_terms}
-use Rattle.calc_parser.proofs.ReadsSums.{joins_before}
-use Rattle.calc_parser.proofs.Spots.{is_joined, JoinsWhere, Spot, JoinedAt, ProductAt, SumAt, joined_as, product_as, sum_as, power_alone, mark_between, mark_before, unary_group, binary_group, PowerEnds, alone_ends, only_exponents, base_ends, exponent_sign_ends, power_ends, FactorEnds, no_right, times_ends, slash_ends, factor_sign_ends, factor_ends, term_place, powers_end, TermEnds, no_term, first_ends, plus_ends, minus_ends, term_sign_ends, term_ends, product_whole, product_end, sum_whole, at_start, in_parentheses, in_root, behind_plus, behind_minus, behind_term_sign, behind_times, behind_slash, behind_factor_sign, behind_powers, behind_base, behind_exponent_sign}
+use Rattle.calc_parser.specs.Postfix.{Node, parent, postfix, postfixes}
+use Rattle.calc_parser.specs.Automaton.{State, state, Ended, gathered, end_power, end_powers, end_product, sum_nodes, begin_operand, at_operand, at_parenthesis, at_operator, join_power, minus_in, leave_parentheses, step, when_closed, finish, then_run, run, start}
+use Rattle.calc_parser.proofs.Made.{product_nodes, sum_nodes_of}
+use Rattle.calc_parser.proofs.Spots.{is_joined, JoinsWhere, Spot, JoinedAt, ProductAt, SumAt, joined_as, power_ends, powers_end, product_whole, product_end, sum_whole, at_start, in_parentheses, in_root, behind_plus, behind_minus, behind_term_sign, behind_times, behind_slash, behind_factor_sign, behind_powers, behind_base, behind_exponent_sign}
 
 -- ---- states
 

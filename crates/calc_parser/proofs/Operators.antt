@@ -1,20 +1,20 @@
 -- What the reader does behind an operand is what the automaton does.
-use Rattle.std.specs.Prelude.{ℕ, ◌≡◌, ◌⊎◌, List, ◌∷◌, ◌++◌, Option, Some, None, Result}
-use Rattle.std.proofs.Common.{refl, sym, ap, ◌∙◌, subst, inl, inr}
+use Rattle.std.specs.Prelude.{ℕ, ◌≡◌, ◌⊎◌, List, ◌∷◌, ◌++◌, Some, Result}
+use Rattle.std.proofs.Common.{sym, ap, ◌∙◌, subst, inl, inr}
 use Rattle.calc_terms.specs.declared.kind.Kind.TheVariants as kind
 use Rattle.calc_terms.specs.declared.name.Name.{Name}
-use Rattle.calc_terms.specs.Tokens.{Token, name, undef_mark, root_mark, plus_mark, minus_mark, times_mark, slash_mark, left_mark, right_mark}
+use Rattle.calc_terms.specs.Tokens.{Token}
 use Rattle.calc_tokens.specs.declared.tokens.What.{What}
 use Rattle.calc_tokens.specs.declared.tokens.What.TheVariants as what
 use Rattle.calc_tokens.specs.Tokens.{token_of}
 use Rattle.calc_parser.specs.declared.nesting.Open.{Open}
 use Rattle.calc_parser.specs.declared.nesting.Open.TheVariants as opened
 use Rattle.calc_parser.specs.declared.reader.Expects.{Expects}
-use Rattle.calc_parser.specs.declared.reader.Expects.TheVariants.{Operand, Operator}
+use Rattle.calc_parser.specs.declared.reader.Expects.TheVariants.{Operand}
 use Rattle.calc_parser.specs.declared.reader.Reader.{Reader}
 use Rattle.calc_parser.specs.declared.postfix.Postfix.{Postfix}
 use Rattle.calc_parser.specs.Postfix.{Node}
-use Rattle.calc_parser.specs.Automaton.{State, state, Ended, ended, gathered, end_power, end_powers, end_product, sum_nodes, begin_operand, leave_parentheses, join_power, at_operator}
+use Rattle.calc_parser.specs.Automaton.{State, state, ended, gathered, end_power, end_powers, end_product, sum_nodes, begin_operand, leave_parentheses, join_power, at_operator}
 use Rattle.calc_parser.specs.Reader.{open_in, nodes_in, state_in, IsStep}
 
 -- the state behind something that opens

@@ -1,6 +1,6 @@
 -- How much room the nodes and what is open take.
-use Rattle.std.specs.Prelude.{ℕ, suc, ◌+◌, ◌≡◌, ◌≤◌, ◌<◌, max, List, [], ◌∷◌, length, Option, Some, None}
-use Rattle.std.proofs.Common.{refl, sym, ap, ◌∙◌, arith}
+use Rattle.std.specs.Prelude.{◌+◌, ◌≡◌, ◌≤◌, List, [], ◌∷◌, length, Some}
+use Rattle.std.proofs.Common.{ap, arith}
 use Rattle.calc_parser.specs.declared.nesting.Open.{Open}
 use Rattle.calc_parser.specs.declared.nesting.Open.TheVariants.{Parentheses, Root, Sum, Difference, NegatedTerm, Product, Quotient, NegatedFactor, Joined, Power, NegatedExponent}
 use Rattle.calc_parser.specs.Automaton.{weight_of, weight}

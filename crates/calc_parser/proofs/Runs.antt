@@ -1,6 +1,6 @@
 -- A run over a list of tokens, by place.
-use Rattle.std.specs.Prelude.{ℕ, suc, ◌+◌, ◌≡◌, ◌≤◌, ◌<◌, List, [], ◌∷◌, map, length, drop, Option, Some, None, Result, Ok, Err, MatchResult, IfErr, IfOk}
-use Rattle.std.proofs.Common.{refl, sym, ap, ◌∙◌, arith, get_or, drop-cons, add-one}
+use Rattle.std.specs.Prelude.{ℕ, suc, ◌+◌, ◌≡◌, ◌≤◌, ◌<◌, List, [], ◌∷◌, length, drop, Option, Some, None, Result, Ok, Err, MatchResult, IfErr, IfOk}
+use Rattle.std.proofs.Common.{refl, sym, ap, ◌∙◌, get_or, drop-cons, add-one}
 use Rattle.std.proofs.lemmas.List.{get_or-map, drop_all}
 use Rattle.calc_terms.specs.Tokens.{Token, undef_mark}
 use Rattle.calc_terms.specs.Trees.{Tree}

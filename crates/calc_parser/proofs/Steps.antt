@@ -1,19 +1,15 @@
 -- The automaton by what was opened last.
-use Rattle.std.specs.Prelude.{ℕ, ◌+◌, ◌≡◌, ◌≤◌, ◌<◌, List, [], ◌∷◌, ◌++◌, map, length, Option, Some, None}
-use Rattle.std.specs.Option.{option_map}
-use Rattle.std.proofs.Common.{refl, sym, ap, ◌∙◌, arith, length-append}
+use Rattle.std.specs.Prelude.{ℕ, ◌+◌, ◌≡◌, ◌≤◌, ◌<◌, List, [], ◌∷◌, ◌++◌, map, length, Some, None}
+use Rattle.std.proofs.Common.{refl, ap, ◌∙◌, arith, length-append}
 use Rattle.std.proofs.lemmas.List.{map-append}
 use Rattle.calc_terms.specs.Tokens.{Token}
 use Rattle.calc_parser.specs.declared.postfix.Step.{Step}
 use Rattle.calc_parser.specs.declared.nesting.Open.{Open}
-use Rattle.calc_parser.specs.declared.nesting.Open.TheVariants as opened
 use Rattle.calc_parser.specs.declared.nesting.Level.{Level}
 use Rattle.calc_terms.specs.declared.kind.Kind.{Kind}
-use Rattle.calc_parser.specs.declared.nesting.Level.TheVariants as level
-use Rattle.calc_parser.specs.declared.nesting.Place.{Place}
 use Rattle.calc_parser.specs.declared.nesting.Place.TheVariants.{Child, Right}
 use Rattle.calc_parser.specs.Postfix.{Node, parent}
-use Rattle.calc_parser.specs.Automaton.{completed, onward, complete, ended, place_in, placed, take_place, weight_of, weight}
+use Rattle.calc_parser.specs.Automaton.{completed, onward, complete, ended, place_in, placed, take_place, weight}
 use Rattle.calc_parser.specs.Reader.{innermost, outer, innermost_completed, innermost_place, node_of}
 use Rattle.calc_parser.proofs.Room.{weight_of_pos}
 

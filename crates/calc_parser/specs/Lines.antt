@@ -1,5 +1,5 @@
 -- Lines of the grammar, and what is said of their trees.
-use Rattle.std.specs.Prelude.{ℕ, ◌≡◌, ◌≤◌, ◌<◌, List, Option, Some, None}
+use Rattle.std.specs.Prelude.{ℕ, ◌≡◌, ◌<◌, List, Option, Some, None}
 use Rattle.std.specs.Option.{option_map}
 use Rattle.calc_terms.specs.Tokens.{Token}
 use Rattle.calc_terms.specs.Trees.{Tree, depth, nodes}

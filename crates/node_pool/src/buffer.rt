@@ -84,8 +84,7 @@ impl Buffer {
         requires inside { at < used self.now.nodes }
         ensures value { result ≡ header_of (first_of (since at self.now.nodes)) }
         ensures next { IsBoundary (at + size_of_header result) self.now.nodes }
-        ensures rest { since at self.now.nodes
-            ≡ first_of (since at self.now.nodes) ∷ since (at + size_of_header result) self.now.nodes }
+        ensures rest { since at self.now.nodes ≡ first_of (since at self.now.nodes) ∷ since (at + size_of_header result) self.now.nodes }
         ensures within { at + size_of_header result ≤ used self.now.nodes }
         ensures kept { IsContents self.now }
     {
@@ -131,9 +130,7 @@ impl Buffer {
     pub fn push(&mut self, id: u16, leaf: Leaf)
         requires usable { IsUsable leaf }
         requires room { size_of_payload (payload_of leaf) ≤ self.old.size - used self.old.nodes }
-        ensures nodes { self.new ≡ record self.old {
-          nodes = self.old.nodes ++ fresh id (payload_of leaf) ∷ [];
-        } }
+        ensures nodes { self.new ≡ record self.old { nodes = self.old.nodes ++ fresh id (payload_of leaf) ∷ [] } }
         ensures kept { IsContents self.new }
     {
         node::write_node(&mut self.store, self.used, id, leaf);

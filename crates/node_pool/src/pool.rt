@@ -42,12 +42,7 @@ impl Pool {
     /// A pool of that many bytes, all free. All memory is taken here.
     pub fn open(alloc: Global, size: u32) -> Result<Pool, AllocError>
         requires { IsPoolSize size }
-        ensures { IfOk result (λ pool. pool ≡ record {
-          nodes = [];
-          size = size;
-          refusals = 0;
-          last_refused = record { needed = 0; free = 0 };
-        }) }
+        ensures { IfOk result (λ pool. pool ≡ record { nodes = []; size = size; refusals = 0; last_refused = record { needed = 0; free = 0 } }) }
     {
         let buffer = Buffer::new(alloc, size)?;
         let taken = Identifiers::new(alloc, size / 8)?;
@@ -158,14 +153,12 @@ impl Pool {
     /// A new node at the end, held once and without children.
     pub fn place(&mut self, leaf: Leaf) -> Result<Id, Full>
         requires { IsUsable leaf }
-        ensures ok { IfOk result (λ id.
-            self.new ≡ record self.old { nodes = self.old.nodes ++ fresh id (payload_of leaf) ∷ [] }) }
+        ensures ok { IfOk result (λ id. self.new ≡ record self.old { nodes = self.old.nodes ++ fresh id (payload_of leaf) ∷ [] }) }
         ensures least { IfOk result (λ id. IsLeastFree id self.old.nodes) }
 
         // Refused exactly where the node is larger than what is free. Only the refusal is kept.
         ensures exactly { IsOk result ↔ (size_of_payload (payload_of leaf) ≤ free_of self.old) }
-        ensures full { IfErr result (λ full.
-            full ≡ record { needed = size_of_payload (payload_of leaf); free = free_of self.old }) }
+        ensures full { IfErr result (λ full. full ≡ record { needed = size_of_payload (payload_of leaf); free = free_of self.old }) }
         ensures counted { IfErr result (λ full. self.new ≡ refused self.old full) }
 
         ensures pool { IsPool self.new }

@@ -6,7 +6,8 @@ ghost use Rattle.square_parts.specs.Divisors.{HasNoDivisorBelow, HasNoOtherDivis
 /// The greatest number up to the trial limit of 10,000 that is no multiple of 2, 3, 5 or 13.
 const LAST_CANDIDATE: u64 = 9991;
 
-/// A number as root * root * clean * rest: its square part and its clean part as far as they are found, and the rest.
+/// A number as root * root * clean * rest: its square part and its clean part as far as they are
+/// found, and the rest.
 #[derive(Clone, Copy)]
 pub(crate) struct Found {
     pub(crate) root: u128,
@@ -62,7 +63,8 @@ impl Found {
         }
     }
 
-    /// Divides by the candidates from 7 on, up to the last or to the first whose square exceeds the rest.
+    /// Divides by the candidates from 7 on, up to the last or to the first whose square exceeds
+    /// the rest.
     pub(crate) fn divided_by_candidates(self) -> Found
         requires found { IsFound self }
         requires below { HasNoDivisorBelow 7 self.rest }

@@ -4,12 +4,13 @@ ghost use Rattle.std.specs.Int.{◌∣◌};
 ghost use Rattle.calc_terms.specs.SquareClasses.{are_alike};
 ghost use Rattle.calc_terms.specs.Clean.{IsClean};
 
-/// Radicands are alike where their product is the square of a number above 0, and this is an equivalence.
+/// Radicands are alike where their product is a square above 0, and this is an equivalence.
 pub fn alike_is_an_equivalence()
     ensures square { (r s : ℕ) → (are_alike r s ≡ true) ↔ ((t : ℕ) × (0 < t) × (t * t ≡ r * s)) }
     ensures reflexive { (r : ℕ) → 0 < r → are_alike r r ≡ true }
     ensures symmetric { (r s : ℕ) → are_alike r s ≡ true → are_alike s r ≡ true }
-    ensures transitive { (r s t : ℕ) → are_alike r s ≡ true → are_alike s t ≡ true → are_alike r t ≡ true }
+    ensures transitive { (r s t : ℕ) → are_alike r s ≡ true → are_alike s t ≡ true
+        → are_alike r t ≡ true }
 {}
 
 /// No square of a number above 1 divides a clean number below 10^12.

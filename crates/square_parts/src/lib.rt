@@ -1,4 +1,4 @@
-//! Square parts of whole numbers by trial division, and whether two radicands lie in one square class.
+//! Square parts of whole numbers, and whether two radicands lie in one square class.
 #![tactic(auto)]
 
 mod classes;

@@ -1,9 +1,9 @@
 use Rattle.std.specs.Prelude.{◌≡◌, length, map}
 use Rattle.std.specs.Option.{option_map}
-use Rattle.std.proofs.Common.{sym, ap, ◌∙◌, subst, arith}
+use Rattle.std.proofs.Common.{sym, ap, ◌∙◌, arith}
 use Rattle.calc_terms.specs.Leaf.{name_of}
-use Rattle.calc_terms.specs.Trees.{depth, nodes}
-use Rattle.calc_parser.specs.Reader.{tokens_in, steps_in, node_of}
+use Rattle.calc_terms.specs.Trees.{depth}
+use Rattle.calc_parser.specs.Reader.{tokens_in, node_of}
 use Rattle.calc_parser.specs.Postfix.{postfix}
 use Rattle.calc_parser.proofs.Checks.{line_of_sum, sum_of_line}
 use Rattle.calc_parser.proofs.Measures.{nodes_found, length_map}

@@ -1,4 +1,4 @@
-use Rattle.std.proofs.Common.{◌≡◌, ◌≤◌, drop, map, length, List, []}
+use Rattle.std.proofs.Common.{◌≡◌, ◌≤◌, drop, map, List, []}
 use Rattle.arrayvec.specs.ArrayVec.{array_vec_len}
 use Rattle.calc_terms.specs.Tokens.{Token}
 use Rattle.calc_parser.specs.Depths.{deepest, with_nodes}

@@ -1,10 +1,10 @@
-use Rattle.std.specs.Prelude.{◌≡◌, ◌<◌, ◌≤◌, ◌*◌, ◌+◌, length}
-use Rattle.std.proofs.Common.{arith, sym}
+use Rattle.std.specs.Prelude.{◌≡◌, ◌<◌, ◌≤◌, length}
+use Rattle.std.proofs.Common.{arith}
 use Rattle.calc_terms.specs.Trees.{Tree}
 use Rattle.calc_terms.specs.Grammar.{IsSum}
 use Rattle.calc_tokens.specs.Tokens.{token_of}
-use Rattle.calc_parser.specs.Automaton.{finish, run, start}
-use Rattle.calc_parser.specs.Reader.{tokens_in, token_in, state_in, room_in}
+use Rattle.calc_parser.specs.Automaton.{run, start}
+use Rattle.calc_parser.specs.Reader.{tokens_in, token_in, state_in}
 use Rattle.calc_parser.proofs.Runs.{count_tokens, token_at_place, run_on, run_stops, run_all, no_sum, on_err, finished_sum, finished_none}
 use Rattle.calc_parser.proofs.reader.read.Goals as goal
 

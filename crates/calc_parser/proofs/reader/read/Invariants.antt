@@ -1,4 +1,4 @@
-use Rattle.std.proofs.Common.{◌≡◌, ◌≤◌, ◌*◌, drop, length}
+use Rattle.std.proofs.Common.{◌≡◌, ◌≤◌, ◌*◌, drop}
 use Rattle.calc_parser.specs.Automaton.{run, start}
 use Rattle.calc_parser.specs.Reader.{state_in, room_in, tokens_in}
 use Rattle.calc_parser.proofs.reader.read.Given as goal

@@ -1,4 +1,4 @@
-use Rattle.std.proofs.Common.{sym, ap, ◌∙◌}
+use Rattle.std.proofs.Common.{ap, ◌∙◌}
 use Rattle.std.specs.Prelude.{◌∷◌}
 use Rattle.calc_parser.specs.declared.nesting.Open.TheVariants as opened
 use Rattle.calc_parser.specs.Reader.{open_in, nodes_in, state_in}
