@@ -1,5 +1,6 @@
 pub mod SumLemmas
 pub mod BuildingLemmas
+pub mod WordLemmas
 pub mod ReplyLemmas
 pub mod BufferLemmas
 pub mod ByteLemmas

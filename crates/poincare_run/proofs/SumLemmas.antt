@@ -16,15 +16,15 @@ use Rattle.std.specs.Str.{IsUtf8}
 use Rattle.std.specs.Str.Parse.{ParsesUnsigned, digits_value}
 use Rattle.poincare_run.specs.Sums.{literal, is_digits, literals, onto, is_plus, sum_line}
 
-abbrev AreDigits : List ℕ → Type 0
+abbrev pub AreDigits : List ℕ → Type 0
 AreDigits text = list_all is_ascii_digit text ≡ true
 
 -- this test tells the numerals of std
-own : IsNumeralModel AreDigits (digits_value 10)
-own = numerals_by_value _ (search rules)
+pub digits_are_numerals : IsNumeralModel AreDigits (digits_value 10)
+digits_are_numerals = numerals_by_value _ (search rules)
 
 pub digits_are_utf8 : (text : List ℕ) → AreDigits text → IsUtf8 text
-digits_are_utf8 text h = IsUtf8-from_ascii text (IsAscii-from_digits text (own.to text h))
+digits_are_utf8 text h = IsUtf8-from_ascii text (IsAscii-from_digits text (digits_are_numerals.to text h))
 
 -- digits that are there make a literal, where their value is not too great
 literal_is : (text : List ℕ) → AreDigits text → 0 < length text → literal text ≡ cond (nat_lt (digits_value 10 text) (2 ^ 127)) (Some (digits_value 10 text)) None
@@ -69,9 +69,9 @@ at_none (Err d) P U V e h = h.0
 pub literal_from_parse : {E : Type 0} (text : List ℕ) (r : Result ℕ E) → AreDigits text → ParsesUnsigned 128 10 text r
     → (o : Option ℕ) → o ≡ result_ok r → MatchOption o (literal text ≡ None) (λ v. literal text ≡ cond (nat_lt v (2 ^ 127)) (Some v) None)
 literal_from_parse {E} text (Ok v) h p o e =
-    let k : (0 < length text × digits_value 10 text < 2 ^ 128) × (v ≡ digits_value 10 text) = parse_digits own {E = E} 128 text (Ok v) p h in
+    let k : (0 < length text × digits_value 10 text < 2 ^ 128) × (v ≡ digits_value 10 text) = parse_digits digits_are_numerals {E = E} 128 text (Ok v) p h in
     rw e (literal_is text h k.0.0 ∙ ap (λ n. cond (nat_lt n (2 ^ 127)) (Some n) None) (sym k.1))
-literal_from_parse {E} text (Err d) h p o e = rw e (not_literal text h (parse_digits own {E = E} 128 text (Err d) p h))
+literal_from_parse {E} text (Err d) h p o e = rw e (not_literal text h (parse_digits digits_are_numerals {E = E} 128 text (Err d) p h))
 
 -- where a list is cut
 pub split_at_position : (p : ℕ → Bool) (xs : List ℕ) (r : Option ℕ) → r ≡ position p xs

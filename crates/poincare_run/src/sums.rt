@@ -73,7 +73,7 @@ fn literal(text: &[u8]) -> Option<u128>
 }
 
 /// Whether there is nothing but digits.
-fn all_digits(text: &[u8]) -> bool
+pub fn all_digits(text: &[u8]) -> bool
     ensures { result ≡ list_all is_ascii_digit text.now }
 {
     text.iter().all(|byte| byte.is_ascii_digit())

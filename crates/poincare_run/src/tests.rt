@@ -110,8 +110,15 @@ fn words_and_failures_have_their_status(rt: HostRuntime) -> Result<(), Fail> {
         (&[], "1\n2", 3, &[], 4, "1\n2"),
         (&[], "1+1\n2", 100, &[2], 3, "2\n"),
         (&[], "1+1\n2", 100, &[1], 3, ""),
-        (&["x"], "1", 100, &[], 2, ""),
-        (&["--"], "1", 100, &[], 2, ""),
+        (
+            &["--pool=64"],
+            "1\n1",
+            28,
+            &[],
+            4,
+            "! full needed 40 free 24\n! f",
+        ),
+        (&["x"], "1", 100, &[1], 2, ""),
     ];
     for (words, input, room, failing, status, output) in rows {
         let got = converse(rt.alloc(), words, input.as_bytes(), 4096, room, failing)?;
@@ -121,6 +128,67 @@ fn words_and_failures_have_their_status(rt: HostRuntime) -> Result<(), Fail> {
             output.as_bytes(),
             "{words:?} with {input:?}"
         );
+    }
+    Ok(())
+}
+
+#[test]
+fn the_words_name_the_size_of_the_pool(rt: HostRuntime) -> Result<(), Fail> {
+    let full = "! full needed 40 free 24\n";
+    // The words, the input and the output.
+    let rows = [
+        (["--pool", "64"].as_slice(), "1+1", full),
+        (&["--pool=64"], "1", full),
+        (&["--pool", "104"], "1+1", full),
+        (&["--pool=104"], "9", "9\n"),
+        (&["--pool=0064"], "1", full),
+        (&["--pool", "00000000000000000064"], "1", full),
+        (&["--pool=524280"], "1+1", "2\n"),
+    ];
+    for (words, input, output) in rows {
+        let got = converse(rt.alloc(), words, input.as_bytes(), 4096, 100, &[])?;
+        assert_eq!(rt; got.status, 0, "{words:?}");
+        assert_eq!(rt; got.taken.as_slice(), output.as_bytes(), "{words:?}");
+    }
+    Ok(())
+}
+
+#[test]
+fn other_words_are_refused(rt: HostRuntime) -> Result<(), Fail> {
+    let rows = [
+        ["x"].as_slice(),
+        &[""],
+        &["--"],
+        &["64"],
+        &["--pool"],
+        &["--pool="],
+        &["--pool", ""],
+        &["--pool", "+64"],
+        &["--pool=-64"],
+        &["--pool", "64 "],
+        &["--pool=6x4"],
+        &["--pool", "=64"],
+        &["--Pool", "64"],
+        &["-pool=64"],
+        &["pool", "64"],
+        &["--pools", "64"],
+        &["--pool", "56"],
+        &["--pool", "65"],
+        &["--pool=68"],
+        &["--pool", "524288"],
+        &["--pool=18446744073709551616"],
+        &["--pool=18446744073709551680"],
+        &["--pool=000000000000000000064"],
+        &["--pool", "64", "--pool", "64"],
+        &["--pool=64", "--pool=64"],
+        &["--pool", "64", "x"],
+        &["x", "--pool=64"],
+        &["64", "--pool"],
+    ];
+    for words in rows {
+        let got = converse(rt.alloc(), words, b"1", 4096, 100, &[1])?;
+        assert_eq!(rt; got.status, 2, "{words:?}");
+        assert!(rt; got.taken.is_empty(), "{words:?}");
     }
     Ok(())
 }

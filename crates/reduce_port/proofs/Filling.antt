@@ -1,10 +1,10 @@
 -- A pool in which nodes are placed until one is refused.
-use Rattle.std.proofs.Common.{◌≡◌, ℕ, ◌+◌, ◌≤◌, ◌<◌, [], arith, ap, ◌∙◌}
+use Rattle.std.proofs.Common.{◌≡◌, ℕ, ◌+◌, ◌≤◌, ◌<◌, [], arith, ap, sym, subst, ◌∙◌}
 use Rattle.calc_terms.specs.declared.kind.Kind.TheVariants as kind
 use Rattle.calc_terms.specs.Payload.{bare}
-use Rattle.node_pool.specs.Nodes.{used}
-use Rattle.node_pool.specs.State.{State, free_of}
-use Rattle.tree_handles.proofs.Forests.{bytes-flatten, bytes_in-join}
+use Rattle.node_pool.specs.Nodes.{used, AreNodes, AreDistinct}
+use Rattle.node_pool.specs.State.{State, IsPool, IsPoolSize, free_of}
+use Rattle.tree_handles.proofs.Forests.{bytes-flatten, bytes_in-join, stands}
 use Rattle.tree_handles.specs.Forest.{empty, one_tree, bytes_in}
 use Rattle.tree_handles.specs.Handed.{Ends, KeepsFront}
 use Rattle.tree_handles.specs.Standing.{Stands, forest, KeepsRefusals}
@@ -24,3 +24,9 @@ fewer_free id s t st su k e =
     let more : bytes_in (forest t) ≡ bytes_in (forest s) + bytes_in (one_tree id (bare kind.Undef) empty) = ap bytes_in e.whole ∙ bytes_in-join (forest s) (one_tree id (bare kind.Undef) empty) in
     let fits : used t.nodes ≤ t.size = su.pool.fits in
     omega (arith, bytes_used s st, bytes_used t su, k.size)
+
+-- a pool that was opened
+pub stands_open : (s : State) → s.nodes ≡ [] → IsPoolSize s.size → Stands s
+stands_open s e size =
+    let pool : IsPool s = record { nodes = subst AreNodes (sym e) tt; distinct = subst AreDistinct (sym e) tt; fits = omega (arith, ap used e); size = size } in
+    (stands s empty e pool tt).1

@@ -6,9 +6,10 @@ use tree_handles::Handle;
 
 /// A call that reduces whole trees.
 ///
-/// A reducer may tell two numbers of a tree: `room`, within whose bytes a tree is reduced, and `bits`, with at
-/// most 124 of which no operation overflows. Where it tells one, the refusals that this number bounds come only
-/// for trees that exceed it.
+/// A reducer may tell two numbers of a tree, which depend on the tree alone: `room`, within whose bytes it is
+/// reduced, and `bits`, with at most 124 of which no operation overflows. Where it tells them, bytes are lacking
+/// only for a tree whose `room` is more than was free with the tree's own bytes, and an operation overflows only
+/// for a tree of more `bits` than that.
 pub trait Reducer {
     ghost use Rattle.std.specs.Prelude.{◌≡◌, ◌↔◌, ◌+◌, ◌*◌, ℕ, Option, IfOk, OnOk, [], ◌∷◌};
     ghost use Rattle.breakers.specs.Breakers.{CalmChecks, TripsRose};
@@ -28,8 +29,10 @@ pub trait Reducer {
     ghost use Rattle.tree_handles.specs.Roots.{without_root};
     ghost use Rattle.tree_handles.specs.Standing.{Stands, forest};
 
+    // The bytes within which a tree is reduced, where the reducer tells them.
     ghost room: { Option (Tree → ℕ) };
 
+    // The bits of the numbers in a tree's reduction, where the reducer tells them.
     ghost bits: { Option (Tree → ℕ) };
 
     /// Reduces a tree. The watch is checked once for each of its nodes, children before their parent and from left

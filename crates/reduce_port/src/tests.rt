@@ -3,6 +3,7 @@ ghost use Rattle.std.specs.Prelude.{◌≡◌, ℕ, ◌+◌, IfOk, OnOk, [], ◌
 ghost use Rattle.breakers.specs.Breakers.{CalmChecks};
 ghost use Rattle.breakers.specs.Watch.{states};
 ghost use Rattle.calc_terms.specs.Trees.{nodes};
+ghost use Rattle.node_pool.specs.State.{IsPoolSize};
 ghost use Rattle.reduce_port.specs.Causes.{LacksBytes};
 ghost use Rattle.reduce_port.specs.Rewritings.{Reduces, tree_of};
 ghost use Rattle.tree_handles.specs.Handed.{IsHanded, Gives, KeepsFront};
@@ -12,9 +13,10 @@ ghost use Rattle.tree_handles.specs.Standing.{Stands, forest, Refuses};
 use crate::{ReduceFault, Reducer};
 use breakers::{Breaker, CountBreaker, Interrupted, Watch};
 use calc_terms::{Kind, Rat};
-use node_pool::{Full, Pool};
+use node_pool::{Full, Id, Pool};
+use std::alloc::{AllocError, Global};
 use std::test::Fail;
-use tree_handles::{Handle, kind, move_last, node, node_over, number, rational};
+use tree_handles::{Handle, kind, move_last, node, node_over, number};
 
 /// Answers a number, a symbol and `undef` by themselves. For any other tree it fills the pool, and
 /// so has a refusal to answer.
@@ -77,4 +79,72 @@ fn reduce_twice<R: Reducer, B: Breaker>(
 {
     let once = reducer.reduce(pool, tree, watch)?;
     reducer.reduce(pool, once, watch)
+}
+
+/// A pool with no tree in it.
+fn opened(alloc: Global, size: u32) -> Result<Pool, AllocError>
+    requires { IsPoolSize size }
+    ensures { IfOk result Stands }
+{
+    let pool = Pool::open(alloc, size)?;
+    Ok(pool)
+}
+
+/// A watch over one breaker, which trips after so many polls.
+fn armed(alloc: Global, polls: u64) -> Result<Watch<CountBreaker>, AllocError> {
+    let mut breaker = CountBreaker::new();
+    breaker.arm(polls);
+    let mut breakers = Vec::new(alloc);
+    breakers.push(breaker)?;
+    Ok(Watch::new(breakers))
+}
+
+/// Builds 7 or its opposite, and reduces it twice.
+fn reduce_seven(pool: &mut Pool, is_opposite: bool, watch: &mut Watch<CountBreaker>) -> Result<Handle, ReduceFault>
+    requires { Stands pool.old }
+{
+    let seven = number(pool, Rat::whole(7))?;
+    if is_opposite {
+        let opposite = node_over(pool, Kind::Neg, seven)?;
+        return reduce_twice(&LeafReducer, pool, opposite, watch);
+    }
+    reduce_twice(&LeafReducer, pool, seven, watch)
+}
+
+#[derive(Clone, Copy, Debug, PartialEq, Eq)]
+enum Outcome {
+    Answered(Id),
+    Full(Full),
+    Overflow,
+    Interrupted(Interrupted),
+}
+
+fn outcome_of(reduced: Result<Handle, ReduceFault>) -> Outcome {
+    match reduced {
+        Ok(answer) => Outcome::Answered(answer.id()),
+        Err(ReduceFault::Full(full)) => Outcome::Full(full),
+        Err(ReduceFault::Overflow(_)) => Outcome::Overflow,
+        Err(ReduceFault::Interrupted(interrupted)) => Outcome::Interrupted(interrupted),
+    }
+}
+
+#[test]
+fn any_reducer_is_called_through_its_bound(rt: HostRuntime) -> Result<(), Fail> {
+    let full = Full { needed: 8, free: 0 };
+    let interrupted = Interrupted { by: 0 };
+    for (is_opposite, polls, outcome, nodes, refusals) in [
+        (false, 0, Outcome::Interrupted(interrupted), 1, 0),
+        (false, 1, Outcome::Interrupted(interrupted), 1, 0),
+        (false, 2, Outcome::Answered(Id::of(0)), 1, 0),
+        (true, 0, Outcome::Interrupted(interrupted), 2, 0),
+        // A number has 40 bytes and its opposite 8 more, so that two nodes of 8 bytes fill the pool.
+        (true, 1, Outcome::Full(full), 4, 1),
+    ] {
+        let mut pool = opened(rt.alloc(), 64)?;
+        let mut watch = armed(rt.alloc(), polls)?;
+        let reduced = reduce_seven(&mut pool, is_opposite, &mut watch);
+        assert_eq!(rt; outcome_of(reduced), outcome, "{is_opposite} {polls}");
+        assert_eq!(rt; (pool.nodes(), pool.refusals()), (nodes, refusals), "{is_opposite} {polls}");
+    }
+    Ok(())
 }

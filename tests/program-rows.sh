@@ -1,0 +1,80 @@
+#!/bin/sh
+# Runs the program on rows: its words, its input and its whole output, or the words that it refuses.
+# The last line says how many rows passed and failed; the status is 1 where one failed.
+top=$(cd "$(dirname "$0")/.." && pwd) || exit 1
+program=$top/poincare
+folder=$(mktemp -d) || exit 1
+trap 'rm -rf "$folder"' EXIT
+passed=0
+failed=0
+
+# Builds the program, so that what the build says is not taken for the program's own output.
+"$program" </dev/null >/dev/null 2>&1 || { echo "the program is not built"; exit 1; }
+
+# run STATUS INPUT OUTPUT ERRORS WORD..: texts in the form of printf
+run() {
+    status=$1
+    printf "$2" >"$folder/input"
+    printf "$3" >"$folder/output"
+    printf "$4" >"$folder/errors"
+    shift 4
+    "$program" "$@" <"$folder/input" >"$folder/written" 2>"$folder/said"
+    found=$?
+    if [ "$found" = "$status" ] && cmp -s "$folder/output" "$folder/written" &&
+        cmp -s "$folder/errors" "$folder/said"; then
+        passed=$((passed + 1))
+    else
+        failed=$((failed + 1))
+        echo "failed: words '$*', status $found in place of $status; written, and said:"
+        cat "$folder/written" "$folder/said"
+    fi
+}
+
+# answered INPUT OUTPUT WORD..
+answered() {
+    input=$1
+    output=$2
+    shift 2
+    run 0 "$input" "$output" '' "$@"
+}
+
+# refused WORD..
+refused() {
+    run 2 '1\n' '' 'usage: poincare [--pool N]\n' "$@"
+}
+
+greatest=170141183460469231731687303715884105727
+full='! full needed 40 free 24\n'
+
+answered '1+2+3' '6\n'
+answered '1+1\r\n\n007' '2\n7\n'
+answered '' ''
+answered ' \t\n' ''
+answered '2\303\2273\n1+\n1 + 1\n' '! form\n! form\n! form\n'
+answered '+1\n1++1\n1a\n' '! form\n! form\n! form\n'
+answered "$greatest\n$greatest+1\n" "$greatest\n! overflow $greatest+1\n"
+answered '170141183460469231731687303715884105728\n' '! form\n'
+answered '1+1\n1\n' "$full$full" --pool 64
+answered '1+1\n9\n' "${full}9\n" --pool 104
+answered '1+1\n9\n' "${full}9\n" --pool=104
+answered '1\n' "$full" --pool=0064
+answered '1+2+3\n' '6\n' --pool 524280
+
+refused --pool 65
+refused --pool 56
+refused --pool 524288
+refused --pool
+refused --pool=
+refused --pool +64
+refused --pool -64
+refused --pool=18446744073709551616
+refused --pool 000000000000000000064
+refused --pool 64 --pool 64
+refused --pool=64 --pool=64
+refused --pool 64 x
+refused --
+refused ''
+refused x
+
+echo "$passed passed, $failed failed"
+[ "$failed" = 0 ]
