@@ -100,7 +100,11 @@ fn armed(alloc: Global, polls: u64) -> Result<Watch<CountBreaker>, AllocError> {
 }
 
 /// Builds 7 or its opposite, and reduces it twice.
-fn reduce_seven(pool: &mut Pool, is_opposite: bool, watch: &mut Watch<CountBreaker>) -> Result<Handle, ReduceFault>
+fn reduce_seven(
+    pool: &mut Pool,
+    is_opposite: bool,
+    watch: &mut Watch<CountBreaker>,
+) -> Result<Handle, ReduceFault>
     requires { Stands pool.old }
 {
     let seven = number(pool, Rat::whole(7))?;
@@ -144,7 +148,11 @@ fn any_reducer_is_called_through_its_bound(rt: HostRuntime) -> Result<(), Fail> 
         let mut watch = armed(rt.alloc(), polls)?;
         let reduced = reduce_seven(&mut pool, is_opposite, &mut watch);
         assert_eq!(rt; outcome_of(reduced), outcome, "{is_opposite} {polls}");
-        assert_eq!(rt; (pool.nodes(), pool.refusals()), (nodes, refusals), "{is_opposite} {polls}");
+        assert_eq!(rt;
+            (pool.nodes(), pool.refusals()),
+            (nodes, refusals),
+            "{is_opposite} {polls}"
+        );
     }
     Ok(())
 }

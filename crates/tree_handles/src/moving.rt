@@ -155,6 +155,6 @@ pub fn move_last(pool: &mut Pool, handle: &Handle)
 {
     let from = pool.locate(handle.id());
     let end = behind(pool, from, 1);
-    let used = pool.used();
-    pool.move_block(from, end - from, used);
+    let last = pool.used();
+    pool.move_block(from, end - from, last);
 }

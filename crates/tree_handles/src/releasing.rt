@@ -66,12 +66,12 @@ fn gone(pool: &Pool, place: u32, owed: u64) -> (u32, u64)
     let (first, mut at) = step(pool, place);
     let mut owed = owed - 1 + u64::from(first.children);
     while owed > 0 {
-        let (header, next) = step(pool, at);
-        if header.count > 1 {
+        let (node, next) = step(pool, at);
+        if node.count > 1 {
             break;
         }
         at = next;
-        owed = owed - 1 + u64::from(header.children);
+        owed = owed - 1 + u64::from(node.children);
     }
     (at, owed)
 }

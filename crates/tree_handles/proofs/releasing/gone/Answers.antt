@@ -38,6 +38,6 @@ pub loop-owed-preserved : goal.loop-owed-preserved
 loop-owed-preserved c =
     let ns = c.args.pool.now.nodes in
     let place : IsBoundary c.args.place ns = owed_boundary ns c.args.place c.args.owed (released_at c.args.place c.args.owed ns) c.requires.owed in
-    let few : (first_of (since c.loop-owed.at ns)).count ≤ 1 = subst (λ (h : Header). h.count ≤ 1) c.step-next.ensures.header c.if-header-gt1.false in
+    let few : (first_of (since c.loop-owed.at ns)).count ≤ 1 = subst (λ (h : Header). h.count ≤ 1) c.step-next.ensures.header c.if-node-gt1.false in
     run_more ns c.args.place c.args.owed c.loop-owed.at c.loop-owed.owed c.step-next.result.1 (c.loop-owed.owed - 1 + c.from-in-loop-owed.result) place c.loop-owed.invariant c.loop-owed-test.true few c.step-next.ensures.boundary c.step-next.ensures.next c.step-next.ensures.rest
     (ap (λ (k : ℕ). c.loop-owed.owed - 1 + k) (c.from-in-loop-owed.ensures ∙ ap (λ (h : Header). h.children) c.step-next.ensures.header))
