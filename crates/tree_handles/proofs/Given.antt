@@ -24,33 +24,33 @@ plains-with_nth (suc n) c (tree l b r) = ap (more (grown l.payload (plains b))) 
 -- ---- what a forest represents
 
 pub represents_none : Represents empty none
-represents_none = record { once = tt; whole = tt; plains-are = refl }
+represents_none = record { once = tt; whole = tt; plain_trees = refl }
 
 pub represents_handed : {i : ℕ} {f : Forest} → IsHanded i f → Represents (root_tree i f) (more (plain (root_tree i f)) none)
-represents_handed {i = i} {f = f} h = record { once = h.once; whole = h.whole; plains-are = alone (root_tree i f) (root_arity i f h.root) }
+represents_handed {i = i} {f = f} h = record { once = h.once; whole = h.whole; plain_trees = alone (root_tree i f) (root_arity i f h.root) }
 
 pub represents_with : {c k : Forest} {us ts : Trees} (n : ℕ) → Represents c us → Represents k ts → Represents (with_nth n c k) (inserted n us ts)
 represents_with {c = c} {k = k} n a b = record {
   once = all-with_nth IsOnce n c k a.once b.once;
   whole = all-with_nth IsWhole n c k a.whole b.whole;
-  plains-are = plains-with_nth n c k ∙ rw (a.plains-are, b.plains-are) refl;
+  plain_trees = plains-with_nth n c k ∙ rw (a.plain_trees, b.plain_trees) refl;
 }
 
 pub represents_join : {f g : Forest} {ts us : Trees} → Represents f ts → Represents g us → Represents (join f g) (append ts us)
 represents_join {f = f} {g = g} a b = record {
   once = all-join IsOnce f g a.once b.once;
   whole = all-join IsWhole f g a.whole b.whole;
-  plains-are = plains-join f g ∙ rw (a.plains-are, b.plains-are) refl;
+  plain_trees = plains-join f g ∙ rw (a.plain_trees, b.plain_trees) refl;
 }
 
 -- a node that takes that many children
 pub represents_node : {k : Forest} {ts : Trees} (i : ℕ) (x : Payload) → Represents k ts → takes x (count ts) ≡ true → Represents (one_tree i x k) (more (grown x ts) none)
 represents_node {k = k} {ts = ts} i x h e =
-    let number : count ts ≡ arity k = ap count (sym h.plains-are) ∙ count-plains k in
+    let number : count ts ≡ arity k = ap count (sym h.plain_trees) ∙ count-plains k in
     record {
       once = (refl, h.once, tt);
       whole = (ap (takes x) (sym number) ∙ e, h.whole, tt);
-      plains-are = ap (λ (us : Trees). more (grown x us) none) h.plains-are;
+      plain_trees = ap (λ (us : Trees). more (grown x us) none) h.plain_trees;
     }
 
 -- the same, in other words
@@ -60,7 +60,7 @@ represents_as {g = g} {ts = ts} h p q = subst (Represents g) q (subst (λ (x : F
 -- ---- what a call gives
 
 pub gives : {others t f : Forest} {i : ℕ} {u : Tree} {Told : Tree → Type 0} → Ends i t others f → Represents t (more u none) → Told u → Gives others f i Told
-gives {t = t} {Told = Told} e r h = record { tree = t; ends = e; once = r.once; whole = r.whole; told = subst Told (sym (ap (nth 0) r.plains-are)) h }
+gives {t = t} {Told = Told} e r h = record { tree = t; ends = e; once = r.once; whole = r.whole; told = subst Told (sym (ap (nth 0) r.plain_trees)) h }
 
 pub given_root : {others f : Forest} {i : ℕ} {Told : Tree → Type 0} → Gives others f i Told → has_root i f ≡ true
 given_root g = last_root g.ends

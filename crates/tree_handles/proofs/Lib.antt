@@ -22,3 +22,4 @@ pub mod AtRoots
 pub mod Given
 pub mod Fronts
 pub mod Tested
+pub mod Places

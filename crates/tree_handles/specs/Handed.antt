@@ -27,7 +27,7 @@ pub record IsHanded (i : ℕ) (f : Forest) : Type 0 where
 pub record Represents (f : Forest) (ts : Trees) : Type 0 where
   pub once : AllOnce f
   pub whole : AllExpressions f
-  pub plains-are : plains f ≡ ts
+  pub plain_trees : plains f ≡ ts
 
 -- one tree stands behind the others, and none of these has its root's identifier
 pub record Ends (i : ℕ) (t others f : Forest) : Type 0 where
