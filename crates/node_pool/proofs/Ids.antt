@@ -1,6 +1,6 @@
 -- Identifiers of lists of nodes.
-use Rattle.std.proofs.Common.{Bool, List, [], cond, eqb, false, refl, sym, true, ℕ, ◌++◌, ◌∙◌, ◌∷◌, ◌≡◌}
-use Rattle.std.proofs.lemmas.Bool.{eqb-false, ne_eqb}
+use Rattle.std.proofs.Common.{Bool, List, [], ap, cond, eqb, false, refl, sym, true, ℕ, ◌++◌, ◌∙◌, ◌∷◌, ◌≡◌}
+use Rattle.std.proofs.lemmas.Bool.{eqb-false, eqb-true, ne_eqb}
 use Rattle.calc_terms.specs.Node.{Node}
 use Rattle.node_pool.specs.Nodes.{AreDistinct, has}
 
@@ -66,3 +66,12 @@ AreApart-parts (n ∷ a) b c p =
     let q = or_false (has n.id b) (has n.id c) (sym (has-append n.id b c) ∙ p.0) in
     let r = AreApart-parts a b c p.1 in
     ((q.0, r.0), (q.1, r.1))
+
+-- an identifier of one of two lists that are apart
+apart_step : (i : ℕ) (n : Node) (a b : List Node) (t : Bool) → eqb n.id i ≡ t → has n.id b ≡ false → cond t true (has i a) ≡ true → (has i a ≡ true → has i b ≡ false) → has i b ≡ false
+apart_step i n a b true e p h rec = ap (λ (x : ℕ). has x b) (sym (eqb-true n.id i e)) ∙ p
+apart_step i n a b false e p h rec = rec h
+
+pub not_both : (i : ℕ) (a b : List Node) → AreApart a b → has i a ≡ true → has i b ≡ false
+not_both i [] b p h = absurd cc
+not_both i (n ∷ a) b p h = apart_step i n a b (eqb n.id i) refl p.0 h (not_both i a b p.1)

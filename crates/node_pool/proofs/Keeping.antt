@@ -1,20 +1,22 @@
 -- What a change of the nodes leaves of the pool's fields.
-use Rattle.std.proofs.Common.{Bool, List, [], ap, arith, cond, eqb, false, inl, inr, leb, length, refl, set, subst, sym, true, ℕ, ◌++◌, ◌+◌, ◌-◌, ◌/◌, ◌<◌, ◌^◌, ◌∙◌, ◌∷◌, ◌≡◌, ◌≤◌, ◌⊎◌}
-use Rattle.std.proofs.lemmas.Bool.{eq-eqb, eqb-false, eqb-true, le-leb, leb-true, ne_eqb}
+use Rattle.std.proofs.Common.{Bool, List, [], ap, arith, cond, eqb, false, length, refl, set, subst, sym, true, ℕ, ◌++◌, ◌-◌, ◌/◌, ◌<◌, ◌^◌, ◌∙◌, ◌∷◌, ◌≡◌, ◌≤◌}
+use Rattle.std.proofs.lemmas.Bool.{eq-eqb, eqb-false, eqb-true, ne_eqb}
 use Rattle.std.proofs.lemmas.List.{length-set}
 use Rattle.calc_terms.specs.Node.{Node, fresh}
 use Rattle.calc_terms.specs.Payload.{Payload}
 use Rattle.node_pool.specs.Contents.{Contents, IsContents}
 use Rattle.node_pool.specs.Flags.{AreBelow, AreFlagsOf, HasUnused, IsLeastUnused, flag, without_ids}
 use Rattle.node_pool.specs.Kept.{IsKept, state_of}
-use Rattle.node_pool.specs.Nodes.{AreDistinct, has, used, with_children, with_count}
-use Rattle.node_pool.specs.Places.{IsBoundary, between, moved, since, swapped, until, without}
+use Rattle.node_pool.specs.Noted.{ArePlacesOf, noted}
+use Rattle.node_pool.specs.Nodes.{AreDistinct, has, place_of, used, with_children, with_count}
+use Rattle.node_pool.specs.Places.{IsBoundary, between, since, swapped, until, without}
 use Rattle.node_pool.specs.State.{IsPoolSize, State}
 use Rattle.node_pool.specs.declared.pool.Pool.TheInside.{Inside}
 use Rattle.node_pool.proofs.Cuts.{AreDistinct-swap, AreDistinct-without, boundary_le, cut, cut3}
 use Rattle.node_pool.proofs.Found.{AreDistinct-same, found, has-same}
-use Rattle.node_pool.proofs.Ids.{AreApart, AreApart-parts, AreApart-sym, AreDistinct-append, AreDistinct-parts, has-append, or_is_false}
+use Rattle.node_pool.proofs.Ids.{AreApart, AreApart-parts, AreApart-sym, AreDistinct-append, AreDistinct-parts, has-append, not_both, or_is_false}
 use Rattle.node_pool.proofs.Marks.{below, flag-set, flag-without_ids, flag_inside, length-without_ids, unused}
+use Rattle.node_pool.proofs.Noting.{closed_part, closed_places, length-noted, place-same, pushed_places, turned, turned_end, turned_places, turned_start}
 use Rattle.node_pool.proofs.Sizes.{length_le_used}
 
 -- what is known of a pool's nodes is known of its buffer's
@@ -32,19 +34,23 @@ pub record SameIds (ns ms : List Node) : Type 0 where
   pub distinct : AreDistinct ms
   pub same : (i : ℕ) → has i ms ≡ has i ns
 
-pub kept : (p q : Inside) (ms : List Node) → IsKept p → q.buffer ≡ record p.buffer { nodes = ms } → IsContents q.buffer → length q.taken ≡ length p.taken → AreDistinct ms → AreFlagsOf ms q.taken → IsKept q
-kept p q ms k e h len d f =
+pub kept : (p q : Inside) (ms : List Node) → IsKept p → q.buffer ≡ record p.buffer { nodes = ms } → IsContents q.buffer → length q.taken ≡ length p.taken → length q.places ≡ length p.places
+    → AreDistinct ms → AreFlagsOf ms q.taken → ArePlacesOf ms q.places → IsKept q
+kept p q ms k e h flags_len places_len d f s =
     let nodes : q.buffer.nodes ≡ ms = ap (λ (c : Contents). c.nodes) e in
     let size : q.buffer.size ≡ p.buffer.size = ap (λ (c : Contents). c.size) e in
+    let eights : p.buffer.size / 8 ≡ q.buffer.size / 8 = ap (λ (n : ℕ). n / 8) (sym size) in
     record {
       pool = record { nodes = h.nodes; distinct = subst AreDistinct (sym nodes) d; fits = h.fits; size = subst IsPoolSize (sym size) k.pool.size };
       flags = subst (λ (x : List Node). AreFlagsOf x q.taken) (sym nodes) f;
-      length = len ∙ k.length ∙ ap (λ (n : ℕ). n / 8) (sym size);
+      places = subst (λ (x : List Node). ArePlacesOf x q.places) (sym nodes) s;
+      flags_length = flags_len ∙ k.flags_length ∙ eights;
+      places_length = places_len ∙ k.places_length ∙ eights;
     }
 
 -- the identifiers stay
-pub kept_same : (p q : Inside) (ms : List Node) → IsKept p → q.buffer ≡ record p.buffer { nodes = ms } → IsContents q.buffer → q.taken ≡ p.taken → SameIds p.buffer.nodes ms → IsKept q
-kept_same p q ms k e h t s = kept p q ms k e h (ap length t) s.distinct (λ i. ap (flag i) t ∙ k.flags i ∙ sym (s.same i))
+pub kept_same : (p q : Inside) (ms : List Node) → IsKept p → q.buffer ≡ record p.buffer { nodes = ms } → IsContents q.buffer → q.taken ≡ p.taken → length q.places ≡ length p.places → SameIds p.buffer.nodes ms → ArePlacesOf ms q.places → IsKept q
+kept_same p q ms k e h t l s o = kept p q ms k e h (ap length t) l s.distinct (λ i. ap (flag i) t ∙ k.flags i ∙ sym (s.same i)) o
 
 pub counted_ids : (id c : ℕ) (ns : List Node) → has id ns ≡ true → AreDistinct ns → SameIds ns (with_count id c ns)
 counted_ids id c ns h d =
@@ -63,6 +69,24 @@ parented_ids id c ns h d =
       distinct = subst AreDistinct (sym (f.parented c)) (AreDistinct-same f.before f.node m f.after refl (subst AreDistinct f.whole d));
       same = λ i. ap (has i) (f.parented c) ∙ has-same f.before f.node m f.after i refl ∙ ap (has i) (sym f.whole);
     }
+
+pub counted_places : (id c : ℕ) (ns : List Node) (ps : List ℕ) → has id ns ≡ true → ArePlacesOf ns ps → ArePlacesOf (with_count id c ns) ps
+counted_places id c ns ps live h i e =
+    let f = found id ns live in
+    let m = record f.node { count = c } in
+    let there : has i ns ≡ true = ap (has i) f.whole ∙ sym (has-same f.before f.node m f.after i refl) ∙ ap (has i) (sym (f.counted c)) ∙ e in
+    h i there ∙ ap (place_of i) f.whole ∙ sym (place-same f.before f.node m f.after i refl refl) ∙ ap (place_of i) (sym (f.counted c))
+
+pub parented_places : (id c : ℕ) (ns : List Node) (ps : List ℕ) → has id ns ≡ true → ArePlacesOf ns ps → ArePlacesOf (with_children id c ns) ps
+parented_places id c ns ps live h i e =
+    let f = found id ns live in
+    let m = record f.node { children = c } in
+    let there : has i ns ≡ true = ap (has i) f.whole ∙ sym (has-same f.before f.node m f.after i refl) ∙ ap (has i) (sym (f.parented c)) ∙ e in
+    h i there ∙ ap (place_of i) f.whole ∙ sym (place-same f.before f.node m f.after i refl refl) ∙ ap (place_of i) (sym (f.parented c))
+
+-- a node's identifier has a place
+pub inside : (p : Inside) → IsKept p → (i : ℕ) → has i p.buffer.nodes ≡ true → i < length p.places
+inside p k i h = omega (arith, flag_inside i p.taken (k.flags i ∙ h), k.flags_length, k.places_length)
 
 -- ---- blocks change places
 
@@ -89,30 +113,44 @@ swapped_ids i j k ns a b c h1 h2 d =
       same = λ n. has-four n p y x z ∙ turn (has n p) (has n x) (has n y) (has n z) ∙ sym (has-four n p x y z) ∙ ap (has n) (sym w);
     }
 
-pub moved_ids : (from len to : ℕ) (ns : List Node) → IsBoundary from ns → IsBoundary (from + len) ns → IsBoundary to ns → (to ≤ from) ⊎ (from + len ≤ to) → AreDistinct ns → SameIds ns (moved from len to ns)
-moved_ids from len to ns a b c h d = by_test (leb to from) refl
+between_has : (i at to : ℕ) (ns : List Node) → IsBoundary at ns → IsBoundary to ns → at ≤ to → has i (between at to ns) ≡ true → has i ns ≡ true
+between_has i at to ns a b le h =
+    let w = (cut at to ns a b le).whole in
+    ap (has i) w ∙ has-append i (until at ns) (between at to ns ++ since to ns) ∙ ap (λ (x : Bool). cond (has i (until at ns)) true x) (has-append i (between at to ns) (since to ns) ∙ ap (λ (x : Bool). cond x true (has i (since to ns))) h) ∙ always (has i (until at ns))
   where
-    right : (to ≤ from) ⊎ (from + len ≤ to) → leb to from ≡ false → from + len ≤ to
-    right (inl le) e = absurd (clash (le-leb to from le) e)
-      where
-        clash : leb to from ≡ true → leb to from ≡ false → ⊥
-        clash p q = cc
-    right (inr le) e = le
+    always : (x : Bool) → cond x true true ≡ true
+    always true = refl
+    always false = refl
 
-    by_test : (t : Bool) → leb to from ≡ t → SameIds ns (cond t (swapped to from (from + len) ns) (swapped from (from + len) to ns))
-    by_test true e = swapped_ids to from (from + len) ns c a b (leb-true to from e) (omega arith) d
-    by_test false e = swapped_ids from (from + len) to ns a b c (omega arith) (right h e) d
+pub swapped_known : (p : Inside) (i j k : ℕ) → IsKept p → IsBoundary i p.buffer.nodes → IsBoundary j p.buffer.nodes → IsBoundary k p.buffer.nodes → i ≤ j → j ≤ k → AreBelow (length p.places) (between i k (swapped i j k p.buffer.nodes))
+swapped_known p i j k kept a b c h1 h2 =
+    let ns = p.buffer.nodes in
+    let t = turned i j k ns a b c h1 h2 in
+    below (length p.places) _ (λ n h. inside p kept n (sym ((swapped_ids i j k ns a b c h1 h2 kept.pool.distinct).same n) ∙ between_has n i k (swapped i j k ns) (turned_start t) (turned_end t) (omega arith) h))
+
+pub rotated_block : (p q : Inside) (i j k : ℕ) → IsKept p → IsBoundary i p.buffer.nodes → IsBoundary j p.buffer.nodes → IsBoundary k p.buffer.nodes → i ≤ j → j ≤ k → q.taken ≡ p.taken
+    → q.buffer ≡ record p.buffer { nodes = swapped i j k p.buffer.nodes } → IsContents q.buffer → q.places ≡ noted i (between i k (swapped i j k p.buffer.nodes)) p.places → IsKept q
+rotated_block p q i j k kept a b c h1 h2 t e h s =
+    let ns = p.buffer.nodes in
+    let ms = swapped i j k ns in
+    let ids = swapped_ids i j k ns a b c h1 h2 kept.pool.distinct in
+    let known = swapped_known p i j k kept a b c h1 h2 in
+    kept_same p q ms kept e h t (ap length s ∙ length-noted i (between i k ms) p.places) ids
+    (subst (ArePlacesOf ms) (sym s) (turned_places p.places (turned i j k ns a b c h1 h2) kept.pool.distinct ids.distinct known kept.places))
 
 -- ---- one node more
 
-pub placed : (p q : Inside) (id : ℕ) (x : Payload) → IsKept p → IsLeastUnused id p.taken → q.taken ≡ set p.taken id true → q.buffer ≡ record p.buffer { nodes = p.buffer.nodes ++ fresh id x ∷ [] } → IsContents q.buffer → IsKept q
-placed p q id x k u t e h =
+pub placed : (p q : Inside) (id : ℕ) (x : Payload) → IsKept p → IsLeastUnused id p.taken → q.taken ≡ set p.taken id true → q.places ≡ set p.places id (used p.buffer.nodes)
+    → q.buffer ≡ record p.buffer { nodes = p.buffer.nodes ++ fresh id x ∷ [] } → IsContents q.buffer → IsKept q
+placed p q id x k u t s e h =
     let ns = p.buffer.nodes in
     let n = fresh id x in
     let free : has id ns ≡ false = sym (k.flags id) ∙ u.unused in
-    kept p q (ns ++ n ∷ []) k e h (ap length t ∙ length-set p.taken id true)
-    (AreDistinct-append ns (n ∷ []) k.pool.distinct (refl, tt) (AreApart-sym (n ∷ []) ns (free, tt)))
+    let distinct = AreDistinct-append ns (n ∷ []) k.pool.distinct (refl, tt) (AreApart-sym (n ∷ []) ns (free, tt)) in
+    let new : id < length p.places = omega (arith, u.inside, k.flags_length, k.places_length) in
+    kept p q (ns ++ n ∷ []) k e h (ap length t ∙ length-set p.taken id true) (ap length s ∙ length-set p.places id (used ns)) distinct
     (λ i. ap (flag i) t ∙ flag-set i id p.taken true u.inside ∙ ap (λ (b : Bool). cond (eqb i id) true b) (k.flags i) ∙ more i (eqb i id) (has i ns) refl ∙ sym (has-append i ns (n ∷ [])))
+    (subst (ArePlacesOf (ns ++ n ∷ [])) (sym s) (pushed_places ns n p.places distinct new k.places))
   where
     more : (i : ℕ) (t h : Bool) → eqb i id ≡ t → cond t true h ≡ cond h true (cond (eqb id i) true false)
     more i true h e = let back : eqb id i ≡ true = eq-eqb id i (sym (eqb-true i id e)) in rw back (either h)
@@ -128,18 +166,9 @@ placed p q id x k u t e h =
 
 -- a pool with room for a node has an identifier for it
 pub room_unused : (p : Inside) (needed : ℕ) → IsKept p → 8 ≤ needed → needed ≤ p.buffer.size - used p.buffer.nodes → HasUnused p.taken
-room_unused p needed k h room = unused p.buffer.nodes p.taken k.flags (omega (arith, k.length, length_le_used p.buffer.nodes, k.pool.fits))
+room_unused p needed k h room = unused p.buffer.nodes p.taken k.flags (omega (arith, k.flags_length, length_le_used p.buffer.nodes, k.pool.fits))
 
 -- ---- a block goes
-
--- an identifier of one of two lists that are apart
-apart_step : (i : ℕ) (n : Node) (a b : List Node) (t : Bool) → eqb n.id i ≡ t → has n.id b ≡ false → cond t true (has i a) ≡ true → (has i a ≡ true → has i b ≡ false) → has i b ≡ false
-apart_step i n a b true e p h rec = ap (λ (x : ℕ). has x b) (sym (eqb-true n.id i e)) ∙ p
-apart_step i n a b false e p h rec = rec h
-
-not_both : (i : ℕ) (a b : List Node) → AreApart a b → has i a ≡ true → has i b ≡ false
-not_both i [] b p h = absurd cc
-not_both i (n ∷ a) b p h = apart_step i n a b (eqb n.id i) refl p.0 h (not_both i a b p.1)
 
 without_has : (i : ℕ) (a b c : List Node) → AreDistinct (a ++ (b ++ c)) → cond (has i b) false (has i (a ++ (b ++ c))) ≡ has i (a ++ c)
 without_has i a b c d = by_test (has i b) refl (AreDistinct-parts a (b ++ c) d)
@@ -152,23 +181,38 @@ without_has i a b c d = by_test (has i b) refl (AreDistinct-parts a (b ++ c) d)
         sym (has-append i a c ∙ or_is_false _ _ first last)
     by_test false e p = has-append i a (b ++ c) ∙ ap (λ (x : Bool). cond (has i a) true x) (has-append i b c ∙ ap (λ (x : Bool). cond x true (has i c)) e) ∙ sym (has-append i a c)
 
-between_has : (i at to : ℕ) (ns : List Node) → IsBoundary at ns → IsBoundary to ns → at ≤ to → has i (between at to ns) ≡ true → has i ns ≡ true
-between_has i at to ns a b le h =
+pub between_below : (p : Inside) (at to : ℕ) → IsKept p → IsBoundary at p.buffer.nodes → IsBoundary to p.buffer.nodes → at ≤ to → AreBelow (length p.taken) (between at to p.buffer.nodes)
+between_below p at to k a b le = below (length p.taken) _ (λ i h. flag_inside i p.taken (k.flags i ∙ between_has i at to p.buffer.nodes a b le h))
+
+-- the nodes that close up
+pub closed_known : (p : Inside) (at to end : ℕ) → IsKept p → IsBoundary at p.buffer.nodes → IsBoundary to p.buffer.nodes → at ≤ to → end ≡ used (without at to p.buffer.nodes)
+    → AreBelow (length p.places) (between at end (without at to p.buffer.nodes))
+closed_known p at to end k a b le e =
+    let ns = p.buffer.nodes in
     let w = (cut at to ns a b le).whole in
-    ap (has i) w ∙ has-append i (until at ns) (between at to ns ++ since to ns) ∙ ap (λ (x : Bool). cond (has i (until at ns)) true x) (has-append i (between at to ns) (since to ns) ∙ ap (λ (x : Bool). cond x true (has i (since to ns))) h) ∙ always (has i (until at ns))
+    let part : between at end (without at to ns) ≡ since to ns = ap (λ (j : ℕ). between at j (without at to ns)) e ∙ closed_part at to ns a in
+    subst (AreBelow (length p.places)) (sym part) (below (length p.places) _ (λ i h. inside p k i (since_has i h w)))
   where
     always : (x : Bool) → cond x true true ≡ true
     always true = refl
     always false = refl
 
-pub between_below : (p : Inside) (at to : ℕ) → IsKept p → IsBoundary at p.buffer.nodes → IsBoundary to p.buffer.nodes → at ≤ to → AreBelow (length p.taken) (between at to p.buffer.nodes)
-between_below p at to k a b le = below (length p.taken) _ (λ i h. flag_inside i p.taken (k.flags i ∙ between_has i at to p.buffer.nodes a b le h))
+    since_has : (i : ℕ) → has i (since to p.buffer.nodes) ≡ true → p.buffer.nodes ≡ until at p.buffer.nodes ++ (between at to p.buffer.nodes ++ since to p.buffer.nodes) → has i p.buffer.nodes ≡ true
+    since_has i h w =
+        let x = until at p.buffer.nodes in
+        let y = between at to p.buffer.nodes in
+        let z = since to p.buffer.nodes in
+        ap (has i) w ∙ has-append i x (y ++ z) ∙ ap (λ (t : Bool). cond (has i x) true t) (has-append i y z ∙ ap (λ (t : Bool). cond (has i y) true t) h ∙ always (has i y)) ∙ always (has i x)
 
-pub removed_block : (p q : Inside) (at to : ℕ) → IsKept p → IsBoundary at p.buffer.nodes → IsBoundary to p.buffer.nodes → at ≤ to → q.taken ≡ without_ids (between at to p.buffer.nodes) p.taken → q.buffer ≡ record p.buffer { nodes = without at to p.buffer.nodes } → IsContents q.buffer → IsKept q
-removed_block p q at to k a b le t e h =
+pub removed_block : (p q : Inside) (at to end : ℕ) → IsKept p → IsBoundary at p.buffer.nodes → IsBoundary to p.buffer.nodes → at ≤ to → end ≡ used (without at to p.buffer.nodes) → q.taken ≡ without_ids (between at to p.buffer.nodes) p.taken
+    → q.places ≡ noted at (between at end (without at to p.buffer.nodes)) p.places → q.buffer ≡ record p.buffer { nodes = without at to p.buffer.nodes } → IsContents q.buffer → IsKept q
+removed_block p q at to end k a b le u t s e h =
     let ns = p.buffer.nodes in
+    let ms = without at to ns in
     let w = (cut at to ns a b le).whole in
     let d : AreDistinct (until at ns ++ (between at to ns ++ since to ns)) = subst AreDistinct w k.pool.distinct in
-    kept p q (without at to ns) k e h (ap length t ∙ length-without_ids (between at to ns) p.taken)
-    (AreDistinct-without (until at ns) (between at to ns) (since to ns) d)
+    let distinct = AreDistinct-without (until at ns) (between at to ns) (since to ns) d in
+    let places : q.places ≡ noted at (between at (used ms) ms) p.places = s ∙ ap (λ (j : ℕ). noted at (between at j ms) p.places) u in
+    kept p q ms k e h (ap length t ∙ length-without_ids (between at to ns) p.taken) (ap length s ∙ length-noted at (between at end ms) p.places) distinct
     (λ i. ap (flag i) t ∙ flag-without_ids i (between at to ns) p.taken (between_below p at to k a b le) ∙ ap (λ (x : Bool). cond (has i (between at to ns)) false x) (k.flags i ∙ ap (has i) w) ∙ without_has i (until at ns) (between at to ns) (since to ns) d)
+    (subst (ArePlacesOf ms) (sym places) (closed_places at to ns p.places a distinct (subst (λ (j : ℕ). AreBelow (length p.places) (between at j ms)) u (closed_known p at to end k a b le u)) k.places))

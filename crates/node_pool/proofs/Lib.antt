@@ -8,9 +8,9 @@ pub mod Found
 pub mod Splits
 pub mod Walk
 pub mod Fields
-pub mod Steps
 pub mod LeastFree
 pub mod Values
 pub mod Changes
 pub mod Marks
+pub mod Noting
 pub mod Keeping

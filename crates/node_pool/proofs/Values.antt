@@ -18,8 +18,8 @@ use Rattle.node_pool.specs.Places.{IsBoundary, since}
 use Rattle.node_pool.specs.declared.buffer.Buffer.TheInside.{Inside}
 use Rattle.node_pool.proofs.Cuts.{since-append}
 use Rattle.node_pool.proofs.Fields.{opened}
-use Rattle.node_pool.proofs.Found.{found}
-use Rattle.node_pool.proofs.Walk.{here}
+use Rattle.node_pool.proofs.Found.{found, place_boundary}
+use Rattle.node_pool.proofs.Walk.{here, place_room}
 
 -- the bytes of a payload stand behind a header
 pub record IsHeld (x : Payload) (at : ℕ) (store : List ℕ) : Type 0 where
@@ -28,10 +28,12 @@ pub record IsHeld (x : Payload) (at : ℕ) (store : List ℕ) : Type 0 where
   pub room : at + size_of_payload x ≤ length store
   pub valid : IsPayload x
 
-pub held : (b : Inside) (c : Contents) (i at : ℕ) → IsLaid b → contents_of b ≡ c → has i c.nodes ≡ true → at ≡ place_of i c.nodes → IsBoundary at c.nodes → at < used c.nodes → IsHeld (payload_of_id i c.nodes) at b.store
-held b c i at k e live place boundary lt =
+pub held : (b : Inside) (c : Contents) (i at : ℕ) → IsLaid b → contents_of b ≡ c → has i c.nodes ≡ true → at ≡ place_of i c.nodes → IsHeld (payload_of_id i c.nodes) at b.store
+held b c i at k e live place =
     let o = opened b c k e in
     let ns = c.nodes in
+    let boundary : IsBoundary at ns = place_boundary i ns at live place in
+    let lt : at < used ns = omega (arith, place, place_room i ns live) in
     let x = here at ns b.store (replicate (length b.store - used ns) 0) o.bytes o.nodes boundary lt in
     let f = found i ns live in
     let there : since at ns ≡ f.node ∷ f.after = ap (λ (j : ℕ). since j ns) (place ∙ f.place) ∙ ap (since (used f.before)) f.whole ∙ since-append f.before (f.node ∷ f.after) in

@@ -5,4 +5,5 @@ pub mod State
 pub mod Contents
 pub mod Laid
 pub mod Flags
+pub mod Noted
 pub mod Kept

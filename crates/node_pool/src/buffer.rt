@@ -91,38 +91,21 @@ impl Buffer {
         node::header_at(&self.store, at)
     }
 
-    /// Where the node with an identifier begins.
-    pub fn locate(&self, id: u16) -> u32
-        requires { has id self.now.nodes ≡ true }
-        ensures value { result ≡ place_of id self.now.nodes }
-        ensures boundary { IsBoundary result self.now.nodes }
-        ensures inside { result < used self.now.nodes }
-    {
-        let mut at = 0;
-        loop {
-            let header = self.header(at);
-            if header.id == id {
-                return at;
-            }
-            at += header.size();
-        }
-    }
-
-    pub fn rational(&self, id: u16) -> Rat
+    pub fn rational(&self, id: u16, at: u32) -> Rat
         requires live { has id self.now.nodes ≡ true }
+        requires place { at ≡ place_of id self.now.nodes }
         requires number { kind_of_payload (payload_of_id id self.now.nodes) ≡ Num }
         ensures { payload_of_id id self.now.nodes ≡ rational (ratio_of result) }
     {
-        let at = self.locate(id);
         node::rational_at(&self.store, at)
     }
 
-    pub fn name(&self, id: u16) -> Name
+    pub fn name(&self, id: u16, at: u32) -> Name
         requires live { has id self.now.nodes ≡ true }
+        requires place { at ≡ place_of id self.now.nodes }
         requires symbol { kind_of_payload (payload_of_id id self.now.nodes) ≡ Sym }
         ensures { payload_of_id id self.now.nodes ≡ named (name_of result) }
     {
-        let at = self.locate(id);
         node::name_at(&self.store, at)
     }
 
@@ -138,21 +121,21 @@ impl Buffer {
         self.count += 1;
     }
 
-    pub fn set_count(&mut self, id: u16, count: u16)
-        requires { has id self.old.nodes ≡ true }
+    pub fn set_count(&mut self, id: u16, at: u32, count: u16)
+        requires live { has id self.old.nodes ≡ true }
+        requires place { at ≡ place_of id self.old.nodes }
         ensures nodes { self.new ≡ record self.old { nodes = with_count id count self.old.nodes } }
         ensures kept { IsContents self.new }
     {
-        let at = self.locate(id);
         node::write_count(&mut self.store, at, count);
     }
 
-    pub fn set_children(&mut self, id: u16, children: u16)
-        requires { has id self.old.nodes ≡ true }
+    pub fn set_children(&mut self, id: u16, at: u32, children: u16)
+        requires live { has id self.old.nodes ≡ true }
+        requires place { at ≡ place_of id self.old.nodes }
         ensures nodes { self.new ≡ record self.old { nodes = with_children id children self.old.nodes } }
         ensures kept { IsContents self.new }
     {
-        let at = self.locate(id);
         node::write_children(&mut self.store, at, children);
     }
 
@@ -173,26 +156,8 @@ impl Buffer {
         self.count -= gone;
     }
 
-    /// The nodes in the `len` bytes at `from` stand before what began at `to`.
-    pub fn relocate(&mut self, from: u32, len: u32, to: u32)
-        requires from { IsBoundary from self.old.nodes }
-        requires end { IsBoundary (from + len) self.old.nodes }
-        requires to { IsBoundary to self.old.nodes }
-        requires outside { (to ≤ from) ⊎ (from + len ≤ to) }
-        requires small { from + len < 2 ^ 32 }
-        ensures nodes { self.new ≡ record self.old { nodes = moved from len to self.old.nodes } }
-        ensures kept { IsContents self.new }
-    {
-        let end = from + len;
-        if to <= from {
-            self.rotate(to, from, end);
-        } else {
-            self.rotate(from, end, to);
-        }
-    }
-
     /// The nodes from `mid` to before `end` stand before those from `start` to before `mid`.
-    fn rotate(&mut self, start: u32, mid: u32, end: u32)
+    pub fn rotate(&mut self, start: u32, mid: u32, end: u32)
         requires start { IsBoundary start self.old.nodes }
         requires mid { IsBoundary mid self.old.nodes }
         requires end { IsBoundary end self.old.nodes }

@@ -7,6 +7,7 @@ mod id;
 mod identifiers;
 mod node;
 mod number;
+mod places;
 mod pool;
 mod store;
 

@@ -6,13 +6,14 @@ ghost use Rattle.calc_terms.specs.Payload.{rational, named, kind_of_payload, siz
 ghost use Rattle.calc_terms.specs.Leaf.{payload_of, name_of, IsUsable};
 ghost use Rattle.calc_terms.specs.Node.{header_of, fresh};
 ghost use Rattle.node_pool.specs.Nodes.{used, has, place_of, first_of, payload_of_id, with_count, with_children, IsLeastFree};
-ghost use Rattle.node_pool.specs.Places.{since, without, moved, IsBoundary};
+ghost use Rattle.node_pool.specs.Places.{since, without, swapped, moved, IsBoundary};
 ghost use Rattle.node_pool.specs.State.{bytes_of, free_of, IsPoolSize, IsPool, refused};
 
 use crate::buffer::Buffer;
 use crate::full::Full;
 use crate::id::Id;
 use crate::identifiers::{Identifiers, release_block};
+use crate::places::{Places, note_block};
 use calc_terms::{Header, Leaf, Name, Rat};
 use std::alloc::{AllocError, Global};
 use std::marker::Model;
@@ -22,6 +23,7 @@ use std::marker::Model;
 pub struct Pool {
     buffer: Buffer,
     taken: Identifiers,
+    places: Places,
     refusals: u64,
     last_refused: Full,
 }
@@ -46,9 +48,11 @@ impl Pool {
     {
         let buffer = Buffer::new(alloc, size)?;
         let taken = Identifiers::new(alloc, size / 8)?;
+        let places = Places::new(alloc, size / 8)?;
         Ok(Pool {
             buffer,
             taken,
+            places,
             refusals: 0,
             last_refused: Full { needed: 0, free: 0 },
         })
@@ -119,7 +123,7 @@ impl Pool {
         ensures inside { result < used self.now.nodes }
         ensures pool { IsPool self.now }
     {
-        self.buffer.locate(id.value())
+        self.places.of(id.value())
     }
 
     /// The header of the node that begins at a place.
@@ -138,7 +142,8 @@ impl Pool {
         requires number { kind_of_payload (payload_of_id id self.now.nodes) ≡ Num }
         ensures { payload_of_id id self.now.nodes ≡ rational (ratio_of result) }
     {
-        self.buffer.rational(id.value())
+        let at = self.locate(id);
+        self.buffer.rational(id.value(), at)
     }
 
     /// The name of a symbol.
@@ -147,7 +152,8 @@ impl Pool {
         requires symbol { kind_of_payload (payload_of_id id self.now.nodes) ≡ Sym }
         ensures { payload_of_id id self.now.nodes ≡ named (name_of result) }
     {
-        self.buffer.name(id.value())
+        let at = self.locate(id);
+        self.buffer.name(id.value(), at)
     }
 
     /// A new node at the end, held once and without children.
@@ -168,6 +174,8 @@ impl Pool {
             return Err(self.refuse(needed));
         }
         let id = self.taken.take_least();
+        let at = self.buffer.used();
+        self.places.note(id, at);
         self.buffer.push(id, leaf);
         Ok(Id::of(id))
     }
@@ -212,7 +220,8 @@ impl Pool {
         ensures nodes { self.new ≡ record self.old { nodes = with_count id count self.old.nodes } }
         ensures pool { IsPool self.new }
     {
-        self.buffer.set_count(id.value(), count);
+        let at = self.locate(id);
+        self.buffer.set_count(id.value(), at, count);
     }
 
     /// Sets a node's number of children.
@@ -221,7 +230,8 @@ impl Pool {
         ensures nodes { self.new ≡ record self.old { nodes = with_children id children self.old.nodes } }
         ensures pool { IsPool self.new }
     {
-        self.buffer.set_children(id.value(), children);
+        let at = self.locate(id);
+        self.buffer.set_children(id.value(), at, children);
     }
 
     /// The nodes in the `len` bytes at `from` go before the node that begins at `to` now, or to
@@ -234,7 +244,28 @@ impl Pool {
         ensures nodes { self.new ≡ record self.old { nodes = moved from len to self.old.nodes } }
         ensures pool { IsPool self.new }
     {
-        self.buffer.relocate(from, len, to);
+        if to <= from {
+            self.bring_forward(from, len, to);
+        } else {
+            let end = from + len;
+            self.bring_forward(end, to - end, from);
+        }
+    }
+
+    /// The nodes in the `len` bytes at `from` go before the node that begins at `to`, which is
+    /// before them or is their first.
+    fn bring_forward(&mut self, from: u32, len: u32, to: u32)
+        requires from { IsBoundary from self.old.nodes }
+        requires end { IsBoundary (from + len) self.old.nodes }
+        requires to { IsBoundary to self.old.nodes }
+        requires order { to ≤ from }
+        ensures nodes { self.new ≡ record self.old { nodes = swapped to from (from + len) self.old.nodes } }
+        ensures pool { IsPool self.new }
+    {
+        let buffer = &mut self.buffer;
+        let end = from + len;
+        buffer.rotate(to, from, end);
+        note_block(&mut self.places, buffer, to, end);
     }
 
     /// The nodes in the `len` bytes at `at` go, those behind them close up, and their identifiers
@@ -247,6 +278,8 @@ impl Pool {
     {
         release_block(&mut self.taken, &self.buffer, at, len);
         self.buffer.remove(at, len);
+        let used = self.buffer.used();
+        note_block(&mut self.places, &self.buffer, at, used);
     }
 }
 

@@ -8,12 +8,12 @@ use Rattle.node_pool.proofs.buffer.Buffer.set_children.Goals as goal
 pub write_children-requires-clause-inside : goal.write_children-requires-clause-inside
 write_children-requires-clause-inside c =
     let o = opened c.self.inside c.args.self.now c.self.invariant c.self.view_is in
-    omega (arith, place_room c.args.id c.args.self.now.nodes c.requires, c.locate-at.ensures.value, o.fits)
+    omega (arith, place_room c.args.id c.args.self.now.nodes c.requires.live, c.requires.place, o.fits)
 
 all : (c : goal.After-write_children) → IsDone c.args.self.now (record { store = c.write_children.new.store; used = c.self.inside.used; count = c.self.inside.count }) (with_children c.args.id c.args.children c.args.self.now.nodes)
 all c =
     let o = opened c.self.inside c.args.self.now c.self.invariant c.self.view_is in
-    done c.self.inside _ c.args.self.now _ c.self.view_is (reparented c.self.inside _ c.args.self.now.nodes c.args.id c.locate-at.result c.args.children o c.requires c.locate-at.ensures.value (omega arith) c.write_children.ensures refl refl)
+    done c.self.inside _ c.args.self.now _ c.self.view_is (reparented c.self.inside _ c.args.self.now.nodes c.args.id c.args.at c.args.children o c.requires.live c.requires.place (omega arith) c.write_children.ensures refl refl)
 
 pub invariant_of-self : goal.invariant_of-self
 invariant_of-self c = (all c).laid

@@ -1,4 +1,4 @@
-use Rattle.std.proofs.Common.{arith, ap}
+use Rattle.std.proofs.Common.{arith, ap, set, ◌∙◌}
 use Rattle.calc_terms.specs.Leaf.{payload_of}
 use Rattle.node_pool.specs.Kept.{IsKept}
 use Rattle.node_pool.specs.State.{free_of}
@@ -11,8 +11,11 @@ take_least-id-requires-clause-some c =
     room_unused c.self.inside c.size-needed.result c.self.invariant (omega (arith, size_leaf (payload_of c.args.leaf), c.size-needed.ensures))
     (omega (arith, c.if-needed-free.false, c.free.ensures.value, ap free_of c.self.view_is))
 
-all : (c : goal.After-of) → IsKept (record { buffer = c.push.new.self; taken = c.take_least-id.new.self; refusals = c.self.inside.refusals; last_refused = c.self.inside.last_refused })
-all c = placed c.self.inside _ c.take_least-id.result (payload_of c.args.leaf) c.self.invariant c.take_least-id.ensures.least c.take_least-id.ensures.taken c.push.ensures.nodes c.push.ensures.kept
+pub note-requires : goal.note-requires
+note-requires c = omega (arith, c.take_least-id.ensures.least.inside, c.self.invariant.flags_length, c.self.invariant.places_length)
+
+all : (c : goal.After-of) → IsKept (record { buffer = c.push.new.self; taken = c.take_least-id.new.self; places = c.note.new.self; refusals = c.self.inside.refusals; last_refused = c.self.inside.last_refused })
+all c = placed c.self.inside _ c.take_least-id.result (payload_of c.args.leaf) c.self.invariant c.take_least-id.ensures.least c.take_least-id.ensures.taken (c.note.ensures ∙ ap (set c.self.inside.places c.take_least-id.result) c.used-at.ensures) c.push.ensures.nodes c.push.ensures.kept
 
 pub invariant_of-self : goal.invariant_of-self
 invariant_of-self c = all c

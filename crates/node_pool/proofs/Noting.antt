@@ -1,0 +1,202 @@
+-- Places that are noted, and the places of nodes.
+use Rattle.std.proofs.Common.{get_or-set_other, get_or-set_same, Bool, List, [], ap, append-nil, append_assoc, arith, cond, eqb, false, length, refl, set, subst, sym, true, ℕ, ◌++◌, ◌+◌, ◌-◌, ◌<◌, ◌∙◌, ◌∷◌, ◌≡◌, ◌≢◌, ◌≤◌}
+use Rattle.std.proofs.lemmas.Bool.{eqb-false, eqb-true}
+use Rattle.std.proofs.lemmas.List.{length-set}
+use Rattle.calc_terms.specs.Node.{Node, size_of}
+use Rattle.node_pool.specs.Flags.{AreBelow}
+use Rattle.node_pool.specs.Noted.{place_in, noted, ArePlacesOf}
+use Rattle.node_pool.specs.Nodes.{AreDistinct, has, place_of, used}
+use Rattle.node_pool.specs.Places.{IsBoundary, between, since, swapped, until, without}
+use Rattle.node_pool.proofs.Cuts.{cut3, since-append, until-append, until-since}
+use Rattle.node_pool.proofs.Ids.{AreApart, AreApart-parts, AreApart-sym, AreDistinct-parts, has-append, not_both}
+use Rattle.node_pool.proofs.Sizes.{used-append}
+use Rattle.node_pool.proofs.Splits.{boundary-append}
+
+pub length-noted : (at : ℕ) (ns : List Node) (ps : List ℕ) → length (noted at ns ps) ≡ length ps
+length-noted at [] ps = refl
+length-noted at (n ∷ ns) ps = length-noted (at + size_of n) ns (set ps n.id at) ∙ length-set ps n.id at
+
+-- a node more of what is noted
+pub noted_more : (places new : List ℕ) (ms rest : List Node) (n : Node) (at id next : ℕ) → ms ≡ n ∷ rest → id ≡ n.id → next ≡ at + size_of n → new ≡ set places id at → AreBelow (length places) ms
+    → AreBelow (length new) rest × (noted next rest new ≡ noted at ms places)
+noted_more places new ms rest n at id next e i s q h =
+    let known : AreBelow (length places) (n ∷ rest) = subst (AreBelow (length places)) e h in
+    let len : length new ≡ length places = ap length q ∙ length-set places id at in (
+      subst (λ (k : ℕ). AreBelow k rest) (sym len) known.1,
+      ap (λ (k : ℕ). noted k rest new) s ∙ ap (noted (at + size_of n) rest) (q ∙ ap (λ (k : ℕ). set places k at) i) ∙ ap (λ (x : List Node). noted at x places) (sym e),
+    )
+
+-- ---- what is noted of a node
+
+-- of a node that is not among these
+absent_step : (i : ℕ) (n : Node) (h t : Bool) → eqb n.id i ≡ t → cond t true h ≡ false → (n.id ≢ i) × (h ≡ false)
+absent_step i n h true e k = absurd cc
+absent_step i n h false e k = (eqb-false n.id i e, k)
+
+pub noted_other : (i at : ℕ) (ns : List Node) (ps : List ℕ) → has i ns ≡ false → place_in i (noted at ns ps) ≡ place_in i ps
+noted_other i at [] ps h = refl
+noted_other i at (n ∷ ns) ps h =
+    let no = absent_step i n (has i ns) (eqb n.id i) refl h in
+    noted_other i (at + size_of n) ns (set ps n.id at) no.1 ∙ get_or-set_other ps n.id i at 0 (λ e. no.0 (sym e))
+
+-- of one among them
+noted_step : (i at : ℕ) (n : Node) (ns : List Node) (ps : List ℕ) (t : Bool) → eqb n.id i ≡ t → cond t true (has i ns) ≡ true → has n.id ns ≡ false → n.id < length ps
+    → (has i ns ≡ true → place_in i (noted (at + size_of n) ns (set ps n.id at)) ≡ at + size_of n + place_of i ns)
+    → place_in i (noted (at + size_of n) ns (set ps n.id at)) ≡ at + cond t 0 (size_of n + place_of i ns)
+noted_step i at n ns ps true e h d lt rec =
+    let same : n.id ≡ i = eqb-true n.id i e in
+    noted_other i (at + size_of n) ns (set ps n.id at) (ap (λ (k : ℕ). has k ns) (sym same) ∙ d) ∙ ap (λ (k : ℕ). place_in k (set ps n.id at)) (sym same) ∙ get_or-set_same ps n.id at 0 lt ∙ omega arith
+noted_step i at n ns ps false e h d lt rec = rec h ∙ omega arith
+
+pub noted_in : (i at : ℕ) (ns : List Node) (ps : List ℕ) → AreDistinct ns → AreBelow (length ps) ns → has i ns ≡ true → place_in i (noted at ns ps) ≡ at + place_of i ns
+noted_in i at [] ps d b h = absurd cc
+noted_in i at (n ∷ ns) ps d b h =
+    noted_step i at n ns ps (eqb n.id i) refl h d.0 b.0
+    (λ k. noted_in i (at + size_of n) ns (set ps n.id at) d.1 (subst (λ (j : ℕ). AreBelow j ns) (sym (length-set ps n.id at)) b.1) k)
+
+-- ---- the place of a node in two lists
+
+place_step : (t h : Bool) (s x u y : ℕ) (z : ℕ) → z ≡ cond h x (u + y) → cond t 0 (s + z) ≡ cond (cond t true h) (cond t 0 (s + x)) (s + u + y)
+place_step true h s x u y z e = refl
+place_step false true s x u y z e = ap (λ (k : ℕ). s + k) e
+place_step false false s x u y z e = ap (λ (k : ℕ). s + k) e ∙ omega arith
+
+pub place-append : (i : ℕ) (a b : List Node) → place_of i (a ++ b) ≡ cond (has i a) (place_of i a) (used a + place_of i b)
+place-append i [] b = omega arith
+place-append i (n ∷ a) b = place_step (eqb n.id i) (has i a) (size_of n) (place_of i a) (used a) (place_of i b) (place_of i (a ++ b)) (place-append i a b)
+
+-- a node in place of one with the same identifier and the same size
+pub place-same : (a : List Node) (n m : Node) (b : List Node) (i : ℕ) → n.id ≡ m.id → size_of n ≡ size_of m → place_of i (a ++ m ∷ b) ≡ place_of i (a ++ n ∷ b)
+place-same [] n m b i e s = ap (λ (x : ℕ). cond (eqb x i) 0 (size_of m + place_of i b)) (sym e) ∙ ap (λ (x : ℕ). cond (eqb n.id i) 0 (x + place_of i b)) (sym s)
+place-same (k ∷ a) n m b i e s = ap (λ (x : ℕ). cond (eqb k.id i) 0 (size_of k + x)) (place-same a n m b i e s)
+
+-- ---- where only the nodes in the middle have new places
+
+-- what is noted holds for the nodes before and behind them
+pub record AreOutside (a m d : List Node) (ps : List ℕ) : Type 0 where
+  pub before : (i : ℕ) → has i a ≡ true → place_in i ps ≡ place_of i a
+  pub behind : (i : ℕ) → has i d ≡ true → place_in i ps ≡ used a + (used m + place_of i d)
+
+pub renoted : (a m d : List Node) (ps : List ℕ) → AreDistinct (a ++ (m ++ d)) → AreBelow (length ps) m → AreOutside a m d ps → ArePlacesOf (a ++ (m ++ d)) (noted (used a) m ps)
+renoted a m d ps distinct below o i h = in_first (has i a) refl
+  where
+    parts : AreDistinct a × AreDistinct (m ++ d) × AreApart a (m ++ d)
+    parts = AreDistinct-parts a (m ++ d) distinct
+
+    rest : AreDistinct m × AreDistinct d × AreApart m d
+    rest = AreDistinct-parts m d parts.1
+
+    in_second : (t : Bool) → has i m ≡ t → has i a ≡ false → place_in i (noted (used a) m ps) ≡ used a + place_of i (m ++ d)
+    in_second true e none = noted_in i (used a) m ps rest.0 below e ∙ ap (λ (k : ℕ). used a + k) (sym (place-append i m d ∙ ap (λ (b : Bool). cond b (place_of i m) (used m + place_of i d)) e))
+    in_second false e none =
+        let third : has i d ≡ true = sym (has-append i m d ∙ ap (λ (b : Bool). cond b true (has i d)) e) ∙ sym (has-append i a (m ++ d) ∙ ap (λ (b : Bool). cond b true (has i (m ++ d))) none) ∙ h in
+        noted_other i (used a) m ps e ∙ o.behind i third ∙ ap (λ (k : ℕ). used a + k) (sym (place-append i m d ∙ ap (λ (b : Bool). cond b (place_of i m) (used m + place_of i d)) e))
+
+    in_first : (t : Bool) → has i a ≡ t → place_in i (noted (used a) m ps) ≡ place_of i (a ++ (m ++ d))
+    in_first true e =
+        let apart = AreApart-parts a m d parts.2 in
+        noted_other i (used a) m ps (not_both i a m apart.0 e) ∙ o.before i e ∙ sym (place-append i a (m ++ d) ∙ ap (λ (b : Bool). cond b (place_of i a) (used a + place_of i (m ++ d))) e)
+    in_first false e = in_second (has i m) refl e ∙ sym (place-append i a (m ++ d) ∙ ap (λ (b : Bool). cond b (place_of i a) (used a + place_of i (m ++ d))) e)
+
+-- the same, from what was noted of the nodes when others stood in the middle
+or_true : (x : Bool) → cond x true true ≡ true
+or_true true = refl
+or_true false = refl
+
+pub before_places : (a r : List Node) (ps : List ℕ) → ArePlacesOf (a ++ r) ps → (i : ℕ) → has i a ≡ true → place_in i ps ≡ place_of i a
+before_places a r ps h i e =
+    h i (has-append i a r ∙ ap (λ (b : Bool). cond b true (has i r)) e) ∙ place-append i a r ∙ ap (λ (b : Bool). cond b (place_of i a) (used a + place_of i r)) e
+
+pub behind_places : (a d : List Node) (ps : List ℕ) → AreDistinct (a ++ d) → ArePlacesOf (a ++ d) ps → (i : ℕ) → has i d ≡ true → place_in i ps ≡ used a + place_of i d
+behind_places a d ps distinct h i e =
+    let apart = AreApart-sym a d (AreDistinct-parts a d distinct).2 in
+    h i (has-append i a d ∙ ap (λ (b : Bool). cond (has i a) true b) e ∙ or_true (has i a))
+    ∙ place-append i a d ∙ ap (λ (b : Bool). cond b (place_of i a) (used a + place_of i d)) (not_both i d a apart e)
+
+pub outside : (a m x d : List Node) (ps : List ℕ) → AreDistinct (a ++ (x ++ d)) → ArePlacesOf (a ++ (x ++ d)) ps → used m ≡ used x → AreOutside a m d ps
+outside a m x d ps distinct h e =
+    let grouped : (a ++ x) ++ d ≡ a ++ (x ++ d) = append_assoc a x d in
+    record {
+      before = before_places a (x ++ d) ps h;
+      behind = λ i k. behind_places (a ++ x) d ps (subst AreDistinct (sym grouped) distinct) (subst (λ (ns : List Node). ArePlacesOf ns ps) (sym grouped) h) i k ∙ omega (arith, used-append a x, e);
+    }
+
+-- ---- blocks of nodes
+
+pub between_middle : (a m d : List Node) (i k : ℕ) → used a ≡ i → used a + used m ≡ k → between i k (a ++ (m ++ d)) ≡ m
+between_middle a m d i k start end =
+    let few : k - i ≡ used m = omega arith in
+    ap (λ (j : ℕ). until (k - i) (since j (a ++ (m ++ d)))) (sym start) ∙ ap (until (k - i)) (since-append a (m ++ d)) ∙ ap (λ (j : ℕ). until j (m ++ d)) few ∙ until-append m d
+
+-- nodes of which only those from one place to before another stand in another order
+pub record IsTurned (i k : ℕ) (ns ms : List Node) : Type 0 where
+  pub before : List Node
+  pub old : List Node
+  pub middle : List Node
+  pub behind : List Node
+  pub was : ns ≡ before ++ (old ++ behind)
+  pub is : ms ≡ before ++ (middle ++ behind)
+  pub start : used before ≡ i
+  pub size : used middle ≡ used old
+  pub end : used before + used middle ≡ k
+
+pub turned : (i j k : ℕ) (ns : List Node) → IsBoundary i ns → IsBoundary j ns → IsBoundary k ns → i ≤ j → j ≤ k → IsTurned i k ns (swapped i j k ns)
+turned i j k ns a b c h1 h2 =
+    let x = cut3 i j k ns a b c h1 h2 in
+    let p = between i j ns in
+    let q = between j k ns in
+    record {
+      before = until i ns;
+      old = p ++ q;
+      middle = q ++ p;
+      behind = since k ns;
+      was = x.whole ∙ ap (λ (t : List Node). until i ns ++ t) (sym (append_assoc p q (since k ns)));
+      is = ap (λ (t : List Node). until i ns ++ t) (sym (append_assoc q p (since k ns)));
+      start = x.first;
+      size = omega (arith, used-append q p, used-append p q);
+      end = omega (arith, used-append q p, x.first, x.second, x.third);
+    }
+
+pub turned_start : {i k : ℕ} {ns ms : List Node} → IsTurned i k ns ms → IsBoundary i ms
+turned_start {i = i} t = subst (IsBoundary i) (sym t.is) (boundary-append t.before (t.middle ++ t.behind) i (sym t.start))
+
+pub turned_end : {i k : ℕ} {ns ms : List Node} → IsTurned i k ns ms → IsBoundary k ms
+turned_end {k = k} t =
+    let grouped : (t.before ++ t.middle) ++ t.behind ≡ t.before ++ (t.middle ++ t.behind) = append_assoc t.before t.middle t.behind in
+    subst (IsBoundary k) (grouped ∙ sym t.is) (boundary-append (t.before ++ t.middle) t.behind k (omega (arith, used-append t.before t.middle, t.end)))
+
+pub turned_places : {i k : ℕ} {ns ms : List Node} (ps : List ℕ) → IsTurned i k ns ms → AreDistinct ns → AreDistinct ms → AreBelow (length ps) (between i k ms) → ArePlacesOf ns ps → ArePlacesOf ms (noted i (between i k ms) ps)
+turned_places {i = i} {k = k} {ns = ns} {ms = ms} ps t dn dm below h =
+    let part : between i k ms ≡ t.middle = ap (between i k) t.is ∙ between_middle t.before t.middle t.behind i k t.start t.end in
+    let o = outside t.before t.middle t.old t.behind ps (subst AreDistinct t.was dn) (subst (λ (x : List Node). ArePlacesOf x ps) t.was h) t.size in
+    let r = renoted t.before t.middle t.behind ps (subst AreDistinct t.is dm) (subst (AreBelow (length ps)) part below) o in
+    subst (λ (x : List Node). ArePlacesOf x (noted i (between i k ms) ps)) (sym t.is) (subst (λ (j : ℕ). ArePlacesOf (t.before ++ (t.middle ++ t.behind)) (noted j (between i k ms) ps)) t.start
+    (subst (λ (m : List Node). ArePlacesOf (t.before ++ (t.middle ++ t.behind)) (noted (used t.before) m ps)) (sym part) r))
+
+-- ---- a block goes
+
+pub closed_part : (at to : ℕ) (ns : List Node) → IsBoundary at ns → between at (used (without at to ns)) (without at to ns) ≡ since to ns
+closed_part at to ns b =
+    let a = until at ns in
+    let c = since to ns in
+    let alone : a ++ (c ++ []) ≡ a ++ c = ap (λ (x : List Node). a ++ x) (append-nil c) in
+    ap (between at (used (a ++ c))) (sym alone) ∙ between_middle a c [] at (used (a ++ c)) b (sym (used-append a c))
+
+pub closed_places : (at to : ℕ) (ns : List Node) (ps : List ℕ) → IsBoundary at ns → AreDistinct (without at to ns) → AreBelow (length ps) (between at (used (without at to ns)) (without at to ns)) → ArePlacesOf ns ps
+    → ArePlacesOf (without at to ns) (noted at (between at (used (without at to ns)) (without at to ns)) ps)
+closed_places at to ns ps b d below h =
+    let a = until at ns in
+    let c = since to ns in
+    let ms = without at to ns in
+    let alone : a ++ (c ++ []) ≡ ms = ap (λ (x : List Node). a ++ x) (append-nil c) in
+    let part = closed_part at to ns b in
+    let o : AreOutside a c [] ps = record { before = before_places a (since at ns) ps (subst (λ (x : List Node). ArePlacesOf x ps) (sym (until-since at ns)) h); behind = λ i e. absurd cc } in
+    let r = renoted a c [] ps (subst AreDistinct (sym alone) d) (subst (AreBelow (length ps)) part below) o in
+    subst (λ (x : List Node). ArePlacesOf x (noted at (between at (used ms) ms) ps)) alone
+    (subst (λ (m : List Node). ArePlacesOf (a ++ (c ++ [])) (noted at m ps)) (sym part) (subst (λ (j : ℕ). ArePlacesOf (a ++ (c ++ [])) (noted j c ps)) b r))
+
+-- ---- one node more
+
+pub pushed_places : (ns : List Node) (n : Node) (ps : List ℕ) → AreDistinct (ns ++ n ∷ []) → n.id < length ps → ArePlacesOf ns ps → ArePlacesOf (ns ++ n ∷ []) (set ps n.id (used ns))
+pushed_places ns n ps d lt h =
+    renoted ns (n ∷ []) [] ps d (lt, tt) (record { before = before_places ns [] ps (subst (λ (x : List Node). ArePlacesOf x ps) (sym (append-nil ns)) h); behind = λ i e. absurd cc })

@@ -1,0 +1,16 @@
+use Rattle.std.proofs.Common.{◌≡◌, ◌-◌, ◌≤◌, length}
+use Rattle.node_pool.specs.Flags.{AreBelow}
+use Rattle.node_pool.specs.Noted.{noted}
+use Rattle.node_pool.specs.Places.{between, IsBoundary}
+use Rattle.node_pool.proofs.places.note_block.Given as goal
+
+abbrev pub invariant-loop-at : goal.invariant-loop-at
+invariant-loop-at l = record {
+  boundary : IsBoundary l.at l.buffer.nodes;
+  within : l.at ≤ l.to;
+  known : AreBelow (length l.places) (between l.at l.to l.buffer.nodes);
+  rest : noted l.at (between l.at l.to l.buffer.nodes) l.places ≡ noted l.fn.from (between l.fn.from l.to l.buffer.nodes) l.initial.places;
+}
+
+abbrev pub decreases-loop-at : goal.decreases-loop-at
+decreases-loop-at l = l.to - l.at

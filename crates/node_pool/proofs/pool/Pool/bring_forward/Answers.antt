@@ -1,0 +1,51 @@
+use Rattle.std.proofs.Common.{arith, refl, ap, ◌∙◌, ◌≡◌, ◌≤◌, ◌+◌, ℕ}
+use Rattle.node_pool.specs.Contents.{Contents}
+use Rattle.node_pool.specs.Kept.{IsKept, state_of}
+use Rattle.node_pool.specs.Noted.{noted}
+use Rattle.node_pool.specs.Places.{IsBoundary, between, swapped}
+use Rattle.node_pool.specs.State.{State}
+use Rattle.node_pool.specs.declared.pool.Pool.TheInside.{Inside}
+use Rattle.node_pool.proofs.Keeping.{boundary_in, end_small, rotated_block, swapped_known}
+use Rattle.node_pool.proofs.Noting.{IsTurned, turned, turned_start, turned_end}
+use Rattle.node_pool.proofs.pool.Pool.bring_forward.Goals as goal
+
+pub overflow_add-end : goal.overflow_add-end
+overflow_add-end c = record { fits = end_small c.self.inside c.args.self.now (c.args.from + c.args.len) c.self.invariant c.self.view_is c.requires.end }
+
+turn : (p : Inside) (s : State) (i j k : ℕ) → state_of p ≡ s → IsBoundary i s.nodes → IsBoundary j s.nodes → IsBoundary k s.nodes → i ≤ j → j ≤ k → IsTurned i k p.buffer.nodes (swapped i j k p.buffer.nodes)
+turn p s i j k e a b c h1 h2 = turned i j k p.buffer.nodes (boundary_in p s i e a) (boundary_in p s j e b) (boundary_in p s k e c) h1 h2
+
+pub note_block-requires-clause-from : goal.note_block-requires-clause-from
+note_block-requires-clause-from c =
+    let r = c.requires in
+    rw (ap (λ (x : Contents). x.nodes) c.rotate.ensures.nodes) (turned_start (turn c.self.inside c.args.self.now c.args.to c.args.from (c.args.from + c.args.len) c.self.view_is r.to r.from r.end r.order (omega arith)))
+
+pub note_block-requires-clause-to : goal.note_block-requires-clause-to
+note_block-requires-clause-to c =
+    let r = c.requires in
+    rw (ap (λ (x : Contents). x.nodes) c.rotate.ensures.nodes) (turned_end (turn c.self.inside c.args.self.now c.args.to c.args.from (c.args.from + c.args.len) c.self.view_is r.to r.from r.end r.order (omega arith)))
+
+pub note_block-requires-clause-known : goal.note_block-requires-clause-known
+note_block-requires-clause-known c =
+    let p = c.self.inside in
+    let s = c.args.self.now in
+    let r = c.requires in
+    let end = c.args.from + c.args.len in
+    rw (ap (λ (x : Contents). x.nodes) c.rotate.ensures.nodes)
+    (swapped_known p c.args.to c.args.from end c.self.invariant (boundary_in p s c.args.to c.self.view_is r.to) (boundary_in p s c.args.from c.self.view_is r.from) (boundary_in p s end c.self.view_is r.end) r.order (omega arith))
+
+all : (c : goal.After-note_block) → IsKept (record { buffer = c.rotate.new.self; taken = c.self.inside.taken; places = c.note_block.new.places; refusals = c.self.inside.refusals; last_refused = c.self.inside.last_refused })
+all c =
+    let p = c.self.inside in
+    let s = c.args.self.now in
+    let r = c.requires in
+    let to = c.args.to in
+    let end = c.args.from + c.args.len in
+    rotated_block p _ to c.args.from end c.self.invariant (boundary_in p s to c.self.view_is r.to) (boundary_in p s c.args.from c.self.view_is r.from) (boundary_in p s end c.self.view_is r.end) r.order (omega arith) refl
+    c.rotate.ensures.nodes c.rotate.ensures.kept (c.note_block.ensures ∙ ap (λ ns. noted to (between to end ns) p.places) (ap (λ (x : Contents). x.nodes) c.rotate.ensures.nodes))
+
+pub invariant_of-self : goal.invariant_of-self
+invariant_of-self c = all c
+
+pub returns-clause-pool : goal.returns-clause-pool
+returns-clause-pool c = (all c).pool
