@@ -1,0 +1,4 @@
+pub mod Radicands
+pub mod Rationals
+pub mod Values
+pub mod Extraction

@@ -1,0 +1,38 @@
+use Rattle.std.proofs.Common.{◌≡◌, ◌≢◌, ◌∙◌, refl, ap, sym}
+use Rattle.calc_terms.specs.Fractions.{plus, times, negative, inverse as inverse_of_fraction, zero_fraction}
+use Rattle.calc_terms.specs.Rat.{value_of}
+use Rattle.calc_terms.specs.Surds.{term}
+use Rattle.surd_terms.specs.Inverses.{conjugate_product}
+use Rattle.surd_terms.specs.Terms.{term_of}
+use Rattle.surd_terms.proofs.Rationals.{num_not_zero}
+use Rattle.surd_terms.proofs.Values.{times_not_zero, inverse_not_zero, negative_not_zero, conjugates_not_zero, conjugate_inverts}
+use Rattle.surd_terms.proofs.inverses.inverse_of_sum.Goals as goal
+use Rattle.surd_terms.proofs.inverses.inverse_of_sum.Goals.{In_ok-difference, In_ok-second, After-new-2}
+
+difference : (c : In_ok-difference) → value_of c.in_ok-difference.difference ≡ conjugate_product (term_of c.args.a) (term_of c.args.b)
+difference c = c.in_ok-difference.ensures.sum ∙ (λ i. plus (c.in_ok-square.ensures.value i) ((c.neg.ensures ∙ ap negative c.in_ok-square-2.ensures.value) i))
+
+not_zero : (c : In_ok-difference) → value_of c.in_ok-difference.difference ≢ zero_fraction
+not_zero c e = conjugates_not_zero (term_of c.args.a) (term_of c.args.b) c.args.a.not_zero c.args.a.positive c.args.b.positive c.requires (sym (difference c) ∙ e)
+
+pub invert-scale-requires : goal.invert-scale-requires
+invert-scale-requires c = num_not_zero c.in_ok-difference.difference (not_zero c)
+
+scale_not_zero : (c : In_ok-second) → value_of c.invert-scale.result ≢ zero_fraction
+scale_not_zero c e = inverse_not_zero _ (not_zero (goal.at.In_ok-second c).In_ok-difference) (sym c.invert-scale.ensures.inverse ∙ e)
+
+pub new-requires-clause-not_zero : goal.new-requires-clause-not_zero
+new-requires-clause-not_zero c = times_not_zero _ _ _ _ _ c.args.a.not_zero (scale_not_zero (goal.at.new-requires-clause-not_zero c).In_ok-second) c.in_ok-first.ensures.product c.coefficient.ensures.value refl
+
+pub new-requires-2-clause-not_zero : goal.new-requires-2-clause-not_zero
+new-requires-2-clause-not_zero c =
+    times_not_zero _ _ _ _ _ (negative_not_zero _ c.args.b.not_zero) (scale_not_zero (goal.at.new-requires-2-clause-not_zero c).In_ok-second) c.in_ok-second.ensures.product (c.neg-2.ensures ∙ ap negative c.coefficient-2.ensures.value) refl
+
+pub returns-clause-inverts : goal.returns-clause-inverts
+returns-clause-inverts c =
+    conjugate_inverts (term_of c.new.result) (term_of c.new-2.result) (term_of c.args.a) (term_of c.args.b) c.args.a.not_zero c.args.a.positive c.args.b.positive c.requires
+    (c.new.ensures ∙ (λ i. term ((c.in_ok-first.ensures.product ∙ (λ j. times (c.coefficient.ensures.value j) (scale j))) i) (c.radicand.ensures.value i)))
+    (c.new-2.ensures ∙ (λ i. term ((c.in_ok-second.ensures.product ∙ (λ j. times ((c.neg-2.ensures ∙ ap negative c.coefficient-2.ensures.value) j) (scale j))) i) (c.radicand-2.ensures.value i)))
+  where
+    scale : value_of c.invert-scale.result ≡ inverse_of_fraction (conjugate_product (term_of c.args.a) (term_of c.args.b))
+    scale = c.invert-scale.ensures.inverse ∙ ap inverse_of_fraction (difference (goal.at.returns-clause-inverts c).In_ok-difference)

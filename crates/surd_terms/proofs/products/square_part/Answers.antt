@@ -1,0 +1,33 @@
+use Rattle.std.proofs.Common.{◌*◌, arith}
+use Rattle.surd_terms.proofs.Radicands.{IsSquarePart, shared_positive, rest_positive, square_part}
+use Rattle.surd_terms.proofs.products.square_part.Goals as goal
+use Rattle.surd_terms.proofs.products.square_part.Goals.{After-split-root}
+
+pub nonzero_div-r : goal.nonzero_div-r
+nonzero_div-r c = shared_positive c.args.r c.args.s c.gcd-shared.result c.requires.r_positive c.gcd-shared.ensures
+
+pub nonzero_div-s : goal.nonzero_div-s
+nonzero_div-s c = shared_positive c.args.r c.args.s c.gcd-shared.result c.requires.r_positive c.gcd-shared.ensures
+
+pub split-root-requires-clause-positive : goal.split-root-requires-clause-positive
+split-root-requires-clause-positive c = rw c.in_ok-rest.ensures.product (rest_positive c.args.r c.args.s c.gcd-shared.result c.requires.r_positive c.requires.s_positive c.gcd-shared.ensures)
+
+part : (c : After-split-root) → IsSquarePart c.args.r c.args.s (c.gcd-shared.result * c.split-root.result.0) (c.split-root.result.1)
+part c =
+    square_part c.args.r c.args.s c.gcd-shared.result c.in_ok-rest.rest (c.split-root.result.0) (c.split-root.result.1) c.requires.r_positive c.requires.r_fits c.requires.s_positive c.requires.s_fits
+    c.gcd-shared.ensures c.in_ok-rest.ensures.product c.in_ok-rest.ensures.fits c.split-root.ensures.product
+
+pub overflow_mul-result : goal.overflow_mul-result
+overflow_mul-result c = omega (arith, (part c).root_fits)
+
+pub returns-clause-product : goal.returns-clause-product
+returns-clause-product c = (part c).product
+
+pub returns-clause-root_positive : goal.returns-clause-root_positive
+returns-clause-root_positive c = (part c).positive
+
+pub returns-clause-root_fits : goal.returns-clause-root_fits
+returns-clause-root_fits c = (part c).root_fits
+
+pub returns-clause-fits : goal.returns-clause-fits
+returns-clause-fits c = (part c).rest_fits

@@ -1,0 +1,16 @@
+use Rattle.std.proofs.Common.{◌*◌, pos, ap, ◌∙◌, to_z, of_z}
+use Rattle.std.specs.Prelude.{nat_abs}
+use Rattle.std.specs.Int.{w128}
+use Rattle.calc_terms.specs.Fractions.{times}
+use Rattle.rational128.proofs.Signed.{told}
+use Rattle.surd_terms.proofs.Rationals.{whole_times, whole_num_of}
+use Rattle.surd_terms.proofs.whole.whole_product.Goals as goal
+
+pub returns-clause-product : goal.returns-clause-product
+returns-clause-product c =
+    c.unsigned_abs.ensures.value
+    ∙ ap nat_abs (
+    ap (λ z. to_z w128 (of_z w128 z)) c.num.ensures.value
+    ∙ told c.in_ok-product.product.num c.in_ok-product.product.fits
+    ∙ whole_num_of c.in_ok-product.product (pos (c.args.m * c.args.n)) (c.in_ok-product.ensures.product ∙ (λ i. times (c.whole.ensures.value i) (c.whole-2.ensures.value i)) ∙ whole_times c.args.m c.args.n)
+    )

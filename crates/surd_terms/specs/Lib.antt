@@ -1,0 +1,5 @@
+pub mod Terms
+pub mod Sums
+pub mod Products
+pub mod Inverses
+pub mod SquareRoots

@@ -1,0 +1,60 @@
+//! Products of two terms.
+ghost use Rattle.std.specs.Prelude.{◌≡◌, ◌↔◌, ◌*◌, ◌<◌, ◌≤◌, ◌^◌, IsErr, IfOk, IfErr, [], ◌∷◌};
+ghost use Rattle.calc_terms.specs.Clean.{IsClean};
+ghost use Rattle.calc_terms.specs.Rat.{value_of};
+ghost use Rattle.calc_terms.specs.SquareClasses.{Same};
+ghost use Rattle.calc_terms.specs.Surds.{term_times};
+ghost use Rattle.rational128.specs.Refusals.{DoesNotFit};
+ghost use Rattle.surd_terms.specs.Products.{IsExtracted, HasRational};
+ghost use Rattle.surd_terms.specs.Terms.{coefficient_of, term_of};
+
+use crate::term::Term;
+use crate::whole::{whole, whole_product};
+use rational128::{Op, Overflow, gcd, mul};
+use square_parts::split;
+
+/// The product of two terms, with the square part of the radicand before the root.
+pub fn product(a: Term, b: Term) -> Result<Term, Overflow>
+    ensures product { IfOk result (λ t. Same (term_of t ∷ []) (term_times (term_of a) (term_of b) ∷ [])) }
+    ensures extracted { IfOk result (λ t. IsExtracted (term_of t) (term_times (term_of a) (term_of b))) }
+
+    // With a rational factor it is the product of the coefficients.
+    ensures rational { HasRational (term_of a) (term_of b)
+        → IfOk result (λ t. term_of t ≡ term_times (term_of a) (term_of b)) }
+    ensures refused { HasRational (term_of a) (term_of b)
+        → IsErr result ↔ DoesNotFit Op.Mul (term_of a).coefficient (term_of b).coefficient }
+    ensures named { HasRational (term_of a) (term_of b)
+        → IfErr result (λ e. e ≡ record { op = Op.Mul; a = coefficient_of a; b = coefficient_of b }) }
+
+    ensures caused { IfErr result (λ e. DoesNotFit e.op (value_of e.a) (value_of e.b)) }
+{
+    let coefficient = mul(a.coefficient(), b.coefficient())?;
+    if a.radicand() == 1 {
+        return Ok(Term::new(coefficient, b.radicand()));
+    }
+    if b.radicand() == 1 {
+        return Ok(Term::new(coefficient, a.radicand()));
+    }
+    let (root, radicand) = square_part(a.radicand(), b.radicand())?;
+    Ok(Term::new(mul(coefficient, whole(root))?, radicand))
+}
+
+/// root and radicand where r * s = root * root * radicand and the radicand is clean.
+fn square_part(r: u128, s: u128) -> Result<(u128, u128), Overflow>
+    requires r_positive { 1 ≤ r }
+    requires r_fits { r < 2 ^ 127 }
+    requires s_positive { 1 ≤ s }
+    requires s_fits { s < 2 ^ 127 }
+    ensures product { IfOk result (λ p. r * s ≡ p.0 * p.0 * p.1) }
+    ensures root_positive { IfOk result (λ p. 1 ≤ p.0) }
+    ensures root_fits { IfOk result (λ p. p.0 < 2 ^ 127) }
+    ensures clean { IfOk result (λ p. IsClean p.1) }
+    ensures fits { IfOk result (λ p. p.1 < 2 ^ 127) }
+    ensures caused { IfErr result (λ e. DoesNotFit e.op (value_of e.a) (value_of e.b)) }
+{
+    // r * s may not fit where the product without the square of what they share does.
+    let shared = gcd(r, s);
+    let rest = whole_product(r / shared, s / shared)?;
+    let (root, radicand) = split(rest);
+    Ok((shared * root, radicand))
+}
