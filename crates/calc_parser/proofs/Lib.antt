@@ -11,3 +11,8 @@ pub mod Runs
 pub mod Measures
 pub mod Checks
 pub mod Answered
+pub mod Replay
+pub mod Gathering
+pub mod Leaves
+pub mod UnderWay
+pub mod Sizes

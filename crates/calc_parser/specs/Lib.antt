@@ -5,3 +5,5 @@ pub mod Automaton
 pub mod Reader
 pub mod Depths
 pub mod Outcomes
+pub mod Building
+pub mod Growing

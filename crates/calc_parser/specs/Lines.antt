@@ -12,6 +12,10 @@ abbrev pub IsLine : List Token → Option (List ℕ) → Tree → Type 0
 IsLine ts None t = IsSum ts t
 IsLine ts (Some x) t = IsStore ts t x
 
+-- the tokens are a line with this tree
+abbrev pub IsTreeOf : List Token → Tree → Type 0
+IsTreeOf ts t = (store : Option (List ℕ)) × IsLine ts store t
+
 -- the tokens are no line of the grammar
 abbrev pub IsNoLine : List Token → Type 0
 IsNoLine ts = (store : Option (List ℕ)) (t : Tree) → IsLine ts store t → ⊥

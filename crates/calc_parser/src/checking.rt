@@ -71,7 +71,7 @@ fn checked(tokens: &[Token]) -> Result<Shape, ParseFault>
 }
 
 /// The tokens before an arrow and a name, where these end them.
-fn without_store(tokens: &[Token]) -> (&[Token], Option<Name>)
+pub(crate) fn without_store(tokens: &[Token]) -> (&[Token], Option<Name>)
     ensures split { IsSplit (tokens_in tokens.now) (tokens_in result.0.now) (option_map name_of result.1) }
     ensures shorter { length result.0.now ≤ length tokens.now }
 {

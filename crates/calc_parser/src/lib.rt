@@ -1,6 +1,8 @@
-//! The grammar of a line: whether tokens are one, and how deep and large its tree is.
+//! The grammar of a line: whether tokens are one, how deep and large its tree is, and the tree
+//! itself in a pool.
 #![tactic(auto)]
 
+mod building;
 mod checking;
 mod depth;
 mod laws;
@@ -8,5 +10,6 @@ mod nesting;
 mod postfix;
 mod reader;
 
+pub use building::build;
 pub use checking::{ParseFault, Shape, check};
-pub use laws::one_line;
+pub use laws::{building_takes_the_size, one_line};

@@ -1,5 +1,6 @@
 //! Trees in postfix order: children from left to right, then their parent.
-ghost use Rattle.std.specs.Prelude.{◌≡◌, ◌<◌, ◌≤◌, ◌+◌, [], ◌∷◌, ◌++◌, length};
+ghost use Rattle.std.specs.Prelude.{◌≡◌, ◌<◌, ◌≤◌, ◌+◌, [], ◌∷◌, ◌++◌, List, length};
+ghost use Rattle.calc_terms.specs.Tokens.{Token as Mark};
 
 use arrayvec::ArrayVec;
 use calc_terms::Kind;
@@ -11,6 +12,21 @@ pub(crate) enum Step {
     Leaf(u16),
     /// The last trees, so many, become the children of a node of this kind.
     Node(Kind, u16),
+}
+
+impl Step {
+    ghost use Rattle.calc_parser.specs.Growing.{children_in};
+    ghost use Rattle.calc_parser.specs.Reader.{node_of};
+
+    /// How many of the last trees become children.
+    pub(crate) fn children(self) -> u16
+        ensures { (ts : List Mark) → result ≡ children_in (node_of ts self) }
+    {
+        match self {
+            Step::Leaf(_) => 0,
+            Step::Node(_, children) => children,
+        }
+    }
 }
 
 impl Default for Step {

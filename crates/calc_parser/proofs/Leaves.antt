@@ -1,0 +1,60 @@
+-- Leaves by their tokens.
+use Rattle.std.specs.Prelude.{◌≡◌, ℕ, Result, Ok, Err, IfOk}
+use Rattle.std.proofs.Common.{refl, sym, ap}
+use Rattle.calc_terms.specs.declared.kind.Kind.TheVariants as kind
+use Rattle.calc_terms.specs.declared.name.Name.{Name}
+use Rattle.calc_terms.specs.declared.rat.Rat.{Rat}
+use Rattle.calc_terms.specs.Kind.{size_of_kind}
+use Rattle.calc_terms.specs.Leaf.{name_of}
+use Rattle.calc_terms.specs.Payload.{Payload, rational, named, bare}
+use Rattle.calc_terms.specs.Rat.{ratio_of}
+use Rattle.calc_terms.specs.Trees.{Trees, undef}
+use Rattle.calc_tokens.specs.declared.tokens.What.{What}
+use Rattle.calc_tokens.specs.declared.tokens.What.TheVariants as what
+use Rattle.calc_tokens.specs.Tokens.{token_of}
+use Rattle.node_pool.specs.declared.full.Full.{Full}
+use Rattle.tree_handles.specs.Forest.{Forest, empty, one_tree}
+use Rattle.tree_handles.specs.Handed.{Ends}
+use Rattle.tree_handles.proofs.Lasts.{ends_as}
+use Rattle.calc_parser.specs.Postfix.{leaf}
+use Rattle.calc_parser.specs.Building.{bytes_of_node}
+use Rattle.calc_parser.specs.Growing.{tree_over, before_last, last_trees, Grows}
+use Rattle.calc_parser.proofs.Gathering.{before_none, last_none}
+
+pub ok_as : {P Q : ℕ → Type 0} (r : Result ℕ Full) → IfOk r P → ((h : ℕ) → P h → Q h) → IfOk r Q
+ok_as (Ok h) p q = q h p
+ok_as (Err e) p q = tt
+
+over_none : (id : ℕ) (x : Payload) (f new : Forest) → Ends id (one_tree id x empty) f new → Ends id (one_tree id x (last_trees 0 f)) (before_last 0 f) new
+over_none id x f new e = ends_as e (ap (one_tree id x) (sym (last_none f))) (sym (before_none f))
+
+pub number_grows : (r : Rat) (id : ℕ) (f new : Forest) → Ends id (one_tree id (rational (ratio_of r)) empty) f new → Grows (leaf (token_of (what.Number r))) f new id
+number_grows r id f new e = record { payload = rational (ratio_of r); ends = over_none id _ f new e; tree_is = λ ts. refl; takes_them = λ h. refl; bytes_are = refl }
+
+pub name_grows : (x : Name) (id : ℕ) (f new : Forest) → Ends id (one_tree id (named (name_of x)) empty) f new → Grows (leaf (token_of (what.Name x))) f new id
+name_grows x id f new e = record { payload = named (name_of x); ends = over_none id _ f new e; tree_is = λ ts. refl; takes_them = λ h. refl; bytes_are = refl }
+
+-- any other token's leaf is Undef
+pub record IsUndef (w : What) : Type 0 where
+  pub bytes : bytes_of_node (leaf (token_of w)) ≡ size_of_kind kind.Undef
+  pub tree : (ts : Trees) → undef ≡ tree_over (leaf (token_of w)) ts
+
+is_undef : {w : What} → bytes_of_node (leaf (token_of w)) ≡ size_of_kind kind.Undef → ((ts : Trees) → undef ≡ tree_over (leaf (token_of w)) ts) → IsUndef w
+is_undef b t = record { bytes = b; tree = t }
+
+pub other : (w : What) → ((r : Rat) → w ≡ what.Number r → ⊥) → ((x : Name) → w ≡ what.Name x → ⊥) → IsUndef w
+other (what.Number r) h k = absurd (h r refl)
+other (what.Name x) h k = absurd (k x refl)
+other what.Plus h k = is_undef refl (λ ts. refl)
+other what.Minus h k = is_undef refl (λ ts. refl)
+other what.Times h k = is_undef refl (λ ts. refl)
+other what.Slash h k = is_undef refl (λ ts. refl)
+other what.Caret h k = is_undef refl (λ ts. refl)
+other what.Left h k = is_undef refl (λ ts. refl)
+other what.Right h k = is_undef refl (λ ts. refl)
+other what.Root h k = is_undef refl (λ ts. refl)
+other what.Undef h k = is_undef refl (λ ts. refl)
+other what.Arrow h k = is_undef refl (λ ts. refl)
+
+pub other_grows : (w : What) → IsUndef w → (f new : Forest) (id : ℕ) → Ends id (one_tree id (bare kind.Undef) empty) f new → Grows (leaf (token_of w)) f new id
+other_grows w u f new id e = record { payload = bare kind.Undef; ends = over_none id _ f new e; tree_is = u.tree; takes_them = λ h. refl; bytes_are = sym u.bytes }

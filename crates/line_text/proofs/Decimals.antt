@@ -1,0 +1,33 @@
+-- The digits of the text rules are those that std writes.
+use Rattle.std.proofs.Common.{◌≡◌, ◌∙◌, ℕ, zero, suc, ◌+◌, ◌-◌, ◌/◌, ◌%◌, ◌^◌, ◌<◌, ◌≤◌, List, [], ◌∷◌, length, refl, sym, ap, subst, inl, inr, arith}
+use Rattle.std.proofs.lemmas.Fmt.{PrependsLastDigit, decimal_from_prepends_wide, length-decimal-le_wide, length-decimal-le_succ}
+use Rattle.std.proofs.lemmas.List.{append-nil}
+use Rattle.std.proofs.lemmas.Bool.{cases_lt}
+use Rattle.std.specs.Fmt.{decimal}
+use Rattle.calc_terms.specs.Texts as texts
+use Rattle.calc_terms.specs.Texts.{digits_before}
+
+-- digits are put in front of those that are there, the last one first
+step : (k n m : ℕ) (acc : List ℕ) → n / 10 ≡ suc m → digits_before (suc k) n acc ≡ digits_before k (n / 10) ((48 + n % 10) ∷ acc)
+step k n m acc e = subst (λ (q : ℕ). elim q [ zero ↦ (48 + n) ∷ acc | suc j ↦ digits_before k (n / 10) ((48 + n % 10) ∷ acc) ] ≡ digits_before k (n / 10) ((48 + n % 10) ∷ acc)) (sym e) refl
+
+last : (k n : ℕ) (acc : List ℕ) → n / 10 ≡ 0 → digits_before (suc k) n acc ≡ (48 + n) ∷ acc
+last k n acc e = subst (λ (q : ℕ). elim q [ zero ↦ (48 + n) ∷ acc | suc j ↦ digits_before k (n / 10) ((48 + n % 10) ∷ acc) ] ≡ (48 + n) ∷ acc) (sym e) refl
+
+prepends : PrependsLastDigit digits_before
+prepends = record {
+  one = λ k n acc h. last k n acc (omega arith);
+  more = λ k n acc h. step k n (n / 10 - 1) acc (omega arith);
+}
+
+-- a number has at most as many digits as that, and one
+few : (n : ℕ) → n < 10 ^ 64 → length (decimal n) ≤ suc n
+few n h = elim (cases_lt n 64) [ inl p ↦ omega (arith, length-decimal-le_succ n (omega arith)) | inr p ↦ omega (arith, length-decimal-le_wide 64 n (omega arith) h) ]
+
+pub decimal_is : (n : ℕ) → n < 10 ^ 64 → texts.decimal n ≡ decimal n
+unfolding texts.decimal
+decimal_is n h = decimal_from_prepends_wide digits_before prepends (suc n) n [] h (few n h) ∙ append-nil (decimal n)
+
+-- those of a number of 127 bits
+pub decimal_short : (n : ℕ) → n < 2 ^ 127 → length (texts.decimal n) ≤ 39
+decimal_short n h = omega (arith, ap length (decimal_is n (omega arith)), length-decimal-le_wide 39 n (omega arith) (omega arith) (omega arith))

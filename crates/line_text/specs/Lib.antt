@@ -1,0 +1,5 @@
+pub mod Content
+pub mod Places
+pub mod Pending
+pub mod Standing
+pub mod Lengths

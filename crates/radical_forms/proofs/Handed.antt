@@ -1,0 +1,65 @@
+-- The tree under a root that is handed.
+use Rattle.std.proofs.Common.{◌≡◌, ◌≢◌, ℕ, ◌<◌, true, false, refl, sym, ap, ◌∙◌, arith, subst}
+use Rattle.calc_terms.specs.declared.kind.Kind.TheVariants as kind
+use Rattle.calc_terms.specs.Trees.{Tree, num, symbol, undef, add, mult, power, root, neg, sub, div, is_num, is_undef, is_root, root_kind, count}
+use Rattle.node_pool.specs.State.{State}
+use Rattle.tree_handles.specs.Expressions.{plain, nth, children_of, IsExpression}
+use Rattle.tree_handles.specs.Forest.{arity}
+use Rattle.tree_handles.specs.Handed.{IsHanded}
+use Rattle.tree_handles.specs.Inside.{kids_of, tree_at}
+use Rattle.tree_handles.specs.Standing.{Stands, forest}
+use Rattle.tree_handles.proofs.Lasts.{expression_root, plain_root}
+use Rattle.tree_handles.proofs.Readings.{expression_children}
+use Rattle.reduce_port.specs.Rewritings.{tree_of}
+use Rattle.radical_forms.specs.RootAnswers.{argument_of}
+
+-- a root is over its argument
+pub root_is : (t : Tree) → is_root t ≡ true → t ≡ root (argument_of t)
+root_is (root a) h = refl
+root_is (num q) h = cc
+root_is (symbol x) h = cc
+root_is undef h = cc
+root_is (add ts) h = cc
+root_is (mult ts) h = cc
+root_is (power b e) h = cc
+root_is (neg a) h = cc
+root_is (sub a b) h = cc
+root_is (div a b) h = cc
+
+-- its node has a child
+pub has_child : {s : State} {i : ℕ} → Stands s → IsHanded i (forest s) → is_root (tree_of i s) ≡ true → 0 < arity (kids_of i (forest s))
+has_child {s = s} {i = i} h o r =
+    let e : plain (tree_at i (forest s)) ≡ root (argument_of (tree_of i s)) = plain_root i h o.root ∙ root_is (tree_of i s) r in
+    let n : count (children_of (plain (tree_at i (forest s)))) ≡ 1 = ap (λ (t : Tree). count (children_of t)) e in
+    omega (arith, expression_children i (forest s) (expression_root h o))
+
+-- which is the argument
+pub child_is : {s : State} {i : ℕ} → Stands s → IsHanded i (forest s) → is_root (tree_of i s) ≡ true → nth 0 (children_of (plain (tree_at i (forest s)))) ≡ argument_of (tree_of i s)
+child_is {s = s} {i = i} h o r = ap (λ (t : Tree). nth 0 (children_of t)) (plain_root i h o.root ∙ root_is (tree_of i s) r)
+
+-- the tree of that child, as a reader finds it
+pub argument_at : (i j k : ℕ) (s : State) → Stands s → IsHanded i (forest s) → is_root (tree_of i s) ≡ true → k ≡ i
+    → (IsExpression k (forest s) → plain (tree_at j (forest s)) ≡ nth 0 (children_of (plain (tree_at k (forest s))))) → argument_of (tree_of i s) ≡ plain (tree_at j (forest s))
+argument_at i j k s h o r e p = sym (subst (λ x. IsExpression x (forest s) → plain (tree_at j (forest s)) ≡ nth 0 (children_of (plain (tree_at x (forest s))))) e p (expression_root h o) ∙ child_is h o r)
+
+-- ---- by kind
+
+pub undef_by_kind : (t : Tree) → root_kind t ≡ kind.Undef → t ≡ undef
+undef_by_kind undef e = refl
+undef_by_kind (num q) e = cc
+undef_by_kind (symbol x) e = cc
+undef_by_kind (add ts) e = cc
+undef_by_kind (mult ts) e = cc
+undef_by_kind (power b x) e = cc
+undef_by_kind (root a) e = cc
+undef_by_kind (neg a) e = cc
+undef_by_kind (sub a b) e = cc
+undef_by_kind (div a b) e = cc
+
+pub no_num_by_kind : (t : Tree) → root_kind t ≢ kind.Num → is_num t ≡ false
+no_num_by_kind (num q) e = absurd (e refl)
+no_num_by_kind _ e = refl
+
+pub no_undef_by_kind : (t : Tree) → root_kind t ≢ kind.Undef → is_undef t ≡ false
+no_undef_by_kind undef e = absurd (e refl)
+no_undef_by_kind _ e = refl

@@ -1,0 +1,212 @@
+-- What each root of a reduced tree reduces to.
+use Rattle.std.proofs.Common.{◌≡◌, ℕ, ◌<◌, Bool, true, false, ℤ, pos, negsuc, zero, suc, ◌<ℤ◌, [], ◌∷◌, inl, inr, refl, sym, ap, ◌∙◌, subst, arith}
+use Rattle.std.proofs.lemmas.Int.{ints}
+use Rattle.std.specs.Prelude.{List, length, Result, Ok, Err, if◌then◌else◌}
+use Rattle.calc_terms.specs.Fractions.{Fraction, whole_fraction}
+use Rattle.calc_terms.specs.Integers.{int_is_negative, int_is_zero}
+use Rattle.calc_terms.specs.Loads.{nest, load}
+use Rattle.calc_terms.specs.Meanings.{IsRootOf}
+use Rattle.calc_terms.specs.Numbers.{is_number, is_term, term_of, value, IsTerm}
+use Rattle.calc_terms.specs.Reduced.{is_reduced, IsReduced}
+use Rattle.calc_terms.specs.SquareClasses.{Same}
+use Rattle.calc_terms.specs.Surds.{Term, Surd, surd_of}
+use Rattle.calc_terms.specs.Trees.{Tree, num, symbol, undef, mult, root, none, more, names, is_num, is_undef, itself, in_root}
+use Rattle.calc_terms.proofs.NumberLaws.{number_test, number_words, term_words}
+use Rattle.calc_terms.proofs.MeaningRewrites.{KeepsMeanings}
+use Rattle.calc_terms.proofs.NumberRewrites.{root_of_rational}
+use Rattle.calc_terms.proofs.ReducedLaws.{reduced_test, reduced_words}
+use Rattle.calc_terms.proofs.TermLaws.{Same-eq}
+use Rattle.calc_terms.proofs.UndefRewrites.{undef_part, root_of_negative}
+use Rattle.number_forms.proofs.Shaped.{term_number, term_value}
+use Rattle.reduce_port.specs.Rewritings.{HasNoNewName}
+use Rattle.reduce_port.proofs.Rewritings.{keeps, Rewrites-refl, reduces}
+use Rattle.radical_forms.specs.RootAnswers.{has_no_root, IsRootAnswer}
+use Rattle.radical_forms.specs.Refusals.{HasWideRoot, IsOverflow, IfOverflow}
+use Rattle.node_pool.specs.declared.full.Full.{Full}
+use Rattle.rational128.specs.Refusals.{DoesNotFit}
+use Rattle.rational128.specs.declared.overflow.Op.TheVariants.{Mul}
+use Rattle.rational128.specs.declared.overflow.Overflow.{Overflow}
+use Rattle.std.specs.Result.{IsErrAnd}
+use Rattle.tree_handles.specs.declared.fault.NumberFault.{NumberFault}
+use Rattle.tree_handles.specs.declared.fault.NumberFault.TheVariants as fault
+use lib.Signed.{lt_z}
+
+no_names : (t u : Tree) → names u ≡ [] → HasNoNewName t u
+no_names t u e = record { name = λ x c. absurd (let f : length (names u) ≡ 0 = ap length e in let k : c.0 < length (names u) = c.1 in omega arith) }
+
+number_load : (t : Tree) → is_number t ≡ true → load t ≡ 0
+number_load t h = rw h refl
+
+undef_load : load undef ≡ 0
+unfolding is_number
+undef_load = refl
+
+undef_number : is_number undef ≡ false
+unfolding is_number
+undef_number = refl
+
+-- ---- Numbers of one term
+
+record IsPlainNumber (t : Tree) : Type 0 where
+  no_name : names t ≡ []
+  flat : nest t ≡ 0
+  reduced : is_reduced t ≡ true
+  defined : is_undef t ≡ false
+
+rational_facts : (q : Fraction) → IsPlainNumber (num q)
+rational_facts q = record { no_name = refl; flat = refl; reduced = reduced_test (num q) (inr (inl tt)); defined = refl }
+
+term_facts : (t : Tree) → IsTerm t → IsPlainNumber t
+term_facts (num q) h = rational_facts q
+term_facts (root (num r)) h = record { no_name = refl; flat = refl; reduced = reduced_test (root (num r)) (inr (inl h, inl tt)); defined = refl }
+term_facts (mult (more (num q) (more (root (num r)) none))) h = record {
+  no_name = refl;
+  flat = refl;
+  reduced = reduced_test (mult (more (num q) (more (root (num r)) none))) (inr (inl h, (inl tt, ((inl h.2, inl tt), tt))));
+  defined = refl;
+}
+term_facts _ h = absurd h
+
+-- a Number that is the root of a rational of at least 0
+number_answer : (q : Fraction) (t : Tree) → int_is_negative q.num ≡ false → is_number t ≡ true → IsPlainNumber t → IsRootOf q.num q.den (value t) → IsRootAnswer (num q) t
+number_answer q t n h f v = record {
+  reduces = record { reduced = f.reduced; no_new_name = no_names (root (num q)) t f.no_name; meanings = keeps (root_of_rational q t (number_words t h) v) };
+  undefined = f.defined ∙ sym n;
+  number = λ a b. h;
+  kept = λ a b. absurd cc;
+  nest = omega (arith, f.flat);
+  load = omega (arith, number_load t h);
+}
+
+root_of_zero : (z : ℤ) (d : ℕ) (v : Surd) → z ≡ pos 0 → Same v [] → IsRootOf z d v
+root_of_zero z d v e h = subst (λ x. IsRootOf x d v) (sym e) h
+
+zero_value : (q : Fraction) → q.num ≡ pos 0 → value (num q) ≡ []
+zero_value q e = ap (λ (b : Bool). if b then [] else surd_of q) (ap int_is_zero e)
+
+-- the root of 0 is 0
+pub zero_answer : (q : Fraction) → q.num ≡ pos 0 → IsRootAnswer (num q) (num q)
+zero_answer q e = number_answer q (num q) (ap int_is_negative e) (number_test (num q) tt) (rational_facts q) (root_of_zero q.num q.den (value (num q)) e (Same-eq (zero_value q e)))
+
+above_zero : (z : ℤ) → pos 0 <ℤ z → int_is_negative z ≡ false
+above_zero (pos n) h = refl
+above_zero (negsuc n) h = absurd (omega (arith, ints))
+
+-- the root of a rational above 0 is a term
+pub positive_answer : (q : Fraction) (t : Tree) (s : Term) → pos 0 <ℤ q.num → (is_term t ≡ true) × (term_of t ≡ s) → IsRootOf q.num q.den (s ∷ []) → IsRootAnswer (num q) t
+positive_answer q t s p (h, e) r =
+    let w : IsTerm t = term_words t h in
+    number_answer q t (above_zero q.num p) (number_test t (term_number t w)) (term_facts t w) (subst (λ v. IsRootOf q.num q.den v) (sym (term_value t w ∙ ap (λ x. x ∷ []) e)) r)
+
+-- ---- Undef
+
+undef_answer : (a : Tree) → has_no_root a ≡ true → KeepsMeanings (root a) undef → (is_num a ≡ true → has_no_root a ≡ false → ⊥) → IsRootAnswer a undef
+undef_answer a h k n = record {
+  reduces = record { reduced = reduced_test undef (inl refl); no_new_name = no_names (root a) undef refl; meanings = keeps k };
+  undefined = sym h;
+  number = λ x y. absurd (n x y);
+  kept = λ x y. absurd (cc (h, y));
+  nest = omega arith;
+  load = omega (arith, undef_load);
+}
+
+-- the root of a rational below 0 is Undef
+pub negative_answer : (q : Fraction) → int_is_negative q.num ≡ true → IsRootAnswer (num q) undef
+negative_answer q h = undef_answer (num q) h (root_of_negative q h) (λ x y. cc)
+
+-- and so is that of Undef
+pub no_argument_answer : IsRootAnswer undef undef
+no_argument_answer = undef_answer undef refl (undef_part (root undef) (in_root itself)) (λ x y. cc)
+
+-- ---- other roots
+
+root_form : (a : Tree) → is_num a ≡ false → is_undef a ≡ false → IsReduced a → is_reduced (root a) ≡ true
+root_form a n u (inl e) = absurd (let f : is_undef a ≡ true = ap is_undef e in cc)
+root_form a n u (inr h) = reduced_test (root a) (inr (inr n, h))
+
+has_root_of_other : (a : Tree) → is_num a ≡ false → is_undef a ≡ false → has_no_root a ≡ false
+has_root_of_other (num q) n u = cc
+has_root_of_other undef n u = cc
+has_root_of_other _ n u = refl
+
+-- any other root is kept
+pub other_answer : (a : Tree) → is_num a ≡ false → is_undef a ≡ false → is_reduced a ≡ true → IsRootAnswer a (root a)
+other_answer a n u h = record {
+  reduces = reduces (Rewrites-refl (root a)) (root_form a n u (reduced_words a h));
+  undefined = sym (has_root_of_other a n u);
+  number = λ x y. absurd cc;
+  kept = λ x y. refl;
+  nest = omega arith;
+  load = omega arith;
+}
+
+-- ---- what fits
+
+-- a rational of at most 0 has no wide root
+pub not_wide : (q : Fraction) → (pos 0 <ℤ q.num → ⊥) → HasWideRoot (num q) → ⊥
+not_wide q h w = h w.0
+
+pub not_above_zero : (z : ℤ) → z ≡ pos 0 → pos 0 <ℤ z → ⊥
+not_above_zero z e h = absurd (omega (arith, ints))
+
+pub not_above_negative : (z : ℤ) → int_is_negative z ≡ true → pos 0 <ℤ z → ⊥
+not_above_negative z e h = cc (above_zero z h)
+
+pub no_other_wide : (a : Tree) → is_num a ≡ false → HasWideRoot a → ⊥
+no_other_wide (num q) n w = cc
+no_other_wide _ n w = w
+
+-- ---- in other words
+
+pub answer_as : {a b t u : Tree} → a ≡ b → t ≡ u → IsRootAnswer b u → IsRootAnswer a t
+answer_as {b = b} {t = t} p q h = subst (λ x. IsRootAnswer x t) (sym p) (subst (λ y. IsRootAnswer b y) (sym q) h)
+
+pub root_as : (n m : ℤ) (d e : ℕ) (v : Surd) → n ≡ m → d ≡ e → IsRootOf n d v → IsRootOf m e v
+root_as n m d e v p q h = subst (λ x. IsRootOf m x v) q (subst (λ x. IsRootOf x d v) p h)
+
+pub wide_as : (n m : ℤ) (d e : ℕ) → n ≡ m → d ≡ e → DoesNotFit Mul (whole_fraction n) (whole_fraction (pos d)) → DoesNotFit Mul (whole_fraction m) (whole_fraction (pos e))
+wide_as n m d e p q h = subst (λ x. DoesNotFit Mul (whole_fraction m) (whole_fraction (pos x))) q (subst (λ x. DoesNotFit Mul (whole_fraction x) (whole_fraction (pos d))) p h)
+
+pub positive_num : (z : ℤ) → int_is_negative z ≡ false → (z ≡ pos 0 → ⊥) → pos 0 <ℤ z
+positive_num (pos zero) h k = absurd (k refl)
+positive_num (pos (suc n)) h k = omega (arith, ints)
+positive_num (negsuc n) h k = absurd cc
+
+pub negative_num : (z p : ℤ) → lt_z p (pos 0) ≡ true → p ≡ z → int_is_negative z ≡ true
+negative_num (pos n) p t e = absurd (grind (arith, ints))
+negative_num (negsuc n) p t e = refl
+
+pub not_negative_num : (z p : ℤ) → lt_z p (pos 0) ≡ false → p ≡ z → int_is_negative z ≡ false
+not_negative_num (pos n) p t e = refl
+not_negative_num (negsuc n) p t e = absurd (grind (arith, ints))
+
+-- ---- refusals
+
+pub not_overflow : (r : Result ℕ NumberFault) (f : Full) → IsErrAnd r (λ e. e ≡ fault.Full f) → IsOverflow r → ⊥
+not_overflow (Ok x) f h i = i
+not_overflow (Err (fault.Full g)) f h i = i
+not_overflow (Err (fault.Overflow o)) f h i = cc
+
+pub is_overflow : (r : Result ℕ NumberFault) (o : Overflow) → IsErrAnd r (λ e. e ≡ fault.Overflow o) → IsOverflow r
+is_overflow (Ok x) o h = absurd h
+is_overflow (Err (fault.Full f)) o h = absurd cc
+is_overflow (Err (fault.Overflow p)) o h = tt
+
+pub named_overflow : (r : Result ℕ NumberFault) (o : Overflow) (P : Overflow → Type 0) → IsErrAnd r (λ e. e ≡ fault.Overflow o) → P o → IfOverflow r P
+named_overflow (Ok x) o P h k = tt
+named_overflow (Err (fault.Full f)) o P h k = tt
+named_overflow (Err (fault.Overflow p)) o P h k = subst P (sym (same p o h)) k
+  where
+    same : (p o : Overflow) → fault.Overflow p ≡ fault.Overflow o → p ≡ o
+    same p o e = cc
+
+-- ---- leaves
+
+pub number_reduced : (q : Fraction) → is_reduced (num q) ≡ true
+number_reduced q = reduced_test (num q) (inr (inl tt))
+
+pub symbol_reduced : (x : List ℕ) → is_reduced (symbol x) ≡ true
+symbol_reduced x = reduced_test (symbol x) (inr (inr tt))
+
+pub undef_reduced : is_reduced undef ≡ true
+undef_reduced = reduced_test undef (inl refl)

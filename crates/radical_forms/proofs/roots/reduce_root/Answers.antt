@@ -1,0 +1,66 @@
+use Rattle.std.proofs.Common.{◌≡◌, false, refl, sym, ap, ◌∙◌}
+use Rattle.calc_terms.specs.Rat.{value_of}
+use Rattle.calc_terms.specs.Trees.{Tree, num, root, is_num, is_undef, root_kind}
+use Rattle.tree_handles.proofs.Lasts.{expression_root}
+use Rattle.tree_handles.proofs.Fronts.{behind_first, front_same, front_end, front_without}
+use Rattle.tree_handles.proofs.Given.{gives, gives_as, represents_handed}
+use Rattle.reduce_port.specs.Rewritings.{tree_of}
+use Rattle.radical_forms.specs.RootAnswers.{argument_of}
+use Rattle.radical_forms.proofs.Handed.{root_is, has_child, argument_at, undef_by_kind, no_num_by_kind, no_undef_by_kind}
+use Rattle.radical_forms.proofs.RootLaws.{no_argument_answer, other_answer, no_other_wide, answer_as}
+use Rattle.radical_forms.proofs.roots.reduce_root.Goals as goal
+use Rattle.radical_forms.proofs.roots.reduce_root.Goals.{After-rational-q, After-kind}
+
+pub child_id-argument-requires-clause-within : goal.child_id-argument-requires-clause-within
+child_id-argument-requires-clause-within c = rw c.id.ensures (has_child c.requires.stands c.requires.handed c.requires.root)
+
+argument_is : (c : After-rational-q) → argument_of (tree_of c.args.root c.args.pool.now) ≡ num (value_of c.rational-q.result)
+argument_is c = argument_at c.args.root c.child_id-argument.result c.id.result c.args.pool.now c.requires.stands c.requires.handed c.requires.root c.id.ensures c.child_id-argument.ensures.plain ∙ c.rational-q.ensures.plain
+
+pub root_of_rational-requires-clause-root : goal.root_of_rational-requires-clause-root
+root_of_rational-requires-clause-root c = root_is (tree_of c.args.root c.args.pool.now) c.requires.root ∙ ap root (argument_is (goal.at.root_of_rational-requires-clause-root c).After-rational-q)
+
+pub returns-in-Num-clause-ok : goal.returns-in-Num-clause-ok
+returns-in-Num-clause-ok c = rw (argument_is (goal.at.returns-in-Num-clause-ok c).After-rational-q) c.root_of_rational.ensures.ok
+
+pub returns-in-Num-clause-overflows : goal.returns-in-Num-clause-overflows
+returns-in-Num-clause-overflows c = rw (argument_is (goal.at.returns-in-Num-clause-overflows c).After-rational-q) c.root_of_rational.ensures.overflows
+
+pub returns-in-Num-clause-named : goal.returns-in-Num-clause-named
+returns-in-Num-clause-named c = rw (argument_is (goal.at.returns-in-Num-clause-named c).After-rational-q) c.root_of_rational.ensures.named
+
+pub returns-in-Num-clause-full_of_a_rational : goal.returns-in-Num-clause-full_of_a_rational
+returns-in-Num-clause-full_of_a_rational c = λ full. ap is_num (argument_is (goal.at.returns-in-Num-clause-full_of_a_rational c).After-rational-q)
+
+kind_is : (c : After-kind) → c.kind.result ≡ root_kind (argument_of (tree_of c.args.root c.args.pool.now))
+kind_is c =
+    let e = c.child_id-argument.ensures.expression (rw c.id.ensures (expression_root c.requires.stands c.requires.handed)) in
+    c.kind.ensures.plain e ∙ ap root_kind (sym (argument_at c.args.root c.child_id-argument.result c.id.result c.args.pool.now c.requires.stands c.requires.handed c.requires.root c.id.ensures c.child_id-argument.ensures.plain))
+
+pub returns-in-Undef-clause-ok : goal.returns-in-Undef-clause-ok
+returns-in-Undef-clause-ok c =
+    let a = undef_by_kind _ (sym (kind_is (goal.at.returns-in-Undef-clause-ok c).After-kind) ∙ c.in-Undef.is) in
+    gives_as c.undefined.ensures.gives refl (λ t e. answer_as a e no_argument_answer)
+
+pub returns-in-Undef-clause-overflows : goal.returns-in-Undef-clause-overflows
+returns-in-Undef-clause-overflows c =
+    let a = undef_by_kind _ (sym (kind_is (goal.at.returns-in-Undef-clause-overflows c).After-kind) ∙ c.in-Undef.is) in
+    (λ x. absurd x, λ w. no_other_wide _ (ap is_num a) w)
+
+pub returns-in_default : goal.returns-in_default
+returns-in_default c =
+    let kind_of = kind_is (goal.at.returns-in_default c).After-kind in
+    let tree : Tree = tree_of c.args.root c.args.pool.now in
+    let no_num : is_num (argument_of tree) ≡ false = no_num_by_kind (argument_of tree) (λ k. c.in_default.not-Num (kind_of ∙ k)) in
+    let no_undef : is_undef (argument_of tree) ≡ false = no_undef_by_kind (argument_of tree) (λ k. c.in_default.not-Undef (kind_of ∙ k)) in record {
+      ok = gives c.move_last.ensures.last (represents_handed c.requires.handed) (answer_as refl (root_is tree c.requires.root) (other_answer (argument_of tree) no_num no_undef c.requires.reduced));
+      overflows = (λ x. absurd x, λ w. no_other_wide (argument_of tree) no_num w);
+      named = tt;
+      full_of_a_rational = λ x. absurd x;
+      full_below_96_bytes = λ x. absurd x;
+      front = front_end c.move_last.ensures.last (front_without behind_first front_same);
+      kept = c.move_last.ensures.kept;
+      faults = tt;
+      caused = tt;
+      stands = c.move_last.ensures.stands;
+    }

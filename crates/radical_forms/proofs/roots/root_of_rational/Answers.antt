@@ -1,0 +1,102 @@
+use Rattle.std.proofs.Common.{◌≡◌, pos, ◌<ℤ◌, ◌≤◌, true, refl, sym, ap, ◌∙◌, arith, to_z, of_z}
+use Rattle.std.specs.Int.{w128}
+use Rattle.calc_terms.specs.Fractions.{whole_fraction}
+use Rattle.calc_terms.specs.Integers.{int_is_negative}
+use Rattle.calc_terms.specs.Rat.{value_of}
+use Rattle.calc_terms.specs.Trees.{num}
+use Rattle.node_pool.specs.State.{free_of}
+use Rattle.rational128.proofs.LowestTerms.{ratio_parts}
+use Rattle.rational128.proofs.Signed.{told}
+use Rattle.surd_terms.specs.Terms.{term_of}
+use Rattle.surd_terms.proofs.Rationals.{whole_value}
+use Rattle.tree_handles.proofs.Fronts.{behind_first, front_same, front_at, front_without, front_after}
+use Rattle.tree_handles.proofs.Given.{gives_as, owned}
+use Rattle.rational128.specs.declared.overflow.Overflow.{Overflow}
+use Rattle.radical_forms.specs.Refusals.{NamesProduct}
+use Rattle.radical_forms.proofs.Room.{released_free}
+use Rattle.radical_forms.proofs.RootLaws.{zero_answer, positive_answer, negative_answer, not_above_zero, not_above_negative, answer_as, root_as, wide_as, positive_num, negative_num, not_negative_num, not_overflow, is_overflow, named_overflow}
+use Rattle.radical_forms.proofs.roots.root_of_rational.Goals as goal
+use Rattle.radical_forms.proofs.roots.root_of_rational.Goals.{Then-num-lt0, Then-num-eq0, Else-num-eq0}
+
+negative : (c : Then-num-lt0) → int_is_negative (value_of c.args.q).num ≡ true
+negative c = negative_num _ _ c.if-num-lt0.true (ap (λ z. to_z w128 (of_z w128 z)) c.num.ensures.value ∙ told c.args.q.num c.args.q.fits ∙ sym (ratio_parts c.args.q).num)
+
+zero_num : (c : Then-num-eq0) → (value_of c.args.q).num ≡ pos 0
+zero_num c = (ratio_parts c.args.q).num ∙ sym (told c.args.q.num c.args.q.fits) ∙ ap (to_z w128) (ap (of_z w128) (sym c.num-2.ensures.value) ∙ c.if-num-eq0.true)
+
+above : (c : Else-num-eq0) → pos 0 <ℤ (value_of c.args.q).num
+above c = positive_num _
+    (not_negative_num _ _ c.if-num-lt0.false (ap (λ z. to_z w128 (of_z w128 z)) c.num.ensures.value ∙ told c.args.q.num c.args.q.fits ∙ sym (ratio_parts c.args.q).num))
+    (λ e. c.if-num-eq0.false (ap (of_z w128) (c.num-2.ensures.value ∙ sym (ratio_parts c.args.q).num ∙ e)))
+
+pub returns-then-num-lt0-clause-ok : goal.returns-then-num-lt0-clause-ok
+returns-then-num-lt0-clause-ok c = gives_as c.undefined.ensures.gives refl (λ t e. answer_as refl e (negative_answer (value_of c.args.q) (negative (goal.at.returns-then-num-lt0-clause-ok c).Then-num-lt0)))
+
+pub returns-then-num-lt0-clause-overflows : goal.returns-then-num-lt0-clause-overflows
+returns-then-num-lt0-clause-overflows c = (λ x. absurd x, λ w. not_above_negative _ (negative (goal.at.returns-then-num-lt0-clause-overflows c).Then-num-lt0) w.0)
+
+pub returns-in_err-zero-clause-overflows : goal.returns-in_err-zero-clause-overflows
+returns-in_err-zero-clause-overflows c = (λ x. absurd (not_overflow _ _ c.from_residual.ensures.1 x), λ w. absurd (not_above_zero _ (zero_num (goal.at.returns-in_err-zero-clause-overflows c).Then-num-eq0) w.0))
+
+pub returns-in_err-zero-clause-full_below_96_bytes : goal.returns-in_err-zero-clause-full_below_96_bytes
+returns-in_err-zero-clause-full_below_96_bytes c = λ full.
+    let free = released_free c.requires.stands c.release.ensures.stands c.release.ensures.kept c.requires.handed (c.release.ensures.owned (owned c.requires.handed)) in
+    let lacking : 40 ≤ free_of c.release.new.pool → ⊥ = λ le. absurd (cc (c.in_err-zero.ensures.exactly.1 le)) in
+    omega (arith, free, lacking)
+
+pub returns-in_err-zero-clause-front : goal.returns-in_err-zero-clause-front
+returns-in_err-zero-clause-front c = front_after (front_at (front_without behind_first front_same) (c.release.ensures.owned (owned c.requires.handed))) c.number.ensures.front
+
+pub returns-then-num-eq0-clause-ok : goal.returns-then-num-eq0-clause-ok
+returns-then-num-eq0-clause-ok c = gives_as c.in_ok-zero.ensures.given (c.release.ensures.owned (owned c.requires.handed)) (λ t e. answer_as refl e (zero_answer (value_of c.args.q) (zero_num (goal.at.returns-then-num-eq0-clause-ok c).Then-num-eq0)))
+
+pub returns-then-num-eq0-clause-overflows : goal.returns-then-num-eq0-clause-overflows
+returns-then-num-eq0-clause-overflows c = (λ x. absurd x, λ w. not_above_zero _ (zero_num (goal.at.returns-then-num-eq0-clause-overflows c).Then-num-eq0) w.0)
+
+pub returns-then-num-eq0-clause-front : goal.returns-then-num-eq0-clause-front
+returns-then-num-eq0-clause-front c = front_after (front_at (front_without behind_first front_same) (c.release.ensures.owned (owned c.requires.handed))) c.number.ensures.front
+
+pub returns-in_err-term-clause-overflows : goal.returns-in_err-term-clause-overflows
+returns-in_err-term-clause-overflows c =
+    let p = ratio_parts c.args.q in (
+      λ x. (above (goal.at.returns-in_err-term-clause-overflows c).Else-num-eq0, wide_as _ _ _ _ (sym p.num) (sym p.den) (c.in_err-term.ensures.refused.0 refl)),
+      λ w. is_overflow _ _ c.from_residual-in_err-term.ensures.1,
+    )
+
+pub returns-in_err-term-clause-named : goal.returns-in_err-term-clause-named
+returns-in_err-term-clause-named c =
+    let p = ratio_parts c.args.q in
+    let o : Overflow = c.in_err-term.field-0.0 in
+    named_overflow _ _ (NamesProduct (num (value_of c.args.q))) c.from_residual-in_err-term.ensures.1 (
+      c.in_err-term.ensures.operation,
+      whole_value o.a _ c.in_err-term.ensures.first ∙ ap (λ z. whole_fraction z) (sym p.num),
+      whole_value o.b _ c.in_err-term.ensures.second ∙ ap (λ n. whole_fraction (pos n)) (sym p.den),
+    )
+
+pub returns-in_err-value-clause-overflows : goal.returns-in_err-value-clause-overflows
+returns-in_err-value-clause-overflows c =
+    let p = ratio_parts c.args.q in
+    (λ x. absurd (not_overflow _ _ c.from_residual-in_err-value.ensures.1 x), λ w. absurd (cc (c.in_ok-term.ensures.refused.1 (wide_as _ _ _ _ p.num p.den w.1))))
+
+pub returns-in_err-value-clause-full_below_96_bytes : goal.returns-in_err-value-clause-full_below_96_bytes
+returns-in_err-value-clause-full_below_96_bytes c = λ full.
+    let free = released_free c.requires.stands c.release-2.ensures.stands c.release-2.ensures.kept c.requires.handed (c.release-2.ensures.owned (owned c.requires.handed)) in
+    let lacking : 96 ≤ free_of c.release-2.new.pool → ⊥ = λ le. absurd (cc (c.in_err-value.ensures.room le)) in
+    omega (arith, free, lacking)
+
+pub returns-in_err-value-clause-front : goal.returns-in_err-value-clause-front
+returns-in_err-value-clause-front c = front_after (front_at (front_without behind_first front_same) (c.release-2.ensures.owned (owned c.requires.handed))) c.place_term.ensures.front
+
+pub returns-clause-ok : goal.returns-clause-ok
+returns-clause-ok c =
+    let p = ratio_parts c.args.q in
+    gives_as c.in_ok-value.ensures.ok (c.release-2.ensures.owned (owned c.requires.handed))
+    (λ t e. positive_answer (value_of c.args.q) t (term_of c.in_ok-term.term) (above (goal.at.returns-clause-ok c).Else-num-eq0) e (root_as _ _ _ _ _ (sym p.num) (sym p.den) c.in_ok-term.ensures.root))
+
+pub returns-clause-overflows : goal.returns-clause-overflows
+returns-clause-overflows c =
+    let p = ratio_parts c.args.q in
+    (λ x. absurd x, λ w. absurd (cc (c.in_ok-term.ensures.refused.1 (wide_as _ _ _ _ p.num p.den w.1))))
+
+pub returns-clause-front : goal.returns-clause-front
+returns-clause-front c = front_after (front_at (front_without behind_first front_same) (c.release-2.ensures.owned (owned c.requires.handed))) c.place_term.ensures.front

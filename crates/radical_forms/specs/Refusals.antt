@@ -1,0 +1,38 @@
+-- When the reduction of a root is refused.
+use Rattle.std.specs.Prelude.{◌≡◌, ◌<ℤ◌, pos, Result, Ok, Err, ⊤}
+use Rattle.calc_terms.specs.Fractions.{whole_fraction}
+use Rattle.calc_terms.specs.Rat.{value_of}
+use Rattle.calc_terms.specs.Trees.{Tree, num}
+use Rattle.rational128.specs.Refusals.{DoesNotFit}
+use Rattle.rational128.specs.declared.overflow.Op.TheVariants.{Mul}
+use Rattle.rational128.specs.declared.overflow.Overflow.{Overflow}
+use Rattle.tree_handles.specs.declared.fault.NumberFault.{NumberFault}
+use Rattle.tree_handles.specs.declared.fault.NumberFault.TheVariants as fault
+
+-- a rational p/q above 0 whose p * q does not fit
+abbrev pub HasWideRoot : Tree → Type 0
+HasWideRoot (num q) = (pos 0 <ℤ q.num) × DoesNotFit Mul (whole_fraction q.num) (whole_fraction (pos q.den))
+HasWideRoot _ = ⊥
+
+-- the product of p and q, for the root of p/q
+abbrev pub NamesProduct : Tree → Overflow → Type 0
+NamesProduct (num q) o = (o.op ≡ Mul) × (value_of o.a ≡ whole_fraction q.num) × (value_of o.b ≡ whole_fraction (pos q.den))
+NamesProduct _ o = ⊥
+
+-- refused because an operation does not fit
+abbrev pub IsOverflow : {A : Type 0} → Result A NumberFault → Type 0
+IsOverflow (Ok x) = ⊥
+IsOverflow (Err (fault.Full full)) = ⊥
+IsOverflow (Err (fault.Overflow o)) = ⊤
+
+-- a fact of the operation where one does not fit
+abbrev pub IfOverflow : {A : Type 0} → Result A NumberFault → (Overflow → Type 0) → Type 0
+IfOverflow (Ok x) P = ⊤
+IfOverflow (Err (fault.Full full)) P = ⊤
+IfOverflow (Err (fault.Overflow o)) P = P o
+
+-- refused because bytes are lacking
+abbrev pub IsFull : {A : Type 0} → Result A NumberFault → Type 0
+IsFull (Ok x) = ⊥
+IsFull (Err (fault.Full full)) = ⊤
+IsFull (Err (fault.Overflow o)) = ⊥

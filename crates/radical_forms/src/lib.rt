@@ -1,0 +1,10 @@
+//! Square roots of reduced trees, in a pool.
+#![tactic(auto)]
+
+mod placing;
+mod roots;
+
+pub use roots::reduce_root;
+
+#[cfg(test)]
+mod tests;

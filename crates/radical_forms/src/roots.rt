@@ -1,0 +1,106 @@
+//! The root of a reduced tree.
+ghost use Rattle.std.specs.Prelude.{◌≡◌, ◌↔◌, ◌≤◌, ◌<◌, true, false, IfOk, IfErr, OnOk, [], ◌∷◌};
+ghost use Rattle.calc_terms.specs.Rat.{value_of};
+ghost use Rattle.calc_terms.specs.Reduced.{is_reduced};
+ghost use Rattle.calc_terms.specs.Trees.{num, undef, root as root_tree_of, is_root, is_num};
+ghost use Rattle.node_pool.specs.State.{free_of};
+ghost use Rattle.radical_forms.specs.Refusals.{HasWideRoot, NamesProduct, IsOverflow, IfOverflow, IsFull};
+ghost use Rattle.radical_forms.specs.RootAnswers.{argument_of, IsRootAnswer};
+ghost use Rattle.reduce_port.specs.Causes.{IsCaused};
+ghost use Rattle.reduce_port.specs.Rewritings.{tree_of};
+ghost use Rattle.tree_handles.specs.Expressions.{nth, children_of};
+ghost use Rattle.tree_handles.specs.Faults.{Faults};
+ghost use Rattle.tree_handles.specs.Handed.{IsHanded, Gives, KeepsFront};
+ghost use Rattle.tree_handles.specs.Roots.{without_root};
+ghost use Rattle.tree_handles.specs.Standing.{Stands, forest, KeepsRefusals};
+
+use crate::placing::place_term;
+use calc_terms::{Kind, Rat};
+use node_pool::Pool;
+use surd_terms::square_root;
+use tree_handles::{
+    Handle, NumberFault, child_id, kind, move_last, node, number, rational, release,
+};
+
+/// The root of a reduced tree: of a rational it is a Number, or Undef below 0; the root of Undef is Undef, and
+/// any other is kept.
+pub fn reduce_root(pool: &mut Pool, root: Handle) -> Result<Handle, NumberFault>
+    requires stands { Stands pool.old }
+    requires handed { IsHanded root (forest pool.old) }
+    requires root { is_root (tree_of root pool.old) ≡ true }
+    requires reduced { is_reduced (argument_of (tree_of root pool.old)) ≡ true }
+
+    ensures ok { IfOk result (λ h. Gives (without_root root (forest pool.old)) (forest pool.new) h (IsRootAnswer (argument_of (tree_of root pool.old)))) }
+
+    // It overflows exactly where the argument is a rational p/q above 0 and p * q does not fit.
+    ensures overflows { IsOverflow result ↔ HasWideRoot (argument_of (tree_of root pool.old)) }
+    ensures named { IfOverflow result (NamesProduct (argument_of (tree_of root pool.old))) }
+
+    // Bytes are lacking for a rational argument at most, and only where fewer than 96 are free.
+    ensures full_of_a_rational { IsFull result → is_num (argument_of (tree_of root pool.old)) ≡ true }
+    ensures full_below_96_bytes { IsFull result → free_of pool.old < 96 }
+
+    ensures front { KeepsFront (root ∷ []) (forest pool.old) (forest pool.new) }
+    ensures kept { OnOk result (KeepsRefusals pool.old pool.new) }
+    ensures faults { IfErr result (Faults pool.old pool.new) }
+    ensures caused { IfErr result (IsCaused pool.new) }
+    ensures stands { Stands pool.new }
+{
+    let argument = child_id(pool, root.id(), 0);
+    match kind(pool, argument) {
+        Kind::Num => {
+            let q = rational(pool, argument);
+            root_of_rational(pool, root, q)
+        }
+        Kind::Undef => Ok(undefined(pool, root)),
+        _ => {
+            move_last(pool, &root);
+            Ok(root)
+        }
+    }
+}
+
+/// The root of q, which stands under the root.
+fn root_of_rational(pool: &mut Pool, root: Handle, q: Rat) -> Result<Handle, NumberFault>
+    requires stands { Stands pool.old }
+    requires handed { IsHanded root (forest pool.old) }
+    requires root { tree_of root pool.old ≡ root_tree_of (num (value_of q)) }
+    ensures ok { IfOk result (λ h. Gives (without_root root (forest pool.old)) (forest pool.new) h (IsRootAnswer (num (value_of q)))) }
+    ensures overflows { IsOverflow result ↔ HasWideRoot (num (value_of q)) }
+    ensures named { IfOverflow result (NamesProduct (num (value_of q))) }
+    ensures full_below_96_bytes { IsFull result → free_of pool.old < 96 }
+    ensures front { KeepsFront (root ∷ []) (forest pool.old) (forest pool.new) }
+    ensures kept { OnOk result (KeepsRefusals pool.old pool.new) }
+    ensures faults { IfErr result (Faults pool.old pool.new) }
+    ensures caused { IfErr result (IsCaused pool.new) }
+    ensures stands { Stands pool.new }
+{
+    if q.num() < 0 {
+        return Ok(undefined(pool, root));
+    }
+    if q.num() == 0 {
+        release(pool, root);
+        let zero = number(pool, q)?;
+        return Ok(zero);
+    }
+    let term = square_root(q)?;
+    release(pool, root);
+    let value = place_term(pool, term)?;
+    Ok(value)
+}
+
+/// Undef in the place of a tree, whose bytes suffice for it.
+fn undefined(pool: &mut Pool, tree: Handle) -> Handle
+    requires stands { Stands pool.old }
+    requires handed { IsHanded tree (forest pool.old) }
+    ensures gives { Gives (without_root tree (forest pool.old)) (forest pool.new) result (λ t. t ≡ undef) }
+    ensures front { KeepsFront (tree ∷ []) (forest pool.old) (forest pool.new) }
+    ensures kept { KeepsRefusals pool.old pool.new }
+    ensures stands { Stands pool.new }
+{
+    release(pool, tree);
+    match node(pool, Kind::Undef) {
+        Ok(undef) => undef,
+        Err(_) => unreachable!(),
+    }
+}
