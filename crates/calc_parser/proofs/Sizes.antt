@@ -54,3 +54,6 @@ pub building_takes_the_size : (free : ℕ) (t : Tree) → (building free t ≡ O
 building_takes_the_size free t =
     let s = bytes_of-postfix t in
     (λ e. let h = room (postfix t) free (free - size t) e in omega arith, λ h. fits (postfix t) free (omega arith) ∙ ap (λ (k : ℕ). Ok (free - k)) s)
+
+pub takes_room : (free left : ℕ) (t : Tree) → building free t ≡ Ok left → size t ≤ free
+takes_room free left t e = omega (arith, room (postfix t) free left e, bytes_of-postfix t)

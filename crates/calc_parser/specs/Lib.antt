@@ -7,3 +7,5 @@ pub mod Depths
 pub mod Outcomes
 pub mod Building
 pub mod Growing
+pub mod WholeSums
+pub mod WholeNodes

@@ -123,7 +123,7 @@ fn place(pool: &mut Pool, tokens: &[Token], step: Step, from: u32) -> Result<Han
 }
 
 /// What the token at this place is; `undef` where there is none.
-fn what_at(tokens: &[Token], at: u16) -> What
+pub(crate) fn what_at(tokens: &[Token], at: u16) -> What
     ensures { token_of result ≡ token_in (tokens_in tokens.now) at }
 {
     match tokens.get(usize::from(at)) {

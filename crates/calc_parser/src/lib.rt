@@ -9,7 +9,9 @@ mod laws;
 mod nesting;
 mod postfix;
 mod reader;
+mod wholes;
 
 pub use building::build;
 pub use checking::{ParseFault, Shape, check};
 pub use laws::{building_takes_the_size, one_line};
+pub use wholes::is_whole_sum;

@@ -1,0 +1,63 @@
+-- Children that are brought into an order, one place after another.
+use Rattle.std.proofs.Common.{◌≡◌, ℕ, ◌+◌, ◌<◌, ◌≤◌, List, length, take, sym, ap, ◌∙◌, subst, arith, true, All, IsPermutation}
+use Rattle.std.specs.List.{swap}
+use Rattle.std.proofs.lemmas.List.{take_all}
+use Rattle.std.proofs.lemmas.List.Sorted.{All-permutation, IsPermutation-sym}
+use Rattle.node_order.specs.Picking.{picked, picked_behind}
+use Rattle.node_order.proofs.Picks.{AreInside, arity-picked, picked-swap}
+use Rattle.node_pool.specs.State.{State}
+use Rattle.tree_handles.specs.Forest.{Forest, join, arity, kids, first_trees, rest_trees, swapped_nth}
+use Rattle.tree_handles.specs.Inside.{kids_of}
+use Rattle.tree_handles.specs.Roots.{has_root, root_tree, put}
+use Rattle.tree_handles.specs.Standing.{Stands, forest}
+use Rattle.tree_handles.proofs.Forests.{first-rest, arity-join, arity-first_trees, arity-rest_trees}
+use Rattle.tree_handles.proofs.Lasts.{kids_of_root}
+use Rattle.tree_handles.proofs.Roots.{root-put, kids-put, put-put, put-same}
+
+-- how the children stand: those from a place on are picked by a list of places
+pub record IsArranged (i n : ℕ) (xs : List ℕ) (f g : Forest) : Type 0 where
+  pub root : has_root i f ≡ true
+  pub shape : g ≡ put i (picked_behind n xs (kids (root_tree i f))) f
+  pub inside : AreInside (rest_trees n (kids (root_tree i f))) xs
+  pub low : n ≤ arity (kids (root_tree i f))
+
+pub arranged : (i n : ℕ) (xs ys : List ℕ) (f g : Forest) → has_root i f ≡ true → n + length ys ≡ arity (kids (root_tree i f)) → All (λ k. k < length ys) ys → IsPermutation xs ys → g ≡ put i (picked_behind n xs (kids (root_tree i f))) f → IsArranged i n xs f g
+arranged i n xs ys f g root all inside moved shape =
+    let many : length ys ≡ arity (rest_trees n (kids (root_tree i f))) = omega (arith, arity-rest_trees n (kids (root_tree i f))) in
+    record {
+      root = root;
+      shape = shape;
+      inside = All-permutation (λ k. k < arity (rest_trees n (kids (root_tree i f)))) ys xs (IsPermutation-sym xs ys moved) (subst (λ m. All (λ k. k < m) ys) many inside);
+      low = omega arith;
+    }
+
+pub arranged_kids : (i n : ℕ) (xs : List ℕ) (f g : Forest) → IsArranged i n xs f g → kids (root_tree i g) ≡ picked_behind n xs (kids (root_tree i f))
+arranged_kids i n xs f g a = ap (λ (x : Forest). kids (root_tree i x)) a.shape ∙ kids-put i (picked_behind n xs (kids (root_tree i f))) f a.root
+
+pub arranged_root : (i n : ℕ) (xs : List ℕ) (f g : Forest) → IsArranged i n xs f g → has_root i g ≡ true
+arranged_root i n xs f g a = ap (has_root i) a.shape ∙ root-put i i (picked_behind n xs (kids (root_tree i f))) f ∙ a.root
+
+-- a place of one of them
+pub arranged_place : (i n at : ℕ) (xs : List ℕ) (f : Forest) (s : State) → Stands s → IsArranged i n xs f (forest s) → at < length xs → n + at < arity (kids_of i (forest s))
+arranged_place i n at xs f s st a lt =
+    let k = kids (root_tree i f) in
+    let root = arranged_root i n xs f (forest s) a in
+    let e : arity (kids_of i (forest s)) ≡ arity (picked_behind n xs k) = ap arity (kids_of_root i st root ∙ arranged_kids i n xs f (forest s) a) in
+    omega (arith, arity-join (first_trees n k) (picked xs (rest_trees n k)), arity-first_trees n k a.low, arity-picked xs (rest_trees n k) a.inside)
+
+-- two of them change places
+pub arranged_swap : (i n at j : ℕ) (xs : List ℕ) (f g h : Forest) → IsArranged i n xs f g → at ≤ j → j < length xs → h ≡ put i (swapped_nth (n + at) (n + j) (kids (root_tree i g))) g → h ≡ put i (picked_behind n (swap xs at j) (kids (root_tree i f))) f
+arranged_swap i n at j xs f g h a le lt e =
+    let k = kids (root_tree i f) in
+    e ∙ (λ d. put i (swapped_nth (n + at) (n + j) (arranged_kids i n xs f g a d)) (a.shape d))
+    ∙ put-put i (swapped_nth (n + at) (n + j) (picked_behind n xs k)) (picked_behind n xs k) f
+    ∙ ap (λ (x : Forest). put i x f) (picked-swap n at j xs k a.low a.inside le lt)
+
+-- before the first change
+pub arranged_start : (i n : ℕ) (xs : List ℕ) (f : Forest) → picked xs (rest_trees n (kids (root_tree i f))) ≡ rest_trees n (kids (root_tree i f)) → f ≡ put i (picked_behind n xs (kids (root_tree i f))) f
+arranged_start i n xs f e =
+    let k = kids (root_tree i f) in
+    sym (ap (λ (x : Forest). put i (join (first_trees n k) x) f) e ∙ ap (λ (x : Forest). put i x f) (first-rest n k) ∙ put-same i f)
+
+pub all_placed : (xs ys : List ℕ) (at : ℕ) → length xs ≡ length ys → length ys ≤ at → take at xs ≡ take at ys → xs ≡ ys
+all_placed xs ys at long h e = sym (take_all at xs (omega arith)) ∙ e ∙ take_all at ys h

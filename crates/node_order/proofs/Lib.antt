@@ -1,0 +1,10 @@
+pub mod Orderings
+pub mod Roots
+pub mod FrontLaws
+pub mod Pairs
+pub mod KeyLaws
+pub mod RankLaws
+pub mod Places
+pub mod Picks
+pub mod Arranged
+pub mod SortLaws

@@ -1,0 +1,97 @@
+-- Lists whose elements change places.
+use Rattle.std.proofs.Common.{◌≡◌, ◌==◌, ℕ, zero, suc, ◌+◌, ◌<◌, ◌≤◌, List, [], ◌∷◌, ◌++◌, length, take, drop, get_or, cond, eqb, refl, sym, ap, ◌∙◌, arith, drop-cons, ⊎_elim, count_by, IsPermutation}
+use Rattle.std.proofs.Math.ListN.{set}
+use Rattle.std.proofs.Math.Seq.{set-append_seam}
+use Rattle.std.specs.List.{swap}
+use Rattle.std.proofs.lemmas.Bool.{cases_lt, eq-eqb}
+use Rattle.std.proofs.lemmas.List.{take-append-drop, take-set-le, take_more_set, take_more, length-take-le, set-set, set-get_or}
+use Rattle.std.proofs.lemmas.List.Sorted.{sum_by-IsPermutation}
+use Rattle.std.proofs.lemmas.List.Sums.{sum_by-append, sum_by-cons}
+use Rattle.std.proofs.lemmas.List.Edits.{swap_is}
+
+-- how often an element stands in a list
+abbrev pub times_in : ℕ → List ℕ → ℕ
+times_in x xs = count_by (λ i. i == x) xs
+
+times_split : (x : ℕ) (xs : List ℕ) (at : ℕ) → at < length xs → times_in x (drop at xs) ≡ cond (eqb (get_or xs at 0) x) 1 0 + times_in x (drop (suc at) xs)
+times_split x xs at lt = ap (times_in x) (drop-cons xs at 0 lt) ∙ sum_by-cons (λ i. cond (i == x) 1 0) (get_or xs at 0) (drop (suc at) xs)
+
+pub times_here : (x : ℕ) (xs : List ℕ) (at : ℕ) → at < length xs → get_or xs at 0 ≡ x → 0 < times_in x (drop at xs)
+times_here x xs at lt here =
+    let one : cond {A = ℕ} (eqb (get_or xs at 0) x) 1 0 ≡ 1 = ap (λ b. cond {A = ℕ} b 1 0) (eq-eqb (get_or xs at 0) x here) in
+    omega (arith, times_split x xs at lt)
+
+-- what is still wanted stands behind what is in place already
+pub still_there : (x : ℕ) (xs ys : List ℕ) (at : ℕ) → IsPermutation xs ys → take at xs ≡ take at ys → at < length ys → get_or ys at 0 ≡ x → 0 < times_in x (drop at xs)
+still_there x xs ys at moved same lt here =
+    let f : ℕ → ℕ = λ i. cond (i == x) 1 0 in
+    let all : times_in x ys ≡ times_in x xs = sum_by-IsPermutation f xs ys moved in
+    let split : (zs : List ℕ) → times_in x (take at zs) + times_in x (drop at zs) ≡ times_in x zs = λ zs. sym (sum_by-append f (take at zs) (drop at zs)) ∙ ap (times_in x) (take-append-drop at zs) in
+    omega (arith, all, split xs, split ys, ap (times_in x) same, times_here x ys at lt here)
+
+-- one more is in place
+pub placed_same : (xs ys : List ℕ) (at : ℕ) → take at xs ≡ take at ys → at < length xs → at < length ys → get_or xs at 0 ≡ get_or ys at 0 → take (at + 1) xs ≡ take (at + 1) ys
+placed_same xs ys at same l m here = take_more xs at 0 l ∙ (λ i. same i ++ (here i ∷ [])) ∙ sym (take_more ys at 0 m)
+
+-- two elements, and the lists round them
+pub record IsPair (i j : ℕ) (xs : List ℕ) : Type 0 where
+  pub before : List ℕ
+  pub between : List ℕ
+  pub behind : List ℕ
+  pub first : ℕ
+  pub second : ℕ
+  pub whole : xs ≡ before ++ (first ∷ (between ++ (second ∷ behind)))
+  pub swapped : swap xs i j ≡ before ++ (second ∷ (between ++ (first ∷ behind)))
+  pub at-first : i ≡ length before
+  pub at-second : j ≡ length before + suc (length between)
+
+pub pair : (i j : ℕ) (xs : List ℕ) → i < j → j < length xs → IsPair i j xs
+pair zero zero xs lt h = absurd (omega arith)
+pair (suc i) zero xs lt h = absurd (omega arith)
+pair zero (suc j) [] lt h = absurd (omega arith)
+pair (suc i) (suc j) [] lt h = absurd (omega arith)
+pair zero (suc j) (x ∷ xs) lt h =
+    let room : j < length xs = omega arith in
+    let y = get_or xs j 0 in
+    let split : xs ≡ take j xs ++ (y ∷ drop (suc j) xs) = sym (take-append-drop j xs) ∙ ap (λ (l : List ℕ). take j xs ++ l) (drop-cons xs j 0 room) in
+    let long : j ≡ length (take j xs) = sym (length-take-le j xs (omega arith)) in
+    let writes : set xs j x ≡ take j xs ++ (x ∷ drop (suc j) xs) = (λ i. set (split i) (long i) x) ∙ set-append_seam (take j xs) y (drop (suc j) xs) x in
+    record {
+      before = [];
+      between = take j xs;
+      behind = drop (suc j) xs;
+      first = x;
+      second = y;
+      whole = ap (λ (l : List ℕ). x ∷ l) split;
+      swapped = sym (swap_is (x ∷ xs) 0 (suc j) 0 (omega arith) h) ∙ ap (λ (l : List ℕ). y ∷ l) writes;
+      at-first = refl;
+      at-second = omega (arith, long);
+    }
+pair (suc i) (suc j) (x ∷ xs) lt h =
+    let p = pair i j xs (omega arith) (omega arith) in
+    record {
+      before = x ∷ p.before;
+      between = p.between;
+      behind = p.behind;
+      first = p.first;
+      second = p.second;
+      whole = ap (λ (l : List ℕ). x ∷ l) p.whole;
+      swapped = sym (swap_is (x ∷ xs) (suc i) (suc j) 0 (omega arith) h) ∙ ap (λ (l : List ℕ). x ∷ l) (swap_is xs i j 0 (omega arith) (omega arith) ∙ p.swapped);
+      at-first = ap suc p.at-first;
+      at-second = omega (arith, p.at-second);
+    }
+
+pub swap_same : (xs : List ℕ) (i : ℕ) → i < length xs → swap xs i i ≡ xs
+swap_same xs i h = sym (swap_is xs i i 0 h h) ∙ set-set xs i (get_or xs i 0) (get_or xs i 0) ∙ set-get_or xs i 0
+
+pub placed_swap : (xs ys : List ℕ) (at j : ℕ) → take at xs ≡ take at ys → at < length ys → at ≤ j → j < length xs → get_or xs j 0 ≡ get_or ys at 0 → take (at + 1) (swap xs at j) ≡ take (at + 1) ys
+placed_swap xs ys at j same m le h here =
+    ⊎_elim (λ lt. apart lt) (λ ge. let e : j ≡ at = omega arith in ap (λ n. take (at + 1) (swap xs at n)) e ∙ ap (take (at + 1)) (swap_same xs at (omega arith)) ∙ placed_same xs ys at same (omega arith) m (sym (ap (λ n. get_or xs n 0) e) ∙ here)) (cases_lt at j)
+  where
+    apart : at < j → take (at + 1) (swap xs at j) ≡ take (at + 1) ys
+    apart lt =
+        ap (take (at + 1)) (sym (swap_is xs at j 0 (omega arith) h))
+        ∙ take-set-le (at + 1) (set xs at (get_or xs j 0)) j (get_or xs at 0) (omega arith)
+        ∙ take_more_set xs at (get_or xs j 0) (omega arith)
+        ∙ (λ i. same i ++ (here i ∷ []))
+        ∙ sym (take_more ys at 0 m)

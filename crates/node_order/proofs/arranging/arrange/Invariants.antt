@@ -1,0 +1,16 @@
+use Rattle.std.proofs.Common.{◌≡◌, length, take, IsPermutation}
+use Rattle.node_order.specs.Picking.{picked_behind}
+use Rattle.tree_handles.specs.Forest.{kids}
+use Rattle.tree_handles.specs.Roots.{root_tree, put}
+use Rattle.tree_handles.specs.Standing.{Stands, forest, KeepsRefusals}
+use Rattle.node_order.proofs.arranging.arrange.Given as goal
+
+abbrev pub invariant-loop-at : goal.invariant-loop-at
+invariant-loop-at l = record {
+  stands : Stands l.pool;
+  kept : KeepsRefusals l.initial.pool l.pool;
+  shape : forest l.pool ≡ put l.parent (picked_behind l.from l.current (kids (root_tree l.parent (forest l.initial.pool)))) (forest l.initial.pool);
+  moved : IsPermutation l.current l.order;
+  long : length l.current ≡ length l.order;
+  same : take l.at l.current ≡ take l.at l.order;
+}

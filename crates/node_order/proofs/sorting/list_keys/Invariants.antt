@@ -1,0 +1,14 @@
+use Rattle.std.proofs.Common.{◌≡◌, ◌+◌, ◌<◌, ℕ, length, slice_index_or}
+use Rattle.node_order.specs.declared.keys.Key.{Key}
+use Rattle.node_order.specs.Keys.{IsKey, key_tree}
+use Rattle.tree_handles.specs.Expressions.{plains, nth}
+use Rattle.tree_handles.specs.Inside.{kids_of}
+use Rattle.tree_handles.specs.Standing.{forest}
+use Rattle.node_order.proofs.sorting.list_keys.Given as goal
+
+abbrev pub invariant-loop-at : goal.invariant-loop-at
+invariant-loop-at g l = record {
+  long : length l.listed ≡ length l.fn.listed;
+  valid : (n : ℕ) (d : Key) → n < l.at → IsKey (slice_index_or l.listed n d) (forest l.pool);
+  trees : (n : ℕ) (d : Key) → n < l.at → key_tree (slice_index_or l.listed n d) (forest l.pool) ≡ g.K.Keys.key_of (nth (l.from + n) (plains (kids_of l.parent (forest l.pool))));
+}

@@ -1,0 +1,49 @@
+-- Inverses by terms.
+use Rattle.std.proofs.Common.{◌≡◌, ℕ, zero, suc, [], ◌∷◌, Some, length, true, false, refl, sym, ap, ◌∙◌, subst, arith}
+use Rattle.std.specs.Prelude.{slice_get}
+use Rattle.calc_terms.specs.Numbers.{is_number, is_term, term_of, value, Rises}
+use Rattle.calc_terms.specs.SquareClasses.{are_alike, Same, Inverts}
+use Rattle.calc_terms.specs.Surds.{Term, Surd}
+use Rattle.calc_terms.specs.Trees.{Tree}
+use Rattle.calc_terms.proofs.InverseLaws.{Inverts-Same}
+use Rattle.calc_terms.proofs.NumberClasses.{value_rises}
+use Rattle.calc_terms.proofs.NumberLaws.{number_words, term_words}
+use Rattle.calc_terms.proofs.SquareClassLaws.{Same-trans}
+use Rattle.calc_terms.proofs.TermLaws.{Same-eq, Same-cons}
+use Rattle.number_forms.specs.Answers.{IsNumberOf}
+use Rattle.number_forms.specs.Inverses.{IsInverseOf}
+use Rattle.number_forms.specs.Sums.{IsSum, IsSumOf}
+use Rattle.number_forms.proofs.Shaped.{single_number}
+use Rattle.number_forms.proofs.Worth.{Same-sym}
+
+some_term : {x y : Term} → Some x ≡ Some y → x ≡ y
+some_term e = cc
+
+pub only_term : (v : Surd) (x : Term) → length v ≡ 1 → slice_get v 0 ≡ Some x → v ≡ x ∷ []
+only_term [] x l e = absurd (omega arith)
+only_term (y ∷ []) x l e = ap (λ (z : Term). z ∷ []) (some_term e)
+only_term (y ∷ z ∷ v) x l e = absurd (omega arith)
+
+pub both_terms : (v : Surd) (x y : Term) → length v ≡ 2 → slice_get v 0 ≡ Some x → slice_get v 1 ≡ Some y → v ≡ x ∷ y ∷ []
+both_terms [] x y l e f = absurd (omega arith)
+both_terms (a ∷ []) x y l e f = absurd (omega arith)
+both_terms (a ∷ b ∷ []) x y l e f = λ i. some_term e i ∷ some_term f i ∷ []
+both_terms (a ∷ b ∷ c ∷ v) x y l e f = absurd (omega arith)
+
+pub apart_terms : (t : Tree) (x y : Term) → is_number t ≡ true → value t ≡ x ∷ y ∷ [] → are_alike x.radicand y.radicand ≡ false
+apart_terms t x y h e = by (value t) e (value_rises t (number_words t h))
+  where
+    by : (v : Surd) → v ≡ x ∷ y ∷ [] → Rises v → are_alike x.radicand y.radicand ≡ false
+    by v q r = let w : Rises (x ∷ y ∷ []) = subst Rises q r in w.0.1
+
+pub inverse_term : (v : Surd) (t : Tree) (x y : Term) → v ≡ x ∷ [] → Inverts (y ∷ []) (x ∷ []) → is_term t ≡ true → term_of t ≡ y → IsInverseOf v t
+inverse_term v t x y e i h f =
+    let n : IsNumberOf (term_of t ∷ []) t = single_number t (term_words t h) in
+    record { number = n.number; inverts = Inverts-Same (Same-sym (Same-trans n.worth (Same-eq (ap (λ (z : Term). z ∷ []) f)))) (Same-eq (sym e)) i }
+
+pub inverse_number : (v w : Surd) (t : Tree) (u : Surd) → v ≡ w → Inverts u w → IsNumberOf u t → IsInverseOf v t
+inverse_number v w t u e i n = record { number = n.number; inverts = Inverts-Same (Same-sym n.worth) (Same-eq (sym e)) i }
+
+-- two terms joined to a sum of none
+pub joined_two : (t u x : Tree) (a b : Term) → value t ≡ [] → IsSumOf (b ∷ value t) u → IsSumOf (a ∷ value u) x → Same (value x) (a ∷ b ∷ [])
+joined_two t u x a b e h k = Same-trans k.worth (Same-cons a (Same-trans h.worth (Same-eq (ap (λ (v : Surd). b ∷ v) e))))

@@ -1,0 +1,14 @@
+pub mod ByKind
+pub mod Joined
+pub mod LastSums
+pub mod Refused
+pub mod Worth
+pub mod Shaped
+pub mod ReducedNumbers
+pub mod Tests
+pub mod TermTrees
+pub mod SumChanges
+pub mod Loops
+pub mod RationalCalls
+pub mod PowerSteps
+pub mod InverseSteps

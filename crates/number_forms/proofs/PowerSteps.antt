@@ -1,0 +1,21 @@
+-- Powers by squares.
+use Rattle.std.proofs.Common.{◌≡◌, ◌≢◌, ℕ, suc, ◌*◌, ◌/◌, ◌%◌, ◌≤◌, sym, ap, ◌∙◌, subst, arith}
+use Rattle.calc_terms.specs.SquareClasses.{Same}
+use Rattle.calc_terms.specs.Surds.{Surd, surd_times, surd_power}
+use Rattle.calc_terms.proofs.PowerLaws.{surd_power-squared, surd_power-multiplied}
+use Rattle.calc_terms.proofs.SquareClassLaws.{Same-trans}
+
+half_even : (n : ℕ) → n % 2 ≡ 0 → 2 * (n / 2) ≡ n
+half_even n e = omega arith
+
+half_odd : (n : ℕ) → n % 2 ≢ 0 → suc (2 * (n / 2)) ≡ n
+half_odd n e = omega arith
+
+pub half_positive : (n : ℕ) → 1 ≤ n → n ≢ 1 → 1 ≤ n / 2
+half_positive n h e = omega arith
+
+pub power_even : (v h t : Surd) (n : ℕ) → n % 2 ≡ 0 → Same h (surd_power v (n / 2)) → Same t (surd_times h h) → Same t (surd_power v n)
+power_even v h t n e k s = Same-trans s (subst (λ (m : ℕ). Same (surd_times h h) (surd_power v m)) (half_even n e) (surd_power-squared v h (n / 2) k))
+
+pub power_odd : (v h q t : Surd) (n : ℕ) → n % 2 ≢ 0 → Same h (surd_power v (n / 2)) → Same q (surd_times h h) → Same t (surd_times q v) → Same t (surd_power v n)
+power_odd v h q t n e k r s = Same-trans s (subst (λ (m : ℕ). Same (surd_times q v) (surd_power v m)) (half_odd n e) (surd_power-multiplied v q (2 * (n / 2)) (Same-trans r (surd_power-squared v h (n / 2) k))))

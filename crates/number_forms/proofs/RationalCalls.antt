@@ -1,0 +1,92 @@
+-- Rationals in place of others.
+use Rattle.std.proofs.Common.{◌≡◌, ℕ, ◌+◌, ◌≤◌, ◌-◌, [], ◌++◌, Result, Bool, true, false, cond, eqb, if◌then◌else◌, refl, sym, ap, ◌∙◌, subst, arith}
+use Rattle.calc_terms.specs.Fits.{Operation, operation_fits, result_of, fraction_power}
+use Rattle.calc_terms.specs.Numbers.{value}
+use Rattle.calc_terms.specs.SquareClasses.{Same}
+use Rattle.calc_terms.specs.Surds.{Surd, surd_of, surd_times, surd_power}
+use Rattle.calc_terms.proofs.FractionFacts.{zero_is}
+use Rattle.calc_terms.proofs.NumberLaws.{number_test}
+use Rattle.calc_terms.proofs.PowerLaws.{zero_surd_of, surd_power-surd_of}
+use Rattle.calc_terms.proofs.SquareClassLaws.{Same-trans}
+use Rattle.calc_terms.proofs.TermLaws.{Same-refl, Same-eq, Same-append, Same-surd_times, Same-surd_power, joined_radicand, surd_times-terms}
+use Rattle.number_forms.specs.Answers.{IsNumberOf, AnswersRationals}
+use Rattle.number_forms.proofs.Worth.{Same-sym}
+use Rattle.tree_handles.specs.declared.fault.NumberFault.{NumberFault}
+use Rattle.calc_terms.specs.Fractions.{Fraction, plus, times, is_zero_fraction}
+use Rattle.calc_terms.specs.PlainValues.{PlainValue, calculated, exactly, overflow}
+use Rattle.calc_terms.specs.Rat.{value_of}
+use Rattle.calc_terms.specs.Trees.{Tree, num, symbol, undef, add, mult, power, root, neg, sub, div, is_num, size}
+use Rattle.node_pool.specs.Nodes.{used}
+use Rattle.node_pool.specs.State.{State, free_of}
+use Rattle.rational128.specs.Refusals.{operation_of}
+use Rattle.rational128.specs.declared.overflow.Overflow.{Overflow}
+use Rattle.reduce_port.specs.PlainTrees.{IsPlainAnswer, IsPlainOverflow}
+use Rattle.tree_handles.specs.Expressions.{plain}
+use Rattle.tree_handles.specs.Forest.{Forest, empty, tree, bytes_in}
+use Rattle.tree_handles.specs.Handed.{IsHanded}
+use Rattle.tree_handles.specs.Roots.{has_root, root_tree, without_root}
+use Rattle.tree_handles.specs.Standing.{Stands, forest, KeepsRefusals}
+use Rattle.tree_handles.proofs.Forests.{bytes-flatten}
+use Rattle.tree_handles.proofs.Outcomes.{by_test}
+use Rattle.tree_handles.proofs.Plains.{size-plain}
+use Rattle.tree_handles.proofs.Roots.{root_arity}
+
+-- ---- bytes
+
+pub bytes_without : (i : ℕ) (f : Forest) → has_root i f ≡ true → bytes_in f ≡ bytes_in (root_tree i f) + bytes_in (without_root i f)
+bytes_without i empty h = cc
+bytes_without i (tree l k r) h = by_test (λ t. eqb l.id i ≡ t → bytes_in (tree l k r) ≡ bytes_in (cond t (tree l k empty) (root_tree i r)) + bytes_in (cond t r (tree l k (without_root i r)))) (eqb l.id i)
+    (λ e q. omega arith) (λ e q. let rest : bytes_in r ≡ bytes_in (root_tree i r) + bytes_in (without_root i r) = bytes_without i r (let g : cond (eqb l.id i) true (has_root i r) ≡ true = h in ap (λ (t : Bool). cond t true (has_root i r)) (sym q) ∙ g) in omega (arith, rest)) refl
+
+bytes_used : (s : State) → Stands s → used s.nodes ≡ bytes_in (forest s)
+bytes_used s st = ap used st.flat ∙ bytes-flatten (forest s)
+
+-- the bytes of a tree that goes are free
+pub room_of : (i : ℕ) (s t : State) → Stands s → Stands t → KeepsRefusals s t → IsHanded i (forest s) → forest t ≡ without_root i (forest s) → size (plain (root_tree i (forest s))) ≤ free_of t
+room_of i s t st su k h e =
+    let tree-bytes = size-plain (root_tree i (forest s)) (root_arity i (forest s) h.root) h.whole in
+    let parts = bytes_without i (forest s) h.root in
+    let after : bytes_in (forest t) ≡ bytes_in (without_root i (forest s)) = ap bytes_in e in
+    let old : used s.nodes ≤ s.size = st.pool.fits in
+    let new : used t.nodes ≤ t.size = su.pool.fits in
+    omega (arith, tree-bytes, parts, after, old, new, bytes_used s st, bytes_used t su, k.size)
+
+-- ---- what an operation answers
+
+pub plain_answer : (op : Operation) (p q : Fraction) (t : Tree) → (operation_fits op p q ≡ false → ⊥) → t ≡ num (result_of op p q) → IsPlainAnswer (calculated op p q) t
+plain_answer op p q t h e = by_test (λ b. operation_fits op p q ≡ b → IsPlainAnswer (if b then exactly (result_of op p q) else overflow op p q) t) (operation_fits op p q) (λ x y. e) (λ x y. absurd (h y)) refl
+
+pub plain_overflow : (op : Operation) (p q : Fraction) (o : Overflow) → operation_fits op p q ≡ false → operation_of o.op ≡ op → value_of o.a ≡ p → value_of o.b ≡ q → IsPlainOverflow (calculated op p q) o
+plain_overflow op p q o h x y z = by_test (λ b. operation_fits op p q ≡ b → IsPlainOverflow (if b then exactly (result_of op p q) else overflow op p q) o) (operation_fits op p q) (λ e f. absurd (cc (f, h))) (λ e f. (x, y, z)) refl
+
+pub num_same : {p q : Fraction} → num p ≡ num q → p ≡ q
+num_same e = cc
+
+pub rational_is : (t : Tree) (p : Fraction) → t ≡ num p → is_num t ≡ true
+rational_is t p e = ap is_num e
+
+rational_value : (q : Fraction) → Same (value (num q)) (surd_of q)
+rational_value q = by_test (λ b. is_zero_fraction q ≡ b → Same (if b then [] else surd_of q) (surd_of q)) (is_zero_fraction q) (λ e f. Same-sym (zero_surd_of q (zero_is q f))) (λ e f. Same-refl (surd_of q)) refl
+
+pub rational_number : (q : Fraction) → IsNumberOf (surd_of q) (num q)
+rational_number q = record { number = number_test (num q) tt; worth = rational_value q }
+
+pub rational_of : (x q : Fraction) (t : Tree) (v : Surd) → x ≡ q → t ≡ num x → Same (surd_of q) v → IsNumberOf v t
+rational_of x q t v e f s = let h : IsNumberOf (surd_of q) t = subst (IsNumberOf (surd_of q)) (sym (f ∙ ap num e)) (rational_number q) in record { number = h.number; worth = Same-trans h.worth s }
+
+pub rational_sum : (p q : Fraction) (a b : Tree) → a ≡ num p → b ≡ num q → Same (surd_of (plus p q)) (value a ++ value b)
+rational_sum p q a b e f =
+    let one : Same (value a ++ value b) (surd_of p ++ surd_of q) = Same-append (Same-trans (Same-eq (ap value e)) (rational_value p)) (Same-trans (Same-eq (ap value f)) (rational_value q)) in
+    Same-sym (Same-trans one (joined_radicand p q 1))
+
+pub rational_product : (p q : Fraction) (a b : Tree) → a ≡ num p → b ≡ num q → Same (surd_of (times p q)) (surd_times (value a) (value b))
+rational_product p q a b e f =
+    let one : Same (surd_times (value a) (value b)) (surd_times (surd_of p) (surd_of q)) = Same-surd_times (Same-trans (Same-eq (ap value e)) (rational_value p)) (Same-trans (Same-eq (ap value f)) (rational_value q)) in
+    Same-sym (Same-trans one (Same-eq (surd_times-terms p q 1 1)))
+
+pub rational_power : (p : Fraction) (n : ℕ) (a : Tree) → a ≡ num p → Same (surd_of (fraction_power p n)) (surd_power (value a) n)
+rational_power p n a e = Same-sym (Same-trans (Same-surd_power n (Same-trans (Same-eq (ap value e)) (rational_value p))) (surd_power-surd_of p n))
+
+pub at_rationals : (op : Operation) (p q x y : Fraction) (a b : Tree) (s : State) (r : Result ℕ NumberFault) → a ≡ num x → b ≡ num y → AnswersRationals (calculated op x y) s r → a ≡ num p → b ≡ num q → AnswersRationals (calculated op p q) s r
+at_rationals op p q x y a b s r e f h k l =
+    subst (λ (z : Fraction). AnswersRationals (calculated op p z) s r) (num_same (sym f ∙ l)) (subst (λ (z : Fraction). AnswersRationals (calculated op z y) s r) (num_same (sym e ∙ k)) h)

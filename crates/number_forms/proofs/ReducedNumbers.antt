@@ -1,0 +1,200 @@
+-- Of a reduced tree the shape tells whether it is a Number.
+use Rattle.std.proofs.Common.{◌≡◌, ◌≢◌, ℕ, zero, suc, ◌≤◌, ◌<◌, ◌⊎◌, inl, inr, Bool, true, false, not, ◌&&◌, ◌||◌, if◌then◌else◌, length, refl, sym, ap, ◌∙◌, subst, arith}
+use Rattle.std.specs.Prelude.{nat_le}
+use Rattle.std.proofs.lemmas.Bool.{and_parts, and_from, le-leb, leb-true, not-true}
+use Rattle.calc_terms.specs.declared.kind.Kind.TheVariants as kind
+use Rattle.calc_terms.specs.Fractions.{Fraction, is_zero_fraction, is_one_fraction}
+use Rattle.calc_terms.specs.Numbers.{is_number, is_term, is_radicand, are_terms, rises, terms_of}
+use Rattle.calc_terms.specs.Reduced.{is_reduced, has_form, sum_form, product_form, front_form, all_parts, all_parts_of, none_is, number_terms, other_terms, rises_by, part_of, base_of, split_product, is_undistributed}
+use Rattle.calc_terms.specs.Trees.{Tree, num, undef, add, mult, root, Trees, none, more, count, has_two, is_add, is_mult, is_undef, root_kind}
+use Rattle.number_forms.specs.Shapes.{has_term_shape}
+use Rattle.number_forms.proofs.Shaped.{length-terms_of}
+use Rattle.tree_handles.specs.Expressions.{nth}
+
+true_or_false : (b : Bool) → (b ≡ true) ⊎ (b ≡ false)
+true_or_false true = inl refl
+true_or_false false = inr refl
+
+either : (a b : Bool) → (a || b) ≡ true → (a ≡ true) ⊎ (b ≡ true)
+either true b h = inl refl
+either false b h = inr h
+
+or_false : (a : Bool) → (a || false) ≡ true → a ≡ true
+or_false true h = refl
+or_false false h = h
+
+-- ---- a term's shape
+
+root_form : (r : Fraction) → all_parts has_form (root (num r)) ≡ true → is_radicand r ≡ true
+unfolding is_number
+root_form r h = or_false (is_radicand r) ((and_parts (has_form (root (num r))) (all_parts has_form (num r)) h).0)
+
+product_parts : (q r : Fraction) → all_parts has_form (mult (more (num q) (more (root (num r)) none))) ≡ true → is_radicand r ≡ true
+unfolding is_number
+product_parts q r h =
+    let (a, b) = and_parts (has_form (mult (more (num q) (more (root (num r)) none)))) (all_parts_of has_form (more (num q) (more (root (num r)) none))) h in
+    let (c, d) = and_parts (all_parts has_form (num q)) (all_parts_of has_form (more (root (num r)) none)) b in
+    let (e, f) = and_parts (all_parts has_form (root (num r))) true d in
+    root_form r e
+
+product_front : (q : Fraction) (ts : Trees) → product_form (more (num q) ts) ≡ true → (not (is_zero_fraction q) && not (is_one_fraction q)) ≡ true
+product_front q ts h =
+    let all = more (num q) ts in
+    let (h1, _) = and_parts (has_two all && none_is is_mult all && front_form all && none_is is_number (split_product all).factors && rises_by base_of (split_product all).factors) (not (is_undistributed (split_product all))) h in
+    let (h2, _) = and_parts (has_two all && none_is is_mult all && front_form all && none_is is_number (split_product all).factors) (rises_by base_of (split_product all).factors) h1 in
+    let (h3, _) = and_parts (has_two all && none_is is_mult all && front_form all) (none_is is_number (split_product all).factors) h2 in
+    (and_parts (has_two all && none_is is_mult all) (front_form all) h3).1
+
+product_number : (q r : Fraction) → all_parts has_form (mult (more (num q) (more (root (num r)) none))) ≡ true → is_number (mult (more (num q) (more (root (num r)) none))) ≡ true
+unfolding is_number
+product_number q r h = by (either (is_number (mult (more (num q) (more (root (num r)) none)))) (product_form (more (num q) (more (root (num r)) none))) ((and_parts (has_form (mult (more (num q) (more (root (num r)) none)))) (all_parts_of has_form (more (num q) (more (root (num r)) none))) h).0))
+  where
+    by : (is_number (mult (more (num q) (more (root (num r)) none))) ≡ true) ⊎ (product_form (more (num q) (more (root (num r)) none)) ≡ true) → is_number (mult (more (num q) (more (root (num r)) none))) ≡ true
+    by (inl e) = e
+    by (inr e) = and_from (not (is_zero_fraction q) && not (is_one_fraction q)) (is_radicand r) (product_front q (more (root (num r)) none) e) (product_parts q r h)
+
+shaped_number : (t : Tree) → all_parts has_form t ≡ true → has_term_shape t ≡ true → is_number t ≡ true
+unfolding is_number
+shaped_number (num q) h s = refl
+shaped_number (root (num r)) h s = root_form r h
+shaped_number (mult (more (num q) (more (root (num r)) none))) h s = product_number q r h
+shaped_number _ h s = cc
+
+unshaped : (t : Tree) → has_term_shape t ≡ false → is_add t ≡ false → is_number t ≡ false
+unfolding is_number
+unshaped (num q) h e = cc
+unshaped (root (num r)) h e = cc
+unshaped (mult (more (num q) (more (root (num r)) none))) h e = cc
+unshaped (add ts) h e = cc
+unshaped _ h e = refl
+
+unshaped_term : (t : Tree) → has_term_shape t ≡ false → is_term t ≡ false
+unshaped_term (num q) h = cc
+unshaped_term (root (num r)) h = cc
+unshaped_term (mult (more (num q) (more (root (num r)) none))) h = cc
+unshaped_term _ h = refl
+
+pub no_add : (t : Tree) → root_kind t ≢ kind.Add → is_add t ≡ false
+no_add (add ts) h = absurd (h refl)
+no_add _ h = refl
+
+pub reduced_other : (t : Tree) → is_reduced t ≡ true → root_kind t ≢ kind.Add → has_term_shape t ≡ is_number t
+unfolding is_reduced is_number
+reduced_other t h k = by (either (is_undef t) (all_parts has_form t) h) (true_or_false (has_term_shape t))
+  where
+    undefined : (u : Tree) → is_undef u ≡ true → has_term_shape u ≡ is_number u
+    undefined undef e = refl
+    undefined _ e = cc
+
+    by : (is_undef t ≡ true) ⊎ (all_parts has_form t ≡ true) → (has_term_shape t ≡ true) ⊎ (has_term_shape t ≡ false) → has_term_shape t ≡ is_number t
+    by (inl e) s = undefined t e
+    by (inr e) (inl s) = s ∙ sym (shaped_number t e s)
+    by (inr e) (inr s) = s ∙ sym (unshaped t s (no_add t k))
+
+-- ---- a sum, by its last term
+
+none_nth : (p : Tree → Bool) (ts : Trees) (n : ℕ) → none_is p ts ≡ true → n < count ts → p (nth n ts) ≡ false
+none_nth p none n h l = absurd (omega arith)
+none_nth p (more t ts) zero h l = not-true (p t) ((and_parts (not (p t)) (none_is p ts) h).0)
+none_nth p (more t ts) (suc n) h l = none_nth p ts n ((and_parts (not (p t)) (none_is p ts) h).1) (omega arith)
+
+parts_nth : (p : Tree → Bool) (ts : Trees) (n : ℕ) → all_parts_of p ts ≡ true → n < count ts → all_parts p (nth n ts) ≡ true
+parts_nth p none n h l = absurd (omega arith)
+parts_nth p (more t ts) zero h l = (and_parts (all_parts p t) (all_parts_of p ts) h).0
+parts_nth p (more t ts) (suc n) h l = parts_nth p ts n ((and_parts (all_parts p t) (all_parts_of p ts) h).1) (omega arith)
+
+no_terms : (ts : Trees) (n : ℕ) → n < count ts → is_term (nth n ts) ≡ false → are_terms ts ≡ false
+no_terms none n l h = absurd (omega arith)
+no_terms (more t ts) zero l h = ap (λ (b : Bool). b && are_terms ts) h
+no_terms (more t ts) (suc n) l h = rest (is_term t) (are_terms ts) (no_terms ts n (omega arith) h)
+  where
+    rest : (a b : Bool) → b ≡ false → (a && b) ≡ false
+    rest true b e = e
+    rest false b e = refl
+
+-- all terms make its Number
+pub record AreAllTerms (ts : Trees) : Type 0 where
+  pub terms : are_terms ts ≡ true
+  pub number : number_terms ts ≡ ts
+
+all_terms : (ts : Trees) (n : ℕ) → suc n ≡ count ts → is_number (nth n ts) ≡ true → none_is is_number (other_terms ts) ≡ true → AreAllTerms ts
+all_terms none n e h o = absurd (omega arith)
+all_terms (more t none) n e h o = by (is_term t) refl o
+  where
+    at : n ≡ 0
+    at = omega arith
+
+    by : (b : Bool) → is_term t ≡ b → none_is is_number (if b then none else more t none) ≡ true → AreAllTerms (more t none)
+    by true f o = record { terms = ap (λ (b : Bool). b && true) f; number = ap (λ (b : Bool). if b then more t none else none) f }
+    by false f o = absurd (cc (none_nth is_number (more t none) n o (omega arith), h))
+all_terms (more t (more u us)) zero e h o = absurd (omega arith)
+all_terms (more t (more u us)) (suc n) e h o = by (λ o. all_terms (more u us) n (omega arith) h o) (is_term t) refl o
+  where
+    by : (none_is is_number (other_terms (more u us)) ≡ true → AreAllTerms (more u us)) → (b : Bool) → is_term t ≡ b → none_is is_number (if b then other_terms (more u us) else more t (more u us)) ≡ true → AreAllTerms (more t (more u us))
+    by again true f o =
+        let r = again o in
+        record { terms = and_from (is_term t) (are_terms (more u us)) f r.terms; number = ap (λ (b : Bool). if b then more t (number_terms (more u us)) else none) f ∙ ap (more t) r.number }
+    by again false f o = absurd (cc (none_nth is_number (more t (more u us)) (suc n) o (omega arith), h))
+
+two_of : (ts : Trees) → has_two ts ≡ true → 2 ≤ count ts
+two_of (more t (more u us)) h = omega arith
+two_of none h = cc
+two_of (more t none) h = cc
+
+number_two : (ts : Trees) → is_number (add ts) ≡ true → 2 ≤ count ts
+unfolding is_number
+number_two ts h =
+    let (ab, c) = and_parts (nat_le 2 (length (terms_of ts)) && are_terms ts) (rises (terms_of ts)) h in
+    let l : 2 ≤ length (terms_of ts) = leb-true 2 (length (terms_of ts)) ((and_parts (nat_le 2 (length (terms_of ts))) (are_terms ts) ab).0) in
+    subst (λ (n : ℕ). 2 ≤ n) (length-terms_of ts) l
+
+pub record SumParts (ts : Trees) : Type 0 where
+  pub two : has_two ts ≡ true
+  pub rising : rises (terms_of (number_terms ts)) ≡ true
+  pub others : none_is is_number (other_terms ts) ≡ true
+
+sum_parts : (ts : Trees) → sum_form ts ≡ true → SumParts ts
+sum_parts ts h =
+    let (h3, _) = and_parts (has_two ts && none_is is_add ts && rises (terms_of (number_terms ts)) && none_is is_number (other_terms ts)) (rises_by part_of (other_terms ts)) h in
+    let (h2, others) = and_parts (has_two ts && none_is is_add ts && rises (terms_of (number_terms ts))) (none_is is_number (other_terms ts)) h3 in
+    let (h1, rising) = and_parts (has_two ts && none_is is_add ts) (rises (terms_of (number_terms ts))) h2 in
+    let (two, _) = and_parts (has_two ts) (none_is is_add ts) h1 in
+    record { two = two; rising = rising; others = others }
+
+sum_by_terms : (ts : Trees) → SumParts ts → AreAllTerms ts → is_number (add ts) ≡ true
+unfolding is_number
+sum_by_terms ts s a =
+    let l : 2 ≤ length (terms_of ts) = subst (λ (n : ℕ). 2 ≤ n) (sym (length-terms_of ts)) (two_of ts s.two) in
+    and_from (nat_le 2 (length (terms_of ts)) && are_terms ts) (rises (terms_of ts)) (and_from (nat_le 2 (length (terms_of ts))) (are_terms ts) (le-leb 2 (length (terms_of ts)) l) a.terms) (ap (λ (us : Trees). rises (terms_of us)) (sym a.number) ∙ s.rising)
+
+not_by_terms : (ts : Trees) → are_terms ts ≡ false → is_number (add ts) ≡ false
+unfolding is_number
+not_by_terms ts h = by (nat_le 2 (length (terms_of ts))) (are_terms ts) (rises (terms_of ts)) h
+  where
+    by : (a b c : Bool) → b ≡ false → (a && b && c) ≡ false
+    by true b c e = ap (λ (x : Bool). x && c) e
+    by false b c e = refl
+
+sum_has_form : (ts : Trees) → is_reduced (add ts) ≡ true → ((is_number (add ts) ≡ true) ⊎ (sum_form ts ≡ true)) × (all_parts_of has_form ts ≡ true)
+unfolding is_reduced
+sum_has_form ts h =
+    let (a, b) = and_parts (has_form (add ts)) (all_parts_of has_form ts) h in
+    (either (is_number (add ts)) (sum_form ts) a, b)
+
+pub reduced_two : (ts : Trees) → is_reduced (add ts) ≡ true → 2 ≤ count ts
+reduced_two ts h = by (sum_has_form ts h).0
+  where
+    by : (is_number (add ts) ≡ true) ⊎ (sum_form ts ≡ true) → 2 ≤ count ts
+    by (inl e) = number_two ts e
+    by (inr e) = two_of ts (sum_parts ts e).two
+
+pub reduced_sum : (ts : Trees) (n : ℕ) → is_reduced (add ts) ≡ true → suc n ≡ count ts → has_term_shape (nth n ts) ≡ is_number (add ts)
+reduced_sum ts n h e = by (sum_has_form ts h).0 (true_or_false (has_term_shape (nth n ts)))
+  where
+    parts : all_parts has_form (nth n ts) ≡ true
+    parts = parts_nth has_form ts n (sum_has_form ts h).1 (omega arith)
+
+    by : (is_number (add ts) ≡ true) ⊎ (sum_form ts ≡ true) → (has_term_shape (nth n ts) ≡ true) ⊎ (has_term_shape (nth n ts) ≡ false) → has_term_shape (nth n ts) ≡ is_number (add ts)
+    by (inl f) (inl s) = s ∙ sym f
+    by (inr f) (inl s) = let p = sum_parts ts f in s ∙ sym (sum_by_terms ts p (all_terms ts n e (shaped_number (nth n ts) parts s) p.others))
+    by k (inr s) = s ∙ sym (not_by_terms ts (no_terms ts n (omega arith) (unshaped_term (nth n ts) s)))

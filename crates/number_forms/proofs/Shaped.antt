@@ -1,0 +1,131 @@
+-- Numbers from sums of terms, and sums of terms from Numbers.
+use Rattle.std.proofs.Common.{◌≡◌, ◌≢◌, ℕ, zero, suc, ◌≤◌, ◌<◌, [], ◌∷◌, length, Some, Bool, true, if◌then◌else◌, refl, sym, ap, ◌∙◌, subst, arith}
+use Rattle.std.specs.Prelude.{slice_get, pos}
+use Rattle.calc_terms.specs.Fractions.{Fraction, lowest}
+use Rattle.calc_terms.specs.Integers.{int_is_zero}
+use Rattle.calc_terms.specs.Numbers.{IsNumber, IsTerm, AreTerms, Rises, is_number, term_of, terms_of, value}
+use Rattle.calc_terms.specs.Surds.{Surd, surd_of}
+use Rattle.calc_terms.specs.Trees.{Tree, num, symbol, undef, add, mult, power, root, neg, sub, div, Trees, none, more, count}
+use Rattle.calc_terms.proofs.FractionFacts.{zero_test, whole_numerator}
+use Rattle.calc_terms.proofs.NumberLaws.{number_test, number_words}
+use Rattle.calc_terms.proofs.TermLaws.{Same-refl, Same-eq}
+use Rattle.number_forms.specs.Answers.{IsNumberOf}
+use Rattle.number_forms.specs.Sums.{IsSum, IsSumOf}
+use Rattle.tree_handles.specs.Expressions.{nth, children_of}
+
+pub length-terms_of : (ts : Trees) → length (terms_of ts) ≡ count ts
+length-terms_of none = refl
+length-terms_of (more t ts) = ap suc (length-terms_of ts)
+
+-- ---- from a sum
+
+pub zero_number : IsNumberOf [] (num (lowest (pos 0) 1))
+zero_number = record { number = number_test (num (lowest (pos 0) 1)) tt; worth = Same-eq (ap (λ (b : Bool). if b then [] else surd_of (lowest (pos 0) 1)) (ap int_is_zero (whole_numerator (pos 0)))) }
+
+pub term_number : (t : Tree) → IsTerm t → IsNumber t
+term_number (num q) h = tt
+term_number (root a) h = h
+term_number (mult ts) h = h
+term_number (symbol x) h = absurd h
+term_number undef h = absurd h
+term_number (add ts) h = absurd h
+term_number (power b e) h = absurd h
+term_number (neg a) h = absurd h
+term_number (sub a b) h = absurd h
+term_number (div a b) h = absurd h
+
+pub term_value : (t : Tree) → IsTerm t → value t ≡ term_of t ∷ []
+term_value (num q) h = ap (λ (b : Bool). if b then [] else surd_of q) (zero_test q h)
+term_value (root a) h = refl
+term_value (mult ts) h = refl
+term_value (symbol x) h = absurd h
+term_value undef h = absurd h
+term_value (add ts) h = absurd h
+term_value (power b e) h = absurd h
+term_value (neg a) h = absurd h
+term_value (sub a b) h = absurd h
+term_value (div a b) h = absurd h
+
+pub single_number : (t : Tree) → IsTerm t → IsNumberOf (term_of t ∷ []) t
+single_number t h = record { number = number_test t (term_number t h); worth = Same-eq (term_value t h) }
+
+pub sum_number : (ts : Trees) → 2 ≤ count ts → AreTerms ts → Rises (terms_of ts) → IsNumberOf (terms_of ts) (add ts)
+sum_number ts l a r = record {
+  number = number_test (add ts) (subst (λ (n : ℕ). 2 ≤ n) (sym (length-terms_of ts)) l, a, r);
+  worth = Same-refl (terms_of ts);
+}
+
+-- ---- from a Number
+
+pub added_number : (ts : Trees) → is_number (add ts) ≡ true → IsSum (add ts)
+added_number ts h = let w = number_words (add ts) h in (w.1, w.2)
+
+pub no_term_sum : IsSumOf [] (add none)
+no_term_sum = record { sum = (tt, tt); worth = Same-refl [] }
+
+pub one_term_sum : (t : Tree) → IsTerm t → IsSumOf (value t) (add (more t none))
+one_term_sum t h = record { sum = ((h, tt), (tt, tt)); worth = Same-eq (sym (term_value t h)) }
+
+-- ---- by place
+
+pub nth_of_terms : (ts : Trees) (n : ℕ) → n < count ts → slice_get (terms_of ts) n ≡ Some (term_of (nth n ts))
+nth_of_terms none n l = absurd (omega arith)
+nth_of_terms (more t ts) zero l = refl
+nth_of_terms (more t ts) (suc n) l = nth_of_terms ts n (omega arith)
+
+pub nth_is_term : (ts : Trees) (n : ℕ) → n < count ts → AreTerms ts → IsTerm (nth n ts)
+nth_is_term none n l a = absurd (omega arith)
+nth_is_term (more t ts) zero l (h, a) = h
+nth_is_term (more t ts) (suc n) l (h, a) = nth_is_term ts n (omega arith) a
+
+pub first_of_one : (t : Tree) (n : ℕ) → IsTerm t → n < length (value t) → slice_get (value t) n ≡ Some (term_of t)
+first_of_one t n h l = by (value t) n (term_value t h) l
+  where
+    by : (v : Surd) (n : ℕ) → v ≡ term_of t ∷ [] → n < length v → slice_get v n ≡ Some (term_of t)
+    by v n e l = ap (λ (w : Surd). slice_get w n) e ∙ one n (let k : n < length (term_of t ∷ []) = subst (λ (w : Surd). n < length w) e l in k)
+      where
+        one : (n : ℕ) → n < length (term_of t ∷ []) → slice_get (term_of t ∷ []) n ≡ Some (term_of t)
+        one zero l = refl
+        one (suc n) l = absurd (omega arith)
+
+-- ---- the sum that is a Number
+
+pub zero_sum : (t : Tree) → IsSum t → count (children_of t) ≡ 0 → value t ≡ []
+zero_sum (add none) h e = refl
+zero_sum (add (more t ts)) h e = absurd (omega arith)
+zero_sum (num q) h e = absurd h
+zero_sum (symbol x) h e = absurd h
+zero_sum undef h e = absurd h
+zero_sum (mult ts) h e = absurd h
+zero_sum (power b x) h e = absurd h
+zero_sum (root a) h e = absurd h
+zero_sum (neg a) h e = absurd h
+zero_sum (sub a b) h e = absurd h
+zero_sum (div a b) h e = absurd h
+
+one_of_sum : (ts : Trees) → AreTerms ts → count ts ≡ 1 → IsNumberOf (terms_of ts) (nth 0 ts)
+one_of_sum (more t none) (h, a) e = single_number t h
+one_of_sum none a e = absurd (omega arith)
+one_of_sum (more t (more u us)) a e = absurd (omega arith)
+
+pub one_sum : (t : Tree) (ts : Trees) → IsSum t → t ≡ add ts → count ts ≡ 1 → IsNumberOf (value t) (nth 0 ts)
+one_sum t ts h e l =
+    let parts : IsSum (add ts) = subst IsSum e h in
+    subst (λ (v : Surd). IsNumberOf v (nth 0 ts)) (sym (ap value e)) (one_of_sum ts parts.0 l)
+
+pub more_sum : (t : Tree) (ts : Trees) → IsSum t → t ≡ add ts → 2 ≤ count ts → IsNumberOf (value t) t
+more_sum t ts h e l =
+    let parts : IsSum (add ts) = subst IsSum e h in
+    subst (λ (u : Tree). IsNumberOf (value u) u) (sym e) (sum_number ts l parts.0 parts.1)
+
+pub zero_number_of : (v : Surd) (t : Tree) (q : Fraction) → v ≡ [] → t ≡ num q → q ≡ lowest (pos 0) 1 → IsNumberOf v t
+zero_number_of v t q e f g = subst (λ (w : Surd). IsNumberOf w t) (sym e) (subst (IsNumberOf []) (sym (f ∙ ap num g)) zero_number)
+
+pub no_term_sum_of : (v : Surd) (t : Tree) → v ≡ [] → t ≡ add none → IsSumOf v t
+no_term_sum_of v t e f = subst (λ (w : Surd). IsSumOf w t) (sym e) (subst (IsSumOf []) (sym f) no_term_sum)
+
+pub one_term_sum_of : (a t : Tree) → IsTerm a → t ≡ add (more a none) → IsSumOf (value a) t
+one_term_sum_of a t h f = subst (IsSumOf (value a)) (sym f) (one_term_sum a h)
+
+pub two_from : (n : ℕ) → n ≢ 0 → n ≢ 1 → 2 ≤ n
+two_from n a b = grind arith

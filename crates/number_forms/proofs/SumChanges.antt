@@ -1,0 +1,132 @@
+-- A sum that stands last: as it is read, with a term more, and with a term less.
+use Rattle.std.proofs.Common.{◌≡◌, ℕ, ◌+◌, ◌<◌, ◌≤◌, [], ◌∷◌, ◌++◌, true, false, refl, sym, ap, ◌∙◌, subst, arith}
+use Rattle.calc_terms.specs.Numbers.{IsTerm, AreTerms, Rises, is_term, term_of, terms_of, value}
+use Rattle.calc_terms.specs.SquareClasses.{Same, are_alike}
+use Rattle.calc_terms.specs.Surds.{Term, Surd}
+use Rattle.calc_terms.specs.Trees.{Tree, Trees, none, more, add, count}
+use Rattle.calc_terms.proofs.NumberClasses.{IsProper}
+use Rattle.calc_terms.proofs.NumberLaws.{term_words}
+use Rattle.calc_terms.proofs.SquareClassLaws.{Same-trans}
+use Rattle.calc_terms.proofs.TermLaws.{Same-refl, Same-eq, Same-cons, Same-append, Same-to_front}
+use Rattle.node_pool.specs.State.{State}
+use Rattle.number_forms.specs.Sums.{IsSum, IsSumOf, IsApart, IsPlace, removed}
+use Rattle.number_forms.specs.Joins.{IsMatch}
+use Rattle.number_forms.specs.declared.joining.Match.{Match}
+use Rattle.number_forms.proofs.ByKind.{children_number}
+use Rattle.number_forms.proofs.Joined.{are_inserted, rises_inserted, same_inserted, are_removed, rises_removed, same_removed, apart_removed, alike_sum}
+use Rattle.number_forms.proofs.LastSums.{kids_represented, represents_without, sum_is, resum, gives_at}
+use Rattle.number_forms.proofs.Shaped.{nth_is_term}
+use Rattle.number_forms.proofs.TermTrees.{term_test}
+use Rattle.tree_handles.specs.Expressions.{nth, plain, plains, children_of, inserted, IsExpression}
+use Rattle.tree_handles.specs.Forest.{Forest, arity, kids, with_nth, without_nth, tree_nth}
+use Rattle.tree_handles.specs.Handed.{IsHanded, Represents, Ends, Gives}
+use Rattle.tree_handles.specs.Inside.{tree_at, kids_of}
+use Rattle.tree_handles.specs.Roots.{has_root, root_tree, without_root, put}
+use Rattle.tree_handles.specs.Standing.{Stands, forest}
+use Rattle.tree_handles.proofs.Given.{represents_handed, represents_with, gives_as, given_root, given_handed, given_told, given_rest, given_same}
+use Rattle.tree_handles.proofs.Lasts.{last_tree, last_rest, expression_root, plain_root}
+
+-- ---- as it is read
+
+pub same_plain : (j i : ℕ) (s : State) → j ≡ i → Stands s → has_root i (forest s) ≡ true → plain (tree_at j (forest s)) ≡ plain (root_tree i (forest s))
+same_plain j i s e st h = ap (λ (x : ℕ). plain (tree_at x (forest s))) e ∙ plain_root i st h
+
+pub read_expression : (j i : ℕ) (s : State) → j ≡ i → Stands s → IsHanded i (forest s) → IsExpression j (forest s)
+read_expression j i s e st h = subst (λ (x : ℕ). IsExpression x (forest s)) (sym e) (expression_root st h)
+
+pub read_sum : {g : Forest} (j i : ℕ) (s : State) → j ≡ i → Stands s → Gives g (forest s) i IsSum → IsSum (plain (tree_at j (forest s)))
+read_sum j i s e st h = subst IsSum (sym (same_plain j i s e st (given_root h))) (given_told h)
+
+pub read_place : (j i n r x : ℕ) (s : State) → j ≡ i → Stands s → has_root i (forest s) ≡ true → r ≡ x → IsPlace n r (children_of (plain (tree_at j (forest s)))) → IsPlace n x (children_of (plain (root_tree i (forest s))))
+read_place j i n r x s e st h q p = subst (λ (t : Tree). IsPlace n x (children_of t)) (same_plain j i s e st h) (subst (λ (y : ℕ). IsPlace n y (children_of (plain (tree_at j (forest s))))) q p)
+
+pub many_kids : (i : ℕ) (s : State) → Stands s → IsHanded i (forest s) → arity (kids_of i (forest s)) ≡ count (children_of (plain (root_tree i (forest s))))
+many_kids i s st h = children_number i (forest s) (expression_root st h) ∙ ap (λ (t : Tree). count (children_of t)) (plain_root i st h.root)
+
+pub term_of_sum : (t u : Tree) (n : ℕ) → IsSum t → n < count (children_of t) → u ≡ nth n (children_of t) → is_term u ≡ true
+term_of_sum t u n h l e = ap is_term e ∙ term_test (nth n (children_of t)) (nth_is_term (children_of t) n l (subst IsSum (sum_is t h) h).0)
+
+pub sum_value : (t : Tree) → IsSum t → value t ≡ terms_of (children_of t)
+sum_value t h = ap value (sum_is t h)
+
+-- ---- a term more
+
+inserted_of : (n : ℕ) (t : Term) (u : Tree) (ts : Trees) (v : Surd) → IsTerm u → term_of u ≡ t → v ≡ terms_of ts → 0 < t.radicand → IsApart t.radicand v → IsPlace n t.radicand ts → AreTerms ts → Rises (terms_of ts)
+    → IsSumOf (t ∷ v) (add (inserted n (more u none) ts))
+inserted_of n t u ts v w e q o a p are rises =
+    let radicand : t.radicand ≡ (term_of u).radicand = ap (λ (x : Term). x.radicand) (sym e) in
+    let positive : 0 < (term_of u).radicand = subst (λ (r : ℕ). 0 < r) radicand o in
+    let place : IsPlace n (term_of u).radicand ts = subst (λ (r : ℕ). IsPlace n r ts) radicand p in
+    let apart : IsApart (term_of u).radicand (terms_of ts) = subst (λ (r : ℕ). IsApart r (terms_of ts)) radicand (subst (IsApart t.radicand) q a) in
+    record {
+      sum = (are_inserted n u ts w are, rises_inserted n u ts positive apart place rises);
+      worth = Same-trans (same_inserted n u ts) (Same-eq (λ i. e i ∷ sym q i));
+    }
+
+pub inserted_sum : {i h at : ℕ} {g f f1 f2 : Forest} (t : Term) (e : Gives g f i IsSum) (p : Gives f f1 h (λ u. (is_term u ≡ true) × (term_of u ≡ t)))
+    → 0 < t.radicand → IsApart t.radicand (value (plain (root_tree i f))) → IsPlace at t.radicand (children_of (plain (root_tree i f)))
+    → f2 ≡ put i (with_nth at (root_tree h f1) (kids (root_tree i f1))) (without_root h f1) → Gives g f2 i (IsSumOf (t ∷ value (plain (root_tree i f))))
+inserted_sum {i} {h} {at} {g} {f} {f1} t e p o a pl q =
+    let tree = root_tree i f in
+    let ts = children_of (plain tree) in
+    let u = plain (root_tree h f1) in
+    let is = given_told e in
+    let add-is : plain tree ≡ add ts = sum_is (plain tree) is in
+    let parts : IsSum (add ts) = subst IsSum add-is is in
+    let told = given_told p in
+    let handed = given_handed e in
+    let kids-are : Represents (kids tree) ts = kids_represented tree handed.once handed.whole in
+    let all : Represents (with_nth at (root_tree h f1) (kids tree)) (inserted at (more u none) ts) = represents_with at (represents_handed (given_handed p)) kids-are in
+    let same = given_same i p (given_root e) in
+    let rest = given_rest p in
+    gives_at (resum e (with_nth at (root_tree h f1) (kids tree)) (inserted at (more u none) ts) ts (ap plain (sym (last_tree e.ends)) ∙ add-is) all
+    (inserted_of at t u ts (value (plain tree)) (term_words u told.0) told.1 (sum_value (plain tree) is) o a pl parts.0 parts.1))
+    (q ∙ (λ j. put i (with_nth at (root_tree h f1) (kids (same j))) (rest j)))
+
+-- ---- a term less
+
+pub removed_sum : {i h : ℕ} {g f f1 f2 : Forest} (at : ℕ) (e : Gives g f i IsSum) → Ends h (tree_nth at (kids (root_tree i f))) (put i (without_nth at (kids (root_tree i f))) f) f1
+    → f2 ≡ without_root h f1 → Gives g f2 i (λ t. t ≡ add (removed at (children_of (plain (root_tree i f)))))
+removed_sum {i} {h} {g} {f} at e x q =
+    let tree = root_tree i f in
+    let ts = children_of (plain tree) in
+    let handed = given_handed e in
+    gives_at (resum e (without_nth at (kids tree)) (removed at ts) ts (ap plain (sym (last_tree e.ends)) ∙ sum_is (plain tree) (given_told e)) (represents_without at (kids_represented tree handed.once handed.whole)) refl)
+    (q ∙ last_rest x)
+
+pub removed_is_sum : (n : ℕ) (t u : Tree) → IsSum t → u ≡ add (removed n (children_of t)) → IsSum u
+removed_is_sum n t u h e =
+    let parts : IsSum (add (children_of t)) = subst IsSum (sum_is t h) h in
+    subst IsSum (sym e) (are_removed n (children_of t) parts.0, rises_removed n (children_of t) parts.1)
+
+pub joined_rest : (n : ℕ) (ts : Trees) (v : Surd) (t : Term) → n < count ts → Same v (term_of (nth n ts) ∷ t ∷ []) → Same (v ++ terms_of (removed n ts)) (t ∷ terms_of ts)
+joined_rest n ts v t l h =
+    let rest = terms_of (removed n ts) in
+    let one : Same (v ++ rest) (term_of (nth n ts) ∷ t ∷ rest) = Same-append h (Same-refl rest) in
+    let two : Same (term_of (nth n ts) ∷ t ∷ rest) (t ∷ term_of (nth n ts) ∷ rest) = Same-to_front (term_of (nth n ts) ∷ []) t rest in
+    Same-trans one (Same-trans two (Same-cons t (same_removed n ts l)))
+
+-- the two terms cancelled
+pub cancelled : (n : ℕ) (t u : Tree) (s : Term) → IsSum t → n < count (children_of t) → Same [] (term_of (nth n (children_of t)) ∷ s ∷ []) → u ≡ add (removed n (children_of t)) → IsSumOf (s ∷ value t) u
+cancelled n t u s h l k e = record {
+  sum = removed_is_sum n t u h e;
+  worth = Same-trans (Same-eq (ap value e)) (Same-trans (joined_rest n (children_of t) [] s l k) (Same-eq (ap (λ (v : Surd). s ∷ v) (sym (sum_value t h)))));
+}
+
+-- a term of the two took their place
+pub made_one : (n : ℕ) (t u x : Tree) (s j : Term) → IsSum t → n < count (children_of t) → Same (j ∷ []) (term_of (nth n (children_of t)) ∷ s ∷ []) → u ≡ add (removed n (children_of t)) → IsSumOf (j ∷ value u) x → IsSumOf (s ∷ value t) x
+made_one n t u x s j h l k e w = record {
+  sum = w.sum;
+  worth = Same-trans w.worth (Same-trans (Same-eq (ap (λ (v : Tree). j ∷ value v) e)) (Same-trans (joined_rest n (children_of t) (j ∷ []) s l k) (Same-eq (ap (λ (v : Surd). s ∷ v) (sym (sum_value t h))))));
+}
+
+-- ---- what meets a term
+
+pub matched : (t : Term) (u v : Tree) (m n : Match) → u ≡ v → m ≡ n → IsMatch t (children_of u) m → IsMatch t (children_of v) n
+matched t u v m n e f h = subst (λ (x : Match). IsMatch t (children_of v) x) f (subst (λ (x : Tree). IsMatch t (children_of x) m) e h)
+
+pub apart_rest : (n : ℕ) (t u : Tree) (s j : Term) → IsSum t → n < count (children_of t) → IsProper j → are_alike (term_of (nth n (children_of t))).radicand s.radicand ≡ true → Same (j ∷ []) (term_of (nth n (children_of t)) ∷ s ∷ [])
+    → u ≡ add (removed n (children_of t)) → IsApart j.radicand (value u)
+apart_rest n t u s j h l p a k e =
+    let parts : IsSum (add (children_of t)) = subst IsSum (sum_is t h) h in
+    subst (IsApart j.radicand) (sym (ap value e)) (apart_removed j.radicand n (children_of t) parts.1 l (alike_sum j (term_of (nth n (children_of t))) s p a k))

@@ -1,0 +1,107 @@
+-- Terms as trees, and trees as terms.
+use Rattle.std.proofs.Common.{◌≡◌, ◌≢◌, ℕ, ◌≤◌, ◌<◌, ◌⊎◌, inl, inr, Bool, true, false, not, length, [], if◌then◌else◌, Result, Ok, Err, refl, sym, ap, ◌∙◌, subst, arith}
+use Rattle.std.specs.Prelude.{ℤ, pos, nat_abs, IfOk}
+use Rattle.calc_terms.specs.Clean.{IsClean}
+use Rattle.calc_terms.specs.declared.kind.Kind.TheVariants as kind
+use Rattle.calc_terms.specs.declared.rat.Rat.{Rat}
+use Rattle.calc_terms.specs.Fractions.{Fraction, lowest, zero_fraction, one_fraction, whole_fraction, fraction_path}
+use Rattle.calc_terms.specs.Numbers.{IsTerm, IsRadicand, is_term, is_number, natural_of, term_of, value, classes}
+use Rattle.calc_terms.specs.Rat.{ratio_of, value_of}
+use Rattle.calc_terms.specs.Ratio.{Ratio, whole}
+use Rattle.calc_terms.specs.Surds.{Term, Surd, term, surd_of}
+use Rattle.calc_terms.specs.Trees.{Tree, num, symbol, undef, add, mult, power, root, neg, sub, div, Trees, none, more, root_kind, is_add}
+use Rattle.calc_terms.proofs.FractionFacts.{zero_test, whole_numerator, whole_denominator}
+use Rattle.calc_terms.proofs.NumberLaws.{number_test, number_words}
+use Rattle.calc_terms.proofs.NumberShapes.{AsNumber, as_number}
+use Rattle.calc_terms.specs.Integers.{int_is_zero}
+use Rattle.number_forms.specs.Readers.{is_zero}
+use Rattle.rational128.proofs.LowestTerms.{ratio_parts}
+use Rattle.tree_handles.specs.Forest.{Forest}
+use Rattle.tree_handles.specs.Handed.{Gives}
+use Rattle.tree_handles.proofs.Given.{gives_as}
+
+pub term_test : (t : Tree) → IsTerm t → is_term t ≡ true
+unfolding is_number
+term_test (num q) h = ap not (zero_test q h)
+term_test (root a) h = number_test (root a) h
+term_test (mult ts) h = number_test (mult ts) h
+term_test (symbol x) h = absurd h
+term_test undef h = absurd h
+term_test (add ts) h = absurd h
+term_test (power b e) h = absurd h
+term_test (neg a) h = absurd h
+term_test (sub a b) h = absurd h
+term_test (div a b) h = absurd h
+
+-- ---- from a term
+
+whole_radicand : (n : ℕ) → 2 ≤ n → IsClean n → IsRadicand (whole_fraction (pos n))
+whole_radicand n l c = (whole_denominator (pos n), n, whole_numerator (pos n), l, c)
+
+pub rational_tree : (q : Fraction) (s : Term) (t : Tree) → q ≡ s.coefficient → s.coefficient ≢ zero_fraction → s.radicand ≡ 1 → t ≡ num q → (is_term t ≡ true) × (term_of t ≡ s)
+rational_tree q s t c z r e = (ap is_term e ∙ term_test (num q) (λ k. z (sym c ∙ k)), ap term_of e ∙ (λ i. term (c i) (sym r i)))
+
+pub root_tree : (n : ℕ) (s : Term) (t : Tree) → one_fraction ≡ s.coefficient → n ≡ s.radicand → 2 ≤ n → IsClean n → t ≡ root (num (whole_fraction (pos n))) → (is_term t ≡ true) × (term_of t ≡ s)
+root_tree n s t c r l h e = (ap is_term e ∙ term_test (root (num (whole_fraction (pos n)))) (whole_radicand n l h), ap term_of e ∙ (λ i. term (c i) ((ap natural_of (whole_numerator (pos n)) ∙ r) i)))
+
+pub multiple_tree : (q : Fraction) (n : ℕ) (s : Term) (t : Tree) → q ≡ s.coefficient → s.coefficient ≢ zero_fraction → q ≢ one_fraction → n ≡ s.radicand → 2 ≤ n → IsClean n
+    → t ≡ mult (more (num q) (more (root (num (whole_fraction (pos n)))) none)) → (is_term t ≡ true) × (term_of t ≡ s)
+multiple_tree q n s t c z o r l h e = (
+  ap is_term e ∙ term_test (mult (more (num q) (more (root (num (whole_fraction (pos n)))) none))) ((λ k. z (sym c ∙ k)), o, whole_radicand n l h),
+  ap term_of e ∙ (λ i. term (c i) ((ap natural_of (whole_numerator (pos n)) ∙ r) i)),
+)
+
+pub if_gives : {E : Type 0} (r : Result ℕ E) (f g : Forest) (P Q : Tree → Type 0) → IfOk r (λ h. Gives f g h P) → ((t : Tree) → P t → Q t) → IfOk r (λ h. Gives f g h Q)
+if_gives (Ok h) f g P Q e k = gives_as e refl k
+if_gives (Err x) f g P Q e k = tt
+
+-- ---- rationals of the code
+
+pub whole_is : (r : Rat) (n : ℤ) → ratio_of r ≡ whole n → value_of r ≡ whole_fraction n
+whole_is r n e = ap (λ (x : Ratio). lowest x.num x.den) e
+
+pub one_value : (r : Rat) → ratio_of r ≡ whole (pos 1) → value_of r ≡ one_fraction
+unfolding one_fraction
+one_value r e = whole_is r (pos 1) e
+
+pub is_one_value : (r : Rat) → (ratio_of r).num ≡ pos 1 → (ratio_of r).den ≡ 1 → value_of r ≡ one_fraction
+unfolding one_fraction
+is_one_value r n d = fraction_path (value_of r) (lowest (pos 1) 1) ((ratio_parts r).num ∙ n ∙ sym (whole_numerator (pos 1))) ((ratio_parts r).den ∙ d ∙ sym (whole_denominator (pos 1)))
+
+pub not_one_num : (r : Rat) → (ratio_of r).num ≢ pos 1 → value_of r ≢ one_fraction
+unfolding one_fraction
+not_one_num r h e = h (sym (ratio_parts r).num ∙ ap (λ (f : Fraction). f.num) e ∙ whole_numerator (pos 1))
+
+pub not_one_den : (r : Rat) → (ratio_of r).den ≢ 1 → value_of r ≢ one_fraction
+unfolding one_fraction
+not_one_den r h e = h (sym (ratio_parts r).den ∙ ap (λ (f : Fraction). f.den) e ∙ whole_denominator (pos 1))
+
+pub natural_abs : (z : ℤ) (n : ℕ) → z ≡ pos n → nat_abs z ≡ natural_of z
+natural_abs z n e = ap nat_abs e ∙ sym (ap natural_of e)
+
+-- ---- a Number that is no sum
+
+pub single_term : (t : Tree) (n : ℕ) → is_number t ≡ true → root_kind t ≢ kind.Add → n < classes t → IsTerm t
+single_term t n h k l = by (as_number t (number_words t h))
+  where
+    by : AsNumber t → IsTerm t
+    by (inl z) = absurd (let m : n < length (value t) = l in let e : length (value t) ≡ 0 = ap length z.value_is in omega arith)
+    by (inr (inl s)) = s.one
+    by (inr (inr s)) = absurd (k (ap root_kind s.is))
+
+pub if_given : {E : Type 0} (f g h : Forest) (P Q : Tree → Type 0) (r : Result ℕ E) → IfOk r (λ i. Gives f g i P) → f ≡ h → ((t : Tree) → P t → Q t) → IfOk r (λ i. Gives h g i Q)
+if_given f g h P Q (Ok i) e q k = gives_as e q k
+if_given f g h P Q (Err x) e q k = tt
+
+pub nonzero_term : (t : Tree) → is_number t ≡ true → is_add t ≡ false → is_zero t ≡ false → IsTerm t
+unfolding zero_fraction
+nonzero_term t h k z = by (as_number t (number_words t h))
+  where
+    by : AsNumber t → IsTerm t
+    by (inl a) = absurd (let x : is_zero t ≡ true = ap is_zero a.is ∙ ap int_is_zero (whole_numerator (pos 0)) in cc (x, z))
+    by (inr (inl s)) = s.one
+    by (inr (inr s)) = absurd (let x : is_add t ≡ true = ap is_add s.is in cc (x, k))
+
+pub zero_value : (t : Tree) → is_zero t ≡ true → value t ≡ []
+zero_value (num q) h = ap (λ (b : Bool). if b then [] else surd_of q) h
+zero_value _ h = cc

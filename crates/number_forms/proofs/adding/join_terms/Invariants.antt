@@ -1,0 +1,9 @@
+use Rattle.std.proofs.Common.{◌++◌}
+use Rattle.calc_terms.specs.Numbers.{value}
+use Rattle.number_forms.proofs.Loops.{IsJoined}
+use Rattle.number_forms.proofs.Worth.{terms_from}
+use Rattle.reduce_port.specs.Rewritings.{tree_of}
+use Rattle.number_forms.proofs.adding.join_terms.Given as goal
+
+abbrev pub invariant-loop-at : goal.invariant-loop-at
+invariant-loop-at l = IsJoined l.sum (terms_from l.at (value (tree_of l.number l.fn.pool))) (value (tree_of l.sum l.fn.pool) ++ value (tree_of l.number l.fn.pool)) l.fn.pool l.pool

@@ -1,0 +1,66 @@
+use Rattle.std.proofs.Common.{◌≡◌, ◌<◌, ◌≤◌, ℕ, inl, sym, ap, ◌∙◌, refl, arith, subst}
+use Rattle.std.specs.Prelude.{pos}
+use Rattle.calc_terms.specs.Numbers.{value}
+use Rattle.number_forms.specs.Answers.{IsNumberOf}
+use Rattle.calc_terms.specs.Trees.{Tree, count}
+use Rattle.number_forms.proofs.LastSums.{sum_is, only_child, only_owned}
+use Rattle.number_forms.proofs.Shaped.{zero_sum, one_sum, more_sum, zero_number_of, two_from}
+use Rattle.number_forms.proofs.SumChanges.{same_plain, read_expression}
+use Rattle.number_forms.proofs.TermTrees.{if_given, whole_is}
+use Rattle.number_forms.proofs.Loops.{gives_itself}
+use Rattle.reduce_port.specs.Rewritings.{tree_of}
+use Rattle.tree_handles.specs.Expressions.{children_of}
+use Rattle.tree_handles.proofs.Fronts.{behind_first, front_same, front_at, front_end, front_put, front_without, front_after}
+use Rattle.tree_handles.proofs.Given.{given_root, given_handed, given_told, gives_as, owned}
+use Rattle.number_forms.proofs.adding.number_of.Goals as goal
+
+pub children-terms-requires-clause-live : goal.children-terms-requires-clause-live
+children-terms-requires-clause-live c = (read_expression _ c.args.sum c.args.pool.now c.id.ensures c.requires.stands (given_handed c.requires.sum)).live
+
+pub release-requires-clause-releasable : goal.release-requires-clause-releasable
+release-requires-clause-releasable c = inl (given_root c.requires.sum)
+
+pub release-requires-then-terms-eq1-clause-releasable : goal.release-requires-then-terms-eq1-clause-releasable
+release-requires-then-terms-eq1-clause-releasable c =
+    let sum = tree_of c.args.sum c.args.pool.now in
+    inl (only_owned c.requires.sum (children_of sum) (sum_is sum (given_told c.requires.sum)) (c.take_child-term.ensures.last (given_root c.requires.sum))).root
+
+pub returns-then-terms-eq0-clause-ok : goal.returns-then-terms-eq0-clause-ok
+returns-then-terms-eq0-clause-ok c =
+    let sum = tree_of c.args.sum c.args.pool.now in
+    let expression = read_expression _ c.args.sum c.args.pool.now c.id.ensures c.requires.stands (given_handed c.requires.sum) in
+    let many = ap (λ (t : Tree). count (children_of t)) (same_plain _ c.args.sum c.args.pool.now c.id.ensures c.requires.stands (given_root c.requires.sum)) in
+    let none : count (children_of sum) ≡ 0 = sym (c.children-terms.ensures.plain expression ∙ many) ∙ c.if-terms-eq0.true in
+    if_given _ _ _ _ _ c.number.result c.number.ensures.given (c.release.ensures.owned (owned (given_handed c.requires.sum)))
+    (λ t e. zero_number_of _ t _ (zero_sum sum (given_told c.requires.sum) none) e (whole_is c.whole.result (pos 0) c.whole.ensures))
+
+pub returns-then-terms-eq0-clause-front : goal.returns-then-terms-eq0-clause-front
+returns-then-terms-eq0-clause-front c = front_after (front_at (front_without behind_first front_same) (c.release.ensures.owned (owned (given_handed c.requires.sum)))) c.number.ensures.front
+
+pub returns-then-terms-eq1-clause-ok : goal.returns-then-terms-eq1-clause-ok
+returns-then-terms-eq1-clause-ok c =
+    let sum = tree_of c.args.sum c.args.pool.now in
+    let told = given_told c.requires.sum in
+    let expression = read_expression _ c.args.sum c.args.pool.now c.id.ensures c.requires.stands (given_handed c.requires.sum) in
+    let many = ap (λ (t : Tree). count (children_of t)) (same_plain _ c.args.sum c.args.pool.now c.id.ensures c.requires.stands (given_root c.requires.sum)) in
+    let one : count (children_of sum) ≡ 1 = sym (c.children-terms.ensures.plain expression ∙ many) ∙ c.if-terms-eq1.true in
+    let taken = c.take_child-term.ensures.last (given_root c.requires.sum) in
+    let gone = c.release-then-terms-eq1.ensures.owned (owned (only_owned c.requires.sum (children_of sum) (sum_is sum told) taken)) in
+    only_child c.requires.sum (children_of sum) (sum_is sum told) (omega (arith, one)) taken gone (one_sum sum (children_of sum) told (sum_is sum told) one)
+
+pub returns-then-terms-eq1-clause-front : goal.returns-then-terms-eq1-clause-front
+returns-then-terms-eq1-clause-front c =
+    let sum = tree_of c.args.sum c.args.pool.now in
+    let taken = c.take_child-term.ensures.last (given_root c.requires.sum) in
+    let gone = c.release-then-terms-eq1.ensures.owned (owned (only_owned c.requires.sum (children_of sum) (sum_is sum (given_told c.requires.sum)) taken)) in
+    front_at (front_without behind_first (front_end taken (front_put _ behind_first front_same))) gone
+
+pub returns-else-terms-eq1-clause-ok : goal.returns-else-terms-eq1-clause-ok
+returns-else-terms-eq1-clause-ok c =
+    let sum = tree_of c.args.sum c.args.pool.now in
+    let told = given_told c.requires.sum in
+    let expression = read_expression _ c.args.sum c.args.pool.now c.id.ensures c.requires.stands (given_handed c.requires.sum) in
+    let many = ap (λ (t : Tree). count (children_of t)) (same_plain _ c.args.sum c.args.pool.now c.id.ensures c.requires.stands (given_root c.requires.sum)) in
+    let all : c.children-terms.result ≡ count (children_of sum) = c.children-terms.ensures.plain expression ∙ many in
+    let two : 2 ≤ c.children-terms.result = two_from c.children-terms.result c.if-terms-eq0.false c.if-terms-eq1.false in
+    gives_as (gives_itself c.requires.sum) refl (λ t h. let e = h.1 in subst (IsNumberOf (value sum)) (sym e) (more_sum sum (children_of sum) told (sum_is sum told) (omega (arith, all, two))))

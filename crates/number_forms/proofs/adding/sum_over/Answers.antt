@@ -1,0 +1,27 @@
+use Rattle.std.proofs.Common.{◌≡◌, sym, ap, ◌∙◌, refl}
+use Rattle.calc_terms.specs.Trees.{root_kind}
+use Rattle.number_forms.proofs.ByKind.{sum_of_number}
+use Rattle.number_forms.proofs.ReducedNumbers.{no_add}
+use Rattle.number_forms.proofs.SumChanges.{same_plain, read_expression}
+use Rattle.reduce_port.specs.Rewritings.{tree_of}
+use Rattle.tree_handles.proofs.Fronts.{behind_first, front_same, front_end, front_without}
+use Rattle.tree_handles.proofs.Given.{represents_handed, gives}
+use Rattle.number_forms.proofs.adding.sum_over.Goals as goal
+
+pub kind-requires-clause-live : goal.kind-requires-clause-live
+kind-requires-clause-live c = (read_expression _ c.args.a c.args.pool.now c.id.ensures c.requires.stands c.requires.handed).live
+
+pub sum_over_term-requires : goal.sum_over_term-requires
+sum_over_term-requires c =
+    let same = same_plain _ c.args.a c.args.pool.now c.id.ensures c.requires.stands c.requires.handed.root in
+    let expression = read_expression _ c.args.a c.args.pool.now c.id.ensures c.requires.stands c.requires.handed in
+    record { stands = c.requires.stands; handed = c.requires.handed; number = c.requires.number; no_sum = no_add (tree_of c.args.a c.args.pool.now) (λ k. c.in_default.not-Add (c.kind.ensures.plain expression ∙ ap root_kind same ∙ k)) }
+
+pub returns-in-Add-clause-ok : goal.returns-in-Add-clause-ok
+returns-in-Add-clause-ok c =
+    let same = same_plain _ c.args.a c.args.pool.now c.id.ensures c.requires.stands c.requires.handed.root in
+    let expression = read_expression _ c.args.a c.args.pool.now c.id.ensures c.requires.stands c.requires.handed in
+    gives c.move_last.ensures.last (represents_handed c.requires.handed) (sum_of_number (tree_of c.args.a c.args.pool.now) c.requires.number (ap root_kind (sym same) ∙ sym (c.kind.ensures.plain expression) ∙ c.in-Add.is))
+
+pub returns-in-Add-clause-front : goal.returns-in-Add-clause-front
+returns-in-Add-clause-front c = front_end c.move_last.ensures.last (front_without behind_first front_same)

@@ -1,0 +1,44 @@
+use Rattle.std.proofs.Common.{◌≡◌, false, sym, ap, ◌∙◌, refl}
+use Rattle.calc_terms.specs.declared.kind.Kind.TheVariants as kind
+use Rattle.calc_terms.specs.Payload.{bare}
+use Rattle.number_forms.specs.Readers.{is_zero}
+use Rattle.number_forms.proofs.Shaped.{no_term_sum_of, one_term_sum_of}
+use Rattle.number_forms.proofs.SumChanges.{same_plain, read_expression}
+use Rattle.number_forms.proofs.TermTrees.{if_given, nonzero_term, zero_value}
+use Rattle.reduce_port.specs.Rewritings.{tree_of}
+use Rattle.tree_handles.proofs.Fronts.{behind_first, front_same, front_at, front_end, front_without, front_after}
+use Rattle.tree_handles.proofs.Given.{represents_none, represents_handed, represents_with, represents_node, gives, owned}
+use Rattle.tree_handles.proofs.Lasts.{last_held, last_apart, other_root}
+use Rattle.number_forms.proofs.adding.sum_over_term.Goals as goal
+
+pub is_zero-requires-clause-expression : goal.is_zero-requires-clause-expression
+is_zero-requires-clause-expression c = read_expression _ c.args.a c.args.pool.now c.id.ensures c.requires.stands c.requires.handed
+
+pub add_child-requires-clause-live : goal.add_child-requires-clause-live
+add_child-requires-clause-live c = last_held c.in_ok-sum.ensures.ok
+
+pub add_child-requires-clause-root : goal.add_child-requires-clause-root
+add_child-requires-clause-root c = other_root c.args.a c.in_ok-sum.ensures.ok c.requires.handed.root
+
+pub add_child-requires-clause-apart : goal.add_child-requires-clause-apart
+add_child-requires-clause-apart c = last_apart c.args.a c.in_ok-sum.ensures.stands c.in_ok-sum.ensures.ok c.requires.handed.root
+
+pub returns-then-is_zero-clause-ok : goal.returns-then-is_zero-clause-ok
+returns-then-is_zero-clause-ok c =
+    let same = same_plain _ c.args.a c.args.pool.now c.id.ensures c.requires.stands c.requires.handed.root in
+    let zero = sym (c.is_zero.ensures ∙ ap is_zero same) ∙ c.if-is_zero.true in
+    if_given _ _ _ _ _ c.node.result (c.node.ensures.given refl) (c.release.ensures.owned (owned c.requires.handed)) (λ t e. no_term_sum_of _ t (zero_value (tree_of c.args.a c.args.pool.now) zero) e)
+
+pub returns-then-is_zero-clause-front : goal.returns-then-is_zero-clause-front
+returns-then-is_zero-clause-front c = front_after (front_at (front_without behind_first front_same) (c.release.ensures.owned (owned c.requires.handed))) c.node.ensures.front
+
+pub returns-in_ok-sum-clause-ok : goal.returns-in_ok-sum-clause-ok
+returns-in_ok-sum-clause-ok c =
+    let same = same_plain _ c.args.a c.args.pool.now c.id.ensures c.requires.stands c.requires.handed.root in
+    let nonzero = sym (c.is_zero.ensures ∙ ap is_zero same) ∙ c.if-is_zero.false in
+    gives (c.add_child.ensures.last _ _ c.in_ok-sum.ensures.ok c.requires.handed.root)
+    (represents_node c.in_ok-sum.sum (bare kind.Add) (represents_with 0 (represents_handed c.requires.handed) represents_none) refl)
+    (one_term_sum_of (tree_of c.args.a c.args.pool.now) _ (nonzero_term (tree_of c.args.a c.args.pool.now) c.requires.number c.requires.no_sum nonzero) refl)
+
+pub returns-in_ok-sum-clause-front : goal.returns-in_ok-sum-clause-front
+returns-in_ok-sum-clause-front c = front_end (c.add_child.ensures.last _ _ c.in_ok-sum.ensures.ok c.requires.handed.root) (front_without behind_first front_same)

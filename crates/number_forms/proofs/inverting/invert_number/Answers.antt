@@ -1,0 +1,49 @@
+use Rattle.std.proofs.Common.{◌≡◌, ◌≢◌, ◌≤◌, ℕ, refl, sym, ap, ◌∙◌, arith}
+use Rattle.calc_terms.specs.Numbers.{is_number, classes}
+use Rattle.number_forms.proofs.SumChanges.{same_plain, read_expression}
+use Rattle.reduce_port.specs.Rewritings.{tree_of}
+use Rattle.tree_handles.proofs.Fronts.{behind_first, front_same, front_at, front_end, front_without}
+use Rattle.tree_handles.proofs.Given.{represents_handed, gives, owned}
+use Rattle.number_forms.proofs.inverting.invert_number.Goals as goal
+
+three_from : (n : ℕ) → n ≢ 0 → n ≢ 1 → n ≢ 2 → 3 ≤ n
+three_from n x y z = grind arith
+
+pub term_count-terms-requires-clause-expression : goal.term_count-terms-requires-clause-expression
+term_count-terms-requires-clause-expression c = read_expression _ c.args.a c.args.pool.now c.id.ensures c.requires.stands c.requires.handed
+
+pub term_count-terms-requires-clause-number : goal.term_count-terms-requires-clause-number
+term_count-terms-requires-clause-number c = ap is_number (same_plain _ c.args.a c.args.pool.now c.id.ensures c.requires.stands c.requires.handed.root) ∙ c.requires.number
+
+pub invert_one-requires-clause-classes : goal.invert_one-requires-clause-classes
+invert_one-requires-clause-classes c = sym (c.term_count-terms.ensures ∙ ap classes (same_plain _ c.args.a c.args.pool.now c.id.ensures c.requires.stands c.requires.handed.root)) ∙ c.if-terms-eq1.true
+
+pub invert_two-requires-clause-classes : goal.invert_two-requires-clause-classes
+invert_two-requires-clause-classes c = sym (c.term_count-terms.ensures ∙ ap classes (same_plain _ c.args.a c.args.pool.now c.id.ensures c.requires.stands c.requires.handed.root)) ∙ c.if-terms-eq2.true
+
+pub returns-then-terms-eq0-clause-ok : goal.returns-then-terms-eq0-clause-ok
+returns-then-terms-eq0-clause-ok c =
+    let none : classes (tree_of c.args.a c.args.pool.now) ≡ 0 = sym (c.term_count-terms.ensures ∙ ap classes (same_plain _ c.args.a c.args.pool.now c.id.ensures c.requires.stands c.requires.handed.root)) ∙ c.if-terms-eq0.true in
+    (none, c.release.ensures.owned (owned c.requires.handed))
+
+pub returns-then-terms-eq0-clause-front : goal.returns-then-terms-eq0-clause-front
+returns-then-terms-eq0-clause-front c = front_at (front_without behind_first front_same) (c.release.ensures.owned (owned c.requires.handed))
+
+pub returns-in_ok-invert_one-clause-ok : goal.returns-in_ok-invert_one-clause-ok
+returns-in_ok-invert_one-clause-ok c =
+    let one : classes (tree_of c.args.a c.args.pool.now) ≡ 1 = sym (c.term_count-terms.ensures ∙ ap classes (same_plain _ c.args.a c.args.pool.now c.id.ensures c.requires.stands c.requires.handed.root)) ∙ c.if-terms-eq1.true in
+    (omega (arith, one), omega (arith, one), c.in_ok-invert_one.ensures.ok)
+
+pub returns-in_ok-invert_two-clause-ok : goal.returns-in_ok-invert_two-clause-ok
+returns-in_ok-invert_two-clause-ok c =
+    let two : classes (tree_of c.args.a c.args.pool.now) ≡ 2 = sym (c.term_count-terms.ensures ∙ ap classes (same_plain _ c.args.a c.args.pool.now c.id.ensures c.requires.stands c.requires.handed.root)) ∙ c.if-terms-eq2.true in
+    (omega (arith, two), omega (arith, two), c.in_ok-invert_two.ensures.ok)
+
+pub returns-else-terms-eq2-clause-ok : goal.returns-else-terms-eq2-clause-ok
+returns-else-terms-eq2-clause-ok c =
+    let all : c.term_count-terms.result ≡ classes (tree_of c.args.a c.args.pool.now) = c.term_count-terms.ensures ∙ ap classes (same_plain _ c.args.a c.args.pool.now c.id.ensures c.requires.stands c.requires.handed.root) in
+    let many : 3 ≤ c.term_count-terms.result = three_from c.term_count-terms.result c.if-terms-eq0.false c.if-terms-eq1.false c.if-terms-eq2.false in
+    (omega (arith, all, many), gives c.move_last.ensures.last (represents_handed c.requires.handed) refl)
+
+pub returns-else-terms-eq2-clause-front : goal.returns-else-terms-eq2-clause-front
+returns-else-terms-eq2-clause-front c = front_end c.move_last.ensures.last (front_without behind_first front_same)

@@ -1,0 +1,36 @@
+use Rattle.std.proofs.Common.{◌≡◌, ◌<◌, Some, sym, ap, ◌∙◌, arith}
+use Rattle.std.specs.Prelude.{slice_get}
+use Rattle.calc_terms.specs.Numbers.{is_number, value, classes}
+use Rattle.calc_terms.specs.Trees.{Tree}
+use Rattle.number_forms.proofs.InverseSteps.{only_term, inverse_term}
+use Rattle.number_forms.proofs.SumChanges.{same_plain, read_expression}
+use Rattle.reduce_port.specs.Rewritings.{tree_of}
+use Rattle.surd_terms.specs.Terms.{term_of}
+use Rattle.tree_handles.proofs.Fronts.{behind_first, front_same, front_at, front_without, front_after}
+use Rattle.tree_handles.proofs.Given.{gives_as, owned}
+use Rattle.number_forms.proofs.inverting.invert_one.Goals as goal
+
+pub nth_term-requires-clause-expression : goal.nth_term-requires-clause-expression
+nth_term-requires-clause-expression c = read_expression _ c.args.a c.args.pool.now c.id.ensures c.requires.stands c.requires.handed
+
+pub nth_term-requires-clause-number : goal.nth_term-requires-clause-number
+nth_term-requires-clause-number c = ap is_number (same_plain _ c.args.a c.args.pool.now c.id.ensures c.requires.stands c.requires.handed.root) ∙ c.requires.number
+
+pub nth_term-requires-clause-within : goal.nth_term-requires-clause-within
+nth_term-requires-clause-within c =
+    let same = ap classes (same_plain _ c.args.a c.args.pool.now c.id.ensures c.requires.stands c.requires.handed.root) in
+    omega (arith, same, c.requires.classes)
+
+pub returns-in_err-place_term-clause-front : goal.returns-in_err-place_term-clause-front
+returns-in_err-place_term-clause-front c = front_after (front_at (front_without behind_first front_same) (c.release.ensures.owned (owned c.requires.handed))) c.place_term.ensures.front
+
+pub returns-clause-front : goal.returns-clause-front
+returns-clause-front c = front_after (front_at (front_without behind_first front_same) (c.release.ensures.owned (owned c.requires.handed))) c.place_term.ensures.front
+
+pub returns-clause-ok : goal.returns-clause-ok
+returns-clause-ok c =
+    let same = same_plain _ c.args.a c.args.pool.now c.id.ensures c.requires.stands c.requires.handed.root in
+    let x = term_of c.nth_term.result in
+    let first : slice_get (value (tree_of c.args.a c.args.pool.now)) 0 ≡ Some x = ap (λ (t : Tree). slice_get (value t) 0) (sym same) ∙ c.nth_term.ensures in
+    gives_as c.in_ok-place_term.ensures.ok (c.release.ensures.owned (owned c.requires.handed))
+    (λ t h. inverse_term (value (tree_of c.args.a c.args.pool.now)) t x (term_of c.in_ok-inverse.inverse) (only_term (value (tree_of c.args.a c.args.pool.now)) x c.requires.classes first) c.in_ok-inverse.ensures.inverts h.0 h.1)

@@ -1,0 +1,66 @@
+use Rattle.std.proofs.Common.{◌≡◌, sym, subst, refl}
+use Rattle.calc_terms.specs.Trees.{Tree}
+use Rattle.number_forms.specs.Sums.{IsSum, IsApart}
+use Rattle.number_forms.proofs.SumChanges.{same_plain, read_expression, read_sum, sum_value, removed_is_sum, cancelled, made_one, matched, apart_rest}
+use Rattle.reduce_port.specs.Rewritings.{tree_of}
+use Rattle.surd_terms.specs.Terms.{term_of}
+use Rattle.tree_handles.proofs.Fronts.{behind_first, front_after_one}
+use Rattle.tree_handles.proofs.Given.{given_root, given_handed, given_told, given_rest, gives_as}
+use Rattle.number_forms.proofs.joining.join_term.Goals as goal
+
+pub match_in-requires-clause-expression : goal.match_in-requires-clause-expression
+match_in-requires-clause-expression c = read_expression _ c.args.sum.now c.args.pool.now c.id.ensures c.requires.stands (given_handed c.requires.sum)
+
+pub match_in-requires-clause-sum : goal.match_in-requires-clause-sum
+match_in-requires-clause-sum c = read_sum _ c.args.sum.now c.args.pool.now c.id.ensures c.requires.stands c.requires.sum
+
+pub insert-requires-clause-apart : goal.insert-requires-clause-apart
+insert-requires-clause-apart c =
+    let sum : Tree = tree_of c.args.sum.now c.args.pool.now in
+    let same = same_plain _ c.args.sum.now c.args.pool.now c.id.ensures c.requires.stands (given_root c.requires.sum) in
+    subst (IsApart (term_of c.args.term).radicand) (sym (sum_value sum (given_told c.requires.sum))) (matched (term_of c.args.term) _ sum _ _ same c.in-None.is c.in_ok-match_in.ensures.ok)
+
+pub remove-requires-clause-within : goal.remove-requires-clause-within
+remove-requires-clause-within c =
+    let same = same_plain _ c.args.sum.now c.args.pool.now c.id.ensures c.requires.stands (given_root c.requires.sum) in
+    (matched (term_of c.args.term) _ (tree_of c.args.sum.now c.args.pool.now) _ _ same c.in-Zero.is c.in_ok-match_in.ensures.ok).0
+
+pub remove-requires-in-Term-clause-within : goal.remove-requires-in-Term-clause-within
+remove-requires-in-Term-clause-within c =
+    let same = same_plain _ c.args.sum.now c.args.pool.now c.id.ensures c.requires.stands (given_root c.requires.sum) in
+    (matched (term_of c.args.term) _ (tree_of c.args.sum.now c.args.pool.now) _ _ same c.in-Term.is c.in_ok-match_in.ensures.ok).0
+
+pub insert-requires-in-Term-clause-sum : goal.insert-requires-in-Term-clause-sum
+insert-requires-in-Term-clause-sum c =
+    let rest = c.remove-in-Term.ensures.sum in
+    gives_as rest (sym (given_rest rest)) (λ t e. removed_is_sum c.in-Term.at (tree_of c.args.sum.now c.args.pool.now) t (given_told c.requires.sum) e)
+
+pub insert-requires-in-Term-clause-apart : goal.insert-requires-in-Term-clause-apart
+insert-requires-in-Term-clause-apart c =
+    let sum : Tree = tree_of c.args.sum.now c.args.pool.now in
+    let same = same_plain _ c.args.sum.now c.args.pool.now c.id.ensures c.requires.stands (given_root c.requires.sum) in
+    let m = matched (term_of c.args.term) _ sum _ _ same c.in-Term.is c.in_ok-match_in.ensures.ok in
+    apart_rest c.in-Term.at sum _ (term_of c.args.term) (term_of c.in-Term.joined) (given_told c.requires.sum) m.0 (record { not_zero = c.in-Term.joined.not_zero; positive = c.in-Term.joined.positive }) m.1.0 m.1.1
+    (given_told c.remove-in-Term.ensures.sum)
+
+pub returns-in_err-insert-in-Term-clause-front : goal.returns-in_err-insert-in-Term-clause-front
+returns-in_err-insert-in-Term-clause-front c = front_after_one behind_first c.remove-in-Term.ensures.front c.insert-in-Term.ensures.front
+
+pub returns-in-Zero-clause-ok : goal.returns-in-Zero-clause-ok
+returns-in-Zero-clause-ok c =
+    let sum : Tree = tree_of c.args.sum.now c.args.pool.now in
+    let same = same_plain _ c.args.sum.now c.args.pool.now c.id.ensures c.requires.stands (given_root c.requires.sum) in
+    let m = matched (term_of c.args.term) _ sum _ _ same c.in-Zero.is c.in_ok-match_in.ensures.ok in
+    gives_as c.remove.ensures.sum refl (λ t e. cancelled c.in-Zero.at sum t (term_of c.args.term) (given_told c.requires.sum) m.0 m.1.1 e)
+
+pub returns-in_ok-insert-in-Term-clause-ok : goal.returns-in_ok-insert-in-Term-clause-ok
+returns-in_ok-insert-in-Term-clause-ok c =
+    let sum : Tree = tree_of c.args.sum.now c.args.pool.now in
+    let same = same_plain _ c.args.sum.now c.args.pool.now c.id.ensures c.requires.stands (given_root c.requires.sum) in
+    let m = matched (term_of c.args.term) _ sum _ _ same c.in-Term.is c.in_ok-match_in.ensures.ok in
+    let rest = c.remove-in-Term.ensures.sum in
+    gives_as c.in_ok-insert-in-Term.ensures.ok (given_rest rest)
+    (λ x w. made_one c.in-Term.at sum _ x (term_of c.args.term) (term_of c.in-Term.joined) (given_told c.requires.sum) m.0 m.1.1 (given_told rest) w)
+
+pub returns-in_ok-insert-in-Term-clause-front : goal.returns-in_ok-insert-in-Term-clause-front
+returns-in_ok-insert-in-Term-clause-front c = front_after_one behind_first c.remove-in-Term.ensures.front c.insert-in-Term.ensures.front

@@ -1,0 +1,11 @@
+use Rattle.std.proofs.Common.{◌++◌, map}
+use Rattle.calc_terms.specs.Numbers.{value}
+use Rattle.calc_terms.specs.Surds.{term_times}
+use Rattle.surd_terms.specs.Terms.{term_of}
+use Rattle.number_forms.proofs.Loops.{IsJoined}
+use Rattle.number_forms.proofs.Worth.{terms_from}
+use Rattle.reduce_port.specs.Rewritings.{tree_of}
+use Rattle.number_forms.proofs.multiplying.join_products.Given as goal
+
+abbrev pub invariant-loop-at : goal.invariant-loop-at
+invariant-loop-at l = IsJoined l.sum (map (term_times (term_of l.term)) (terms_from l.at (value (tree_of l.number l.fn.pool)))) (value (tree_of l.sum l.fn.pool) ++ map (term_times (term_of l.term)) (value (tree_of l.number l.fn.pool))) l.fn.pool l.pool

@@ -1,0 +1,11 @@
+use Rattle.std.proofs.Common.{◌++◌}
+use Rattle.calc_terms.specs.Numbers.{value}
+use Rattle.calc_terms.specs.Surds.{surd_times}
+use Rattle.number_forms.proofs.Loops.{IsJoined}
+use Rattle.number_forms.proofs.Worth.{terms_from}
+use Rattle.reduce_port.specs.Rewritings.{tree_of}
+use Rattle.number_forms.proofs.multiplying.join_rows.Given as goal
+
+abbrev pub invariant-loop-at : goal.invariant-loop-at
+invariant-loop-at l =
+    IsJoined l.sum (surd_times (terms_from l.at (value (tree_of l.a l.fn.pool))) (value (tree_of l.b l.fn.pool))) (value (tree_of l.sum l.fn.pool) ++ surd_times (value (tree_of l.a l.fn.pool)) (value (tree_of l.b l.fn.pool))) l.fn.pool l.pool

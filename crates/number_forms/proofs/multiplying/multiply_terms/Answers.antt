@@ -1,0 +1,28 @@
+use Rattle.std.proofs.Common.{inl, ap, ◌∙◌}
+use Rattle.tree_handles.specs.Roots.{without_root}
+use Rattle.number_forms.proofs.Loops.{gives_without}
+use Rattle.tree_handles.proofs.Fronts.{behind_first, behind_later, front_same, front_at, front_without, front_after}
+use Rattle.tree_handles.proofs.Given.{given_other, gives_as, handed_beside, handed_at, owned}
+use Rattle.number_forms.proofs.multiplying.multiply_terms.Goals as goal
+
+pub release-requires-clause-releasable : goal.release-requires-clause-releasable
+release-requires-clause-releasable c = inl (given_other c.in_ok-product.ensures.ok c.requires.first).root
+
+pub release-requires-2-clause-releasable : goal.release-requires-2-clause-releasable
+release-requires-2-clause-releasable c =
+    let gone = c.release.ensures.owned (owned (given_other c.in_ok-product.ensures.ok c.requires.first)) in
+    inl (handed_at (handed_beside c.args.a c.requires.apart (given_other c.in_ok-product.ensures.ok c.requires.second)) gone).root
+
+pub returns-clause-ok : goal.returns-clause-ok
+returns-clause-ok c =
+    let product = c.in_ok-product.ensures.ok in
+    let gone = c.release.ensures.owned (owned (given_other product c.requires.first)) in
+    let b = handed_at (handed_beside c.args.a c.requires.apart (given_other product c.requires.second)) gone in
+    gives_without c.args.b (gives_without c.args.a product c.requires.first.root gone) (handed_beside c.args.a c.requires.apart c.requires.second).root (c.release-2.ensures.owned (owned b))
+
+pub returns-clause-front : goal.returns-clause-front
+returns-clause-front c =
+    let product = c.in_ok-product.ensures.ok in
+    let gone = c.release.ensures.owned (owned (given_other product c.requires.first)) in
+    let b = handed_at (handed_beside c.args.a c.requires.apart (given_other product c.requires.second)) gone in
+    front_at (front_without (behind_later behind_first) (front_at (front_without behind_first (front_after front_same c.product_of.ensures.front)) gone)) (c.release-2.ensures.owned (owned b))

@@ -1,0 +1,45 @@
+use Rattle.std.proofs.Common.{◌≡◌, true, ap, sym, ◌∙◌, refl, subst}
+use Rattle.calc_terms.specs.declared.kind.Kind.TheVariants as kind
+use Rattle.calc_terms.specs.Payload.{bare}
+use Rattle.calc_terms.specs.Trees.{Tree, num, root, mult, more, none}
+use Rattle.tree_handles.specs.Forest.{Forest}
+use Rattle.tree_handles.specs.Roots.{has_root}
+use Rattle.tree_handles.proofs.Fronts.{behind_new, front_same, front_end, front_without}
+use Rattle.tree_handles.proofs.Given.{represents_none, represents_handed, represents_with, represents_node, gives, gives_as, given_root, given_handed, given_told, given_rest}
+use Rattle.tree_handles.proofs.Lasts.{last_held, last_apart, other_root, ends_as}
+use Rattle.number_forms.proofs.placing.place_multiple.Goals as goal
+
+pub add_child-requires-clause-live : goal.add_child-requires-clause-live
+add_child-requires-clause-live c = last_held c.in_ok-product.ensures.ok
+
+pub add_child-requires-clause-root : goal.add_child-requires-clause-root
+add_child-requires-clause-root c = other_root c.in_ok-root.root c.in_ok-product.ensures.ok (given_root c.in_ok-root.ensures.ok)
+
+pub add_child-requires-clause-apart : goal.add_child-requires-clause-apart
+add_child-requires-clause-apart c = last_apart c.in_ok-root.root c.in_ok-product.ensures.stands c.in_ok-product.ensures.ok (given_root c.in_ok-root.ensures.ok)
+
+pub add_child-requires-2-clause-root : goal.add_child-requires-2-clause-root
+add_child-requires-2-clause-root c =
+    let root = c.in_ok-root.ensures.ok in
+    other_root c.in_ok-rational.rational (ends_as (c.add_child.ensures.last _ _ c.in_ok-product.ensures.ok (given_root root)) refl (given_rest root)) (given_root c.in_ok-rational.ensures.given)
+
+pub add_child-requires-2-clause-apart : goal.add_child-requires-2-clause-apart
+add_child-requires-2-clause-apart c =
+    let root = c.in_ok-root.ensures.ok in
+    last_apart c.in_ok-rational.rational c.add_child.ensures.stands (ends_as (c.add_child.ensures.last _ _ c.in_ok-product.ensures.ok (given_root root)) refl (given_rest root)) (given_root c.in_ok-rational.ensures.given)
+
+pub returns-clause-ok : goal.returns-clause-ok
+returns-clause-ok c =
+    let rational = c.in_ok-rational.ensures.given in
+    let root = c.in_ok-root.ensures.ok in
+    let one = ends_as (c.add_child.ensures.last _ _ c.in_ok-product.ensures.ok (given_root root)) refl (given_rest root) in
+    gives_as (gives (c.add_child-2.ensures.last _ _ one (given_root rational))
+    (represents_node c.in_ok-product.product (bare kind.Mult) (represents_with 0 (represents_handed (given_handed rational)) (represents_with 0 (represents_handed (given_handed root)) represents_none)) refl) refl) (given_rest rational)
+    (λ t e. e ∙ (λ i. mult (more (given_told rational i) (more (given_told root i) none))))
+
+pub returns-clause-front : goal.returns-clause-front
+returns-clause-front c =
+    let rational = c.in_ok-rational.ensures.given in
+    let root = c.in_ok-root.ensures.ok in
+    let one = ends_as (c.add_child.ensures.last _ _ c.in_ok-product.ensures.ok (given_root root)) refl (given_rest root) in
+    front_end (c.add_child-2.ensures.last _ _ one (given_root rational)) (front_without (behind_new rational.ends front_same) c.number.ensures.front)

@@ -1,0 +1,29 @@
+use Rattle.std.proofs.Common.{ap, ◌∙◌, refl}
+use Rattle.calc_terms.specs.declared.kind.Kind.TheVariants as kind
+use Rattle.calc_terms.specs.Payload.{bare}
+use Rattle.calc_terms.specs.Trees.{num, root}
+use Rattle.tree_handles.proofs.Fronts.{behind_new, front_same, front_end, front_without}
+use Rattle.tree_handles.proofs.Given.{represents_none, represents_handed, represents_with, represents_node, gives, gives_as, given_root, given_handed, given_told, given_rest}
+use Rattle.tree_handles.proofs.Lasts.{last_held, last_apart, other_root}
+use Rattle.number_forms.proofs.placing.place_root.Goals as goal
+
+pub add_child-requires-clause-live : goal.add_child-requires-clause-live
+add_child-requires-clause-live c = last_held c.in_ok-root.ensures.ok
+
+pub add_child-requires-clause-root : goal.add_child-requires-clause-root
+add_child-requires-clause-root c = other_root c.in_ok-rational.rational c.in_ok-root.ensures.ok (given_root c.in_ok-rational.ensures.given)
+
+pub add_child-requires-clause-apart : goal.add_child-requires-clause-apart
+add_child-requires-clause-apart c = last_apart c.in_ok-rational.rational c.in_ok-root.ensures.stands c.in_ok-root.ensures.ok (given_root c.in_ok-rational.ensures.given)
+
+pub returns-clause-ok : goal.returns-clause-ok
+returns-clause-ok c =
+    let rational = c.in_ok-rational.ensures.given in
+    gives_as (gives (c.add_child.ensures.last _ _ c.in_ok-root.ensures.ok (given_root rational))
+    (represents_node c.in_ok-root.root (bare kind.Root) (represents_with 0 (represents_handed (given_handed rational)) represents_none) refl) refl) (given_rest rational)
+    (λ t e. e ∙ ap root (given_told rational ∙ ap num c.whole.ensures))
+
+pub returns-clause-front : goal.returns-clause-front
+returns-clause-front c =
+    let rational = c.in_ok-rational.ensures.given in
+    front_end (c.add_child.ensures.last _ _ c.in_ok-root.ensures.ok (given_root rational)) (front_without (behind_new rational.ends front_same) c.number.ensures.front)

@@ -1,0 +1,42 @@
+use Rattle.std.proofs.Common.{◌≡◌, ◌≢◌, ℕ, ◌≤◌, ◌<◌, sym, ap, ◌∙◌, arith, rules, to_z, of_z, FitsSigned}
+use Rattle.std.specs.Int.{w128}
+use Rattle.std.specs.Prelude.{ℤ, pos}
+use Rattle.std.proofs.lemmas.Int.{to_z-of_z}
+use Rattle.calc_terms.specs.Fractions.{one_fraction}
+use Rattle.calc_terms.specs.Rat.{ratio_of, value_of}
+use Rattle.calc_terms.specs.declared.rat.Rat.{Rat}
+use Rattle.number_forms.proofs.TermTrees.{rational_tree, root_tree, multiple_tree, if_gives, is_one_value, not_one_num, not_one_den}
+use Rattle.number_forms.proofs.placing.place_term.Goals as goal
+use Rattle.number_forms.proofs.placing.place_term.Goals.{else-num-eq1-via-then-num-eq1+else-den-eq1, else-num-eq1-via-else-num-eq1}
+
+two : (n : ℕ) → 1 ≤ n → n ≢ 1 → 2 ≤ n
+two n l h = grind arith
+
+one_bits : (z : ℤ) → FitsSigned w128 z → of_z w128 z ≡ 1 → z ≡ pos 1
+one_bits z fits e = sym (to_z-of_z w128 z fits) ∙ ap (to_z w128) e
+
+one_of : {a b : ℕ} → pos a ≡ pos b → a ≡ b
+one_of e = cc
+
+pub returns-then-radicand-eq1-clause-ok : goal.returns-then-radicand-eq1-clause-ok
+returns-then-radicand-eq1-clause-ok c =
+    if_gives c.number.result _ _ _ _ c.number.ensures.given
+    (λ t e. rational_tree _ _ t c.coefficient-coefficient.ensures.value c.coefficient-coefficient.ensures.not_zero (sym c.radicand.ensures.value ∙ c.if-radicand-eq1.true) e)
+
+pub returns-then-den-eq1-clause-ok : goal.returns-then-den-eq1-clause-ok
+returns-then-den-eq1-clause-ok c =
+    let num_fits : FitsSigned w128 c.num.result = search rules in
+    let den_fits : FitsSigned w128 c.den.result = search rules in
+    let one : value_of c.coefficient-coefficient.result ≡ one_fraction = is_one_value c.coefficient-coefficient.result (sym c.num.ensures.value ∙ one_bits c.num.result num_fits c.if-num-eq1.true) (one_of (sym c.den.ensures.value ∙ one_bits c.den.result den_fits c.if-den-eq1.true)) in
+    let same = c.radicand-then-den-eq1.ensures.value ∙ sym c.radicand.ensures.value in
+    if_gives c.place_root.result _ _ _ _ c.place_root.ensures.ok
+    (λ t e. root_tree _ _ t (sym one ∙ c.coefficient-coefficient.ensures.value) c.radicand-then-den-eq1.ensures.value (two _ c.radicand-then-den-eq1.ensures.positive (λ k. c.if-radicand-eq1.false (sym same ∙ k))) c.radicand-then-den-eq1.ensures.clean e)
+
+pub returns-else-num-eq1-clause-ok : goal.returns-else-num-eq1-clause-ok
+returns-else-num-eq1-clause-ok c =
+    let q = c.coefficient-coefficient.result in
+    let other : value_of q ≢ one_fraction = elim c.else-num-eq1.branch [ else-num-eq1-via-then-num-eq1+else-den-eq1 w ↦ not_one_den q (λ k. w.if-den-eq1.false (ap (of_z w128) (w.den.ensures.value ∙ ap pos k))) | else-num-eq1-via-else-num-eq1 w ↦ not_one_num q (λ k. w.if-num-eq1.false (ap (of_z w128) (c.num.ensures.value ∙ k))) ] in
+    let same = c.radicand-else-num-eq1.ensures.value ∙ sym c.radicand.ensures.value in
+    if_gives c.place_multiple.result _ _ _ _ c.place_multiple.ensures.ok
+    (λ t e. multiple_tree _ _ _ t c.coefficient-coefficient.ensures.value c.coefficient-coefficient.ensures.not_zero other c.radicand-else-num-eq1.ensures.value
+    (two _ c.radicand-else-num-eq1.ensures.positive (λ k. c.if-radicand-eq1.false (sym same ∙ k))) c.radicand-else-num-eq1.ensures.clean e)

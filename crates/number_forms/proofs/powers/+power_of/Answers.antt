@@ -1,0 +1,83 @@
+use Rattle.std.proofs.Common.{◌≡◌, refl, sym, ap, ◌∙◌}
+use Rattle.calc_terms.specs.Numbers.{is_number, value}
+use Rattle.calc_terms.specs.Surds.{surd_times, surd_power}
+use Rattle.calc_terms.specs.Trees.{Tree}
+use Rattle.calc_terms.proofs.SquareClassLaws.{Same-trans}
+use Rattle.calc_terms.proofs.TermLaws.{Same-eq}
+use Rattle.number_forms.proofs.Loops.{other_plain}
+use Rattle.number_forms.proofs.PowerSteps.{power_even, power_odd}
+use Rattle.number_forms.proofs.SumChanges.{same_plain, read_expression}
+use Rattle.number_forms.proofs.TermTrees.{if_given}
+use Rattle.reduce_port.specs.Rewritings.{tree_of}
+use Rattle.tree_handles.specs.Expressions.{plain}
+use Rattle.tree_handles.specs.Forest.{Forest}
+use Rattle.tree_handles.specs.Roots.{root_tree}
+use Rattle.tree_handles.proofs.Fronts.{behind_new, front_same, front_at, front_end, front_after_one}
+use Rattle.tree_handles.proofs.Given.{given_handed, given_told, given_rest, given_other, gives_as, handed_at}
+use Rattle.number_forms.proofs.powers.+power_of.Goals as goal
+
+pub copy_tree-requires-clause-live : goal.copy_tree-requires-clause-live
+copy_tree-requires-clause-live _ c = (read_expression _ c.args.a.now c.args.pool.now c.id.ensures c.requires.stands c.requires.handed).live
+
+pub returns-then-n-eq1-clause-ok : goal.returns-then-n-eq1-clause-ok
+returns-then-n-eq1-clause-ok _ c =
+    let a : Tree = tree_of c.args.a.now c.args.pool.now in
+    let expression = read_expression _ c.args.a.now c.args.pool.now c.id.ensures c.requires.stands c.requires.handed in
+    let same = same_plain _ c.args.a.now c.args.pool.now c.id.ensures c.requires.stands c.requires.handed.root in
+    gives_as (c.in_ok-copy_tree.ensures.given expression) refl
+    (λ t e. let is : t ≡ a = e ∙ same in record { number = ap is_number is ∙ c.requires.number; worth = Same-eq (ap value is ∙ ap (surd_power (value a)) (sym c.if-n-eq1.true)) })
+
+pub returns-then-n-eq1-clause-front : goal.returns-then-n-eq1-clause-front
+returns-then-n-eq1-clause-front _ c = front_end (c.in_ok-copy_tree.ensures.given (read_expression _ c.args.a.now c.args.pool.now c.id.ensures c.requires.stands c.requires.handed)).ends front_same
+
+pub squared-requires-clause-handed : goal.squared-requires-clause-handed
+squared-requires-clause-handed _ c = given_handed c.in_ok-half.ensures.ok
+
+pub squared-requires-clause-number : goal.squared-requires-clause-number
+squared-requires-clause-number _ c = (given_told c.in_ok-half.ensures.ok).number
+
+pub returns-in_err-square-clause-front : goal.returns-in_err-square-clause-front
+returns-in_err-square-clause-front _ c = front_after_one (behind_new c.in_ok-half.ensures.ok.ends front_same) c.power_of.ensures.front c.squared.ensures.front
+
+pub multiplied-requires-clause-first : goal.multiplied-requires-clause-first
+multiplied-requires-clause-first _ c = given_handed c.in_ok-square.ensures.ok
+
+pub multiplied-requires-clause-second : goal.multiplied-requires-clause-second
+multiplied-requires-clause-second _ c = given_other c.in_ok-square.ensures.ok (handed_at c.requires.handed (given_rest c.in_ok-half.ensures.ok))
+
+pub multiplied-requires-clause-first_number : goal.multiplied-requires-clause-first_number
+multiplied-requires-clause-first_number _ c = (given_told c.in_ok-square.ensures.ok).number
+
+pub multiplied-requires-clause-second_number : goal.multiplied-requires-clause-second_number
+multiplied-requires-clause-second_number _ c =
+    let rest = given_rest c.in_ok-half.ensures.ok in
+    ap is_number (other_plain c.args.a.now c.in_ok-square.ensures.ok (handed_at c.requires.handed rest).root ∙ ap (λ (f : Forest). plain (root_tree c.args.a.now f)) rest) ∙ c.requires.number
+
+pub returns-then-n-eq0-clause-ok : goal.returns-then-n-eq0-clause-ok
+returns-then-n-eq0-clause-ok _ c =
+    let half = c.in_ok-half.ensures.ok in
+    gives_as c.in_ok-square.ensures.ok (given_rest half) (λ t h. record {
+      number = h.number;
+      worth = power_even (value (tree_of c.args.a.now c.args.pool.now)) (value (tree_of c.in_ok-half.half c.power_of.new.pool)) (value t) c.args.n c.if-n-eq0.true (given_told half).worth h.worth;
+    })
+
+pub returns-then-n-eq0-clause-front : goal.returns-then-n-eq0-clause-front
+returns-then-n-eq0-clause-front _ c = front_after_one (behind_new c.in_ok-half.ensures.ok.ends front_same) c.power_of.ensures.front c.squared.ensures.front
+
+pub returns-else-n-eq0-clause-ok : goal.returns-else-n-eq0-clause-ok
+returns-else-n-eq0-clause-ok _ c =
+    let half = c.in_ok-half.ensures.ok in
+    let square = c.in_ok-square.ensures.ok in
+    let rest = given_rest half in
+    let same = other_plain c.args.a.now square (handed_at c.requires.handed rest).root ∙ ap (λ (f : Forest). plain (root_tree c.args.a.now f)) rest in
+    let q = value (tree_of c.in_ok-square.square c.squared.new.pool) in
+    if_given _ _ _ _ _ c.multiplied.result c.multiplied.ensures.ok (given_rest square ∙ rest) (λ t h. record {
+      number = h.number;
+      worth = power_odd (value (tree_of c.args.a.now c.args.pool.now)) (value (tree_of c.in_ok-half.half c.power_of.new.pool)) q (value t) c.args.n c.if-n-eq0.false (given_told half).worth (given_told square).worth (Same-trans h.worth (Same-eq (ap (λ (x : Tree). surd_times q (value x)) same)));
+    })
+
+pub returns-else-n-eq0-clause-front : goal.returns-else-n-eq0-clause-front
+returns-else-n-eq0-clause-front _ c =
+    let half = c.in_ok-half.ensures.ok in
+    let square = c.in_ok-square.ensures.ok in
+    front_after_one (behind_new square.ends (front_at front_same (given_rest half))) (front_after_one (behind_new half.ends front_same) c.power_of.ensures.front c.squared.ensures.front) c.multiplied.ensures.front

@@ -1,0 +1,14 @@
+use Rattle.std.proofs.Common.{inl}
+use Rattle.number_forms.proofs.Loops.{gives_without}
+use Rattle.tree_handles.proofs.Fronts.{behind_first, front_same, front_at, front_without, front_after}
+use Rattle.tree_handles.proofs.Given.{given_other, owned}
+use Rattle.number_forms.proofs.powers.multiplied.Goals as goal
+
+pub release-requires-clause-releasable : goal.release-requires-clause-releasable
+release-requires-clause-releasable c = inl (given_other c.in_ok-product.ensures.ok c.requires.first).root
+
+pub returns-clause-ok : goal.returns-clause-ok
+returns-clause-ok c = gives_without c.args.a c.in_ok-product.ensures.ok c.requires.first.root (c.release.ensures.owned (owned (given_other c.in_ok-product.ensures.ok c.requires.first)))
+
+pub returns-clause-front : goal.returns-clause-front
+returns-clause-front c = front_at (front_without behind_first (front_after front_same c.product_of.ensures.front)) (c.release.ensures.owned (owned (given_other c.in_ok-product.ensures.ok c.requires.first)))

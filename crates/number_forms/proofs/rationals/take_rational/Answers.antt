@@ -1,0 +1,19 @@
+use Rattle.std.proofs.Common.{sym, ap, ◌∙◌}
+use Rattle.calc_terms.specs.Trees.{is_num}
+use Rattle.number_forms.proofs.RationalCalls.{room_of}
+use Rattle.number_forms.proofs.SumChanges.{same_plain, read_expression}
+use Rattle.tree_handles.proofs.Given.{owned}
+use Rattle.number_forms.proofs.rationals.take_rational.Goals as goal
+
+pub rational-value-requires-clause-live : goal.rational-value-requires-clause-live
+rational-value-requires-clause-live c = (read_expression _ c.args.a c.args.pool.now c.id.ensures c.requires.stands c.requires.handed).live
+
+pub rational-value-requires-clause-number : goal.rational-value-requires-clause-number
+rational-value-requires-clause-number c = ap is_num (same_plain _ c.args.a c.args.pool.now c.id.ensures c.requires.stands c.requires.handed.root) ∙ c.requires.rational
+
+pub returns-clause-value : goal.returns-clause-value
+returns-clause-value c = sym (same_plain _ c.args.a c.args.pool.now c.id.ensures c.requires.stands c.requires.handed.root) ∙ c.rational-value.ensures.plain
+
+pub returns-clause-room : goal.returns-clause-room
+returns-clause-room c =
+    room_of c.args.a c.args.pool.now c.release.new.pool c.requires.stands c.release.ensures.stands c.release.ensures.kept c.requires.handed (c.release.ensures.owned (owned c.requires.handed))

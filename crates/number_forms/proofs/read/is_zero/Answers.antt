@@ -1,0 +1,12 @@
+use Rattle.std.proofs.Common.{sym, ap, ◌∙◌, rules, FitsSigned}
+use Rattle.std.specs.Int.{w128}
+use Rattle.calc_terms.specs.Integers.{int_is_zero}
+use Rattle.number_forms.specs.Readers.{is_zero}
+use Rattle.number_forms.proofs.Tests.{zero_bits}
+use Rattle.rational128.proofs.LowestTerms.{ratio_parts}
+use Rattle.number_forms.proofs.read.is_zero.Goals as goal
+
+pub returns-in-Num : goal.returns-in-Num
+returns-in-Num c =
+    let fits : FitsSigned w128 c.num.result = search rules in
+    zero_bits c.num.result fits ∙ ap int_is_zero (c.num.ensures.value ∙ sym (ratio_parts c.rational.result).num) ∙ ap is_zero (sym c.rational.ensures.plain)

@@ -1,0 +1,22 @@
+use Rattle.std.proofs.Common.{◌≡◌, sym, ap, ◌∙◌, rules, subst, FitsSigned}
+use Rattle.std.specs.Int.{w128}
+use Rattle.std.specs.Prelude.{nat_abs}
+use Rattle.std.proofs.lemmas.Int.{to_z-of_z}
+use Rattle.calc_terms.specs.Clean.{IsClean}
+use Rattle.calc_terms.specs.Numbers.{natural_of}
+use Rattle.calc_terms.specs.Rat.{value_of}
+use Rattle.number_forms.proofs.TermTrees.{natural_abs}
+use Rattle.rational128.proofs.LowestTerms.{ratio_parts}
+use Rattle.number_forms.proofs.term.radicand_of.Goals as goal
+use Rattle.number_forms.proofs.term.radicand_of.Goals.{After-unsigned_abs}
+
+is : (c : After-unsigned_abs) → c.unsigned_abs.result ≡ natural_of (value_of c.args.r).num
+is c =
+    let fits : FitsSigned w128 c.num.result = search rules in
+    c.unsigned_abs.ensures.value ∙ ap nat_abs (to_z-of_z w128 _ fits ∙ c.num.ensures.value ∙ sym (ratio_parts c.args.r).num) ∙ natural_abs _ _ c.requires.2
+
+pub returns-clause-value : goal.returns-clause-value
+returns-clause-value c = is c
+
+pub returns-clause-clean : goal.returns-clause-clean
+returns-clause-clean c = subst IsClean (sym (is c ∙ ap natural_of c.requires.2)) c.requires.4

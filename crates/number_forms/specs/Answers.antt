@@ -1,0 +1,23 @@
+-- What calls on Numbers answer.
+use Rattle.std.specs.Prelude.{ℕ, ◌≡◌, true, Result, Ok, Err}
+use Rattle.calc_terms.specs.Numbers.{is_number, value}
+use Rattle.calc_terms.specs.PlainValues.{PlainValue}
+use Rattle.calc_terms.specs.SquareClasses.{Same}
+use Rattle.calc_terms.specs.Surds.{Surd}
+use Rattle.calc_terms.specs.Trees.{Tree}
+use Rattle.node_pool.specs.State.{State}
+use Rattle.reduce_port.specs.PlainTrees.{IsPlainAnswer, IsPlainOverflow}
+use Rattle.reduce_port.specs.Rewritings.{tree_of}
+use Rattle.tree_handles.specs.declared.fault.NumberFault.{NumberFault}
+use Rattle.tree_handles.specs.declared.fault.NumberFault.TheVariants as fault
+
+-- a Number that is worth v
+pub record IsNumberOf (v : Surd) (t : Tree) : Type 0 where
+  pub number : is_number t ≡ true
+  pub worth : Same (value t) v
+
+-- the answer of a call on rationals: the rational where the operation fits, its overflow with these operands where it doesn't, and bytes are never lacking
+abbrev pub AnswersRationals : PlainValue → State → Result ℕ NumberFault → Type 0
+AnswersRationals v new (Ok h) = IsPlainAnswer v (tree_of h new)
+AnswersRationals v new (Err (fault.Full full)) = ⊥
+AnswersRationals v new (Err (fault.Overflow o)) = IsPlainOverflow v o

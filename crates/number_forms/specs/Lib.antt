@@ -1,0 +1,6 @@
+pub mod Shapes
+pub mod Readers
+pub mod Sums
+pub mod Answers
+pub mod Joins
+pub mod Inverses

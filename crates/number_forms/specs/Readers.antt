@@ -1,0 +1,9 @@
+-- What readers of Numbers tell.
+use Rattle.std.specs.Prelude.{Bool, false}
+use Rattle.calc_terms.specs.Fractions.{is_zero_fraction}
+use Rattle.calc_terms.specs.Trees.{Tree, num}
+
+-- the rational 0
+abbrev pub is_zero : Tree → Bool
+is_zero (num q) = is_zero_fraction q
+is_zero _ = false

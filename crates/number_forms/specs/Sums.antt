@@ -1,0 +1,34 @@
+-- Sums of terms, of any number of them.
+use Rattle.std.specs.Prelude.{ℕ, zero, suc, ◌≡◌, ◌<◌, ◌≤◌, [], ◌∷◌, false, ⊤}
+use Rattle.calc_terms.specs.Numbers.{AreTerms, Rises, term_of, terms_of, value}
+use Rattle.calc_terms.specs.SquareClasses.{are_alike, Same}
+use Rattle.calc_terms.specs.Surds.{Surd}
+use Rattle.calc_terms.specs.Trees.{Tree, add, Trees, none, more, count}
+use Rattle.tree_handles.specs.Expressions.{nth}
+
+-- an Add of any number of terms, whose radicands rise, no two alike
+abbrev pub IsSum : Tree → Type 0
+IsSum (add ts) = AreTerms ts × Rises (terms_of ts)
+IsSum _ = ⊥
+
+-- such a sum that is worth v
+pub record IsSumOf (v : Surd) (t : Tree) : Type 0 where
+  pub sum : IsSum t
+  pub worth : Same (value t) v
+
+-- trees without the one at a place, counted from 0
+abbrev pub removed : ℕ → Trees → Trees
+removed n none = none
+removed zero (more t ts) = ts
+removed (suc n) (more t ts) = more t (removed n ts)
+
+-- alike with the radicand of none of the terms
+abbrev pub IsApart : ℕ → Surd → Type 0
+IsApart r [] = ⊤
+IsApart r (u ∷ v) = (are_alike r u.radicand ≡ false) × IsApart r v
+
+-- the place of a radicand: those before are below it, and the one there is not
+pub record IsPlace (n r : ℕ) (ts : Trees) : Type 0 where
+  pub within : n ≤ count ts
+  pub below : (k : ℕ) → k < n → (term_of (nth k ts)).radicand < r
+  pub above : n < count ts → r ≤ (term_of (nth n ts)).radicand

@@ -1,0 +1,179 @@
+//! Sums of Numbers.
+ghost use Rattle.std.specs.Prelude.{◌≡◌, ◌==◌, ◌∷◌, ◌++◌, [], true, false, IfOk, IfErr, OnOk};
+ghost use Rattle.calc_terms.specs.Fits.{add_op};
+ghost use Rattle.calc_terms.specs.Fractions.{Fraction};
+ghost use Rattle.calc_terms.specs.Numbers.{is_number, value};
+ghost use Rattle.calc_terms.specs.PlainValues.{calculated};
+ghost use Rattle.calc_terms.specs.Trees.{num, is_num, is_add};
+ghost use Rattle.number_forms.specs.Answers.{IsNumberOf, AnswersRationals};
+ghost use Rattle.number_forms.specs.Sums.{IsSum, IsSumOf};
+ghost use Rattle.reduce_port.specs.Causes.{LacksBytes, IsCaused};
+ghost use Rattle.reduce_port.specs.Rewritings.{tree_of};
+ghost use Rattle.tree_handles.specs.Faults.{Faults};
+ghost use Rattle.tree_handles.specs.Handed.{IsHanded, Gives, KeepsFront};
+ghost use Rattle.tree_handles.specs.Roots.{without_root};
+ghost use Rattle.tree_handles.specs.Standing.{Stands, forest, KeepsRefusals, Refuses};
+
+use crate::joining::join_term;
+use crate::rationals::{is_rational, take_rationals};
+use crate::read::{is_zero, term_count};
+use crate::term::nth_term;
+use calc_terms::{Kind, Rat};
+use node_pool::{Full, Id, Pool};
+use rational128::add;
+use tree_handles::{
+    Handle, NumberFault, add_child, children, kind, move_last, node, number, release, take_child,
+};
+
+/// The sum of two Numbers, which go.
+pub fn add_numbers(pool: &mut Pool, a: Handle, b: Handle) -> Result<Handle, NumberFault>
+    requires stands { Stands pool.old }
+    requires first { IsHanded a (forest pool.old) }
+    requires second { IsHanded b (forest pool.old) }
+    requires apart { (a == b) ≡ false }
+    requires first_number { is_number (tree_of a pool.old) ≡ true }
+    requires second_number { is_number (tree_of b pool.old) ≡ true }
+    ensures ok { IfOk result (λ h. Gives (without_root b (without_root a (forest pool.old))) (forest pool.new) h (IsNumberOf (value (tree_of a pool.old) ++ value (tree_of b pool.old)))) }
+    ensures rationals { (p q : Fraction) → tree_of a pool.old ≡ num p → tree_of b pool.old ≡ num q → AnswersRationals (calculated add_op p q) pool.new result }
+    ensures front { KeepsFront (a ∷ b ∷ []) (forest pool.old) (forest pool.new) }
+    ensures kept { OnOk result (KeepsRefusals pool.old pool.new) }
+    ensures faults { IfErr result (Faults pool.old pool.new) }
+    ensures caused { IfErr result (IsCaused pool.new) }
+    ensures stands { Stands pool.new }
+{
+    if is_rational(pool, a.id()) && is_rational(pool, b.id()) {
+        add_rationals(pool, a, b)
+    } else {
+        add_terms(pool, a, b)
+    }
+}
+
+/// The sum of two rationals, which go.
+fn add_rationals(pool: &mut Pool, a: Handle, b: Handle) -> Result<Handle, NumberFault>
+    requires stands { Stands pool.old }
+    requires first { IsHanded a (forest pool.old) }
+    requires second { IsHanded b (forest pool.old) }
+    requires apart { (a == b) ≡ false }
+    requires first_rational { is_num (tree_of a pool.old) ≡ true }
+    requires second_rational { is_num (tree_of b pool.old) ≡ true }
+    ensures ok { IfOk result (λ h. Gives (without_root b (without_root a (forest pool.old))) (forest pool.new) h (IsNumberOf (value (tree_of a pool.old) ++ value (tree_of b pool.old)))) }
+    ensures rationals { (p q : Fraction) → tree_of a pool.old ≡ num p → tree_of b pool.old ≡ num q → AnswersRationals (calculated add_op p q) pool.new result }
+    ensures front { KeepsFront (a ∷ b ∷ []) (forest pool.old) (forest pool.new) }
+    ensures kept { OnOk result (KeepsRefusals pool.old pool.new) }
+    ensures faults { IfErr result (Faults pool.old pool.new) }
+    ensures caused { IfErr result (IsCaused pool.new) }
+    ensures stands { Stands pool.new }
+{
+    let (p, q) = take_rationals(pool, a, b);
+    let sum = add(p, q)?;
+    Ok(number(pool, sum)?)
+}
+
+/// The same by their terms.
+fn add_terms(pool: &mut Pool, a: Handle, b: Handle) -> Result<Handle, NumberFault>
+    requires stands { Stands pool.old }
+    requires first { IsHanded a (forest pool.old) }
+    requires second { IsHanded b (forest pool.old) }
+    requires apart { (a == b) ≡ false }
+    requires first_number { is_number (tree_of a pool.old) ≡ true }
+    requires second_number { is_number (tree_of b pool.old) ≡ true }
+    ensures ok { IfOk result (λ h. Gives (without_root b (without_root a (forest pool.old))) (forest pool.new) h (IsNumberOf (value (tree_of a pool.old) ++ value (tree_of b pool.old)))) }
+    ensures front { KeepsFront (a ∷ b ∷ []) (forest pool.old) (forest pool.new) }
+    ensures kept { OnOk result (KeepsRefusals pool.old pool.new) }
+    ensures faults { IfErr result (Faults pool.old pool.new) }
+    ensures caused { IfErr result (IsCaused pool.new) }
+    ensures stands { Stands pool.new }
+{
+    let sum = sum_over(pool, a)?;
+    join_terms(pool, &sum, b.id())?;
+    release(pool, b);
+    Ok(number_of(pool, sum)?)
+}
+
+/// A Number as a sum of its terms, the last tree.
+fn sum_over(pool: &mut Pool, a: Handle) -> Result<Handle, Full>
+    requires stands { Stands pool.old }
+    requires handed { IsHanded a (forest pool.old) }
+    requires number { is_number (tree_of a pool.old) ≡ true }
+    ensures ok { IfOk result (λ h. Gives (without_root a (forest pool.old)) (forest pool.new) h (IsSumOf (value (tree_of a pool.old)))) }
+    ensures front { KeepsFront (a ∷ []) (forest pool.old) (forest pool.new) }
+    ensures kept { OnOk result (KeepsRefusals pool.old pool.new) }
+    ensures full { IfErr result (Refuses pool.old pool.new) }
+    ensures caused { IfErr result (LacksBytes pool.new) }
+    ensures stands { Stands pool.new }
+{
+    match kind(pool, a.id()) {
+        Kind::Add => {
+            move_last(pool, &a);
+            Ok(a)
+        }
+        _ => sum_over_term(pool, a),
+    }
+}
+
+/// The same of a Number that is no sum.
+fn sum_over_term(pool: &mut Pool, a: Handle) -> Result<Handle, Full>
+    requires stands { Stands pool.old }
+    requires handed { IsHanded a (forest pool.old) }
+    requires number { is_number (tree_of a pool.old) ≡ true }
+    requires no_sum { is_add (tree_of a pool.old) ≡ false }
+    ensures ok { IfOk result (λ h. Gives (without_root a (forest pool.old)) (forest pool.new) h (IsSumOf (value (tree_of a pool.old)))) }
+    ensures front { KeepsFront (a ∷ []) (forest pool.old) (forest pool.new) }
+    ensures kept { OnOk result (KeepsRefusals pool.old pool.new) }
+    ensures full { IfErr result (Refuses pool.old pool.new) }
+    ensures caused { IfErr result (LacksBytes pool.new) }
+    ensures stands { Stands pool.new }
+{
+    if is_zero(pool, a.id()) {
+        release(pool, a);
+        node(pool, Kind::Add)
+    } else {
+        let sum = node(pool, Kind::Add)?;
+        add_child(pool, &sum, 0, a);
+        Ok(sum)
+    }
+}
+
+/// Joins each term of a Number, another root, to a sum.
+pub(crate) fn join_terms(pool: &mut Pool, sum: &Handle, number: Id) -> Result<(), NumberFault>
+    requires stands { Stands pool.old }
+    requires sum { Gives (without_root sum.now (forest pool.old)) (forest pool.old) sum.now IsSum }
+    requires handed { IsHanded number (without_root sum.now (forest pool.old)) }
+    requires number { is_number (tree_of number pool.old) ≡ true }
+    ensures ok { OnOk result (Gives (without_root sum.now (forest pool.old)) (forest pool.new) sum.now (IsSumOf (value (tree_of sum.now pool.old) ++ value (tree_of number pool.old)))) }
+    ensures front { KeepsFront (sum.now ∷ []) (forest pool.old) (forest pool.new) }
+    ensures kept { OnOk result (KeepsRefusals pool.old pool.new) }
+    ensures faults { IfErr result (Faults pool.old pool.new) }
+    ensures caused { IfErr result (IsCaused pool.new) }
+    ensures stands { Stands pool.new }
+{
+    for at in 0..term_count(pool, number) {
+        let term = nth_term(pool, number, at);
+        join_term(pool, sum, term)?;
+    }
+    Ok(())
+}
+
+/// The Number that a sum of terms is, which stands last: none is 0, and one stands alone.
+pub(crate) fn number_of(pool: &mut Pool, sum: Handle) -> Result<Handle, Full>
+    requires stands { Stands pool.old }
+    requires sum { Gives (without_root sum (forest pool.old)) (forest pool.old) sum IsSum }
+    ensures ok { IfOk result (λ h. Gives (without_root sum (forest pool.old)) (forest pool.new) h (IsNumberOf (value (tree_of sum pool.old)))) }
+    ensures front { KeepsFront (sum ∷ []) (forest pool.old) (forest pool.new) }
+    ensures kept { OnOk result (KeepsRefusals pool.old pool.new) }
+    ensures full { IfErr result (Refuses pool.old pool.new) }
+    ensures caused { IfErr result (LacksBytes pool.new) }
+    ensures stands { Stands pool.new }
+{
+    let terms = children(pool, sum.id());
+    if terms == 0 {
+        release(pool, sum);
+        number(pool, Rat::whole(0))
+    } else if terms == 1 {
+        let term = take_child(pool, &sum, 0);
+        release(pool, sum);
+        Ok(term)
+    } else {
+        Ok(sum)
+    }
+}

@@ -1,0 +1,114 @@
+//! Inverses of Numbers.
+ghost use Rattle.std.specs.Prelude.{◌≡◌, ◌∷◌, [], true, IfOk, IfErr, OnOk};
+ghost use Rattle.calc_terms.specs.Numbers.{is_number, value, classes};
+ghost use Rattle.number_forms.specs.Answers.{IsNumberOf};
+ghost use Rattle.number_forms.specs.Inverses.{AnswersInverse, IsInverseOf};
+ghost use Rattle.reduce_port.specs.Causes.{IsCaused};
+ghost use Rattle.reduce_port.specs.Rewritings.{tree_of};
+ghost use Rattle.surd_terms.specs.Terms.{term_of};
+ghost use Rattle.tree_handles.specs.Faults.{Faults};
+ghost use Rattle.tree_handles.specs.Handed.{IsHanded, Gives, KeepsFront};
+ghost use Rattle.tree_handles.specs.Roots.{without_root};
+ghost use Rattle.tree_handles.specs.Standing.{Stands, forest, KeepsRefusals};
+
+use crate::adding::number_of;
+use crate::joining::join_term;
+use crate::placing::place_term;
+use crate::read::term_count;
+use crate::term::nth_term;
+use calc_terms::Kind;
+use node_pool::Pool;
+use surd_terms::{Term, inverse, inverse_of_sum};
+use tree_handles::{Handle, NumberFault, move_last, node, release};
+
+/// What inverting a Number comes to.
+#[derive(Drop)]
+pub enum Inverse {
+    /// The inverse.
+    Value(Handle),
+    /// The Number was 0.
+    Zero,
+    /// The Number itself, which has three classes or more.
+    Wide(Handle),
+}
+
+/// The inverse of a Number of one class or two, by the conjugate. The Number goes, but for three classes
+/// or more.
+pub fn invert_number(pool: &mut Pool, a: Handle) -> Result<Inverse, NumberFault>
+    requires stands { Stands pool.old }
+    requires handed { IsHanded a (forest pool.old) }
+    requires number { is_number (tree_of a pool.old) ≡ true }
+    ensures ok { IfOk result (AnswersInverse (tree_of a pool.old) (without_root a (forest pool.old)) (forest pool.new)) }
+    ensures front { KeepsFront (a ∷ []) (forest pool.old) (forest pool.new) }
+    ensures kept { OnOk result (KeepsRefusals pool.old pool.new) }
+    ensures faults { IfErr result (Faults pool.old pool.new) }
+    ensures caused { IfErr result (IsCaused pool.new) }
+    ensures stands { Stands pool.new }
+{
+    let terms = term_count(pool, a.id());
+    if terms == 0 {
+        release(pool, a);
+        Ok(Inverse::Zero)
+    } else if terms == 1 {
+        Ok(Inverse::Value(invert_one(pool, a)?))
+    } else if terms == 2 {
+        Ok(Inverse::Value(invert_two(pool, a)?))
+    } else {
+        move_last(pool, &a);
+        Ok(Inverse::Wide(a))
+    }
+}
+
+/// The inverse of a Number of one class, which goes.
+fn invert_one(pool: &mut Pool, a: Handle) -> Result<Handle, NumberFault>
+    requires stands { Stands pool.old }
+    requires handed { IsHanded a (forest pool.old) }
+    requires number { is_number (tree_of a pool.old) ≡ true }
+    requires classes { classes (tree_of a pool.old) ≡ 1 }
+    ensures ok { IfOk result (λ h. Gives (without_root a (forest pool.old)) (forest pool.new) h (IsInverseOf (value (tree_of a pool.old)))) }
+    ensures front { KeepsFront (a ∷ []) (forest pool.old) (forest pool.new) }
+    ensures kept { OnOk result (KeepsRefusals pool.old pool.new) }
+    ensures faults { IfErr result (Faults pool.old pool.new) }
+    ensures caused { IfErr result (IsCaused pool.new) }
+    ensures stands { Stands pool.new }
+{
+    let inverse = inverse(nth_term(pool, a.id(), 0))?;
+    release(pool, a);
+    Ok(place_term(pool, inverse)?)
+}
+
+/// The inverse of a Number of two classes, which goes.
+fn invert_two(pool: &mut Pool, a: Handle) -> Result<Handle, NumberFault>
+    requires stands { Stands pool.old }
+    requires handed { IsHanded a (forest pool.old) }
+    requires number { is_number (tree_of a pool.old) ≡ true }
+    requires classes { classes (tree_of a pool.old) ≡ 2 }
+    ensures ok { IfOk result (λ h. Gives (without_root a (forest pool.old)) (forest pool.new) h (IsInverseOf (value (tree_of a pool.old)))) }
+    ensures front { KeepsFront (a ∷ []) (forest pool.old) (forest pool.new) }
+    ensures kept { OnOk result (KeepsRefusals pool.old pool.new) }
+    ensures faults { IfErr result (Faults pool.old pool.new) }
+    ensures caused { IfErr result (IsCaused pool.new) }
+    ensures stands { Stands pool.new }
+{
+    let first = nth_term(pool, a.id(), 0);
+    let second = nth_term(pool, a.id(), 1);
+    let inverse = inverse_of_sum(first, second)?;
+    release(pool, a);
+    place_sum(pool, inverse.0, inverse.1)
+}
+
+/// A new last tree that is the sum of two terms.
+fn place_sum(pool: &mut Pool, a: Term, b: Term) -> Result<Handle, NumberFault>
+    requires stands { Stands pool.old }
+    ensures ok { IfOk result (λ h. Gives (forest pool.old) (forest pool.new) h (IsNumberOf (term_of a ∷ term_of b ∷ []))) }
+    ensures front { KeepsFront [] (forest pool.old) (forest pool.new) }
+    ensures kept { OnOk result (KeepsRefusals pool.old pool.new) }
+    ensures faults { IfErr result (Faults pool.old pool.new) }
+    ensures caused { IfErr result (IsCaused pool.new) }
+    ensures stands { Stands pool.new }
+{
+    let sum = node(pool, Kind::Add)?;
+    join_term(pool, &sum, b)?;
+    join_term(pool, &sum, a)?;
+    Ok(number_of(pool, sum)?)
+}

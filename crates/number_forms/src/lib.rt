@@ -1,0 +1,22 @@
+//! Numbers with square roots, as trees in a pool: sums of rational multiples of square roots, a term
+//! for each square class.
+#![tactic(auto)]
+
+mod adding;
+mod inverting;
+mod joining;
+mod multiplying;
+mod placing;
+mod powers;
+mod rationals;
+mod read;
+mod shape;
+mod term;
+
+pub use adding::add_numbers;
+pub use inverting::{Inverse, invert_number};
+pub use multiplying::multiply_numbers;
+pub use placing::place_term;
+pub use powers::power_number;
+pub use read::{classes, is_reduced_number, is_zero, whole};
+pub use term::term_at;

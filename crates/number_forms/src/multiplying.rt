@@ -1,0 +1,156 @@
+//! Products of Numbers.
+ghost use Rattle.std.specs.Prelude.{◌≡◌, ◌==◌, ◌∷◌, ◌++◌, [], true, false, map, IfOk, IfErr, OnOk};
+ghost use Rattle.calc_terms.specs.Fits.{mul_op};
+ghost use Rattle.calc_terms.specs.Fractions.{Fraction};
+ghost use Rattle.calc_terms.specs.Numbers.{is_number, value};
+ghost use Rattle.calc_terms.specs.PlainValues.{calculated};
+ghost use Rattle.calc_terms.specs.Surds.{term_times, surd_times};
+ghost use Rattle.calc_terms.specs.Trees.{num, is_num};
+ghost use Rattle.number_forms.specs.Answers.{IsNumberOf, AnswersRationals};
+ghost use Rattle.number_forms.specs.Sums.{IsSum, IsSumOf};
+ghost use Rattle.reduce_port.specs.Causes.{IsCaused};
+ghost use Rattle.reduce_port.specs.Rewritings.{tree_of};
+ghost use Rattle.surd_terms.specs.Terms.{term_of};
+ghost use Rattle.tree_handles.specs.Faults.{Faults};
+ghost use Rattle.tree_handles.specs.Handed.{IsHanded, Gives, KeepsFront};
+ghost use Rattle.tree_handles.specs.Roots.{without_root};
+ghost use Rattle.tree_handles.specs.Standing.{Stands, forest, KeepsRefusals};
+
+use crate::adding::number_of;
+use crate::joining::join_term;
+use crate::rationals::{is_rational, take_rationals};
+use crate::read::term_count;
+use crate::term::nth_term;
+use calc_terms::Kind;
+use node_pool::{Id, Pool};
+use rational128::mul;
+use surd_terms::{Term, product};
+use tree_handles::{Handle, NumberFault, node, number, release};
+
+/// The product of two Numbers, which go.
+pub fn multiply_numbers(pool: &mut Pool, a: Handle, b: Handle) -> Result<Handle, NumberFault>
+    requires stands { Stands pool.old }
+    requires first { IsHanded a (forest pool.old) }
+    requires second { IsHanded b (forest pool.old) }
+    requires apart { (a == b) ≡ false }
+    requires first_number { is_number (tree_of a pool.old) ≡ true }
+    requires second_number { is_number (tree_of b pool.old) ≡ true }
+    ensures ok { IfOk result (λ h. Gives (without_root b (without_root a (forest pool.old))) (forest pool.new) h (IsNumberOf (surd_times (value (tree_of a pool.old)) (value (tree_of b pool.old))))) }
+    ensures rationals { (p q : Fraction) → tree_of a pool.old ≡ num p → tree_of b pool.old ≡ num q → AnswersRationals (calculated mul_op p q) pool.new result }
+    ensures front { KeepsFront (a ∷ b ∷ []) (forest pool.old) (forest pool.new) }
+    ensures kept { OnOk result (KeepsRefusals pool.old pool.new) }
+    ensures faults { IfErr result (Faults pool.old pool.new) }
+    ensures caused { IfErr result (IsCaused pool.new) }
+    ensures stands { Stands pool.new }
+{
+    if is_rational(pool, a.id()) && is_rational(pool, b.id()) {
+        multiply_rationals(pool, a, b)
+    } else {
+        multiply_terms(pool, a, b)
+    }
+}
+
+/// The product of two rationals, which go.
+fn multiply_rationals(pool: &mut Pool, a: Handle, b: Handle) -> Result<Handle, NumberFault>
+    requires stands { Stands pool.old }
+    requires first { IsHanded a (forest pool.old) }
+    requires second { IsHanded b (forest pool.old) }
+    requires apart { (a == b) ≡ false }
+    requires first_rational { is_num (tree_of a pool.old) ≡ true }
+    requires second_rational { is_num (tree_of b pool.old) ≡ true }
+    ensures ok { IfOk result (λ h. Gives (without_root b (without_root a (forest pool.old))) (forest pool.new) h (IsNumberOf (surd_times (value (tree_of a pool.old)) (value (tree_of b pool.old))))) }
+    ensures rationals { (p q : Fraction) → tree_of a pool.old ≡ num p → tree_of b pool.old ≡ num q → AnswersRationals (calculated mul_op p q) pool.new result }
+    ensures front { KeepsFront (a ∷ b ∷ []) (forest pool.old) (forest pool.new) }
+    ensures kept { OnOk result (KeepsRefusals pool.old pool.new) }
+    ensures faults { IfErr result (Faults pool.old pool.new) }
+    ensures caused { IfErr result (IsCaused pool.new) }
+    ensures stands { Stands pool.new }
+{
+    let (p, q) = take_rationals(pool, a, b);
+    let product = mul(p, q)?;
+    Ok(number(pool, product)?)
+}
+
+/// The same by their terms.
+fn multiply_terms(pool: &mut Pool, a: Handle, b: Handle) -> Result<Handle, NumberFault>
+    requires stands { Stands pool.old }
+    requires first { IsHanded a (forest pool.old) }
+    requires second { IsHanded b (forest pool.old) }
+    requires apart { (a == b) ≡ false }
+    requires first_number { is_number (tree_of a pool.old) ≡ true }
+    requires second_number { is_number (tree_of b pool.old) ≡ true }
+    ensures ok { IfOk result (λ h. Gives (without_root b (without_root a (forest pool.old))) (forest pool.new) h (IsNumberOf (surd_times (value (tree_of a pool.old)) (value (tree_of b pool.old))))) }
+    ensures front { KeepsFront (a ∷ b ∷ []) (forest pool.old) (forest pool.new) }
+    ensures kept { OnOk result (KeepsRefusals pool.old pool.new) }
+    ensures faults { IfErr result (Faults pool.old pool.new) }
+    ensures caused { IfErr result (IsCaused pool.new) }
+    ensures stands { Stands pool.new }
+{
+    let product = product_of(pool, &a, &b)?;
+    release(pool, a);
+    release(pool, b);
+    Ok(product)
+}
+
+/// A new last tree that is the product of two Numbers, which stay.
+pub(crate) fn product_of(pool: &mut Pool, a: &Handle, b: &Handle) -> Result<Handle, NumberFault>
+    requires stands { Stands pool.old }
+    requires first { IsHanded a.now (forest pool.old) }
+    requires second { IsHanded b.now (forest pool.old) }
+    requires first_number { is_number (tree_of a.now pool.old) ≡ true }
+    requires second_number { is_number (tree_of b.now pool.old) ≡ true }
+    ensures ok { IfOk result (λ h. Gives (forest pool.old) (forest pool.new) h (IsNumberOf (surd_times (value (tree_of a.now pool.old)) (value (tree_of b.now pool.old))))) }
+    ensures front { KeepsFront [] (forest pool.old) (forest pool.new) }
+    ensures kept { OnOk result (KeepsRefusals pool.old pool.new) }
+    ensures faults { IfErr result (Faults pool.old pool.new) }
+    ensures caused { IfErr result (IsCaused pool.new) }
+    ensures stands { Stands pool.new }
+{
+    let sum = node(pool, Kind::Add)?;
+    join_rows(pool, &sum, a.id(), b.id())?;
+    Ok(number_of(pool, sum)?)
+}
+
+/// Joins the product of each term of a Number and each of another to a sum, beside which both are
+/// roots.
+fn join_rows(pool: &mut Pool, sum: &Handle, a: Id, b: Id) -> Result<(), NumberFault>
+    requires stands { Stands pool.old }
+    requires sum { Gives (without_root sum.now (forest pool.old)) (forest pool.old) sum.now IsSum }
+    requires first { IsHanded a (without_root sum.now (forest pool.old)) }
+    requires second { IsHanded b (without_root sum.now (forest pool.old)) }
+    requires first_number { is_number (tree_of a pool.old) ≡ true }
+    requires second_number { is_number (tree_of b pool.old) ≡ true }
+    ensures ok { OnOk result (Gives (without_root sum.now (forest pool.old)) (forest pool.new) sum.now (IsSumOf (value (tree_of sum.now pool.old) ++ surd_times (value (tree_of a pool.old)) (value (tree_of b pool.old))))) }
+    ensures front { KeepsFront (sum.now ∷ []) (forest pool.old) (forest pool.new) }
+    ensures kept { OnOk result (KeepsRefusals pool.old pool.new) }
+    ensures faults { IfErr result (Faults pool.old pool.new) }
+    ensures caused { IfErr result (IsCaused pool.new) }
+    ensures stands { Stands pool.new }
+{
+    for at in 0..term_count(pool, a) {
+        let term = nth_term(pool, a, at);
+        join_products(pool, sum, term, b)?;
+    }
+    Ok(())
+}
+
+/// Joins the product of a term and each term of a Number, another root, to a sum.
+fn join_products(pool: &mut Pool, sum: &Handle, term: Term, number: Id) -> Result<(), NumberFault>
+    requires stands { Stands pool.old }
+    requires sum { Gives (without_root sum.now (forest pool.old)) (forest pool.old) sum.now IsSum }
+    requires handed { IsHanded number (without_root sum.now (forest pool.old)) }
+    requires number { is_number (tree_of number pool.old) ≡ true }
+    ensures ok { OnOk result (Gives (without_root sum.now (forest pool.old)) (forest pool.new) sum.now (IsSumOf (value (tree_of sum.now pool.old) ++ map (term_times (term_of term)) (value (tree_of number pool.old))))) }
+    ensures front { KeepsFront (sum.now ∷ []) (forest pool.old) (forest pool.new) }
+    ensures kept { OnOk result (KeepsRefusals pool.old pool.new) }
+    ensures faults { IfErr result (Faults pool.old pool.new) }
+    ensures caused { IfErr result (IsCaused pool.new) }
+    ensures stands { Stands pool.new }
+{
+    for at in 0..term_count(pool, number) {
+        let other = nth_term(pool, number, at);
+        let product = product(term, other)?;
+        join_term(pool, sum, product)?;
+    }
+    Ok(())
+}

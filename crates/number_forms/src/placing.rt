@@ -1,0 +1,82 @@
+//! Terms as trees.
+ghost use Rattle.std.specs.Prelude.{◌≡◌, ◌==◌, ◌≤◌, ◌<◌, ◌↔◌, ◌^◌, pos, true, false, IfOk, IfErr, IsOk, OnOk, [], ◌∷◌, ℕ};
+ghost use Rattle.calc_terms.specs.Numbers.{is_term, term_of as term_of_tree};
+ghost use Rattle.calc_terms.specs.Rat.{value_of};
+ghost use Rattle.calc_terms.specs.Fractions.{whole_fraction};
+ghost use Rattle.calc_terms.specs.Trees.{num, root, mult, none, more};
+ghost use Rattle.node_pool.specs.State.{free_of};
+ghost use Rattle.reduce_port.specs.Causes.{LacksBytes};
+ghost use Rattle.surd_terms.specs.Terms.{term_of};
+ghost use Rattle.tree_handles.specs.Expressions.{plain, compound, takes_kind};
+ghost use Rattle.tree_handles.specs.Handed.{IsHanded, Gives, KeepsFront};
+ghost use Rattle.tree_handles.specs.Roots.{root_tree, without_root};
+ghost use Rattle.tree_handles.specs.Standing.{Stands, forest, KeepsRefusals, Refuses};
+
+use calc_terms::{Kind, Rat};
+use node_pool::{Full, Pool};
+use surd_terms::Term;
+use tree_handles::{Handle, add_child, node, number};
+
+/// A new last tree that is the term: a rational, a root, or a rational other than 1 times a root.
+pub fn place_term(pool: &mut Pool, term: Term) -> Result<Handle, Full>
+    requires stands { Stands pool.old }
+    ensures ok { IfOk result (λ h. Gives (forest pool.old) (forest pool.new) h (λ t. (is_term t ≡ true) × (term_of_tree t ≡ term_of term))) }
+    ensures front { KeepsFront [] (forest pool.old) (forest pool.new) }
+    ensures kept { OnOk result (KeepsRefusals pool.old pool.new) }
+    ensures full { IfErr result (Refuses pool.old pool.new) }
+    ensures caused { IfErr result (LacksBytes pool.new) }
+    ensures stands { Stands pool.new }
+{
+    let coefficient = term.coefficient();
+    if term.radicand() == 1 {
+        number(pool, coefficient)
+    } else if coefficient.num() == 1 && coefficient.den() == 1 {
+        place_root(pool, term.radicand())
+    } else {
+        place_multiple(pool, coefficient, term.radicand())
+    }
+}
+
+/// A new last tree `Root(Num radicand)`.
+fn place_root(pool: &mut Pool, radicand: u128) -> Result<Handle, Full>
+    requires stands { Stands pool.old }
+    requires fits { radicand < 2 ^ 127 }
+    ensures ok { IfOk result (λ h. Gives (forest pool.old) (forest pool.new) h (λ t. t ≡ root (num (whole_fraction (pos radicand))))) }
+    ensures front { KeepsFront [] (forest pool.old) (forest pool.new) }
+    ensures kept { OnOk result (KeepsRefusals pool.old pool.new) }
+    ensures full { IfErr result (Refuses pool.old pool.new) }
+    ensures caused { IfErr result (LacksBytes pool.new) }
+    ensures stands { Stands pool.new }
+{
+    let rational = number(pool, whole(radicand))?;
+    let root = node(pool, Kind::Root)?;
+    add_child(pool, &root, 0, rational);
+    Ok(root)
+}
+
+/// A new last tree `Mult(Num coefficient, Root(Num radicand))`.
+fn place_multiple(pool: &mut Pool, coefficient: Rat, radicand: u128) -> Result<Handle, Full>
+    requires stands { Stands pool.old }
+    requires fits { radicand < 2 ^ 127 }
+    ensures ok { IfOk result (λ h. Gives (forest pool.old) (forest pool.new) h (λ t. t ≡ mult (more (num (value_of coefficient)) (more (root (num (whole_fraction (pos radicand)))) none)))) }
+    ensures front { KeepsFront [] (forest pool.old) (forest pool.new) }
+    ensures kept { OnOk result (KeepsRefusals pool.old pool.new) }
+    ensures full { IfErr result (Refuses pool.old pool.new) }
+    ensures caused { IfErr result (LacksBytes pool.new) }
+    ensures stands { Stands pool.new }
+{
+    let rational = number(pool, coefficient)?;
+    let root = place_root(pool, radicand)?;
+    let product = node(pool, Kind::Mult)?;
+    add_child(pool, &product, 0, root);
+    add_child(pool, &product, 0, rational);
+    Ok(product)
+}
+
+/// The whole number n.
+fn whole(n: u128) -> Rat
+    requires { n < 2 ^ 127 }
+    ensures { value_of result ≡ whole_fraction (pos n) }
+{
+    Rat::whole(n as i128)
+}

@@ -1,0 +1,125 @@
+//! Powers of Numbers.
+ghost use Rattle.std.specs.Prelude.{◌≡◌, ◌∷◌, ◌≤◌, ◌≤ℤ◌, pos, nat_abs, [], true, IfOk, IfErr, OnOk};
+ghost use Rattle.calc_terms.specs.Fits.{pow_op};
+ghost use Rattle.calc_terms.specs.Fractions.{Fraction, whole_fraction};
+ghost use Rattle.calc_terms.specs.Numbers.{is_number, value};
+ghost use Rattle.calc_terms.specs.PlainValues.{calculated};
+ghost use Rattle.calc_terms.specs.Surds.{surd_times, surd_power};
+ghost use Rattle.calc_terms.specs.Trees.{num, is_num};
+ghost use Rattle.number_forms.specs.Answers.{IsNumberOf, AnswersRationals};
+ghost use Rattle.reduce_port.specs.Causes.{IsCaused};
+ghost use Rattle.reduce_port.specs.Rewritings.{tree_of};
+ghost use Rattle.tree_handles.specs.Faults.{Faults};
+ghost use Rattle.tree_handles.specs.Handed.{IsHanded, Gives, KeepsFront};
+ghost use Rattle.tree_handles.specs.Roots.{without_root};
+ghost use Rattle.tree_handles.specs.Standing.{Stands, forest, KeepsRefusals};
+
+use crate::multiplying::product_of;
+use crate::rationals::{is_rational, take_rational};
+use node_pool::Pool;
+use rational128::pow;
+use tree_handles::{Handle, NumberFault, copy_tree, number, release};
+
+/// A Number, which goes, to a power.
+pub fn power_number(pool: &mut Pool, a: Handle, n: i128) -> Result<Handle, NumberFault>
+    requires stands { Stands pool.old }
+    requires handed { IsHanded a (forest pool.old) }
+    requires number { is_number (tree_of a pool.old) ≡ true }
+    requires positive { pos 1 ≤ℤ n }
+    ensures ok { IfOk result (λ h. Gives (without_root a (forest pool.old)) (forest pool.new) h (IsNumberOf (surd_power (value (tree_of a pool.old)) (nat_abs n)))) }
+    ensures rational { (q : Fraction) → tree_of a pool.old ≡ num q → AnswersRationals (calculated pow_op q (whole_fraction n)) pool.new result }
+    ensures front { KeepsFront (a ∷ []) (forest pool.old) (forest pool.new) }
+    ensures kept { OnOk result (KeepsRefusals pool.old pool.new) }
+    ensures faults { IfErr result (Faults pool.old pool.new) }
+    ensures caused { IfErr result (IsCaused pool.new) }
+    ensures stands { Stands pool.new }
+{
+    if is_rational(pool, a.id()) {
+        power_rational(pool, a, n)
+    } else {
+        let power = power_of(pool, &a, n.unsigned_abs())?;
+        release(pool, a);
+        Ok(power)
+    }
+}
+
+/// A rational, which goes, to a power.
+fn power_rational(pool: &mut Pool, a: Handle, n: i128) -> Result<Handle, NumberFault>
+    requires stands { Stands pool.old }
+    requires handed { IsHanded a (forest pool.old) }
+    requires rational { is_num (tree_of a pool.old) ≡ true }
+    requires positive { pos 1 ≤ℤ n }
+    ensures ok { IfOk result (λ h. Gives (without_root a (forest pool.old)) (forest pool.new) h (IsNumberOf (surd_power (value (tree_of a pool.old)) (nat_abs n)))) }
+    ensures rational { (q : Fraction) → tree_of a pool.old ≡ num q → AnswersRationals (calculated pow_op q (whole_fraction n)) pool.new result }
+    ensures front { KeepsFront (a ∷ []) (forest pool.old) (forest pool.new) }
+    ensures kept { OnOk result (KeepsRefusals pool.old pool.new) }
+    ensures faults { IfErr result (Faults pool.old pool.new) }
+    ensures caused { IfErr result (IsCaused pool.new) }
+    ensures stands { Stands pool.new }
+{
+    let q = take_rational(pool, a);
+    let power = pow(q, n)?;
+    Ok(number(pool, power)?)
+}
+
+/// A new last tree that is a power of a Number, which stays. It calls itself for half the exponent, so
+/// at most 127 times, and makes no power above the one that is asked for.
+fn power_of(pool: &mut Pool, a: &Handle, n: u128) -> Result<Handle, NumberFault>
+    requires stands { Stands pool.old }
+    requires handed { IsHanded a.now (forest pool.old) }
+    requires number { is_number (tree_of a.now pool.old) ≡ true }
+    requires positive { 1 ≤ n }
+    ensures ok { IfOk result (λ h. Gives (forest pool.old) (forest pool.new) h (IsNumberOf (surd_power (value (tree_of a.now pool.old)) n))) }
+    ensures front { KeepsFront [] (forest pool.old) (forest pool.new) }
+    ensures kept { OnOk result (KeepsRefusals pool.old pool.new) }
+    ensures faults { IfErr result (Faults pool.old pool.new) }
+    ensures caused { IfErr result (IsCaused pool.new) }
+    ensures stands { Stands pool.new }
+{
+    if n == 1 {
+        return Ok(copy_tree(pool, a.id())?);
+    }
+    let half = power_of(pool, a, n / 2)?;
+    let square = squared(pool, half)?;
+    if n % 2 == 0 {
+        Ok(square)
+    } else {
+        multiplied(pool, square, a)
+    }
+}
+
+/// A Number, which goes, times itself.
+fn squared(pool: &mut Pool, a: Handle) -> Result<Handle, NumberFault>
+    requires stands { Stands pool.old }
+    requires handed { IsHanded a (forest pool.old) }
+    requires number { is_number (tree_of a pool.old) ≡ true }
+    ensures ok { IfOk result (λ h. Gives (without_root a (forest pool.old)) (forest pool.new) h (IsNumberOf (surd_times (value (tree_of a pool.old)) (value (tree_of a pool.old))))) }
+    ensures front { KeepsFront (a ∷ []) (forest pool.old) (forest pool.new) }
+    ensures kept { OnOk result (KeepsRefusals pool.old pool.new) }
+    ensures faults { IfErr result (Faults pool.old pool.new) }
+    ensures caused { IfErr result (IsCaused pool.new) }
+    ensures stands { Stands pool.new }
+{
+    let square = product_of(pool, &a, &a)?;
+    release(pool, a);
+    Ok(square)
+}
+
+/// A Number, which goes, times another.
+fn multiplied(pool: &mut Pool, a: Handle, b: &Handle) -> Result<Handle, NumberFault>
+    requires stands { Stands pool.old }
+    requires first { IsHanded a (forest pool.old) }
+    requires second { IsHanded b.now (forest pool.old) }
+    requires first_number { is_number (tree_of a pool.old) ≡ true }
+    requires second_number { is_number (tree_of b.now pool.old) ≡ true }
+    ensures ok { IfOk result (λ h. Gives (without_root a (forest pool.old)) (forest pool.new) h (IsNumberOf (surd_times (value (tree_of a pool.old)) (value (tree_of b.now pool.old))))) }
+    ensures front { KeepsFront (a ∷ []) (forest pool.old) (forest pool.new) }
+    ensures kept { OnOk result (KeepsRefusals pool.old pool.new) }
+    ensures faults { IfErr result (Faults pool.old pool.new) }
+    ensures caused { IfErr result (IsCaused pool.new) }
+    ensures stands { Stands pool.new }
+{
+    let product = product_of(pool, &a, b)?;
+    release(pool, a);
+    Ok(product)
+}

@@ -1,0 +1,64 @@
+//! Numbers that are rationals.
+ghost use Rattle.std.specs.Prelude.{◌≡◌, ◌==◌, ◌≤◌, ◌∷◌, [], true, false};
+ghost use Rattle.calc_terms.specs.Rat.{value_of};
+ghost use Rattle.calc_terms.specs.Trees.{num, is_num, size};
+ghost use Rattle.node_pool.specs.State.{free_of};
+ghost use Rattle.reduce_port.specs.Rewritings.{tree_of};
+ghost use Rattle.tree_handles.specs.Expressions.{IsExpression, plain};
+ghost use Rattle.tree_handles.specs.Handed.{IsHanded, KeepsFront};
+ghost use Rattle.tree_handles.specs.Inside.{tree_at};
+ghost use Rattle.tree_handles.specs.Roots.{without_root};
+ghost use Rattle.tree_handles.specs.Standing.{Stands, forest, KeepsRefusals};
+
+use calc_terms::{Kind, Rat};
+use node_pool::{Id, Pool};
+use tree_handles::{Handle, kind, rational, release};
+
+/// Whether a tree is a rational.
+pub(crate) fn is_rational(pool: &Pool, id: Id) -> bool
+    requires stands { Stands pool.now }
+    requires expression { IsExpression id (forest pool.now) }
+    ensures { result ≡ is_num (plain (tree_at id (forest pool.now))) }
+{
+    match kind(pool, id) {
+        Kind::Num => true,
+        _ => false,
+    }
+}
+
+/// The rational that a tree is, which goes.
+pub(crate) fn take_rational(pool: &mut Pool, a: Handle) -> Rat
+    requires stands { Stands pool.old }
+    requires handed { IsHanded a (forest pool.old) }
+    requires rational { is_num (tree_of a pool.old) ≡ true }
+    ensures value { tree_of a pool.old ≡ num (value_of result) }
+    ensures gone { forest pool.new ≡ without_root a (forest pool.old) }
+    ensures kept { KeepsRefusals pool.old pool.new }
+    ensures room { size (tree_of a pool.old) ≤ free_of pool.new }
+    ensures stands { Stands pool.new }
+{
+    let value = rational(pool, a.id());
+    release(pool, a);
+    value
+}
+
+/// The rationals that two trees are, which go.
+pub(crate) fn take_rationals(pool: &mut Pool, a: Handle, b: Handle) -> (Rat, Rat)
+    requires stands { Stands pool.old }
+    requires first { IsHanded a (forest pool.old) }
+    requires second { IsHanded b (forest pool.old) }
+    requires apart { (a == b) ≡ false }
+    requires first_rational { is_num (tree_of a pool.old) ≡ true }
+    requires second_rational { is_num (tree_of b pool.old) ≡ true }
+    ensures first { tree_of a pool.old ≡ num (value_of result.0) }
+    ensures second { tree_of b pool.old ≡ num (value_of result.1) }
+    ensures gone { forest pool.new ≡ without_root b (without_root a (forest pool.old)) }
+    ensures front { KeepsFront (a ∷ b ∷ []) (forest pool.old) (forest pool.new) }
+    ensures kept { KeepsRefusals pool.old pool.new }
+    ensures room { size (tree_of b pool.old) ≤ free_of pool.new }
+    ensures stands { Stands pool.new }
+{
+    let p = take_rational(pool, a);
+    let q = take_rational(pool, b);
+    (p, q)
+}
