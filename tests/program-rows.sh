@@ -50,10 +50,17 @@ answered '1+2+3' '6\n'
 answered '1+1\r\n\n007' '2\n7\n'
 answered '' ''
 answered ' \t\n' ''
-answered '2\303\2273\n1+\n1 + 1\n' '! form\n! form\n! form\n'
-answered '+1\n1++1\n1a\n' '! form\n! form\n! form\n'
+answered '1 + 2\n(1+2)+3\n((1))\n0.5+1\n1.0+2\n' '3\n! form\n1\n! form\n3\n'
+answered '2\303\2273\n1+\n1 + 1\n' '! form\n! syntax\n2\n'
+answered '+1\n1++1\n1a\n(1)(2)\n-1\n' '! syntax\n! syntax\n! form\n! form\n! form\n'
+answered ':pool\n \t:\n1->x\n' '! form\n! form\n! form\n'
+answered '1.\n2$3\n2+\nabcdefgh\n' '! character 2\n! character 2\n! syntax\n! character 1\n'
+answered '1.000000000000000000000000000000000000001\n' '! number 1\n'
+answered "1\n$(printf '%063d' 0 | tr 0 -)1\n$(printf '%064d' 0 | tr 0 -)1\n" '1\n! form\n! deep\n'
+answered "$(printf '%01024d' 0 | tr 0 1)\n$(printf '%01025d' 0 | tr 0 1)\n" '! number 1\n! long\n'
+answered "$(printf '%1024s')\n$(printf '%1025s')\n" '! long\n'
 answered "$greatest\n$greatest+1\n" "$greatest\n! overflow $greatest+1\n"
-answered '170141183460469231731687303715884105728\n' '! form\n'
+answered '170141183460469231731687303715884105728\n' '! number 1\n'
 answered '1+1\n1\n' "$full$full" --pool 64
 answered '1+1\n9\n' "${full}9\n" --pool 104
 answered '1+1\n9\n' "${full}9\n" --pool=104

@@ -1,13 +1,12 @@
 -- What is written of a node without children.
-use Rattle.std.proofs.Common.{◌≡◌, ◌∙◌, ℕ, ◌^◌, ◌<◌, ℤ, List, [], nat_abs, codes, refl, sym, ap, subst, arith, FitsSigned}
+use Rattle.std.proofs.Common.{◌≡◌, ◌∙◌, ℕ, ◌^◌, ◌<◌, ℤ, List, nat_abs, sym, ap, subst, arith, FitsSigned}
 use Rattle.std.proofs.lemmas.Int.{ints, to_z-of_z}
 use Rattle.std.specs.Fmt as fmt
 use Rattle.std.specs.Int.{w128, cast_signed, cast_unsigned}
-use Rattle.calc_terms.specs.declared.kind.Kind.TheVariants as kind
 use Rattle.calc_terms.specs.Fractions.{Fraction, lowest, Holds, lowest_parts}
 use Rattle.calc_terms.specs.Ratio.{Ratio, IsRat}
 use Rattle.calc_terms.specs.Texts.{decimal}
-use Rattle.calc_terms.specs.Trees.{Tree, num, symbol, undef, add, mult, power, root, neg, sub, div, root_kind}
+use Rattle.calc_terms.specs.Trees.{Tree, num}
 use Rattle.line_text.specs.Pending.{leaf_text}
 use Rattle.line_text.proofs.Decimals.{decimal_is}
 
@@ -28,27 +27,3 @@ numerator_is r h =
 
 pub number_text : (t : Tree) (r : Ratio) → t ≡ num (lowest r.num r.den) → IsRat r → leaf_text t ≡ decimal (nat_abs r.num)
 number_text t r e h = ap leaf_text e ∙ ap (λ (z : ℤ). decimal (nat_abs z)) (numerator_is r h)
-
-pub undef_text : (t : Tree) → root_kind t ≡ kind.Undef → leaf_text t ≡ codes "undef"
-undef_text (num q) h = absurd cc
-undef_text (symbol x) h = absurd cc
-undef_text undef h = refl
-undef_text (add ts) h = absurd cc
-undef_text (mult ts) h = absurd cc
-undef_text (power b e) h = absurd cc
-undef_text (root a) h = absurd cc
-undef_text (neg a) h = absurd cc
-undef_text (sub a b) h = absurd cc
-undef_text (div a b) h = absurd cc
-
-pub no_text : (t : Tree) → (root_kind t ≡ kind.Num → ⊥) → (root_kind t ≡ kind.Sym → ⊥) → (root_kind t ≡ kind.Undef → ⊥) → leaf_text t ≡ []
-no_text (num q) n s u = absurd (n refl)
-no_text (symbol x) n s u = absurd (s refl)
-no_text undef n s u = absurd (u refl)
-no_text (add ts) n s u = refl
-no_text (mult ts) n s u = refl
-no_text (power b e) n s u = refl
-no_text (root a) n s u = refl
-no_text (neg a) n s u = refl
-no_text (sub a b) n s u = refl
-no_text (div a b) n s u = refl

@@ -56,10 +56,6 @@ pub record IsWalk (from at : ℕ) (pending : List Pending) (bytes whole : List �
   pub ends : at + used (owed_nodes owed) ≡ end
   pub few : from + 8 * length pending ≤ at + 8
 
-length-pending_of : (os : List Owed) → length (pending_of os) ≡ length os
-length-pending_of [] = refl
-length-pending_of (o ∷ os) = omega (arith, length-append (pending_of os) (o.rest ∷ []), length-pending_of os)
-
 -- the last of two equal lists
 snoc_same : (xs ys : List Pending) (x y : Pending) → xs ++ x ∷ [] ≡ ys ++ y ∷ [] → (xs ≡ ys) × (x ≡ y)
 snoc_same [] [] x y e = (refl, cc)

@@ -1,6 +1,7 @@
 -- Lemmas on what is kept of a line.
-use Rattle.std.proofs.Common.{◌≡◌, ◌∙◌, ℕ, ◌-◌, List, [], ◌∷◌, ◌++◌, length, false, cond, nat_eq, get_or, take, sym, ap, arith, append-nil, length-append}
-use Rattle.std.proofs.Math.Seq.{get_or-append_seam}
+use Rattle.std.proofs.Common.{◌≡◌, ◌∙◌, ℕ, ◌-◌, List, [], ◌∷◌, ◌++◌, length, true, false, cond, nat_eq, get_or, take, sym, ap, arith, append-nil, length-append}
+use Rattle.std.proofs.Math.Seq.{get_or-append_seam, take-append_seam}
+use Rattle.std.proofs.lemmas.Bool.{eqb-true}
 use Rattle.std.specs.Str.Lines.{strip_carriage_return}
 use Rattle.poincare_run.specs.declared.buffer.LineBuffer.{LineBuffer}
 use Rattle.poincare_run.specs.Buffer.{Holds, StandsFor, return_if}
@@ -20,3 +21,22 @@ holds_all buffer bytes b other is stands = record {
   line_is = strip-plain bytes b other;
   stands = stands;
 }
+
+-- a line that ends in a carriage return loses it
+pub strip-return : (bytes : List ℕ) → strip_carriage_return (bytes ++ 13 ∷ []) ≡ bytes
+strip-return bytes =
+    let at : length (bytes ++ 13 ∷ []) - 1 ≡ length bytes = omega (arith, length-append bytes (13 ∷ [])) in
+    let last : get_or (bytes ++ 13 ∷ []) (length (bytes ++ 13 ∷ []) - 1) 0 ≡ 13 = ap (λ n. get_or (bytes ++ 13 ∷ []) n 0) at ∙ get_or-append_seam bytes 13 [] 0 in
+    ap (λ t. cond t (take (length (bytes ++ 13 ∷ []) - 1) (bytes ++ 13 ∷ [])) (bytes ++ 13 ∷ [])) (ap (λ n. nat_eq n 13) last)
+    ∙ ap (λ n. take n (bytes ++ 13 ∷ [])) at ∙ take-append_seam bytes (13 ∷ [])
+
+-- a carriage return came, and waits
+pub holds_return : (buffer : LineBuffer) (bytes : List ℕ) (b : ℕ) → nat_eq b 13 ≡ true → buffer.returned ≡ nat_eq b 13 → StandsFor buffer.kept.items bytes → Holds buffer (bytes ++ b ∷ [])
+holds_return buffer bytes b is same stands =
+    let e : b ≡ 13 = eqb-true b 13 is in
+    record {
+      line = bytes;
+      bytes_are = ap (λ x. bytes ++ x ∷ []) e ∙ sym (ap (λ r. bytes ++ return_if r) (same ∙ is));
+      line_is = ap (λ x. strip_carriage_return (bytes ++ x ∷ [])) e ∙ strip-return bytes;
+      stands = stands;
+    }

@@ -1,5 +1,7 @@
+pub mod DigitLemmas
+pub mod PoolLemmas
 pub mod SumLemmas
-pub mod BuildingLemmas
+pub mod ReadLemmas
 pub mod WordLemmas
 pub mod ReplyLemmas
 pub mod BufferLemmas

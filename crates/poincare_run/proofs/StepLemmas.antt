@@ -1,40 +1,50 @@
 -- Lemmas on the steps of a session, and on how far it has come.
-use Rattle.std.proofs.Common.{◌≡◌, ◌∙◌, ℕ, List, [], ◌∷◌, ◌++◌, length, Bool, true, false, nat_le, cond, Option, refl, sym, ap, subst, arith, append_assoc, append-nil}
+use Rattle.std.proofs.Common.{◌≡◌, ◌∙◌, ℕ, List, [], ◌∷◌, ◌++◌, length, ◌<◌, Bool, true, false, nat_le, cond, Option, refl, sym, ap, subst, arith, append_assoc, append-nil}
 use Rattle.std.proofs.lemmas.Bool.{leb-true, leb-false}
 use Rattle.std.specs.Str.Lines.{strip_carriage_return}
 use Rattle.poincare_run.specs.declared.buffer.LineBuffer.{LineBuffer}
 use Rattle.poincare_run.specs.declared.dialog.Dialog.{Dialog}
-use Rattle.poincare_run.specs.Lines.{is_newline, is_blank_line, lines_of, line_of_rest, whole_lines, rest_of}
-use Rattle.poincare_run.specs.Sums.{sum_line}
-use Rattle.poincare_run.specs.Replies.{blank, reply_to, sum_reply, text_of}
+use Rattle.poincare_run.specs.Lines.{is_newline, lines_of, line_of_rest, whole_lines, rest_of}
+use Rattle.poincare_run.specs.Replies.{Reply, IsReply, is_long, is_nothing, is_a_command, has_no_token, has_a_wide_number, is_no_line, is_too_deep, is_a_store, is_no_sum, finds_no_room, does_not_fit, has_a_value}
 use Rattle.poincare_run.specs.States.{State, free_bytes}
 use Rattle.poincare_run.specs.Steps.{Leaves, Step, Steps, written}
 use Rattle.poincare_run.specs.Buffer.{Holds, StandsFor}
 use Rattle.poincare_run.specs.Progress.{Answered, AnswersLine, FailsAtLine, Continues, Breaks, Goes}
-use Rattle.poincare_run.proofs.SumLemmas.{too_long}
 use Rattle.poincare_run.proofs.ByteLemmas.{Appends-nil, Appends-trans, AppendsPart-after}
 use Rattle.poincare_run.proofs.LineLemmas.{whole_lines-newline, rest_of-newline, whole_lines-other, rest_of-other, whole_lines-front}
 
 -- what is kept of a line is answered as the line is
-same_reply : (s : State) (kept line : List ℕ) → StandsFor kept line → reply_to s kept ≡ reply_to s line
-unfolding reply_to
-same_reply s kept line h = by (nat_le (length line) 1024) refl
+long_reply : {free : ℕ} {kept : List ℕ} {reply : Reply} (line : List ℕ) → 1024 < length kept → 1024 < length line → IsReply free kept reply → IsReply free line reply
+long_reply line k h (is_long e) = is_long h
+long_reply line k h (is_nothing e f) = absurd (omega arith)
+long_reply line k h (is_a_command e f) = absurd (omega arith)
+long_reply line k h (has_no_token t f) = absurd (let short = t.short in omega arith)
+long_reply line k h (has_a_wide_number t f) = absurd (let short = t.short in omega arith)
+long_reply line k h (is_no_line t f g) = absurd (let short = t.short in omega arith)
+long_reply line k h (is_too_deep t f g) = absurd (let short = t.short in omega arith)
+long_reply line k h (is_a_store r) = absurd (let short = r.text.short in omega arith)
+long_reply line k h (is_no_sum r f) = absurd (let short = r.text.short in omega arith)
+long_reply line k h (finds_no_room r f) = absurd (let short = r.reads.text.short in omega arith)
+long_reply line k h (does_not_fit r f g) = absurd (let short = r.reads.text.short in omega arith)
+long_reply line k h (has_a_value r f g) = absurd (let short = r.reads.text.short in omega arith)
+
+same_reply : (free : ℕ) (kept line : List ℕ) (reply : Reply) → StandsFor kept line → IsReply free kept reply → IsReply free line reply
+same_reply free kept line reply h r = by (nat_le (length line) 1024) refl
   where
-    by : (b : Bool) → nat_le (length line) 1024 ≡ b → reply_to s kept ≡ reply_to s line
-    by true e = ap (reply_to s) (h.same (let short = leb-true (length line) 1024 e in omega arith))
+    by : (b : Bool) → nat_le (length line) 1024 ≡ b → IsReply free line reply
+    by true e = let same : kept ≡ line = h.same (let short = leb-true (length line) 1024 e in omega arith) in subst (λ l. IsReply free l reply) same r
     by false e =
         let long = leb-false (length line) 1024 e in
         let full : length kept ≡ 1025 = h.long (omega arith) in
-        let no_sum : sum_line kept ≡ sum_line line = too_long kept (omega arith) ∙ sym (too_long line (omega arith)) in
-        ap (λ t. cond t blank (sum_reply (free_bytes s) (sum_line kept))) h.blank ∙ ap (λ r. cond (is_blank_line line) blank (sum_reply (free_bytes s) r)) no_sum
+        long_reply line (omega arith) (omega arith) r
 
 pub step_of_line : (buffer : LineBuffer) (bytes : List ℕ) (s t : State) (text : Option (List ℕ)) → Holds buffer bytes → Step s buffer.kept.items text t → Step s (strip_carriage_return bytes) text t
-step_of_line buffer bytes s t text h step =
-    let same : reply_to s buffer.kept.items ≡ reply_to s (strip_carriage_return bytes) = same_reply s buffer.kept.items h.line h.stands ∙ ap (reply_to s) (sym h.line_is) in
-    record {
-      text_is = step.text_is ∙ ap text_of same;
-      state_is = subst (λ r. Leaves r s t) same step.state_is;
-    }
+step_of_line buffer bytes s t text h step = record {
+  reply = step.reply;
+  reply_is = subst (λ l. IsReply (free_bytes s) l step.reply) (sym h.line_is) (same_reply (free_bytes s) buffer.kept.items h.line step.reply h.stands step.reply_is);
+  text_is = step.text_is;
+  state_is = step.state_is;
+}
 
 -- a chain goes on by one step
 pub steps_more : (s t u : State) (lines : List (List ℕ)) (out : List ℕ) (line : List ℕ) (text : Option (List ℕ))

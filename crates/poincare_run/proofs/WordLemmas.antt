@@ -7,7 +7,7 @@ use Rattle.std.specs.Char.{is_ascii_digit}
 use Rattle.std.specs.Result.{result_ok}
 use Rattle.std.specs.Str.Parse.{ParsesUnsigned, digits_value}
 use Rattle.poincare_run.specs.Options.{value_of}
-use Rattle.poincare_run.proofs.SumLemmas.{AreDigits, digits_are_numerals}
+use Rattle.poincare_run.proofs.DigitLemmas.{AreDigits, digits_are_numerals}
 
 abbrev valued : List ℕ → Bool → Bool → Bool → Bool → Option ℕ
 valued text some digits short small = cond ((some && digits) && short && small) (Some (digits_value 10 text)) None

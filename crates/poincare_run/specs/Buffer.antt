@@ -2,13 +2,11 @@
 use Rattle.std.specs.Prelude.{◌≡◌, ℕ, ◌≤◌, List, [], ◌∷◌, ◌++◌, length, Bool, if◌then◌else◌}
 use Rattle.std.specs.Str.Lines.{strip_carriage_return}
 use Rattle.poincare_run.specs.declared.buffer.LineBuffer.{LineBuffer}
-use Rattle.poincare_run.specs.Lines.{is_blank_line}
 
--- kept is answered like the line: it is the line, or both are over 1,024 bytes, and blank together
+-- kept is answered like the line: it is the line, or both are over 1,024 bytes
 pub record StandsFor (kept line : List ℕ) : Type 0 where
   pub same : length line ≤ 1025 → kept ≡ line
   pub long : 1025 ≤ length line → length kept ≡ 1025
-  pub blank : is_blank_line kept ≡ is_blank_line line
 
 abbrev pub return_if : Bool → List ℕ
 return_if returned = if returned then 13 ∷ [] else []

@@ -1,7 +1,5 @@
 pub mod Lines
-pub mod Sums
 pub mod States
-pub mod Building
 pub mod Pools
 pub mod Replies
 pub mod Steps

@@ -1,10 +1,14 @@
 -- The words of the command line: none, `--pool N`, or `--pool=N`.
 use Rattle.std.specs.Prelude.{ℕ, ◌^◌, ◌%◌, List, [], ◌∷◌, length, drop, Bool, ◌&&◌, ◌==◌, eqb, nat_le, nat_lt, bytes_eq, if◌then◌else◌, Option, Some, None, codes}
-use Rattle.std.specs.List.{starts_with}
+use Rattle.std.specs.List.{starts_with, list_all}
 use Rattle.std.specs.Option.{option_and_then, option_map}
 use Rattle.std.specs.Str.Parse.{digits_value}
-use Rattle.poincare_run.specs.Sums.{is_digits}
+use Rattle.std.specs.Char.{is_ascii_digit}
 use Rattle.poincare_run.specs.States.{State, first_state}
+
+-- one or more decimal digits
+abbrev pub is_digits : List ℕ → Bool
+is_digits text = nat_lt 0 (length text) && list_all is_ascii_digit text
 
 -- the value of 1 to 20 decimal digits, where it is at most 2^64 - 1
 unfoldable pub value_of : List ℕ → Option ℕ

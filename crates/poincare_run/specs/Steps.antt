@@ -2,9 +2,8 @@
 use Rattle.std.specs.Prelude.{◌≡◌, ℕ, List, [], ◌∷◌, ◌++◌, Option, Some, None}
 use Rattle.calc_terms.specs.Node.{fresh}
 use Rattle.node_pool.specs.Nodes.{IsLeastFree}
-use Rattle.poincare_run.specs.States.{State}
-use Rattle.poincare_run.specs.Sums.{number}
-use Rattle.poincare_run.specs.Replies.{Reply, shown, reply_to, text_of}
+use Rattle.poincare_run.specs.States.{State, number, free_bytes}
+use Rattle.poincare_run.specs.Replies.{Reply, shown, IsReply, text_of}
 
 -- What a reply leaves. A sum that is shown is the one tree there is, and it has the least identifier that was free. Any other reply leaves all as it was.
 abbrev pub Leaves : Reply → State → State → Type 0
@@ -13,8 +12,10 @@ Leaves reply old new = new ≡ old
 
 -- From a state a line is answered by a text, or by none, and leaves a state.
 pub record Step (old : State) (line : List ℕ) (text : Option (List ℕ)) (new : State) : Type 0 where
-  pub text_is : text ≡ text_of (reply_to old line)
-  pub state_is : Leaves (reply_to old line) old new
+  pub reply : Reply
+  pub reply_is : IsReply (free_bytes old) line reply
+  pub text_is : text ≡ text_of reply
+  pub state_is : Leaves reply old new
 
 -- a text with a newline behind it
 abbrev pub written : Option (List ℕ) → List ℕ

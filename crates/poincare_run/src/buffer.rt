@@ -2,7 +2,6 @@
 ghost use Rattle.std.specs.Prelude.{◌≡◌, ℕ, List, [], ◌∷◌, ◌++◌, ◌↔◌, IsTrue};
 ghost use Rattle.poincare_run.specs.Buffer.{Holds, StandsFor};
 
-use crate::session::is_blank_byte;
 use arrayvec::ArrayVec;
 
 /// One byte more than a line may have.
@@ -51,15 +50,11 @@ impl LineBuffer {
     }
 }
 
-/// Keeps a byte more. Where there is no room, a byte that is no blank takes the place of the last one.
+/// Keeps a byte more, where there is room.
 fn keep(kept: &mut ArrayVec<u8, KEPT_LIMIT>, byte: u8)
     ensures { (line : List ℕ) → StandsFor kept.old.items line → StandsFor kept.new.items (line ++ byte ∷ []) }
 {
-    if kept.is_full() {
-        if is_blank_byte(byte) {
-            return;
-        }
-        kept.truncate(KEPT_LIMIT - 1);
+    if !kept.is_full() {
+        kept.push(byte);
     }
-    kept.push(byte);
 }

@@ -4,7 +4,7 @@
 mod answers;
 mod buffer;
 mod dialog;
-mod nodes;
+mod reading;
 mod session;
 mod sums;
 mod text;

@@ -1,109 +1,124 @@
-//! Sum lines: the values of their literals, and the sum of these.
-ghost use Rattle.std.specs.Prelude.{◌≡◌, ◌<◌, ◌≤◌, ◌^◌, [], ◌∷◌, length, Some, None, MatchOption, IfSome, IfOk, All, position};
-ghost use Rattle.std.specs.List.{list_all, slice_split};
-ghost use Rattle.std.specs.Char.{is_ascii_digit};
-ghost use Rattle.poincare_run.specs.Replies.{added_to, overflow as overflow_reply};
-ghost use Rattle.poincare_run.specs.Answers.{IsSum, IsRefusal};
-ghost use Rattle.poincare_run.specs.Sums.{is_plus, literal as literal_of, sum_line};
+//! Sums whose trees stand in the pool.
+ghost use Rattle.std.specs.Prelude.{◌≡◌, ◌<◌, ◌≤◌, ℕ, ℤ, [], ◌∷◌, ◌++◌, List, length, true, IfOk, IfErr};
+ghost use Rattle.calc_terms.specs.Leaf.{payload_of, IsUsable};
+ghost use Rattle.calc_terms.specs.Node.{Node, fresh};
+ghost use Rattle.calc_terms.specs.Payload.{Payload, rational as rational_payload, size_of_payload};
+ghost use Rattle.calc_terms.specs.Rat.{ratio_of, value_of};
+ghost use Rattle.calc_terms.specs.Trees.{Tree, Trees, num, add as add_tree, more, count};
+ghost use Rattle.calc_tokens.specs.Placed.{bare};
+ghost use Rattle.calc_tokens.specs.Tokens.{tokens_of};
+ghost use Rattle.calc_parser.specs.Lines.{IsTreeOf};
+ghost use Rattle.calc_parser.specs.WholeSums.{is_whole, are_whole, is_whole_sum};
+ghost use Rattle.node_pool.specs.Nodes.{IsLeastFree};
+ghost use Rattle.node_pool.specs.State.{free_of, IsPool};
+ghost use Rattle.tree_handles.specs.Expressions.{plain, nth, children_of, IsExpression};
+ghost use Rattle.tree_handles.specs.Inside.{tree_at};
+ghost use Rattle.tree_handles.specs.Standing.{Stands, forest};
+ghost use Rattle.poincare_run.specs.Answers.{refusal_of_sum, IsValueOf, IsWholeValue, IsOverflowOf};
+ghost use Rattle.poincare_run.specs.Pools.{after};
 
 use crate::Refusal;
-use arrayvec::ArrayVec;
-use calc_terms::Rat;
-use rational128::Op;
-use std::str;
+use calc_parser::build;
+use calc_terms::{Kind, Leaf, Rat};
+use calc_tokens::Tokens;
+use node_pool::{Id, Pool};
+use rational128::{Overflow, add};
+use tree_handles::{child_id, children, kind, rational};
 
-/// The most bytes of a line.
-const LINE_LIMIT: usize = 1024;
-
-/// The first number that is too great, 2^127.
-const VALUE_LIMIT: u128 = 1 << 127;
-
-/// The values of the literals of a line.
-pub type Values = ArrayVec<u128, 1025>;
-
-/// The values of a sum line's literals.
-pub fn read_sum(line: &[u8]) -> Option<Values>
-    ensures values { MatchOption result (sum_line line.now ≡ None) (λ values. sum_line line.now ≡ Some values.items) }
-    ensures fit { IfSome result (λ values. All (λ v. v < 2 ^ 127) values.items) }
-    ensures some { IfSome result (λ values. 0 < length values.items) }
+/// The value of a sum, whose tree has stood in the pool beside the one node there.
+pub fn sum_in(pool: &mut Pool, tokens: &Tokens) -> Result<Rat, Refusal>
+    requires one { (id : ℕ) × (x : Payload) × (pool.old.nodes ≡ fresh id x ∷ []) }
+    requires line { (t : Tree) × IsTreeOf (bare (tokens_of tokens.now)) t × (is_whole_sum t ≡ true) }
+    ensures sum { (t : Tree) → IsTreeOf (bare (tokens_of tokens.now)) t → IsValueOf (free_of pool.old) t result }
+    ensures room { IfOk result (λ sum. size_of_payload (rational_payload (ratio_of sum)) ≤ free_of pool.old) }
+    ensures after { pool.new ≡ after (refusal_of_sum result) pool.old.nodes pool.old }
+    ensures pool { IsPool pool.new }
 {
-    if line.len() > LINE_LIMIT {
-        return None;
-    }
-    let mut values = Values::new();
-    let mut rest = line;
-    while let Some((text, behind)) = split_at_plus(rest) {
-        values.push(literal(text)?);
-        rest = behind;
-    }
-    values.push(literal(rest)?);
-    Some(values)
+    let begin = pool.used();
+    let sum = build_and_add(pool, tokens);
+    let len = pool.used() - begin;
+    pool.remove_block(begin, len);
+    sum
 }
 
-/// The bytes before the first plus sign, and those behind it.
-fn split_at_plus(text: &[u8]) -> Option<(&[u8], &[u8])>
-    ensures parts { MatchOption result (slice_split is_plus text.now ≡ text.now ∷ [])
-        (λ found. slice_split is_plus text.now ≡ found.0.now ∷ slice_split is_plus found.1.now) }
-    ensures shorter { IfSome result (λ found. length found.1.now < length text.now) }
+/// The value of a sum, whose tree stands in the pool from now on.
+fn build_and_add(pool: &mut Pool, tokens: &Tokens) -> Result<Rat, Refusal>
+    requires stands { Stands pool.old }
+    requires line { (t : Tree) × IsTreeOf (bare (tokens_of tokens.now)) t × (is_whole_sum t ≡ true) }
+    ensures sum { (t : Tree) → IsTreeOf (bare (tokens_of tokens.now)) t → IsValueOf (free_of pool.old) t result }
+    ensures after { (placed : List Node) × (pool.new ≡ after (refusal_of_sum result) (pool.old.nodes ++ placed) pool.old) }
 {
-    let at = first_plus(text)?;
-    Some((&text[..at], &text[at + 1..]))
-}
-
-fn first_plus(text: &[u8]) -> Option<usize>
-    ensures { result ≡ position is_plus text.now }
-{
-    text.iter().position(|byte| *byte == b'+')
-}
-
-/// The value of one literal.
-#[tactic(auto, unfolding(crate::specs::Sums::literal))]
-fn literal(text: &[u8]) -> Option<u128>
-    ensures { result ≡ literal_of text.now }
-{
-    if !all_digits(text) {
-        return None;
-    }
-    let value = str::from_utf8(text).ok()?.parse::<u128>().ok()?;
-    if value < VALUE_LIMIT {
-        Some(value)
-    } else {
-        None
+    match build(pool, tokens) {
+        Ok(tree) => match value(pool, tree.id()) {
+            Ok(sum) => Ok(sum),
+            Err(overflow) => Err(Refusal::Overflow {
+                op: overflow.op,
+                a: overflow.a,
+                b: overflow.b,
+            }),
+        },
+        Err(full) => Err(Refusal::Full {
+            needed: full.needed,
+            free: full.free,
+        }),
     }
 }
 
-/// Whether there is nothing but digits.
-pub fn all_digits(text: &[u8]) -> bool
-    ensures { result ≡ list_all is_ascii_digit text.now }
+/// The value of a sum of whole numbers that stands in the pool.
+fn value(pool: &Pool, id: Id) -> Result<Rat, Overflow>
+    requires stands { Stands pool.now }
+    requires expression { IsExpression id (forest pool.now) }
+    requires sum { is_whole_sum (plain (tree_at id (forest pool.now))) ≡ true }
+    ensures sum { IfOk result (IsWholeValue (plain (tree_at id (forest pool.now)))) }
+    ensures overflow { IfErr result (IsOverflowOf (plain (tree_at id (forest pool.now)))) }
 {
-    text.iter().all(|byte| byte.is_ascii_digit())
+    match kind(pool, id) {
+        Kind::Add => added(pool, id),
+        _ => Ok(rational(pool, id)),
+    }
 }
 
-/// Adds from left to right.
-pub fn add(values: &[u128]) -> Result<u128, Refusal>
-    requires { All (λ v. v < 2 ^ 127) values.now }
-    ensures sum { IsSum result (added_to 0 values.now) }
-    ensures fits { IfOk result (λ sum. sum < 2 ^ 127) }
+/// The terms of a sum, added from left to right.
+fn added(pool: &Pool, id: Id) -> Result<Rat, Overflow>
+    requires stands { Stands pool.now }
+    requires expression { IsExpression id (forest pool.now) }
+    requires some { (t : Tree) × (ts : Trees) × (plain (tree_at id (forest pool.now)) ≡ add_tree (more t ts)) }
+    requires whole { are_whole (children_of (plain (tree_at id (forest pool.now)))) ≡ true }
+    ensures sum { IfOk result (IsWholeValue (plain (tree_at id (forest pool.now)))) }
+    ensures overflow { IfErr result (IsOverflowOf (plain (tree_at id (forest pool.now)))) }
 {
-    let mut sum: u128 = 0;
-    for value in values {
-        let next = sum + *value;
-        if next >= VALUE_LIMIT {
-            return Err(overflow(sum, *value));
-        }
-        sum = next;
+    let mut sum = term(pool, id, 0);
+    for at in 1..children(pool, id) {
+        sum = match add(sum, term(pool, id, at)) {
+            Ok(sum) => sum,
+            Err(overflow) => return Err(overflow),
+        };
     }
     Ok(sum)
 }
 
-fn overflow(a: u128, b: u128) -> Refusal
-    requires a_fits { a < 2 ^ 127 }
-    requires b_fits { b < 2 ^ 127 }
-    ensures { IsRefusal result (overflow_reply a b) }
+/// The term of a sum at a place, the first having place 0.
+fn term(pool: &Pool, id: Id, at: u16) -> Rat
+    requires stands { Stands pool.now }
+    requires expression { IsExpression id (forest pool.now) }
+    requires within { at < count (children_of (plain (tree_at id (forest pool.now)))) }
+    requires whole { are_whole (children_of (plain (tree_at id (forest pool.now)))) ≡ true }
+    ensures { num (value_of result) ≡ nth at (children_of (plain (tree_at id (forest pool.now)))) }
 {
-    Refusal::Overflow {
-        op: Op::Add,
-        a: Rat::whole(a as i128),
-        b: Rat::whole(b as i128),
-    }
+    rational(pool, child_id(pool, id, at))
+}
+
+/// A number in place of the one node that is there.
+pub fn replace(pool: &mut Pool, old: Id, value: Rat) -> Id
+    requires one { (x : Payload) × (pool.old.nodes ≡ fresh old x ∷ []) }
+    requires room { size_of_payload (rational_payload (ratio_of value)) ≤ free_of pool.old }
+    ensures least { IsLeastFree result pool.old.nodes }
+    ensures nodes { pool.new ≡ record pool.old { nodes = fresh result (rational_payload (ratio_of value)) ∷ [] } }
+    ensures pool { IsPool pool.new }
+{
+    let new = pool.place(Leaf::Num(value)).unwrap();
+    let at = pool.locate(old);
+    let len = pool.header(at).size();
+    pool.remove_block(at, len);
+    new
 }

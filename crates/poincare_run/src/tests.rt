@@ -42,8 +42,16 @@ fn lines_are_answered_in_any_pieces(rt: HostRuntime) -> Result<(), Fail> {
         ("", ""),
         (" \t\r\n\r\n\t", ""),
         (
-            "2×3\n1+\n1 + 1\n+1\n1++1\n1a\n",
-            "! form\n! form\n! form\n! form\n! form\n! form\n",
+            "1 + 2\n(1+2)+3\n((1))\n0.5+1\n1.0+2\n(1)(2)\n",
+            "3\n! form\n1\n! form\n3\n! form\n",
+        ),
+        (
+            "2×3\n1+\n+1\n1++1\n1a\n-1\nundef\n",
+            "! form\n! syntax\n! syntax\n! syntax\n! form\n! form\n! form\n",
+        ),
+        (
+            ":pool\n\t :\n1→x\n1.\n2$3\n2+\nabcdefgh\n: $\n",
+            "! form\n! form\n! form\n! character 2\n! character 2\n! syntax\n! character 1\n! form\n",
         ),
         (
             "170141183460469231731687303715884105727",
@@ -53,8 +61,8 @@ fn lines_are_answered_in_any_pieces(rt: HostRuntime) -> Result<(), Fail> {
             "170141183460469231731687303715884105727+1",
             "! overflow 170141183460469231731687303715884105727+1\n",
         ),
-        ("170141183460469231731687303715884105728", "! form\n"),
-        ("1\r\r\n1\r2\n2\r", "! form\n! form\n2\n"),
+        ("170141183460469231731687303715884105728", "! number 1\n"),
+        ("1\r\r\n1\r2\n2\r", "! character 2\n! character 2\n2\n"),
     ];
     for (input, output) in rows {
         for piece in [1usize, 3, 4096] {
@@ -73,15 +81,16 @@ fn lines_are_answered_in_any_pieces(rt: HostRuntime) -> Result<(), Fail> {
 #[test]
 fn a_line_of_any_length_is_answered(rt: HostRuntime) -> Result<(), Fail> {
     let rows = [
-        ("1", 1024, "", "! form\n"),
-        ("1", 1025, "", "! form\n"),
-        ("1", 3000, "", "! form\n"),
+        ("1", 1024, "", "! number 1\n"),
+        ("1", 1025, "", "! long\n"),
+        ("1", 3000, "", "! long\n"),
         ("1+", 511, "1", "512\n"),
-        ("1+", 512, "1", "! form\n"),
-        (" ", 3000, "", ""),
-        (" ", 3000, "\r", ""),
-        (" ", 3000, "\r ", "! form\n"),
-        (" ", 3000, "1", "! form\n"),
+        ("1+", 512, "1", "! long\n"),
+        (" ", 1024, "\r", ""),
+        (" ", 3000, "\r", "! long\n"),
+        (" ", 3000, "1", "! long\n"),
+        ("-", 63, "1", "! form\n"),
+        ("-", 64, "1", "! deep\n"),
         ("0", 1023, "7\r\n", "7\n"),
     ];
     for (text, count, end, output) in rows {

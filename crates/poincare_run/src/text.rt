@@ -1,9 +1,13 @@
-ghost use Rattle.std.specs.Prelude.{◌≡◌, ◌+◌, ◌≤◌, ◌++◌, [], length};
-ghost use Rattle.poincare_run.specs.Answers.{refusal_text, sign_of as sign_text};
+ghost use Rattle.std.specs.Prelude.{◌≡◌, ◌+◌, ◌≤◌, ◌++◌, [], length, pos, codes, Some};
 ghost use Rattle.std.specs.Fmt.{signed_decimal};
+ghost use Rattle.calc_terms.specs.Rat.{ratio_of};
+ghost use Rattle.rational128.specs.Refusals.{operation_of};
+ghost use Rattle.poincare_run.specs.Answers.{reply_of};
+ghost use Rattle.poincare_run.specs.Replies.{text_of, sign_of as sign_text};
 
 use crate::Refusal;
 use arrayvec::ArrayVec;
+use calc_terms::Rat;
 use itoa::Buffer;
 use rational128::Op;
 use std::marker::Model;
@@ -57,6 +61,15 @@ impl Text {
         self.push(digits.format(number).as_bytes());
     }
 
+    /// A word and the place of a byte.
+    fn push_place(&mut self, word: &[u8], at: u16)
+        requires { length self.old + length word.now + 40 ≤ TEXT_LIMIT }
+        ensures { self.new ≡ self.old ++ word.now ++ signed_decimal (pos at) }
+    {
+        self.push(word);
+        self.push_number(i128::from(at));
+    }
+
     pub fn bytes(&self) -> &[u8]
         ensures { result.now ≡ self.now }
     {
@@ -64,12 +77,26 @@ impl Text {
     }
 }
 
-/// The text of a refusal, whose operands are whole numbers.
+/// The text of a whole number.
+pub fn write_number(text: &mut Text, number: Rat)
+    requires { text.old ≡ [] }
+    ensures { text.new ≡ signed_decimal (ratio_of number).num }
+{
+    text.push_number(number.num());
+}
+
+/// The text of a refusal; the operands of an overflow are whole numbers.
+#[tactic(auto, unfolding(crate::specs::Replies::text_of))]
 pub fn write_refusal(text: &mut Text, refusal: Refusal)
     requires { text.old ≡ [] }
-    ensures { text.new ≡ refusal_text refusal }
+    ensures { Some text.new ≡ text_of (reply_of refusal) }
 {
     match refusal {
+        Refusal::Long => text.push(b"! long"),
+        Refusal::Character { at } => text.push_place(b"! character ", at),
+        Refusal::Number { at } => text.push_place(b"! number ", at),
+        Refusal::Syntax => text.push(b"! syntax"),
+        Refusal::Deep => text.push(b"! deep"),
         Refusal::Form => text.push(b"! form"),
         Refusal::Full { needed, free } => {
             text.push(b"! full needed ");
@@ -77,17 +104,22 @@ pub fn write_refusal(text: &mut Text, refusal: Refusal)
             text.push(b" free ");
             text.push_number(i128::from(free));
         }
-        Refusal::Overflow { op, a, b } => {
-            text.push(b"! overflow ");
-            text.push_number(a.num());
-            text.push(sign_of(op));
-            text.push_number(b.num());
-        }
+        Refusal::Overflow { op, a, b } => write_overflow(text, op, a, b),
     }
 }
 
+fn write_overflow(text: &mut Text, op: Op, a: Rat, b: Rat)
+    requires { text.old ≡ [] }
+    ensures { text.new ≡ codes "! overflow " ++ (signed_decimal (ratio_of a).num ++ (sign_text (operation_of op) ++ signed_decimal (ratio_of b).num)) }
+{
+    text.push(b"! overflow ");
+    text.push_number(a.num());
+    text.push(sign_of(op));
+    text.push_number(b.num());
+}
+
 fn sign_of(op: Op) -> &'static [u8]
-    ensures sign { result.now ≡ sign_text op }
+    ensures sign { result.now ≡ sign_text (operation_of op) }
     ensures short { length result.now ≤ 2 }
 {
     match op {

@@ -1,10 +1,11 @@
 //! The words of the command line.
 ghost use Rattle.std.specs.Prelude.{◌≡◌, [], ◌∷◌, map, string_bytes, Some, None, MatchOption, IfSome};
+ghost use Rattle.std.specs.Char.{is_ascii_digit};
+ghost use Rattle.std.specs.List.{list_all};
 ghost use Rattle.node_pool.specs.State.{IsPoolSize};
 ghost use Rattle.poincare_run.specs.States.{first_state};
 ghost use Rattle.poincare_run.specs.Options.{opening, size_of as size_named, value_of, pool_size as pool_size_of};
 
-use crate::sums::all_digits;
 use std::str;
 
 /// The bytes of a pool whose size no word names.
@@ -65,4 +66,11 @@ fn value_in(text: &[u8]) -> Option<u64>
         return None;
     }
     str::from_utf8(text).ok()?.parse::<u64>().ok()
+}
+
+/// Whether there is nothing but digits.
+fn all_digits(text: &[u8]) -> bool
+    ensures { result ≡ list_all is_ascii_digit text.now }
+{
+    text.iter().all(|byte| byte.is_ascii_digit())
 }

@@ -67,7 +67,13 @@ fn each_line_leaves_one_number(rt: HostRuntime) -> Result<(), Fail> {
             0,
             7,
         ),
-        ("170141183460469231731687303715884105728", "! form", 0, 7),
+        (
+            "170141183460469231731687303715884105728",
+            "! number 1",
+            0,
+            7,
+        ),
+        ("(1+(2))", "3", 1, 3),
     ];
     assert_eq!(rt; wrong_line(rt.alloc(), 32768, &rows)?, None);
     Ok(())

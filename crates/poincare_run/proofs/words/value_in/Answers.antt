@@ -1,6 +1,6 @@
 use Rattle.std.proofs.Common.{◌∙◌, sym, subst, arith}
 use Rattle.std.specs.Str.Parse.{ParsesUnsigned}
-use Rattle.poincare_run.proofs.SumLemmas.{digits_are_utf8, at_some, at_none}
+use Rattle.poincare_run.proofs.DigitLemmas.{digits_are_utf8, at_some, at_none}
 use Rattle.poincare_run.proofs.WordLemmas.{too_many_digits, not_digits, value_from_parse}
 use Rattle.poincare_run.proofs.words.value_in.Goals as goal
 use Rattle.poincare_run.proofs.words.value_in.Goals.{then-text-gt-DIGIT_LIMIT-via-then-text-gt-DIGIT_LIMIT, then-text-gt-DIGIT_LIMIT-via-else-text-gt-DIGIT_LIMIT+then-not-all_digits}

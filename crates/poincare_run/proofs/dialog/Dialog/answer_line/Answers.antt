@@ -1,17 +1,17 @@
-use Rattle.std.proofs.Common.{List, ℕ, Some, None, subst}
+use Rattle.std.proofs.Common.{List, ℕ, Some, None, ◌∙◌, sym, ap, subst}
 use Rattle.std.proofs.lemmas.Result.{on_ok_weaker, on_err_weaker}
 use Rattle.std.specs.Str.Lines.{strip_carriage_return}
 use Rattle.poincare_run.specs.Buffer.{Holds}
 use Rattle.poincare_run.specs.Steps.{Step}
 use Rattle.poincare_run.proofs.StepLemmas.{step_of_line}
-use Rattle.poincare_run.proofs.ReplyLemmas.{printed_text}
+use Rattle.poincare_run.proofs.ReplyLemmas.{printed_text, step_of}
 use Rattle.poincare_run.proofs.ByteLemmas.{Appends-nil}
 use Rattle.poincare_run.proofs.dialog.Dialog.answer_line.Goals as goal
 
 pub returns-in-Blank-clause-ok : goal.returns-in-Blank-clause-ok
 returns-in-Blank-clause-ok g c = λ bytes h. record {
   text = None;
-  step = step_of_line _ bytes _ _ None h (subst (λ l. Step c.args.self.now.session.state l None c.line-answer.new.self.state) c.as_slice.ensures.value c.in-Blank.ensures.step);
+  step = step_of_line _ bytes _ _ None h (subst (λ l. Step c.args.self.now.session.state l None c.line-answer.new.self.state) c.as_slice.ensures.value (step_of _ _ _ _ _ c.in-Blank.ensures.replies));
   appended = Appends-nil _;
 }
 
@@ -19,7 +19,7 @@ returns-in-Blank-clause-ok g c = λ bytes h. record {
 step : (g : _) (c : goal.After-write_line g) (bytes : List ℕ) → Holds c.args.self.now.line bytes
     → Step c.args.self.now.session.state (strip_carriage_return bytes) (Some c.text.result.now) c.line-answer.new.self.state
 step g c bytes h = step_of_line _ bytes _ _ (Some c.text.result.now) h
-    (rw (← c.as_slice.ensures.value, c.text.ensures, ← printed_text c.line-answer.result c.line-answer.new.self.text c.in_default.not-Blank) c.line-answer.ensures.step)
+    (rw (← c.as_slice.ensures.value, c.text.ensures, ← printed_text c.line-answer.result c.line-answer.new.self.text c.in_default.not-Blank) (step_of _ _ _ _ _ c.line-answer.ensures.replies))
 
 pub returns : goal.returns
 returns g c = record {

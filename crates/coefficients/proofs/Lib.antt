@@ -1,0 +1,13 @@
+pub mod Forms
+pub mod Factors
+pub mod Splits
+pub mod NumberMultiples
+pub mod TermMultiples
+pub mod SumMultiples
+pub mod Keeps
+pub mod Bounds
+pub mod Coefficients
+pub mod Lengths
+pub mod Places
+pub mod Steps
+pub mod FirstFactors

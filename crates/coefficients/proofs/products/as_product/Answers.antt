@@ -1,0 +1,48 @@
+use Rattle.std.proofs.Common.{◌∙◌, ap, refl, sym, arith}
+use Rattle.calc_terms.specs.declared.kind.Kind.TheVariants as kind
+use Rattle.calc_terms.specs.Payload.{bare}
+use Rattle.calc_terms.specs.Trees.{mult}
+use Rattle.tree_handles.proofs.Forests.{keeps_after}
+use Rattle.tree_handles.proofs.Fronts.{behind_first, front_same, front_end, front_without}
+use Rattle.tree_handles.proofs.Given.{gives, represents_handed, represents_node, represents_none, represents_with}
+use Rattle.tree_handles.proofs.Lasts.{last_held, last_apart, other_root}
+use Rattle.coefficients.proofs.Factors.{single_factors}
+use Rattle.coefficients.proofs.Steps.{live, kind_of_root, product_kind, no_product_kind, product_factors}
+use Rattle.coefficients.proofs.products.as_product.Goals as goal
+
+pub kind-requires-clause-live : goal.kind-requires-clause-live
+kind-requires-clause-live c = live c.args.pool.now c.id.ensures c.requires.handed.root
+
+pub add_child-requires : goal.add_child-requires
+add_child-requires c =
+    let node = c.in_ok-product-in_default.ensures in
+    record {
+      stands = node.stands;
+      live = last_held node.ok;
+      within = omega arith;
+      root = other_root c.args.tree node.ok c.requires.handed.root;
+      apart = last_apart c.args.tree node.stands node.ok c.requires.handed.root;
+    }
+
+pub returns-in-Mult-clause-ok : goal.returns-in-Mult-clause-ok
+returns-in-Mult-clause-ok c =
+    let k = kind_of_root {k = c.kind.result} c.id.ensures c.requires.stands c.requires.handed c.kind.ensures.plain in
+    gives c.move_last.ensures.last (represents_handed c.requires.handed) (product_factors _ (product_kind _ (sym c.in-Mult.is ∙ k)))
+
+pub returns-in-Mult-clause-front : goal.returns-in-Mult-clause-front
+returns-in-Mult-clause-front c = front_end c.move_last.ensures.last (front_without behind_first front_same)
+
+pub returns-in_ok-product-in_default : goal.returns-in_ok-product-in_default
+returns-in_ok-product-in_default c =
+    let node = c.in_ok-product-in_default.ensures in
+    let k = kind_of_root {k = c.kind.result} c.id.ensures c.requires.stands c.requires.handed c.kind.ensures.plain in
+    let alone = single_factors _ (no_product_kind _ (λ e. c.in_default.not-Mult (k ∙ sym e))) in
+    let ends = c.add_child.ensures.last _ _ node.ok c.requires.handed.root in
+    record {
+      ok = gives ends (represents_node c.in_ok-product-in_default.product (bare kind.Mult) (represents_with 0 (represents_handed c.requires.handed) represents_none) refl) (ap mult (sym alone));
+      front = front_end ends (front_without behind_first front_same);
+      kept = keeps_after _ _ _ node.kept c.add_child.ensures.kept;
+      full = tt;
+      caused = tt;
+      stands = c.add_child.ensures.stands;
+    }

@@ -1,0 +1,70 @@
+use Rattle.std.proofs.Common.{◌≤◌, ◌∙◌, ap, refl, sym, subst}
+use Rattle.calc_terms.specs.Reduced.{product_tree}
+use Rattle.calc_terms.specs.Trees.{Tree, num, count, is_mult}
+use Rattle.tree_handles.specs.Expressions.{plain, children_of}
+use Rattle.tree_handles.proofs.Forests.{keeps_after}
+use Rattle.tree_handles.proofs.Fronts.{behind_first, behind_new, front_after_one, front_same, front_end, front_without}
+use Rattle.tree_handles.proofs.Given.{gives, gives_as, given_handed, given_other, given_rest, given_same, given_told, represents_handed}
+use Rattle.tree_handles.proofs.Lasts.{other_root}
+use Rattle.tree_handles.specs.Roots.{without_root}
+use Rattle.tree_handles.specs.Standing.{forest}
+use Rattle.coefficients.proofs.Lengths.{some_factors, product_coefficient, product_part, other_coefficient, other_part}
+use Rattle.coefficients.proofs.Steps.{live, kind_of_root, product_kind, no_product_kind, gives_without, one_value}
+use Rattle.coefficients.proofs.taking.take_coefficient.Goals as goal
+
+pub kind-requires-clause-live : goal.kind-requires-clause-live
+kind-requires-clause-live c = live c.args.pool.now c.id.ensures c.requires.handed.root
+
+pub split_product-requires-clause-product : goal.split_product-requires-clause-product
+split_product-requires-clause-product c =
+    product_kind _ (sym c.in-Mult.is ∙ kind_of_root {k = c.kind.result} c.id.ensures c.requires.stands c.requires.handed c.kind.ensures.plain)
+
+pub unwrapped-part-requires-clause-handed : goal.unwrapped-part-requires-clause-handed
+unwrapped-part-requires-clause-handed c = given_handed c.in_ok-coefficient-in-Mult.ensures.ok.second-given
+
+pub unwrapped-part-requires-clause-product : goal.unwrapped-part-requires-clause-product
+unwrapped-part-requires-clause-product c = ap is_mult (given_told c.in_ok-coefficient-in-Mult.ensures.ok.second-given)
+
+pub unwrapped-part-requires-clause-some : goal.unwrapped-part-requires-clause-some
+unwrapped-part-requires-clause-some c =
+    let m = product_kind _ (sym c.in-Mult.is ∙ kind_of_root {k = c.kind.result} c.id.ensures c.requires.stands c.requires.handed c.kind.ensures.plain) in
+    subst (λ (t : Tree). 1 ≤ count (children_of t)) (sym (given_told c.in_ok-coefficient-in-Mult.ensures.ok.second-given)) (some_factors _ m c.requires.reduced c.requires.no_number)
+
+pub move_last-requires : goal.move_last-requires
+move_last-requires c =
+    let one = c.in_ok-one-in_default.ensures in
+    record { stands = one.stands; root = other_root c.args.term one.ok c.requires.handed.root }
+
+pub returns-in_ok-coefficient-in-Mult-clause-ok : goal.returns-in_ok-coefficient-in-Mult-clause-ok
+returns-in_ok-coefficient-in-Mult-clause-ok c =
+    let g = c.in_ok-coefficient-in-Mult.ensures.ok in
+    let m = product_kind _ (sym c.in-Mult.is ∙ kind_of_root {k = c.kind.result} c.id.ensures c.requires.stands c.requires.handed c.kind.ensures.plain) in
+    record {
+      between = g.between;
+      first-given = gives_as g.first-given refl (λ t e. e ∙ product_coefficient _ m);
+      second-given = gives_as c.unwrapped-part.ensures.tree (given_rest g.second-given)
+          (λ t e. e ∙ ap (λ (x : Tree). product_tree (children_of x)) (given_told g.second-given) ∙ product_part _ m);
+    }
+
+pub returns-in_ok-coefficient-in-Mult-clause-front : goal.returns-in_ok-coefficient-in-Mult-clause-front
+returns-in_ok-coefficient-in-Mult-clause-front c =
+    let g = c.in_ok-coefficient-in-Mult.ensures.ok in
+    front_after_one (behind_new g.second-given.ends (front_end g.first-given.ends (front_without behind_first front_same))) c.split_product.ensures.front c.unwrapped-part.ensures.front
+
+pub returns-in_ok-one-in_default : goal.returns-in_ok-one-in_default
+returns-in_ok-one-in_default c =
+    let one = c.in_ok-one-in_default.ensures in
+    let k = kind_of_root {k = c.kind.result} c.id.ensures c.requires.stands c.requires.handed c.kind.ensures.plain in
+    let m = no_product_kind _ (λ e. c.in_default.not-Mult (k ∙ sym e)) in
+    record {
+      ok = record {
+        between = without_root c.args.term (forest c.number.new.pool);
+        first-given = gives_as (gives_without c.args.term one.given c.requires.handed.root) refl (λ t e. e ∙ ap num (one_value c.whole.result c.whole.ensures) ∙ other_coefficient _ m);
+        second-given = gives c.move_last.ensures.last (represents_handed (given_other one.given c.requires.handed)) (ap plain (given_same c.args.term one.given c.requires.handed.root) ∙ other_part _ m);
+      };
+      front = front_end c.move_last.ensures.last (front_without behind_first (front_end one.ok front_same));
+      kept = keeps_after _ _ _ one.kept c.move_last.ensures.kept;
+      full = tt;
+      caused = tt;
+      stands = c.move_last.ensures.stands;
+    }

@@ -1,0 +1,112 @@
+use Rattle.std.proofs.Common.{◌≡◌, ℕ, ◌∙◌, ap, refl, sym, subst, arith}
+use Rattle.calc_terms.specs.declared.kind.Kind.TheVariants as kind
+use Rattle.calc_terms.specs.Fractions.{Fraction}
+use Rattle.calc_terms.specs.Reduced.{Split, is_reduced, num_one}
+use Rattle.calc_terms.specs.Trees.{Trees, num, is_mult}
+use Rattle.tree_handles.specs.Forest.{Forest, kids}
+use Rattle.tree_handles.specs.Handed.{Represents, Gives}
+use Rattle.tree_handles.specs.Roots.{root_tree}
+use Rattle.tree_handles.specs.Standing.{forest}
+use Rattle.tree_handles.proofs.Fronts.{behind_first, front_after, front_end, front_put, front_same}
+use Rattle.tree_handles.proofs.Given.{gives_as, given_rest, given_root}
+use Rattle.tree_handles.proofs.Lasts.{last_held, last_apart, other_root, ends_as}
+use Rattle.tree_handles.proofs.Roots.{put-same}
+use Rattle.coefficients.specs.Pairs.{LeavesRest}
+use Rattle.coefficients.proofs.Lengths.{long, measured}
+use Rattle.coefficients.proofs.Places.{IsOver, over_product}
+use Rattle.coefficients.proofs.Steps.{expression, seen, length_seen, children_in, leaves_one, first_taken, pair_taken, pair_front, paired, if_map, one_value}
+use Rattle.coefficients.proofs.taking.take_leading.Goals as goal
+
+pub coefficient_length-length-requires-clause-expression : goal.coefficient_length-length-requires-clause-expression
+coefficient_length-length-requires-clause-expression c = expression c.id.ensures c.requires.stands c.requires.handed
+
+pub coefficient_length-length-requires-clause-product : goal.coefficient_length-length-requires-clause-product
+coefficient_length-length-requires-clause-product c = ap is_mult (seen c.id.ensures c.requires.stands c.requires.handed) ∙ c.requires.product
+
+pub coefficient_length-length-requires-clause-reduced : goal.coefficient_length-length-requires-clause-reduced
+coefficient_length-length-requires-clause-reduced c = ap is_reduced (seen c.id.ensures c.requires.stands c.requires.handed) ∙ c.requires.reduced
+
+as_none : (i : ℕ) (old new : Forest) (h : ℕ) (ts : Trees) (s : Split) (q : Fraction) → IsOver kind.Mult i ts old → s.coefficient ≡ num_one → s.factors ≡ ts → num q ≡ num_one → Gives old new h (λ t. t ≡ num q) → LeavesRest i old new h s.coefficient s.factors
+as_none i old new h ts s q o c f e g = record {
+  kids = kids (root_tree i old);
+  rest-are = subst (λ (us : Trees). Represents (kids (root_tree i old)) us) (sym f) o.kids;
+  given = gives_as g (sym (put-same i old)) (λ t k. k ∙ e ∙ sym c);
+}
+
+pub returns-then-length-eq0-clause-ok : goal.returns-then-length-eq0-clause-ok
+returns-then-length-eq0-clause-ok c =
+    let m = measured _ c.requires.product c.requires.reduced in
+    let s = m.none_led (length_seen c.id.ensures c.requires.stands c.requires.handed c.coefficient_length-length.ensures ∙ c.if-length-eq0.true) in
+    if_map c.number.result _ _ c.number.ensures.given
+    (λ h g. as_none c.args.product.now _ _ h _ _ _ (over_product c.requires.handed c.requires.product) (ap (λ (x : Split). x.coefficient) s) (ap (λ (x : Split). x.factors) s) (ap num (one_value c.whole.result c.whole.ensures)) g)
+
+pub take_child-requires-clause-within : goal.take_child-requires-clause-within
+take_child-requires-clause-within c = omega (arith, children_in c.requires.stands (over_product c.requires.handed c.requires.product), (long _ c.requires.product c.requires.reduced).two)
+
+pub returns-then-length-eq1-clause-ok : goal.returns-then-length-eq1-clause-ok
+returns-then-length-eq1-clause-ok c =
+    let m = measured _ c.requires.product c.requires.reduced in
+    let w = m.one_led (length_seen c.id.ensures c.requires.stands c.requires.handed c.coefficient_length-length.ensures ∙ c.if-length-eq1.true) in
+    leaves_one (subst (λ (ts : Trees). IsOver kind.Mult c.args.product.now ts (forest c.args.pool.now)) w (over_product c.requires.handed c.requires.product)) (c.take_child.ensures.last c.requires.handed.root)
+
+pub returns-then-length-eq1-clause-front : goal.returns-then-length-eq1-clause-front
+returns-then-length-eq1-clause-front c = front_end (c.take_child.ensures.last c.requires.handed.root) (front_put _ behind_first front_same)
+
+pub take_child-rational-requires-clause-within : goal.take_child-rational-requires-clause-within
+take_child-rational-requires-clause-within c = omega (arith, children_in c.requires.stands (over_product c.requires.handed c.requires.product), (long _ c.requires.product c.requires.reduced).two)
+
+pub take_child-root-requires-clause-within : goal.take_child-root-requires-clause-within
+take_child-root-requires-clause-within c =
+    let t = first_taken c.id.ensures c.requires.stands c.requires.handed c.requires.product c.requires.reduced c.coefficient_length-length.ensures c.if-length-eq0.false c.if-length-eq1.false (c.take_child-rational.ensures.last c.requires.handed.root) in
+    omega (arith, children_in c.take_child-rational.ensures.stands t.over)
+
+pub returns-in_err-coefficient-clause-front : goal.returns-in_err-coefficient-clause-front
+returns-in_err-coefficient-clause-front c =
+    let t = first_taken c.id.ensures c.requires.stands c.requires.handed c.requires.product c.requires.reduced c.coefficient_length-length.ensures c.if-length-eq0.false c.if-length-eq1.false (c.take_child-rational.ensures.last c.requires.handed.root) in
+    let p = pair_taken t.start (c.take_child-rational.ensures.last c.requires.handed.root) (c.take_child-root.ensures.last t.over.root) in
+    front_after (pair_front p) c.node.ensures.front
+
+pub add_child-requires-clause-live : goal.add_child-requires-clause-live
+add_child-requires-clause-live c = last_held c.in_ok-coefficient.ensures.ok
+
+pub add_child-requires-clause-root : goal.add_child-requires-clause-root
+add_child-requires-clause-root c =
+    let t = first_taken c.id.ensures c.requires.stands c.requires.handed c.requires.product c.requires.reduced c.coefficient_length-length.ensures c.if-length-eq0.false c.if-length-eq1.false (c.take_child-rational.ensures.last c.requires.handed.root) in
+    let p = pair_taken t.start (c.take_child-rational.ensures.last c.requires.handed.root) (c.take_child-root.ensures.last t.over.root) in
+    other_root c.take_child-root.result c.in_ok-coefficient.ensures.ok (given_root p.second)
+
+pub add_child-requires-clause-apart : goal.add_child-requires-clause-apart
+add_child-requires-clause-apart c =
+    let t = first_taken c.id.ensures c.requires.stands c.requires.handed c.requires.product c.requires.reduced c.coefficient_length-length.ensures c.if-length-eq0.false c.if-length-eq1.false (c.take_child-rational.ensures.last c.requires.handed.root) in
+    let p = pair_taken t.start (c.take_child-rational.ensures.last c.requires.handed.root) (c.take_child-root.ensures.last t.over.root) in
+    last_apart c.take_child-root.result c.in_ok-coefficient.ensures.stands c.in_ok-coefficient.ensures.ok (given_root p.second)
+
+pub add_child-requires-2-clause-root : goal.add_child-requires-2-clause-root
+add_child-requires-2-clause-root c =
+    let t = first_taken c.id.ensures c.requires.stands c.requires.handed c.requires.product c.requires.reduced c.coefficient_length-length.ensures c.if-length-eq0.false c.if-length-eq1.false (c.take_child-rational.ensures.last c.requires.handed.root) in
+    let p = pair_taken t.start (c.take_child-rational.ensures.last c.requires.handed.root) (c.take_child-root.ensures.last t.over.root) in
+    other_root c.take_child-rational.result (ends_as (c.add_child.ensures.last _ _ c.in_ok-coefficient.ensures.ok (given_root p.second)) refl (given_rest p.second)) (given_root p.first)
+
+pub add_child-requires-2-clause-apart : goal.add_child-requires-2-clause-apart
+add_child-requires-2-clause-apart c =
+    let t = first_taken c.id.ensures c.requires.stands c.requires.handed c.requires.product c.requires.reduced c.coefficient_length-length.ensures c.if-length-eq0.false c.if-length-eq1.false (c.take_child-rational.ensures.last c.requires.handed.root) in
+    let p = pair_taken t.start (c.take_child-rational.ensures.last c.requires.handed.root) (c.take_child-root.ensures.last t.over.root) in
+    last_apart c.take_child-rational.result c.add_child.ensures.stands (ends_as (c.add_child.ensures.last _ _ c.in_ok-coefficient.ensures.ok (given_root p.second)) refl (given_rest p.second)) (given_root p.first)
+
+pub returns-clause-ok : goal.returns-clause-ok
+returns-clause-ok c =
+    let t = first_taken c.id.ensures c.requires.stands c.requires.handed c.requires.product c.requires.reduced c.coefficient_length-length.ensures c.if-length-eq0.false c.if-length-eq1.false (c.take_child-rational.ensures.last c.requires.handed.root) in
+    let p = pair_taken t.start (c.take_child-rational.ensures.last c.requires.handed.root) (c.take_child-root.ensures.last t.over.root) in
+    let x = paired p (c.add_child.ensures.last _ _ c.in_ok-coefficient.ensures.ok (given_root p.second)) (λ others e r. c.add_child-2.ensures.last _ others e r) in
+    record {
+      kids = x.now;
+      rest-are = subst (Represents x.now) (sym (ap (λ (s : Split). s.factors) t.led.is)) x.kids;
+      given = gives_as x.given refl (λ u e. e ∙ sym (ap (λ (s : Split). s.coefficient) t.led.is));
+    }
+
+pub returns-clause-front : goal.returns-clause-front
+returns-clause-front c =
+    let t = first_taken c.id.ensures c.requires.stands c.requires.handed c.requires.product c.requires.reduced c.coefficient_length-length.ensures c.if-length-eq0.false c.if-length-eq1.false (c.take_child-rational.ensures.last c.requires.handed.root) in
+    let p = pair_taken t.start (c.take_child-rational.ensures.last c.requires.handed.root) (c.take_child-root.ensures.last t.over.root) in
+    let x = paired p (c.add_child.ensures.last _ _ c.in_ok-coefficient.ensures.ok (given_root p.second)) (λ others e r. c.add_child-2.ensures.last _ others e r) in
+    front_end x.given.ends (front_put x.now behind_first front_same)

@@ -1,0 +1,95 @@
+//! Lines, read by the grammar.
+ghost use Rattle.std.specs.Prelude.{◌≡◌, ◌≤◌, ℕ, List, length, false, None, IfOk, IfErr};
+ghost use Rattle.calc_terms.specs.Tokens.{is_blank as is_blank_of};
+ghost use Rattle.calc_terms.specs.Trees.{Tree};
+ghost use Rattle.calc_parser.specs.Outcomes.{IsFaultOf as IsLineFault};
+ghost use Rattle.calc_tokens.specs.Faults.{IsFaultOf};
+ghost use Rattle.calc_tokens.specs.Placed.{Placed, bare};
+ghost use Rattle.calc_tokens.specs.Scanned.{AreTokensOf};
+ghost use Rattle.calc_tokens.specs.Tokens.{tokens_of};
+ghost use Rattle.poincare_run.specs.Answers.{reply_of};
+ghost use Rattle.poincare_run.specs.Lines.{is_blank_line as is_blank_line_of};
+ghost use Rattle.poincare_run.specs.Replies.{is_command as is_command_of, refusal_in, IsReply, IsText, ReadsSum};
+
+use crate::Refusal;
+use calc_parser::{ParseFault, check, is_whole_sum};
+use calc_tokens::{TokenFault, Tokens, scan};
+
+/// The most bytes of a line.
+pub const LINE_LIMIT: usize = 1024;
+
+/// The tokens of a line that is a sum of whole numbers.
+pub fn read_sum(line: &[u8]) -> Result<Tokens, Refusal>
+    requires { length line.now ≤ 1024 → is_blank_line_of line.now ≡ false }
+    ensures sum { IfOk result (λ tokens. (t : Tree) × ReadsSum line.now (tokens_of tokens) t) }
+    ensures refused { IfErr result (λ refusal. (free : ℕ) → IsReply free line.now (reply_of refusal)) }
+    ensures no_pool { IfErr result (λ refusal. refusal_in (reply_of refusal) ≡ None) }
+{
+    if line.len() > LINE_LIMIT {
+        return Err(Refusal::Long);
+    }
+    if is_command(line) {
+        return Err(Refusal::Form);
+    }
+    let tokens = match scan(line) {
+        Ok(tokens) => tokens,
+        Err(fault) => return Err(token_refusal(fault)),
+    };
+    let shape = match check(&tokens) {
+        Ok(shape) => shape,
+        Err(fault) => return Err(line_refusal(fault)),
+    };
+    if shape.store.is_some() {
+        return Err(Refusal::Form);
+    }
+    if !is_whole_sum(&tokens) {
+        return Err(Refusal::Form);
+    }
+    Ok(tokens)
+}
+
+fn token_refusal(fault: TokenFault) -> Refusal
+    ensures refused { (free : ℕ) (line : List ℕ) → IsText line → IsFaultOf line fault → IsReply free line (reply_of result) }
+    ensures no_pool { refusal_in (reply_of result) ≡ None }
+{
+    match fault {
+        TokenFault::Character { at } => Refusal::Character { at },
+        TokenFault::Number { at } => Refusal::Number { at },
+    }
+}
+
+fn line_refusal(fault: ParseFault) -> Refusal
+    ensures refused { (free : ℕ) (line : List ℕ) (tokens : List Placed) → IsText line → AreTokensOf tokens line → IsLineFault (bare tokens) fault → IsReply free line (reply_of result) }
+    ensures no_pool { refusal_in (reply_of result) ≡ None }
+{
+    match fault {
+        ParseFault::Syntax => Refusal::Syntax,
+        ParseFault::Deep => Refusal::Deep,
+    }
+}
+
+/// Whether the first byte that is no blank is `:`.
+fn is_command(line: &[u8]) -> bool
+    ensures { result ≡ is_command_of line.now }
+{
+    for byte in line {
+        if !is_blank(*byte) {
+            return *byte == b':';
+        }
+    }
+    false
+}
+
+/// Whether a line is of blanks alone, or of nothing.
+pub fn is_blank_line(line: &[u8]) -> bool
+    ensures { result ≡ is_blank_line_of line.now }
+{
+    line.iter().all(|byte| is_blank(*byte))
+}
+
+/// A space or a tab.
+fn is_blank(byte: u8) -> bool
+    ensures { result ≡ is_blank_of byte }
+{
+    byte == b' ' || byte == b'\t'
+}
