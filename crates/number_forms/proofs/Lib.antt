@@ -5,10 +5,11 @@ pub mod Refused
 pub mod Worth
 pub mod Shaped
 pub mod ReducedNumbers
-pub mod Tests
+pub mod CodeTests
 pub mod TermTrees
 pub mod SumChanges
 pub mod Loops
 pub mod RationalCalls
 pub mod PowerSteps
 pub mod InverseSteps
+pub mod Pairs

@@ -20,3 +20,6 @@ pub use placing::place_term;
 pub use powers::power_number;
 pub use read::{classes, is_reduced_number, is_zero, whole};
 pub use term::term_at;
+
+#[cfg(test)]
+mod tests;

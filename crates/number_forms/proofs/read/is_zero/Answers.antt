@@ -2,7 +2,7 @@ use Rattle.std.proofs.Common.{sym, ap, ◌∙◌, rules, FitsSigned}
 use Rattle.std.specs.Int.{w128}
 use Rattle.calc_terms.specs.Integers.{int_is_zero}
 use Rattle.number_forms.specs.Readers.{is_zero}
-use Rattle.number_forms.proofs.Tests.{zero_bits}
+use Rattle.number_forms.proofs.CodeTests.{zero_bits}
 use Rattle.rational128.proofs.LowestTerms.{ratio_parts}
 use Rattle.number_forms.proofs.read.is_zero.Goals as goal
 

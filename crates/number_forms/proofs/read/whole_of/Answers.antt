@@ -1,4 +1,4 @@
-use Rattle.number_forms.proofs.Tests.{test_fails}
+use Rattle.number_forms.proofs.CodeTests.{test_fails}
 use Rattle.rational128.proofs.LowestTerms.{ratio_parts}
 use Rattle.number_forms.proofs.read.whole_of.Goals as goal
 

@@ -1,0 +1,39 @@
+-- The children of a node that stands before a stack.
+use Rattle.std.proofs.Common.{◌≡◌, ℕ, ◌<◌, sym, ap, ◌∙◌, subst, arith}
+use Rattle.calc_terms.specs.Trees.{Tree, count}
+use Rattle.node_pool.specs.Nodes.{AreDistinct}
+use Rattle.node_pool.specs.State.{State}
+use Rattle.node_pool.proofs.Ids.{AreDistinct-parts}
+use Rattle.tree_handles.specs.Expressions.{plain, nth, children_of, IsExpression, AllExpressions}
+use Rattle.tree_handles.specs.Forest.{Forest, kids, arity, flatten, tree_nth, root_id}
+use Rattle.tree_handles.specs.Handed.{Gives}
+use Rattle.tree_handles.specs.Inside.{holds, tree_at, kids_of}
+use Rattle.tree_handles.specs.Standing.{Stands, forest}
+use Rattle.tree_handles.proofs.Distinct.{Distinct, distinct, child_tree}
+use Rattle.tree_handles.proofs.Forests.{flatten-join}
+use Rattle.tree_handles.proofs.Plains.{children_of-plain, count-plains}
+use Rattle.tree_handles.proofs.Readings.{whole_child, expression_child}
+use Rattle.beautify.proofs.Stacking.{in_base}
+
+pub record IsChildOf (n j i : ℕ) (g : Forest) : Type 0 where
+  pub expression : IsExpression j g
+  pub plain-is : plain (tree_at j g) ≡ nth n (children_of (plain (tree_at i g)))
+
+pub base_distinct : {g : Forest} {k : ℕ} {P : Tree → Type 0} (s : State) → Stands s → Gives g (forest s) k P → Distinct g
+base_distinct {g = g} s st h = (AreDistinct-parts (flatten g) (flatten h.tree) (subst AreDistinct (ap flatten h.ends.whole ∙ flatten-join g h.tree) (distinct s st))).0
+
+many_children : (i : ℕ) (g : Forest) → IsExpression i g → arity (kids_of i g) ≡ count (children_of (plain (tree_at i g)))
+many_children i g e = sym (ap count (children_of-plain (tree_at i g) e.whole) ∙ count-plains (kids_of i g))
+
+pub within_kids : {g : Forest} {i k : ℕ} {P : Tree → Type 0} (s : State) (n : ℕ) → Gives g (forest s) k P → IsExpression i g → n < count (children_of (plain (tree_at i g))) → n < arity (kids_of i (forest s))
+within_kids {g = g} {i = i} s n h e w = omega (arith, w, many_children i g e, ap (λ (t : Forest). arity (kids t)) (in_base h e).1)
+
+pub child_of : {g : Forest} {i k : ℕ} {P : Tree → Type 0} (s : State) (n j : ℕ) → Stands s → Gives g (forest s) k P → IsExpression i g → n < count (children_of (plain (tree_at i g))) → j ≡ root_id (tree_nth n (kids_of i (forest s))) → IsChildOf n j i g
+child_of {g = g} {i = i} s n j st h e w is =
+    let here : j ≡ root_id (tree_nth n (kids_of i g)) = is ∙ ap (λ (t : Forest). root_id (tree_nth n (kids t))) (in_base h e).1 in
+    let x = child_tree n i g (base_distinct s st h) (omega (arith, w, many_children i g e)) in
+    let tree : tree_at j g ≡ tree_nth n (kids_of i g) = ap (λ (m : ℕ). tree_at m g) here ∙ x.tree-is in
+    record {
+      expression = record { live = ap (λ (m : ℕ). holds m g) here ∙ x.live; whole = subst AllExpressions (sym tree) (whole_child n i g e.whole) };
+      plain-is = ap plain tree ∙ expression_child n i g e;
+    }

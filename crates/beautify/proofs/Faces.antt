@@ -1,0 +1,37 @@
+-- The face of a tree that is handed, in its place.
+use Rattle.std.proofs.Common.{◌≡◌, ◌<◌, ◌≤◌, ◌+◌, ℕ, ◌∷◌, [], ap, sym, ◌∙◌, subst, arith, true}
+use Rattle.calc_terms.specs.Faces.{face}
+use Rattle.calc_terms.specs.Reduced.{is_reduced}
+use Rattle.calc_terms.specs.Trees.{Tree, add, none}
+use Rattle.calc_terms.proofs.FaceLaws.{reduced_face_means}
+use Rattle.node_pool.specs.State.{State, free_of}
+use Rattle.node_pool.specs.declared.full.Full.{Full}
+use Rattle.reduce_port.specs.Causes.{LacksBytes}
+use Rattle.reduce_port.specs.Rewritings.{KeepsMeanings}
+use Rattle.tree_handles.specs.Forest.{Forest, join}
+use Rattle.tree_handles.specs.Handed.{IsHanded, Gives, Ends, Starts, KeepsFront}
+use Rattle.tree_handles.specs.Roots.{without_root}
+use Rattle.tree_handles.specs.Standing.{Stands, forest, KeepsRefusals, IsRefused}
+use Rattle.tree_handles.proofs.Forests.{join_assoc}
+use Rattle.tree_handles.proofs.Lasts.{ends_without}
+use Rattle.tree_handles.proofs.Places.{used_forest}
+use Rattle.beautify.proofs.Stacking.{bytes_of_stack}
+
+pub face_keeps : (t : Tree) → is_reduced t ≡ true → KeepsMeanings t (face t)
+face_keeps t h = record { means = λ f once v m. reduced_face_means t h f v m }
+
+-- a root before the last tree goes
+pub other_gone : {f b new : Forest} {i j : ℕ} {P : Tree → Type 0} → IsHanded i f → Gives f b j P → new ≡ without_root i b → Gives (without_root i f) new j P
+other_gone {f = f} {i = i} {j = j} h t e = record { tree = t.tree; ends = subst (Ends j t.tree (without_root i f)) (sym e) (ends_without i t.ends h.root); once = t.once; whole = t.whole; told = t.told }
+
+-- all that stood still stands first
+pub keeps_before : {i : ℕ} {f g : Forest} → Starts f g → KeepsFront (i ∷ []) f g
+keeps_before {f = f} {g = g} s = record { keeps = λ p q n. record { behind = join q.behind s.behind; whole = s.whole ∙ ap (λ (x : Forest). join x s.behind) q.whole ∙ join_assoc p q.behind s.behind } }
+
+-- an empty stack takes 8 bytes
+pub first_free : {i : ℕ} (s t : State) → Stands s → Stands t → KeepsRefusals s t → Gives (forest s) (forest t) i (λ x. x ≡ add none) → free_of s ≤ free_of t + 8
+first_free s t st su k g = omega (arith, used_forest s st, bytes_of_stack t su g, k.size)
+
+-- a refused placing of a node
+pub lacks_at_once : {n : ℕ} {s t : State} {full : Full} → IsRefused n s t full → free_of s < n → LacksBytes t full
+lacks_at_once r lack = record { free = ap (λ (x : Full). x.free) r.told ∙ sym (ap free_of r.state); lacking = subst (λ (x : Full). x.free < x.needed) (sym r.told) lack }

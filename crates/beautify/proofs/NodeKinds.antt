@@ -1,0 +1,71 @@
+-- What a node is, by the kind of its root.
+use Rattle.std.proofs.Common.{◌≡◌, ◌≤◌, refl, sym, ap, subst, arith, true}
+use Rattle.calc_terms.specs.Faces.{unsigned_face, has_minus, with_minus}
+use Rattle.calc_terms.specs.Trees.{Tree, num, symbol, undef, add, mult, power, root, neg, sub, div, Trees, none, more, count, root_kind, is_add, is_mult}
+use Rattle.calc_terms.specs.declared.kind.Kind.{Kind}
+use Rattle.calc_terms.specs.declared.kind.Kind.TheVariants as kind
+use Rattle.tree_handles.specs.Expressions.{nth, children_of}
+use Rattle.beautify.specs.Lists.{behind}
+use Rattle.beautify.specs.Room.{node_room}
+use Rattle.beautify.specs.Showing.{IsShowable, HoldsFaces}
+
+abbrev is_pow_kind : Kind → Tree
+is_pow_kind kind.Pow = add none
+is_pow_kind kind.Root = mult none
+is_pow_kind kind.Add = root undef
+is_pow_kind kind.Mult = neg undef
+is_pow_kind k = undef
+
+-- the parts of a power and of a root
+pub record IsPower (t b e : Tree) : Type 0 where
+  pub is : t ≡ power b e
+  pub parts : children_of t ≡ more b (more e none)
+
+pub power_parts : (t : Tree) → root_kind t ≡ kind.Pow → IsPower t (nth 0 (children_of t)) (nth 1 (children_of t))
+power_parts (power b e) h = record { is = refl; parts = refl }
+power_parts _ h = absurd (cc (ap (λ (k : Kind). is_add (is_pow_kind k)) h))
+
+pub record IsRoot (t a : Tree) : Type 0 where
+  pub is : t ≡ root a
+  pub parts : children_of t ≡ more a none
+
+pub root_parts : (t : Tree) → root_kind t ≡ kind.Root → IsRoot t (nth 0 (children_of t))
+root_parts (root a) h = record { is = refl; parts = refl }
+root_parts _ h = absurd (cc (ap (λ (k : Kind). is_mult (is_pow_kind k)) h))
+
+pub add_of_kind : (t : Tree) → root_kind t ≡ kind.Add → is_add t ≡ true
+add_of_kind (add ts) h = refl
+add_of_kind _ h = absurd (cc (ap (λ (k : Kind). root_kind (is_pow_kind k)) h))
+
+pub mult_of_kind : (t : Tree) → root_kind t ≡ kind.Mult → is_mult t ≡ true
+mult_of_kind (mult ts) h = refl
+mult_of_kind _ h = absurd (cc (ap (λ (k : Kind). root_kind (is_pow_kind k)) h))
+
+pub mult_room : (t : Tree) → root_kind t ≡ kind.Mult → node_room t ≡ 56
+mult_room (mult ts) h = refl
+mult_room _ h = absurd (cc (ap (λ (k : Kind). root_kind (is_pow_kind k)) h))
+
+pub no_other : (t : Tree) → IsShowable t → (root_kind t ≡ kind.Num → ⊥) → (root_kind t ≡ kind.Sym → ⊥) → (root_kind t ≡ kind.Add → ⊥) → (root_kind t ≡ kind.Mult → ⊥) → (root_kind t ≡ kind.Pow → ⊥) → (root_kind t ≡ kind.Root → ⊥) → ⊥
+no_other (num q) s a b c d e f = a refl
+no_other (symbol x) s a b c d e f = b refl
+no_other (add ts) s a b c d e f = c refl
+no_other (mult ts) s a b c d e f = d refl
+no_other (power x y) s a b c d e f = e refl
+no_other (root x) s a b c d e f = f refl
+no_other undef s a b c d e f = s
+no_other (neg x) s a b c d e f = s
+no_other (sub x y) s a b c d e f = s
+no_other (div x y) s a b c d e f = s
+
+-- the same tree
+pub shown_as : (t u : Tree) (ts : Trees) → t ≡ u → more (unsigned_face u) (behind (count (children_of u)) ts) ≡ more (unsigned_face t) (behind (count (children_of t)) ts)
+shown_as t u ts e = ap (λ (x : Tree). more (unsigned_face x) (behind (count (children_of x)) ts)) (sym e)
+
+pub faces_of : (us vs ts : Trees) → us ≡ vs → HoldsFaces us ts → HoldsFaces vs ts
+faces_of us vs ts e h = subst (λ (x : Trees). HoldsFaces x ts) e h
+
+pub root_shown : (a : Tree) (ts : Trees) → HoldsFaces (more a none) ts → more (root (with_minus (has_minus a) (nth 0 ts))) (behind 1 ts) ≡ more (unsigned_face (root a)) (behind 1 ts)
+root_shown a ts h = ap (λ (us : Trees). more (root (with_minus (has_minus a) (nth 0 us))) (behind 1 ts)) h.begins
+
+pub one_there : (a : Tree) (ts : Trees) → HoldsFaces (more a none) ts → 1 ≤ count ts
+one_there a ts h = omega (arith, ap count h.begins)

@@ -1,0 +1,92 @@
+-- The parts of a reduced tree can be shown.
+use Rattle.std.proofs.Common.{◌≡◌, inl, inr, refl, sym, ap, ◌∙◌, arith, true, false}
+use Rattle.calc_terms.specs.Trees.{Tree, num, symbol, undef, add, mult, power, root, neg, sub, div, Trees, none, more, AllParts, AllPartsOf, is_mult, is_undef, HasTwo}
+use Rattle.calc_terms.specs.Numbers.{IsTerm}
+use Rattle.calc_terms.specs.Reduced.{is_reduced, NoneIs, HasForm, IsReduced}
+use Rattle.calc_terms.proofs.ReducedLaws.{reduced_words}
+use Rattle.beautify.specs.Showing.{IsShowable, IsFactor, AreFactors}
+
+-- the root of a part of a reduced tree
+abbrev IsFormed : Tree → Type 0
+IsFormed (neg a) = ⊥
+IsFormed (sub a b) = ⊥
+IsFormed (div a b) = ⊥
+IsFormed undef = ⊥
+IsFormed _ = Unit {0}
+
+formed : (t : Tree) → HasForm t → IsFormed t
+formed undef (inl h) = h
+formed undef (inr h) = h
+formed (neg a) (inl h) = h
+formed (neg a) (inr h) = h
+formed (sub a b) (inl h) = h
+formed (sub a b) (inr h) = h
+formed (div a b) (inl h) = h
+formed (div a b) (inr h) = h
+formed _ h = tt
+
+first_part : (t : Tree) → AllParts HasForm t → HasForm t
+first_part (num q) h = h
+first_part (symbol x) h = h
+first_part undef h = h
+first_part (add ts) h = h.0
+first_part (mult ts) h = h.0
+first_part (power b e) h = h.0
+first_part (root a) h = h.0
+first_part (neg a) h = h.0
+first_part (sub a b) h = h.0
+first_part (div a b) h = h.0
+
+factor : (t : Tree) → IsFormed t → is_mult t ≡ false → IsFactor t
+factor (num q) f h = tt
+factor (symbol x) f h = tt
+factor undef f h = absurd f
+factor (add ts) f h = tt
+factor (mult ts) f h = absurd cc
+factor (power b e) f h = tt
+factor (root a) f h = tt
+factor (neg a) f h = absurd f
+factor (sub a b) f h = absurd f
+factor (div a b) f h = absurd f
+
+factors : (ts : Trees) → AllPartsOf HasForm ts → NoneIs is_mult ts → AreFactors ts
+factors none h n = tt
+factors (more t ts) h n = (factor t (formed t (first_part t h.0)) n.0, factors ts h.1 n.1)
+
+two_terms : (ts : Trees) → HasForm (add ts) → HasTwo ts
+two_terms none (inl h) = absurd (omega (arith, h.0))
+two_terms (more t none) (inl h) = absurd (omega (arith, h.0))
+two_terms (more t (more u ts)) (inl h) = tt
+two_terms ts (inr h) = h.two
+
+term_product : (ts : Trees) → IsTerm (mult ts) → HasTwo ts × NoneIs is_mult ts
+term_product (more (num q) (more (root (num r)) none)) h = (tt, (refl, (refl, tt)))
+term_product _ h = absurd h
+
+two_factors : (ts : Trees) → HasForm (mult ts) → HasTwo ts × NoneIs is_mult ts
+two_factors ts (inl h) = term_product ts h
+two_factors ts (inr h) = (h.two, h.no_product)
+
+mutual
+  showable : (t : Tree) → AllParts HasForm t → AllParts IsShowable t
+  showable (num q) h = tt
+  showable (symbol x) h = tt
+  showable undef h = formed undef h
+  showable (add ts) h = (two_terms ts h.0, showables ts h.1)
+  showable (mult ts) h = let p = two_factors ts h.0 in ((p.0, factors ts h.1 (p.1)), showables ts h.1)
+  showable (power b e) h = (tt, showable b h.1, showable e h.2)
+  showable (root a) h = (tt, showable a h.1)
+  showable (neg a) h = absurd (formed (neg a) h.0)
+  showable (sub a b) h = absurd (formed (sub a b) h.0)
+  showable (div a b) h = absurd (formed (div a b) h.0)
+
+  showables : (ts : Trees) → AllPartsOf HasForm ts → AllPartsOf IsShowable ts
+  showables none h = tt
+  showables (more t ts) h = (showable t h.0, showables ts h.1)
+
+pub reduced_showable : (t : Tree) → is_reduced t ≡ true → is_undef t ≡ false → AllParts IsShowable t
+reduced_showable t h u = by (reduced_words t h)
+  where
+    by : IsReduced t → AllParts IsShowable t
+    by (inl e) = let f : true ≡ false = sym (ap is_undef e) ∙ u in cc
+    by (inr g) = showable t g

@@ -1,0 +1,159 @@
+-- What the calls on a stack want and give.
+use Rattle.std.proofs.Common.{◌≡◌, ◌↔◌, ℕ, ◌+◌, ◌<◌, ◌≤◌, refl, sym, ap, ◌∙◌, subst, arith, true, false, Result, Ok, Err, IsErr, IsErrAnd, IfErr, OnOk}
+use Rattle.calc_terms.specs.Trees.{Tree, add, Trees, none, more, count, size, sizes, is_add}
+use Rattle.calc_terms.specs.declared.kind.Kind.{Kind}
+use Rattle.calc_terms.specs.declared.kind.Kind.TheVariants as kind
+use Rattle.node_pool.specs.Nodes.{used}
+use Rattle.node_pool.specs.State.{State, free_of}
+use Rattle.node_pool.specs.declared.full.Full.{Full}
+use Rattle.tree_handles.specs.Expressions.{plain, inserted, children_of, IsExpression, AllExpressions}
+use Rattle.tree_handles.specs.Forest.{Forest, arity, kids, bytes_in}
+use Rattle.tree_handles.specs.Handed.{Gives, Ends, Starts}
+use Rattle.tree_handles.specs.Inside.{holds, kids_of, tree_at}
+use Rattle.tree_handles.specs.Roots.{has_root, root_tree, without_root}
+use Rattle.tree_handles.specs.Standing.{Stands, forest, IsRefused}
+use Rattle.tree_handles.proofs.Forests.{bytes_in-join, keeps_after, refuses_after}
+use Rattle.tree_handles.proofs.Given.{given_rest, given_told, gives_as}
+use Rattle.tree_handles.proofs.Joins.{holds-left, tree_at-join_left}
+use Rattle.tree_handles.proofs.Lasts.{last_root, last_tree, other_root, other_apart, other_tree, apart, kids_of_root}
+use Rattle.tree_handles.proofs.Outcomes.{eqb-sym}
+use Rattle.tree_handles.proofs.Places.{used_forest}
+use Rattle.tree_handles.proofs.Plains.{count-plains, size-plain}
+use Rattle.tree_handles.proofs.Roots.{root_held}
+use Rattle.beautify.specs.Stacks.{stacked, IsStack, Restacks, FailsAbove}
+use Rattle.beautify.proofs.Opens.{Opens, opened, opened_as, closed}
+use Rattle.beautify.proofs.Trees.{add_kind}
+
+-- ---- a stack
+
+pub is_stack : {g f : Forest} {i : ℕ} {ts : Trees} → Gives g f i (λ t. t ≡ add ts) → IsStack i f
+is_stack s = record { last = gives_as s (sym (given_rest s)) (λ t e. ap is_add e) }
+
+pub stacked_is : {g f : Forest} {i : ℕ} {ts : Trees} → Gives g f i (λ t. t ≡ add ts) → stacked i f ≡ ts
+stacked_is s = ap children_of (given_told s)
+
+pub stack_opens : {f : Forest} {i : ℕ} → IsStack i f → Opens (without_root i f) f i kind.Add (stacked i f)
+stack_opens s = opened kind.Add s.last refl (add_kind _ (given_told s.last))
+
+pub opens_stack : {g f : Forest} {i : ℕ} {ts : Trees} → Opens g f i kind.Add ts → Gives g f i (λ t. t ≡ add ts)
+opens_stack o = closed o refl
+
+pub given_opens : {g f : Forest} {i : ℕ} {ts : Trees} → Gives g f i (λ t. t ≡ add ts) → Opens g f i kind.Add ts
+given_opens s = opened_as kind.Add s refl refl
+
+-- a given tree is the last one, in words of its identifier
+pub last_given : {g f : Forest} {i : ℕ} {P : Tree → Type 0} → Gives g f i P → Gives (without_root i f) f i (λ t. t ≡ t)
+last_given t = gives_as t (sym (given_rest t)) (λ x e. refl)
+
+pub stack_under : {g f : Forest} {i j : ℕ} {P : Tree → Type 0} → Gives g f j P → IsStack i g → IsStack i (without_root j f)
+stack_under {i = i} t s = subst (IsStack i) (sym (given_rest t)) s
+
+-- ---- a node under the last tree
+
+pub record IsUnder (i j n : ℕ) (s : State) : Type 0 where
+  pub live : holds i (forest s) ≡ true
+  pub top : has_root i (forest s) ≡ true
+  pub root : has_root j (forest s) ≡ true
+  pub apart-is : holds i (root_tree j (forest s)) ≡ false
+  pub many : arity (kids_of i (forest s)) ≡ n
+
+pub is_under : {g f u : Forest} {i j : ℕ} {k : Kind} {ts : Trees} (s : State) → Stands s → Opens g f i k ts → Ends j u f (forest s) → IsUnder i j (count ts) s
+is_under {f = f} {i = i} {j = j} {ts = ts} s st o t =
+    let under = last_root o.ends in
+    let here = other_root i t under in
+    let tree = other_tree i t under ∙ last_tree o.ends in
+    record {
+      live = root_held i (forest s) here;
+      top = here;
+      root = last_root t;
+      apart-is = apart i j st (eqb-sym j i (other_apart i t under)) here (last_root t);
+      many = ap arity (kids_of_root i st here ∙ ap kids tree) ∙ sym (count-plains o.below) ∙ ap count o.holds.plain_trees;
+    }
+
+-- the last node alone
+pub many_last : {g : Forest} {i : ℕ} {k : Kind} {ts : Trees} (s : State) → Stands s → Opens g (forest s) i k ts → arity (kids_of i (forest s)) ≡ count ts
+many_last {i = i} s st o =
+    ap arity (kids_of_root i st (last_root o.ends) ∙ ap kids (last_tree o.ends)) ∙ sym (count-plains o.below) ∙ ap count o.holds.plain_trees
+
+-- ---- the stack after a tree came to it
+
+pub came : {g b f new : Forest} {i h : ℕ} {ts : Trees} {x : Tree} (at : ℕ) → Gives g b i (λ t. t ≡ add ts) → Gives b f h (λ t. t ≡ x)
+    → Gives (without_root i (without_root h f)) new i (λ t. t ≡ add (inserted at (more (plain (root_tree h f)) none) (stacked i (without_root h f)))) → Gives g new i (λ t. t ≡ add (inserted at (more x none) ts))
+came {g = g} {i = i} {ts = ts} {x = x} at s t p =
+    gives_as p (ap (without_root i) (given_rest t) ∙ given_rest s)
+    (λ y e. e ∙ rw (given_told t, ap (stacked i) (given_rest t), stacked_is s) refl)
+
+-- a node that stands before the stack
+pub in_base : {g f : Forest} {i j : ℕ} {P : Tree → Type 0} → Gives g f i P → IsExpression j g → (IsExpression j f) × (tree_at j f ≡ tree_at j g)
+in_base {g = g} {f = f} {j = j} s e =
+    let same : tree_at j f ≡ tree_at j g = ap (tree_at j) s.ends.whole ∙ tree_at-join_left j g s.tree e.live in
+    (record { live = ap (holds j) s.ends.whole ∙ holds-left j g s.tree e.live; whole = subst AllExpressions (sym same) e.whole }, same)
+
+pub same_stack : {i : ℕ} {f : Forest} → IsStack i f → Gives (without_root i f) f i (λ t. t ≡ add (stacked i f))
+same_stack s = opens_stack (stack_opens s)
+
+-- ---- one change of the stack after another
+
+pub then : {i : ℕ} {s t u : State} {ts us : Trees} → Restacks i s t ts → Restacks i t u us → Restacks i s u us
+then {i = i} {s = s} {t = t} {u = u} a b = record { gives = gives_as b.gives (given_rest a.gives) (λ x e. e); kept = keeps_after s t u a.kept b.kept }
+
+pub fails_then : {i : ℕ} {s t u : State} {ts : Trees} {full : Full} → Restacks i s t ts → FailsAbove i t u full → FailsAbove i s u full
+fails_then {i = i} {s = s} {t = t} {u = u} {full = full} a b = record {
+  first = subst (λ (x : Forest). Starts x (forest u)) (given_rest a.gives) b.first;
+  refuses = refuses_after s t u full a.kept b.refuses;
+  lacks = b.lacks;
+}
+
+pub restacks_as : {i : ℕ} {s t : State} {ts us : Trees} → Restacks i s t ts → ts ≡ us → Restacks i s t us
+restacks_as {i = i} {s = s} {t = t} r e = subst (Restacks i s t) e r
+
+pub nothing_done : {i : ℕ} {s : State} → IsStack i (forest s) → Restacks i s s (stacked i (forest s))
+nothing_done h = record { gives = same_stack h; kept = record { size = refl; refusals = refl; last_refused = refl } }
+
+-- what stands before the stack is the same
+pub same_base : {i j : ℕ} {s t : State} {ts : Trees} → Restacks i s t ts → IsExpression j (without_root i (forest s)) → IsExpression j (without_root i (forest t))
+same_base {j = j} r e = subst (IsExpression j) (sym (given_rest r.gives)) e
+
+-- ---- a placing that is refused
+
+pub short : (n m : ℕ) → (false ≡ true) ↔ (n ≤ m) → m < n
+short n m e = grind (arith, no)
+  where
+    no : n ≤ m → ⊥
+    no h = let f : false ≡ true = e.1 h in cc
+
+pub fails_at_once : {i n : ℕ} {s t : State} {full : Full} → IsStack i (forest s) → IsRefused n s t full → free_of s < n → FailsAbove i s t full
+fails_at_once {n = n} {s = s} {t = t} {full = full} h r lack =
+    let free : free_of t ≡ free_of s = ap free_of r.state in
+    record {
+      first = record { behind = h.last.tree; whole = r.same ∙ h.last.ends.whole };
+      refuses = r.refuses;
+      lacks = record { free = ap (λ (x : Full). x.free) r.told ∙ sym free; lacking = subst (λ (x : Full). x.free < x.needed) (sym r.told) lack };
+    }
+
+-- what a `?` passes on
+pub passed_on : {A : Type 0} (r : Result A Full) (e : Full) (P : Full → Type 0) → IsErr r → IsErrAnd r (λ x. x ≡ e) → P e → IfErr r P
+passed_on (Ok x) e P h a p = let no : false ≡ true = h in cc
+passed_on (Err f) e P h a p = subst P (sym a) p
+
+-- what a call promised where it succeeded
+pub on_ok : {A : Type 0} (r : Result A Full) {P Q : Type 0} → OnOk r P → (P → Q) → OnOk r Q
+on_ok (Ok x) p f = f p
+on_ok (Err e) p f = tt
+
+-- and where it was refused
+pub if_err : {A : Type 0} (r : Result A Full) {P Q : Full → Type 0} → IfErr r P → ((e : Full) → P e → Q e) → IfErr r Q
+if_err (Ok x) p f = tt
+if_err (Err e) p f = f e p
+
+-- ---- free bytes
+
+pub bytes_of_stack : {g : Forest} {i : ℕ} {ts : Trees} (s : State) → Stands s → Gives g (forest s) i (λ t. t ≡ add ts) → used s.nodes ≡ bytes_in g + (8 + sizes ts)
+bytes_of_stack {g = g} {ts = ts} s st h =
+    used_forest s st ∙ ap bytes_in h.ends.whole ∙ bytes_in-join g h.tree ∙ ap (λ (n : ℕ). bytes_in g + n) (sym (size-plain h.tree h.ends.alone h.whole) ∙ ap size h.told)
+
+pub free_after : {i : ℕ} {s t : State} {ts : Trees} → Stands s → Stands t → IsStack i (forest s) → Restacks i s t ts → free_of t + sizes ts ≡ free_of s + sizes (stacked i (forest s))
+free_after {i = i} {s = s} {t = t} {ts = ts} st su h r =
+    let fits : used t.nodes ≤ t.size = su.pool.fits in
+    let fits-before : used s.nodes ≤ s.size = st.pool.fits in
+    omega (arith, bytes_of_stack s st (same_stack h), bytes_of_stack t su r.gives, r.kept.size)

@@ -1,0 +1,102 @@
+use Rattle.std.proofs.Common.{◌≡◌, ℕ, inl, ap, sym, ◌∙◌, subst, arith, refl}
+use Rattle.calc_terms.specs.Faces.{face}
+use Rattle.calc_terms.specs.Trees.{count, size, AllParts}
+use Rattle.reduce_port.specs.Rewritings.{KeepsMeanings, tree_of}
+use Rattle.tree_handles.specs.Expressions.{plain, nth, IsExpression}
+use Rattle.tree_handles.specs.Forest.{Forest}
+use Rattle.tree_handles.specs.Handed.{Gives, Starts}
+use Rattle.tree_handles.specs.Inside.{tree_at}
+use Rattle.tree_handles.specs.Roots.{without_root}
+use Rattle.tree_handles.specs.Standing.{forest}
+use Rattle.tree_handles.proofs.Forests.{refuses_after}
+use Rattle.tree_handles.proofs.Fronts.{behind_first, front_same, front_end, front_without, front_after}
+use Rattle.tree_handles.proofs.Given.{given_rest, given_told, given_other, given_handed, gives_as, owned}
+use Rattle.tree_handles.proofs.Lasts.{expression_root, plain_root}
+use Rattle.beautify.specs.Showing.{IsShowable}
+use Rattle.beautify.proofs.Faces.{face_keeps, other_gone, keeps_before, first_free, lacks_at_once}
+use Rattle.beautify.proofs.Opens.{gone_under}
+use Rattle.beautify.proofs.Showables.{reduced_showable}
+use Rattle.beautify.proofs.Sizes.{some_size}
+use Rattle.beautify.proofs.Stacking.{is_stack, stacked_is, given_opens, passed_on, short}
+use Rattle.beautify.proofs.face.face_of.Goals as goal
+use Rattle.beautify.proofs.face.face_of.Goals.{After-release-2}
+
+pub show_tree-requires-clause-stack : goal.show_tree-requires-clause-stack
+show_tree-requires-clause-stack c = is_stack (c.in_ok-stack.ensures.given refl)
+
+pub show_tree-requires-clause-empty : goal.show_tree-requires-clause-empty
+show_tree-requires-clause-empty c = stacked_is (c.in_ok-stack.ensures.given refl)
+
+pub show_tree-requires-clause-expression : goal.show_tree-requires-clause-expression
+show_tree-requires-clause-expression c =
+    subst (λ (f : Forest). IsExpression c.id.result f) (sym (given_rest (c.in_ok-stack.ensures.given refl))) (subst (λ (i : ℕ). IsExpression i (forest c.args.pool.now)) (sym c.id.ensures) (expression_root c.requires.stands c.requires.handed))
+
+pub show_tree-requires-clause-showable : goal.show_tree-requires-clause-showable
+show_tree-requires-clause-showable c =
+    let e : plain (tree_at c.id.result (without_root c.in_ok-stack.stack (forest c.node.new.pool))) ≡ tree_of c.args.reduced c.args.pool.now =
+    ap (λ (f : Forest). plain (tree_at c.id.result f)) (given_rest (c.in_ok-stack.ensures.given refl)) ∙ ap (λ (i : ℕ). plain (tree_at i (forest c.args.pool.now))) c.id.ensures ∙ plain_root c.args.reduced c.requires.stands c.requires.handed.root in
+    subst (AllParts IsShowable) (sym e) (reduced_showable _ c.requires.reduced c.requires.defined)
+
+pub pop-face-requires-clause-stack : goal.pop-face-requires-clause-stack
+pop-face-requires-clause-stack c = is_stack c.in_ok-show_tree.ensures.ok.gives
+
+pub pop-face-requires-clause-within : goal.pop-face-requires-clause-within
+pop-face-requires-clause-within c = omega (arith, ap count (stacked_is c.in_ok-show_tree.ensures.ok.gives))
+
+pub release-requires-clause-releasable : goal.release-requires-clause-releasable
+release-requires-clause-releasable c = inl (given_other c.pop-face.ensures.gives (given_handed c.pop-face.ensures.left)).root
+
+pub release-requires-2-clause-releasable : goal.release-requires-2-clause-releasable
+release-requires-2-clause-releasable c =
+    let base = given_rest c.in_ok-show_tree.ensures.ok.gives ∙ given_rest (c.in_ok-stack.ensures.given refl) in
+    let stack-gone = c.release.ensures.owned (owned (given_other c.pop-face.ensures.gives (given_handed c.pop-face.ensures.left))) in
+    let alone = gives_as (gone_under (given_opens c.pop-face.ensures.left) c.pop-face.ensures.gives stack-gone) base (λ t e. e) in
+    inl (given_other alone c.requires.handed).root
+
+given : (c : After-release-2) → Gives (without_root c.args.reduced (forest c.args.pool.now)) (forest c.release-2.new.pool) c.pop-face.result (λ t. t ≡ face (tree_of c.args.reduced c.args.pool.now))
+given c =
+    let old = forest c.args.pool.now in
+    let base = given_rest c.in_ok-show_tree.ensures.ok.gives ∙ given_rest (c.in_ok-stack.ensures.given refl) in
+    let stack-gone = c.release.ensures.owned (owned (given_other c.pop-face.ensures.gives (given_handed c.pop-face.ensures.left))) in
+    let alone = gives_as (gone_under (given_opens c.pop-face.ensures.left) c.pop-face.ensures.gives stack-gone) base (λ t e. e) in
+    let tree-gone = c.release-2.ensures.owned (owned (given_other alone c.requires.handed)) in
+    let e : plain (tree_at c.id.result (without_root c.in_ok-stack.stack (forest c.node.new.pool))) ≡ tree_of c.args.reduced c.args.pool.now =
+    ap (λ (f : Forest). plain (tree_at c.id.result f)) (given_rest (c.in_ok-stack.ensures.given refl)) ∙ ap (λ (i : ℕ). plain (tree_at i (forest c.args.pool.now))) c.id.ensures ∙ plain_root c.args.reduced c.requires.stands c.requires.handed.root in
+    gives_as (other_gone c.requires.handed alone tree-gone) refl (λ t q. q ∙ ap (nth 0) (stacked_is c.in_ok-show_tree.ensures.ok.gives) ∙ ap face e)
+
+pub returns-clause-ok : goal.returns-clause-ok
+returns-clause-ok c = given c
+
+pub returns-clause-meanings : goal.returns-clause-meanings
+returns-clause-meanings c = subst (KeepsMeanings (tree_of c.args.reduced c.args.pool.now)) (sym (given_told (given c))) (face_keeps (tree_of c.args.reduced c.args.pool.now) c.requires.reduced)
+
+pub returns-clause-front : goal.returns-clause-front
+returns-clause-front c = front_end (given c).ends (front_without behind_first front_same)
+
+pub returns-in_err-stack-clause-front : goal.returns-in_err-stack-clause-front
+returns-in_err-stack-clause-front c = front_after front_same c.node.ensures.front
+
+pub returns-in_err-stack-clause-caused : goal.returns-in_err-stack-clause-caused
+returns-in_err-stack-clause-caused c =
+    passed_on c.from_residual.result c.in_err-stack.field-0.0 _ c.from_residual.ensures.0 c.from_residual.ensures.1 (lacks_at_once c.in_err-stack.ensures.full (short _ _ c.in_err-stack.ensures.exactly))
+
+pub returns-in_err-stack-clause-enough : goal.returns-in_err-stack-clause-enough
+returns-in_err-stack-clause-enough c h = absurd (omega (arith, h, some_size (tree_of c.args.reduced c.args.pool.now), short _ _ c.in_err-stack.ensures.exactly))
+
+pub returns-in_err-show_tree-clause-front : goal.returns-in_err-show_tree-clause-front
+returns-in_err-show_tree-clause-front c = keeps_before (subst (λ (f : Forest). Starts f (forest c.show_tree.new.pool)) (given_rest (c.in_ok-stack.ensures.given refl)) c.in_err-show_tree.ensures.fails.first)
+
+pub returns-in_err-show_tree-clause-refused : goal.returns-in_err-show_tree-clause-refused
+returns-in_err-show_tree-clause-refused c =
+    passed_on c.from_residual-in_err-show_tree.result c.in_err-show_tree.field-0.0 _ c.from_residual-in_err-show_tree.ensures.0 c.from_residual-in_err-show_tree.ensures.1
+    (refuses_after c.args.pool.now c.node.new.pool c.show_tree.new.pool _ c.in_ok-stack.ensures.kept c.in_err-show_tree.ensures.fails.refuses)
+
+pub returns-in_err-show_tree-clause-caused : goal.returns-in_err-show_tree-clause-caused
+returns-in_err-show_tree-clause-caused c =
+    passed_on c.from_residual-in_err-show_tree.result c.in_err-show_tree.field-0.0 _ c.from_residual-in_err-show_tree.ensures.0 c.from_residual-in_err-show_tree.ensures.1 c.in_err-show_tree.ensures.fails.lacks
+
+pub returns-in_err-show_tree-clause-enough : goal.returns-in_err-show_tree-clause-enough
+returns-in_err-show_tree-clause-enough c h =
+    let e : plain (tree_at c.id.result (without_root c.in_ok-stack.stack (forest c.node.new.pool))) ≡ tree_of c.args.reduced c.args.pool.now =
+    ap (λ (f : Forest). plain (tree_at c.id.result f)) (given_rest (c.in_ok-stack.ensures.given refl)) ∙ ap (λ (i : ℕ). plain (tree_at i (forest c.args.pool.now))) c.id.ensures ∙ plain_root c.args.reduced c.requires.stands c.requires.handed.root in
+    absurd (omega (arith, h, c.in_err-show_tree.ensures.room, ap size e, first_free c.args.pool.now c.node.new.pool c.requires.stands c.node.ensures.stands c.in_ok-stack.ensures.kept (c.in_ok-stack.ensures.given refl)))

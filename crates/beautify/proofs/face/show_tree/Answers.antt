@@ -1,0 +1,164 @@
+use Rattle.std.proofs.Common.{◌≡◌, ◌<◌, ◌≤◌, ◌-◌, ℕ, suc, drop, length, refl, ap, sym, ◌∙◌, subst, arith, Bool}
+use Rattle.calc_terms.specs.Faces.{unsigned_face, has_minus, with_minus}
+use Rattle.calc_terms.specs.Trees.{Tree, Trees, none, more, count, sizes}
+use Rattle.node_pool.specs.Nodes.{first_of}
+use Rattle.node_pool.specs.State.{free_of}
+use Rattle.tree_handles.specs.Expressions.{plain, plains, nth, children_of, IsExpression}
+use Rattle.tree_handles.specs.Forest.{Forest, flatten, forest_of, nodes_in}
+use Rattle.tree_handles.specs.Inside.{tree_at}
+use Rattle.tree_handles.specs.Roots.{without_root}
+use Rattle.tree_handles.specs.Standing.{forest}
+use Rattle.tree_handles.proofs.Forests.{nodes-flatten}
+use Rattle.tree_handles.proofs.Given.{given_rest}
+use Rattle.tree_handles.proofs.Measures.{one_at}
+use Rattle.beautify.specs.Lists.{behind}
+use Rattle.beautify.specs.Room.{node_room}
+use Rattle.beautify.specs.Showing.{unsigned_faces, IsShowable, HoldsFaces}
+use Rattle.beautify.specs.Stacks.{stacked}
+use Rattle.beautify.proofs.Bounds.{bound_tree}
+use Rattle.beautify.proofs.Children.{base_distinct}
+use Rattle.beautify.proofs.Sizes.{some_size}
+use Rattle.beautify.proofs.Stacking.{in_base, same_base, is_stack, stacked_is, on_ok, if_err, restacks_as, nothing_done, then, fails_then, passed_on, free_after}
+use Rattle.beautify.proofs.Suffixes.{show_next, all_shown, none_shown, own_part, room_left}
+use Rattle.beautify.proofs.face.show_tree.Goals as goal
+
+less : (n k : ℕ) → 0 < n → n ≤ k → n - 1 < k
+less n k h w = omega (arith, h, w)
+
+before : (n : ℕ) → 0 < n → n ≡ suc (n - 1)
+before n h = omega (arith, h)
+
+pub tree_nodes-left-requires-clause-live : goal.tree_nodes-left-requires-clause-live
+tree_nodes-left-requires-clause-live c = (in_base c.requires.stack.last c.requires.expression).0.live
+
+pub loop-left-init : goal.loop-left-init
+loop-left-init c =
+    let base = without_root c.args.stack.now (forest c.args.pool.now) in
+    let b = in_base c.requires.stack.last c.requires.expression in
+    let many : c.tree_nodes-left.result ≡ length (flatten (tree_at c.args.tree base)) = c.tree_nodes-left.ensures.value ∙ ap nodes_in b.1 ∙ sym (nodes-flatten (tree_at c.args.tree base)) in
+    record {
+      holds = restacks_as (nothing_done c.requires.stack) (c.requires.empty ∙ sym (none_shown c.tree_nodes-left.result (flatten (tree_at c.args.tree base)) many));
+      within = omega (arith, many);
+      stands = c.requires.stands;
+    }
+
+pub node_at-id-requires-clause-live : goal.node_at-id-requires-clause-live
+node_at-id-requires-clause-live c = (in_base c.loop-left.invariant.holds.gives c.requires.expression).0.live
+
+pub node_at-id-requires-clause-within : goal.node_at-id-requires-clause-within
+node_at-id-requires-clause-within c =
+    let base = without_root c.args.stack.now (forest c.args.pool.now) in
+    omega (arith, less _ _ c.loop-left-test.true c.loop-left.invariant.within, nodes-flatten (tree_at c.args.tree base), ap nodes_in (in_base c.loop-left.invariant.holds.gives c.requires.expression).1)
+
+pub show_node-requires-clause-stack : goal.show_node-requires-clause-stack
+show_node-requires-clause-stack c = is_stack c.loop-left.invariant.holds.gives
+
+pub show_node-requires-clause-expression : goal.show_node-requires-clause-expression
+show_node-requires-clause-expression c =
+    let base = without_root c.args.stack.now (forest c.args.pool.now) in
+    let i = c.loop-left.invariant in
+    let n = c.loop-left.left - 1 in
+    let ns = flatten (tree_at c.args.tree base) in
+    let tops = stacked_is i.holds.gives ∙ ap (λ (k : ℕ). unsigned_faces (plains (forest_of (drop k ns)))) (before c.loop-left.left c.loop-left-test.true) in
+    let s = show_next c.args.tree base n _ (base_distinct c.args.pool.now c.requires.stands c.requires.stack.last) c.requires.expression c.requires.showable (less _ _ c.loop-left-test.true i.within) tops in
+    let id : c.node_at-id.result ≡ (first_of (drop n ns)).id = c.node_at-id.ensures ∙ ap (λ (f : Forest). (first_of (drop n (flatten f))).id) (in_base i.holds.gives c.requires.expression).1 in
+    let expression = subst (λ (k : ℕ). IsExpression k base) (sym id) (s.1).expression in
+    let is : plain (tree_at c.node_at-id.result (without_root c.args.stack.now (forest c.loop-left.pool))) ≡ s.0 = ap (λ (f : Forest). plain (tree_at c.node_at-id.result f)) (given_rest i.holds.gives) ∙ ap (λ (k : ℕ). plain (tree_at k base)) id ∙ (s.1).is in
+    same_base i.holds expression
+
+pub show_node-requires-clause-showable : goal.show_node-requires-clause-showable
+show_node-requires-clause-showable c =
+    let base = without_root c.args.stack.now (forest c.args.pool.now) in
+    let i = c.loop-left.invariant in
+    let n = c.loop-left.left - 1 in
+    let ns = flatten (tree_at c.args.tree base) in
+    let tops = stacked_is i.holds.gives ∙ ap (λ (k : ℕ). unsigned_faces (plains (forest_of (drop k ns)))) (before c.loop-left.left c.loop-left-test.true) in
+    let s = show_next c.args.tree base n _ (base_distinct c.args.pool.now c.requires.stands c.requires.stack.last) c.requires.expression c.requires.showable (less _ _ c.loop-left-test.true i.within) tops in
+    let id : c.node_at-id.result ≡ (first_of (drop n ns)).id = c.node_at-id.ensures ∙ ap (λ (f : Forest). (first_of (drop n (flatten f))).id) (in_base i.holds.gives c.requires.expression).1 in
+    let expression = subst (λ (k : ℕ). IsExpression k base) (sym id) (s.1).expression in
+    let is : plain (tree_at c.node_at-id.result (without_root c.args.stack.now (forest c.loop-left.pool))) ≡ s.0 = ap (λ (f : Forest). plain (tree_at c.node_at-id.result f)) (given_rest i.holds.gives) ∙ ap (λ (k : ℕ). plain (tree_at k base)) id ∙ (s.1).is in
+    subst IsShowable (sym is) (own_part (s.0) (s.1).parts)
+
+pub show_node-requires-clause-shown : goal.show_node-requires-clause-shown
+show_node-requires-clause-shown c =
+    let base = without_root c.args.stack.now (forest c.args.pool.now) in
+    let i = c.loop-left.invariant in
+    let n = c.loop-left.left - 1 in
+    let ns = flatten (tree_at c.args.tree base) in
+    let tops = stacked_is i.holds.gives ∙ ap (λ (k : ℕ). unsigned_faces (plains (forest_of (drop k ns)))) (before c.loop-left.left c.loop-left-test.true) in
+    let s = show_next c.args.tree base n _ (base_distinct c.args.pool.now c.requires.stands c.requires.stack.last) c.requires.expression c.requires.showable (less _ _ c.loop-left-test.true i.within) tops in
+    let id : c.node_at-id.result ≡ (first_of (drop n ns)).id = c.node_at-id.ensures ∙ ap (λ (f : Forest). (first_of (drop n (flatten f))).id) (in_base i.holds.gives c.requires.expression).1 in
+    let expression = subst (λ (k : ℕ). IsExpression k base) (sym id) (s.1).expression in
+    let is : plain (tree_at c.node_at-id.result (without_root c.args.stack.now (forest c.loop-left.pool))) ≡ s.0 = ap (λ (f : Forest). plain (tree_at c.node_at-id.result f)) (given_rest i.holds.gives) ∙ ap (λ (k : ℕ). plain (tree_at k base)) id ∙ (s.1).is in
+    subst (λ (t : Tree). HoldsFaces (children_of t) (stacked c.args.stack.now (forest c.loop-left.pool))) (sym is) (s.1).faces
+
+pub returns-in_err-show_node-clause-fails : goal.returns-in_err-show_node-clause-fails
+returns-in_err-show_node-clause-fails c = passed_on c.from_residual.result c.in_err-show_node.field-0.0 _ c.from_residual.ensures.0 c.from_residual.ensures.1 (fails_then c.loop-left.invariant.holds c.in_err-show_node.ensures.fails)
+
+pub returns-in_err-show_node-clause-room : goal.returns-in_err-show_node-clause-room
+returns-in_err-show_node-clause-room c =
+    let base = without_root c.args.stack.now (forest c.args.pool.now) in
+    let i = c.loop-left.invariant in
+    let n = c.loop-left.left - 1 in
+    let ns = flatten (tree_at c.args.tree base) in
+    let tops = stacked_is i.holds.gives ∙ ap (λ (k : ℕ). unsigned_faces (plains (forest_of (drop k ns)))) (before c.loop-left.left c.loop-left-test.true) in
+    let s = show_next c.args.tree base n _ (base_distinct c.args.pool.now c.requires.stands c.requires.stack.last) c.requires.expression c.requires.showable (less _ _ c.loop-left-test.true i.within) tops in
+    let id : c.node_at-id.result ≡ (first_of (drop n ns)).id = c.node_at-id.ensures ∙ ap (λ (f : Forest). (first_of (drop n (flatten f))).id) (in_base i.holds.gives c.requires.expression).1 in
+    let expression = subst (λ (k : ℕ). IsExpression k base) (sym id) (s.1).expression in
+    let is : plain (tree_at c.node_at-id.result (without_root c.args.stack.now (forest c.loop-left.pool))) ≡ s.0 = ap (λ (f : Forest). plain (tree_at c.node_at-id.result f)) (given_rest i.holds.gives) ∙ ap (λ (k : ℕ). plain (tree_at k base)) id ∙ (s.1).is in
+    passed_on c.from_residual.result c.in_err-show_node.field-0.0 _ c.from_residual.ensures.0 c.from_residual.ensures.1
+    (room_left _ _ (s.1) (free_after c.requires.stands i.stands c.requires.stack i.holds) c.requires.empty (sym (stacked_is i.holds.gives)) tops (subst (λ (t : Tree). free_of c.loop-left.pool < node_room t) is c.in_err-show_node.ensures.room))
+
+pub loop-left-preserved : goal.loop-left-preserved
+loop-left-preserved c =
+    let base = without_root c.args.stack.now (forest c.args.pool.now) in
+    let i = c.loop-left.invariant in
+    let n = c.loop-left.left - 1 in
+    let ns = flatten (tree_at c.args.tree base) in
+    let tops = stacked_is i.holds.gives ∙ ap (λ (k : ℕ). unsigned_faces (plains (forest_of (drop k ns)))) (before c.loop-left.left c.loop-left-test.true) in
+    let s = show_next c.args.tree base n _ (base_distinct c.args.pool.now c.requires.stands c.requires.stack.last) c.requires.expression c.requires.showable (less _ _ c.loop-left-test.true i.within) tops in
+    let id : c.node_at-id.result ≡ (first_of (drop n ns)).id = c.node_at-id.ensures ∙ ap (λ (f : Forest). (first_of (drop n (flatten f))).id) (in_base i.holds.gives c.requires.expression).1 in
+    let expression = subst (λ (k : ℕ). IsExpression k base) (sym id) (s.1).expression in
+    let is : plain (tree_at c.node_at-id.result (without_root c.args.stack.now (forest c.loop-left.pool))) ≡ s.0 = ap (λ (f : Forest). plain (tree_at c.node_at-id.result f)) (given_rest i.holds.gives) ∙ ap (λ (k : ℕ). plain (tree_at k base)) id ∙ (s.1).is in
+    record {
+      holds = restacks_as (then i.holds c.in_ok-show_node.ensures.ok) (ap (λ (t : Tree). more (unsigned_face t) (behind (count (children_of t)) (stacked c.args.stack.now (forest c.loop-left.pool)))) is ∙ (s.1).made);
+      within = omega (arith, i.within);
+      stands = c.show_node.ensures.stands;
+    }
+
+pub sign-requires-clause-stack : goal.sign-requires-clause-stack
+sign-requires-clause-stack c = is_stack c.loop-left.invariant.holds.gives
+
+pub sign-requires-clause-expression : goal.sign-requires-clause-expression
+sign-requires-clause-expression c = same_base c.loop-left.invariant.holds c.requires.expression
+
+done : (n : ℕ) (f : Forest) → n ≤ 0 → unsigned_faces (plains (forest_of (drop n (flatten f)))) ≡ unsigned_faces (plains (forest_of (drop 0 (flatten f))))
+done n f h = let z : n ≡ 0 = omega (arith, h) in ap (λ (k : ℕ). unsigned_faces (plains (forest_of (drop k (flatten f))))) z
+
+pub sign-requires-clause-within : goal.sign-requires-clause-within
+sign-requires-clause-within c =
+    let f = tree_at c.args.tree (without_root c.args.stack.now (forest c.args.pool.now)) in
+    let tops = stacked_is c.loop-left.invariant.holds.gives ∙ done c.loop-left.left f (omega (arith, c.loop-left-test.false)) ∙ all_shown f (one_at c.args.tree _ c.requires.expression.live) in
+    omega (arith, ap count tops)
+
+signed : (us : Trees) (b d : Bool) (t : Tree) → us ≡ more (unsigned_face t) none → b ≡ d → more (with_minus b (nth 0 us)) (behind 1 us) ≡ more (with_minus d (unsigned_face t)) none
+signed us b d t e f = rw (e, f) refl
+
+pub returns-clause-ok : goal.returns-clause-ok
+returns-clause-ok c =
+    let base = without_root c.args.stack.now (forest c.args.pool.now) in
+    let f = tree_at c.args.tree base in
+    let tops = stacked_is c.loop-left.invariant.holds.gives ∙ done c.loop-left.left f (omega (arith, c.loop-left-test.false)) ∙ all_shown f (one_at c.args.tree base c.requires.expression.live) in
+    on_ok c.sign.result c.sign.ensures.ok
+    (λ r. restacks_as (then c.loop-left.invariant.holds r) (signed _ _ _ (plain f) tops (ap (λ (g : Forest). has_minus (plain (tree_at c.args.tree g))) (given_rest c.loop-left.invariant.holds.gives))))
+
+pub returns-clause-fails : goal.returns-clause-fails
+returns-clause-fails c = if_err c.sign.result c.sign.ensures.fails (λ e f. fails_then c.loop-left.invariant.holds f)
+
+pub returns-clause-room : goal.returns-clause-room
+returns-clause-room c =
+    let base = without_root c.args.stack.now (forest c.args.pool.now) in
+    let f = tree_at c.args.tree base in
+    let tops = stacked_is c.loop-left.invariant.holds.gives ∙ done c.loop-left.left f (omega (arith, c.loop-left-test.false)) ∙ all_shown f (one_at c.args.tree base c.requires.expression.live) in
+    if_err c.sign.result c.sign.ensures.room
+    (λ e l. omega (arith, l, free_after c.requires.stands c.loop-left.invariant.stands c.requires.stack c.loop-left.invariant.holds, ap sizes c.requires.empty, ap sizes (sym (stacked_is c.loop-left.invariant.holds.gives) ∙ tops), bound_tree (plain f) c.requires.showable, some_size (plain f)))

@@ -1,0 +1,180 @@
+use Rattle.std.proofs.Common.{ap, sym, ◌∙◌, arith}
+use Rattle.calc_terms.specs.Trees.{Tree, power, root, none, more, count, root_kind}
+use Rattle.tree_handles.specs.Expressions.{plain, nth, children_of}
+use Rattle.tree_handles.specs.Forest.{Forest}
+use Rattle.tree_handles.specs.Inside.{tree_at}
+use Rattle.tree_handles.specs.Roots.{without_root}
+use Rattle.tree_handles.specs.Standing.{forest}
+use Rattle.beautify.specs.Room.{node_room}
+use Rattle.beautify.specs.Stacks.{stacked}
+use Rattle.beautify.proofs.Children.{within_kids, child_of}
+use Rattle.beautify.proofs.NodeKinds.{power_parts, root_parts, add_of_kind, mult_of_kind, mult_room, no_other, shown_as, faces_of, root_shown, one_there}
+use Rattle.beautify.proofs.Stacking.{in_base, on_ok, if_err, restacks_as}
+use Rattle.beautify.proofs.nodes.show_node.Goals as goal
+
+pub kind-requires-clause-live : goal.kind-requires-clause-live
+kind-requires-clause-live c =
+    (in_base c.requires.stack.last c.requires.expression).0.live
+
+pub rational-requires-clause-live : goal.rational-requires-clause-live
+rational-requires-clause-live c =
+    (in_base c.requires.stack.last c.requires.expression).0.live
+
+pub name-requires-clause-live : goal.name-requires-clause-live
+name-requires-clause-live c =
+    (in_base c.requires.stack.last c.requires.expression).0.live
+
+pub show_sum-requires-clause-sum : goal.show_sum-requires-clause-sum
+show_sum-requires-clause-sum c =
+    let b = in_base c.requires.stack.last c.requires.expression in
+    let kind-is = c.kind.ensures.plain b.0 ∙ ap (λ (f : Forest). root_kind (plain f)) b.1 in
+    add_of_kind (plain (tree_at c.args.id (without_root c.args.stack.now (forest c.args.pool.now)))) (sym kind-is ∙ c.in-Add.is)
+
+pub show_product-requires-clause-product : goal.show_product-requires-clause-product
+show_product-requires-clause-product c =
+    let b = in_base c.requires.stack.last c.requires.expression in
+    let kind-is = c.kind.ensures.plain b.0 ∙ ap (λ (f : Forest). root_kind (plain f)) b.1 in
+    mult_of_kind (plain (tree_at c.args.id (without_root c.args.stack.now (forest c.args.pool.now)))) (sym kind-is ∙ c.in-Mult.is)
+
+pub child_id-base-requires-clause-within : goal.child_id-base-requires-clause-within
+child_id-base-requires-clause-within c =
+    let b = in_base c.requires.stack.last c.requires.expression in
+    let kind-is = c.kind.ensures.plain b.0 ∙ ap (λ (f : Forest). root_kind (plain f)) b.1 in
+    let t = plain (tree_at c.args.id (without_root c.args.stack.now (forest c.args.pool.now))) in
+    let p = power_parts t (sym kind-is ∙ c.in-Pow.is) in
+    within_kids c.args.pool.now 0 c.requires.stack.last c.requires.expression (omega (arith, ap count p.parts))
+
+pub child_id-exponent-requires-clause-within : goal.child_id-exponent-requires-clause-within
+child_id-exponent-requires-clause-within c =
+    let b = in_base c.requires.stack.last c.requires.expression in
+    let kind-is = c.kind.ensures.plain b.0 ∙ ap (λ (f : Forest). root_kind (plain f)) b.1 in
+    let t = plain (tree_at c.args.id (without_root c.args.stack.now (forest c.args.pool.now))) in
+    let p = power_parts t (sym kind-is ∙ c.in-Pow.is) in
+    within_kids c.args.pool.now 1 c.requires.stack.last c.requires.expression (omega (arith, ap count p.parts))
+
+pub show_power-requires-clause-base : goal.show_power-requires-clause-base
+show_power-requires-clause-base c =
+    let b = in_base c.requires.stack.last c.requires.expression in
+    let kind-is = c.kind.ensures.plain b.0 ∙ ap (λ (f : Forest). root_kind (plain f)) b.1 in
+    let t = plain (tree_at c.args.id (without_root c.args.stack.now (forest c.args.pool.now))) in
+    let p = power_parts t (sym kind-is ∙ c.in-Pow.is) in
+    (child_of c.args.pool.now 0 _ c.requires.stands c.requires.stack.last c.requires.expression (omega (arith, ap count p.parts)) c.child_id-base.ensures.value).expression
+
+pub show_power-requires-clause-exponent : goal.show_power-requires-clause-exponent
+show_power-requires-clause-exponent c =
+    let b = in_base c.requires.stack.last c.requires.expression in
+    let kind-is = c.kind.ensures.plain b.0 ∙ ap (λ (f : Forest). root_kind (plain f)) b.1 in
+    let t = plain (tree_at c.args.id (without_root c.args.stack.now (forest c.args.pool.now))) in
+    let p = power_parts t (sym kind-is ∙ c.in-Pow.is) in
+    (child_of c.args.pool.now 1 _ c.requires.stands c.requires.stack.last c.requires.expression (omega (arith, ap count p.parts)) c.child_id-exponent.ensures.value).expression
+
+pub show_power-requires-clause-shown : goal.show_power-requires-clause-shown
+show_power-requires-clause-shown c =
+    let b = in_base c.requires.stack.last c.requires.expression in
+    let kind-is = c.kind.ensures.plain b.0 ∙ ap (λ (f : Forest). root_kind (plain f)) b.1 in
+    let t = plain (tree_at c.args.id (without_root c.args.stack.now (forest c.args.pool.now))) in
+    let p = power_parts t (sym kind-is ∙ c.in-Pow.is) in
+    let base = child_of c.args.pool.now 0 _ c.requires.stands c.requires.stack.last c.requires.expression (omega (arith, ap count p.parts)) c.child_id-base.ensures.value in
+    let exponent = child_of c.args.pool.now 1 _ c.requires.stands c.requires.stack.last c.requires.expression (omega (arith, ap count p.parts)) c.child_id-exponent.ensures.value in
+    faces_of _ _ (stacked c.args.stack.now (forest c.args.pool.now)) (p.parts ∙ ap (λ (x : Tree). more x (more (nth 1 (children_of t)) none)) (sym base.plain-is) ∙ ap (λ (x : Tree). more (plain (tree_at c.child_id-base.result (without_root c.args.stack.now (forest c.args.pool.now)))) (more x none)) (sym exponent.plain-is)) c.requires.shown
+
+pub returns-in-Pow-clause-ok : goal.returns-in-Pow-clause-ok
+returns-in-Pow-clause-ok c =
+    let b = in_base c.requires.stack.last c.requires.expression in
+    let kind-is = c.kind.ensures.plain b.0 ∙ ap (λ (f : Forest). root_kind (plain f)) b.1 in
+    let t = plain (tree_at c.args.id (without_root c.args.stack.now (forest c.args.pool.now))) in
+    let p = power_parts t (sym kind-is ∙ c.in-Pow.is) in
+    let base = child_of c.args.pool.now 0 _ c.requires.stands c.requires.stack.last c.requires.expression (omega (arith, ap count p.parts)) c.child_id-base.ensures.value in
+    let exponent = child_of c.args.pool.now 1 _ c.requires.stands c.requires.stack.last c.requires.expression (omega (arith, ap count p.parts)) c.child_id-exponent.ensures.value in
+    on_ok c.show_power.result c.show_power.ensures.ok (λ r. restacks_as r (shown_as t _ (stacked c.args.stack.now (forest c.args.pool.now)) (p.is ∙ ap (λ (x : Tree). power x (nth 1 (children_of t))) (sym base.plain-is) ∙ ap (power (plain (tree_at c.child_id-base.result (without_root c.args.stack.now (forest c.args.pool.now))))) (sym exponent.plain-is))))
+
+pub returns-in-Pow-clause-room : goal.returns-in-Pow-clause-room
+returns-in-Pow-clause-room c =
+    let b = in_base c.requires.stack.last c.requires.expression in
+    let kind-is = c.kind.ensures.plain b.0 ∙ ap (λ (f : Forest). root_kind (plain f)) b.1 in
+    let t = plain (tree_at c.args.id (without_root c.args.stack.now (forest c.args.pool.now))) in
+    let p = power_parts t (sym kind-is ∙ c.in-Pow.is) in
+    let base = child_of c.args.pool.now 0 _ c.requires.stands c.requires.stack.last c.requires.expression (omega (arith, ap count p.parts)) c.child_id-base.ensures.value in
+    let exponent = child_of c.args.pool.now 1 _ c.requires.stands c.requires.stack.last c.requires.expression (omega (arith, ap count p.parts)) c.child_id-exponent.ensures.value in
+    if_err c.show_power.result c.show_power.ensures.room (λ e l. omega (arith, l, ap node_room (p.is ∙ ap (λ (x : Tree). power x (nth 1 (children_of t))) (sym base.plain-is) ∙ ap (power (plain (tree_at c.child_id-base.result (without_root c.args.stack.now (forest c.args.pool.now))))) (sym exponent.plain-is))))
+
+pub child_id-requires-clause-within : goal.child_id-requires-clause-within
+child_id-requires-clause-within c =
+    let b = in_base c.requires.stack.last c.requires.expression in
+    let kind-is = c.kind.ensures.plain b.0 ∙ ap (λ (f : Forest). root_kind (plain f)) b.1 in
+    let t = plain (tree_at c.args.id (without_root c.args.stack.now (forest c.args.pool.now))) in
+    let p = root_parts t (sym kind-is ∙ c.in-Root.is) in
+    within_kids c.args.pool.now 0 c.requires.stack.last c.requires.expression (omega (arith, ap count p.parts))
+
+pub show_root-requires-clause-argument : goal.show_root-requires-clause-argument
+show_root-requires-clause-argument c =
+    let b = in_base c.requires.stack.last c.requires.expression in
+    let kind-is = c.kind.ensures.plain b.0 ∙ ap (λ (f : Forest). root_kind (plain f)) b.1 in
+    let t = plain (tree_at c.args.id (without_root c.args.stack.now (forest c.args.pool.now))) in
+    let p = root_parts t (sym kind-is ∙ c.in-Root.is) in
+    (child_of c.args.pool.now 0 _ c.requires.stands c.requires.stack.last c.requires.expression (omega (arith, ap count p.parts)) c.child_id.ensures.value).expression
+
+pub show_root-requires-clause-within : goal.show_root-requires-clause-within
+show_root-requires-clause-within c =
+    let b = in_base c.requires.stack.last c.requires.expression in
+    let kind-is = c.kind.ensures.plain b.0 ∙ ap (λ (f : Forest). root_kind (plain f)) b.1 in
+    let t = plain (tree_at c.args.id (without_root c.args.stack.now (forest c.args.pool.now))) in
+    let p = root_parts t (sym kind-is ∙ c.in-Root.is) in
+    let argument = child_of c.args.pool.now 0 _ c.requires.stands c.requires.stack.last c.requires.expression (omega (arith, ap count p.parts)) c.child_id.ensures.value in
+    let parts = p.parts ∙ ap (λ (x : Tree). more x none) (sym argument.plain-is) in
+    let is = p.is ∙ ap root (sym argument.plain-is) in
+    one_there _ (stacked c.args.stack.now (forest c.args.pool.now)) (faces_of _ _ (stacked c.args.stack.now (forest c.args.pool.now)) parts c.requires.shown)
+
+pub returns-in-Root-clause-ok : goal.returns-in-Root-clause-ok
+returns-in-Root-clause-ok c =
+    let b = in_base c.requires.stack.last c.requires.expression in
+    let kind-is = c.kind.ensures.plain b.0 ∙ ap (λ (f : Forest). root_kind (plain f)) b.1 in
+    let t = plain (tree_at c.args.id (without_root c.args.stack.now (forest c.args.pool.now))) in
+    let p = root_parts t (sym kind-is ∙ c.in-Root.is) in
+    let argument = child_of c.args.pool.now 0 _ c.requires.stands c.requires.stack.last c.requires.expression (omega (arith, ap count p.parts)) c.child_id.ensures.value in
+    let parts = p.parts ∙ ap (λ (x : Tree). more x none) (sym argument.plain-is) in
+    let is = p.is ∙ ap root (sym argument.plain-is) in
+    on_ok c.show_root.result c.show_root.ensures.ok (λ r. restacks_as r (root_shown _ (stacked c.args.stack.now (forest c.args.pool.now)) (faces_of _ _ (stacked c.args.stack.now (forest c.args.pool.now)) parts c.requires.shown) ∙ shown_as t _ (stacked c.args.stack.now (forest c.args.pool.now)) is))
+
+pub returns-in-Root-clause-room : goal.returns-in-Root-clause-room
+returns-in-Root-clause-room c =
+    let b = in_base c.requires.stack.last c.requires.expression in
+    let kind-is = c.kind.ensures.plain b.0 ∙ ap (λ (f : Forest). root_kind (plain f)) b.1 in
+    let t = plain (tree_at c.args.id (without_root c.args.stack.now (forest c.args.pool.now))) in
+    let p = root_parts t (sym kind-is ∙ c.in-Root.is) in
+    let argument = child_of c.args.pool.now 0 _ c.requires.stands c.requires.stack.last c.requires.expression (omega (arith, ap count p.parts)) c.child_id.ensures.value in
+    let parts = p.parts ∙ ap (λ (x : Tree). more x none) (sym argument.plain-is) in
+    let is = p.is ∙ ap root (sym argument.plain-is) in
+    if_err c.show_root.result c.show_root.ensures.room (λ e l. omega (arith, l, ap node_room is))
+
+pub returns-in-Num-clause-ok : goal.returns-in-Num-clause-ok
+returns-in-Num-clause-ok c =
+    let is = sym (ap plain (in_base c.requires.stack.last c.requires.expression).1) ∙ c.rational.ensures.plain in
+    on_ok c.show_number.result c.show_number.ensures.ok (λ r. restacks_as r (shown_as (plain (tree_at c.args.id (without_root c.args.stack.now (forest c.args.pool.now)))) _ (stacked c.args.stack.now (forest c.args.pool.now)) is))
+
+pub returns-in-Num-clause-room : goal.returns-in-Num-clause-room
+returns-in-Num-clause-room c =
+    let is = sym (ap plain (in_base c.requires.stack.last c.requires.expression).1) ∙ c.rational.ensures.plain in
+    if_err c.show_number.result c.show_number.ensures.room (λ e l. omega (arith, l, ap node_room is))
+
+pub returns-in-Sym-clause-ok : goal.returns-in-Sym-clause-ok
+returns-in-Sym-clause-ok c =
+    let is = sym (ap plain (in_base c.requires.stack.last c.requires.expression).1) ∙ c.name.ensures.plain in
+    on_ok c.push_symbol.result c.push_symbol.ensures.ok (λ r. restacks_as r (shown_as (plain (tree_at c.args.id (without_root c.args.stack.now (forest c.args.pool.now)))) _ (stacked c.args.stack.now (forest c.args.pool.now)) is))
+
+pub returns-in-Sym-clause-room : goal.returns-in-Sym-clause-room
+returns-in-Sym-clause-room c =
+    let is = sym (ap plain (in_base c.requires.stack.last c.requires.expression).1) ∙ c.name.ensures.plain in
+    if_err c.push_symbol.result c.push_symbol.ensures.room (λ e l. omega (arith, l, ap node_room is))
+
+pub returns-in-Mult-clause-room : goal.returns-in-Mult-clause-room
+returns-in-Mult-clause-room c =
+    let b = in_base c.requires.stack.last c.requires.expression in
+    let kind-is = c.kind.ensures.plain b.0 ∙ ap (λ (f : Forest). root_kind (plain f)) b.1 in
+    if_err c.show_product.result c.show_product.ensures.room (λ e l. omega (arith, l, mult_room (plain (tree_at c.args.id (without_root c.args.stack.now (forest c.args.pool.now)))) (sym kind-is ∙ c.in-Mult.is)))
+
+pub unreachable-requires : goal.unreachable-requires
+unreachable-requires c =
+    let b = in_base c.requires.stack.last c.requires.expression in
+    let kind-is = c.kind.ensures.plain b.0 ∙ ap (λ (f : Forest). root_kind (plain f)) b.1 in
+    no_other (plain (tree_at c.args.id (without_root c.args.stack.now (forest c.args.pool.now)))) c.requires.showable (λ e. c.in_default.not-Num (kind-is ∙ e)) (λ e. c.in_default.not-Sym (kind-is ∙ e)) (λ e. c.in_default.not-Add (kind-is ∙ e)) (λ e. c.in_default.not-Mult (kind-is ∙ e)) (λ e. c.in_default.not-Pow (kind-is ∙ e)) (λ e. c.in_default.not-Root (kind-is ∙ e))

@@ -1,0 +1,13 @@
+use Rattle.std.proofs.Common.{ap, sym, ◌∙◌, rules}
+use Rattle.std.specs.Prelude.{ℤ, pos, FitsSigned}
+use Rattle.std.specs.Int.{w128}
+use Rattle.std.proofs.lemmas.Int.{to_z-of_z}
+use lib.Signed.{lt_z}
+use Rattle.rational128.proofs.LowestTerms.{ratio_parts}
+use Rattle.beautify.proofs.Signs.{lt_z-zero}
+use Rattle.beautify.proofs.reading.is_below_zero.Goals as goal
+
+pub returns : goal.returns
+returns c =
+    let fits : FitsSigned w128 c.num.result = search rules in
+    ap (λ (p : ℤ). lt_z p (pos 0)) (to_z-of_z w128 _ fits ∙ c.num.ensures.value ∙ sym (ratio_parts c.args.value).num) ∙ lt_z-zero _

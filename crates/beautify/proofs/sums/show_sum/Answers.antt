@@ -1,0 +1,103 @@
+use Rattle.std.proofs.Common.{◌<◌, ◌-◌, ap, sym, ◌∙◌, arith}
+use Rattle.calc_terms.specs.Faces.{has_minus}
+use Rattle.calc_terms.specs.Trees.{Trees, count}
+use Rattle.tree_handles.specs.Expressions.{plain, nth, children_of}
+use Rattle.tree_handles.specs.Forest.{Forest}
+use Rattle.tree_handles.specs.Inside.{tree_at}
+use Rattle.tree_handles.specs.Roots.{without_root}
+use Rattle.tree_handles.specs.Standing.{forest}
+use Rattle.beautify.specs.Stacks.{stacked}
+use Rattle.beautify.proofs.Children.{within_kids, child_of}
+use Rattle.beautify.proofs.Stacking.{in_base, is_stack, stacked_is, restacks_as, then, fails_then, passed_on}
+use Rattle.beautify.proofs.Terms.{so_far, two_terms, sum_room, sum_start, not_summed, two_left, sum_step, summed_step, sum_end}
+use Rattle.beautify.proofs.sums.show_sum.Goals as goal
+
+pub children-terms-requires-clause-live : goal.children-terms-requires-clause-live
+children-terms-requires-clause-live c = (in_base c.requires.stack.last c.requires.expression).0.live
+
+pub child_id-first-requires-clause-within : goal.child_id-first-requires-clause-within
+child_id-first-requires-clause-within c = within_kids c.args.pool.now 0 c.requires.stack.last c.requires.expression (omega (arith, two_terms _ c.requires.sum c.requires.showable))
+
+pub sign-requires-clause-expression : goal.sign-requires-clause-expression
+sign-requires-clause-expression c = (child_of c.args.pool.now 0 _ c.requires.stands c.requires.stack.last c.requires.expression (omega (arith, two_terms _ c.requires.sum c.requires.showable)) c.child_id-first.ensures.value).expression
+
+pub loop-place-init : goal.loop-place-init
+loop-place-init c =
+    let t = plain (tree_at c.args.id (without_root c.args.stack.now (forest c.args.pool.now))) in
+    let b = in_base c.requires.stack.last c.requires.expression in
+    let two = two_terms t c.requires.sum c.requires.showable in
+    let child = child_of c.args.pool.now 0 _ c.requires.stands c.requires.stack.last c.requires.expression (omega (arith, two)) c.child_id-first.ensures.value in
+    let many = c.children-terms.ensures.plain b.0 ∙ ap (λ (f : Forest). count (children_of (plain f))) b.1 in
+    record {
+      holds = restacks_as c.in_ok-sign.ensures.ok (sum_start (children_of t) (stacked c.args.stack.now (forest c.args.pool.now)) _ (omega (arith, two)) c.requires.shown (ap has_minus child.plain-is));
+      summed = not_summed (children_of t);
+      cost = omega (arith, c.in_ok-sign.ensures.cost);
+      from_one = omega arith;
+      within = omega (arith, many, two);
+      stands = c.sign.ensures.stands;
+    }
+
+pub child_id-term-requires-clause-within : goal.child_id-term-requires-clause-within
+child_id-term-requires-clause-within c =
+    let b = in_base c.requires.stack.last c.requires.expression in
+    let many = c.children-terms.ensures.plain b.0 ∙ ap (λ (f : Forest). count (children_of (plain f))) b.1 in
+    within_kids c.loop-place.pool c.loop-place.place c.loop-place.invariant.holds.gives c.requires.expression (omega (arith, many, c.loop-place-test.true))
+
+pub is_negative-negative-requires-clause-expression : goal.is_negative-negative-requires-clause-expression
+is_negative-negative-requires-clause-expression c =
+    let b = in_base c.requires.stack.last c.requires.expression in
+    let many = c.children-terms.ensures.plain b.0 ∙ ap (λ (f : Forest). count (children_of (plain f))) b.1 in
+    let child = child_of c.loop-place.pool c.loop-place.place _ c.loop-place.invariant.stands c.loop-place.invariant.holds.gives c.requires.expression (omega (arith, many, c.loop-place-test.true)) c.child_id-term.ensures.value in
+    (in_base c.loop-place.invariant.holds.gives child.expression).0
+
+pub next_term_of-requires-clause-stack : goal.next_term_of-requires-clause-stack
+next_term_of-requires-clause-stack c = is_stack c.loop-place.invariant.holds.gives
+
+pub next_term_of-requires-clause-two : goal.next_term_of-requires-clause-two
+next_term_of-requires-clause-two c =
+    let b = in_base c.requires.stack.last c.requires.expression in
+    let many = c.children-terms.ensures.plain b.0 ∙ ap (λ (f : Forest). count (children_of (plain f))) b.1 in
+    two_left c.loop-place.place _ (stacked c.args.stack.now (forest c.args.pool.now)) _ _ (omega (arith, many, c.loop-place-test.true)) c.requires.shown (stacked_is c.loop-place.invariant.holds.gives)
+
+pub next_term_of-requires-clause-made : goal.next_term_of-requires-clause-made
+next_term_of-requires-clause-made c = (so_far (c.loop-place.place - 1) (children_of (plain (tree_at c.args.id (without_root c.args.stack.now (forest c.args.pool.now))))), ap (λ (us : Trees). nth 0 us) (stacked_is c.loop-place.invariant.holds.gives), sym c.loop-place.invariant.summed)
+
+pub returns-in_err-summed-clause-fails : goal.returns-in_err-summed-clause-fails
+returns-in_err-summed-clause-fails c =
+    passed_on c.from_residual-in_err-summed.result c.in_err-summed.field-0.0 _ c.from_residual-in_err-summed.ensures.0 c.from_residual-in_err-summed.ensures.1 (fails_then c.loop-place.invariant.holds c.in_err-summed.ensures.fails)
+
+pub returns-in_err-summed-clause-room : goal.returns-in_err-summed-clause-room
+returns-in_err-summed-clause-room c =
+    let b = in_base c.requires.stack.last c.requires.expression in
+    let many = c.children-terms.ensures.plain b.0 ∙ ap (λ (f : Forest). count (children_of (plain f))) b.1 in
+    passed_on c.from_residual-in_err-summed.result c.in_err-summed.field-0.0 _ c.from_residual-in_err-summed.ensures.0 c.from_residual-in_err-summed.ensures.1
+    (omega (arith, c.in_err-summed.ensures.room, c.loop-place.invariant.cost, many, c.loop-place-test.true, sum_room _ c.requires.sum))
+
+pub loop-place-preserved : goal.loop-place-preserved
+loop-place-preserved c =
+    let t = plain (tree_at c.args.id (without_root c.args.stack.now (forest c.args.pool.now))) in
+    let ts = stacked c.args.stack.now (forest c.args.pool.now) in
+    let b = in_base c.requires.stack.last c.requires.expression in
+    let many = c.children-terms.ensures.plain b.0 ∙ ap (λ (f : Forest). count (children_of (plain f))) b.1 in
+    let less : c.loop-place.place < count (children_of t) = omega (arith, many, c.loop-place-test.true) in
+    let i = c.loop-place.invariant in
+    let child = child_of c.loop-place.pool c.loop-place.place _ i.stands i.holds.gives c.requires.expression less c.child_id-term.ensures.value in
+    let minus = c.is_negative-negative.ensures ∙ ap (λ (f : Forest). has_minus (plain f)) (in_base i.holds.gives child.expression).1 ∙ ap has_minus child.plain-is in
+    let tops = stacked_is i.holds.gives in
+    let next = c.in_ok-summed.ensures.ok _ (ap (λ (us : Trees). nth 0 us) tops) (sym i.summed) in
+    record {
+      holds = restacks_as (then i.holds (next.0)) (sum_step c.loop-place.place (children_of t) ts _ _ i.from_one less c.requires.shown tops minus);
+      summed = summed_step c.loop-place.place (children_of t) ts _ _ _ i.from_one less c.requires.shown tops minus (next.1);
+      cost = omega (arith, i.cost, c.in_ok-summed.ensures.cost);
+      from_one = omega arith;
+      within = omega (arith, c.loop-place-test.true);
+      stands = c.next_term_of.ensures.stands;
+    }
+
+pub returns-clause-ok : goal.returns-clause-ok
+returns-clause-ok c =
+    let t = plain (tree_at c.args.id (without_root c.args.stack.now (forest c.args.pool.now))) in
+    let b = in_base c.requires.stack.last c.requires.expression in
+    let many = c.children-terms.ensures.plain b.0 ∙ ap (λ (f : Forest). count (children_of (plain f))) b.1 in
+    let i = c.loop-place.invariant in
+    restacks_as i.holds (sum_end c.loop-place.place c.children-terms.result t (stacked c.args.stack.now (forest c.args.pool.now)) c.requires.sum (omega (arith, i.within, c.loop-place-test.false)) i.from_one many)

@@ -1,0 +1,29 @@
+use Rattle.std.proofs.Common.{◌≡◌, ◌≤◌, ◌+◌, ◌*◌, ◌-◌}
+use Rattle.calc_terms.specs.Grammar.{as_tree}
+use Rattle.calc_terms.specs.Trees.{more}
+use Rattle.node_pool.specs.State.{free_of}
+use Rattle.tree_handles.specs.Expressions.{plain, children_of}
+use Rattle.tree_handles.specs.Inside.{tree_at}
+use Rattle.tree_handles.specs.Roots.{without_root}
+use Rattle.tree_handles.specs.Standing.{Stands, forest}
+use Rattle.beautify.specs.Lists.{behind}
+use Rattle.beautify.specs.Showing.{is_summed}
+use Rattle.beautify.specs.Stacks.{stacked, Restacks}
+use Rattle.beautify.proofs.Terms.{so_far}
+use Rattle.beautify.proofs.sums.show_sum.Given as goal
+
+abbrev pub invariant-loop-place : goal.invariant-loop-place
+invariant-loop-place l =
+    let base = without_root l.fn.stack (forest l.fn.pool) in
+    let made = so_far (l.place - 1) (children_of (plain (tree_at l.fn.id base))) in
+    record {
+      holds : Restacks l.fn.stack l.fn.pool l.pool (more (as_tree made) (behind l.place (stacked l.fn.stack (forest l.fn.pool))));
+      summed : l.summed ≡ is_summed made;
+      cost : free_of l.fn.pool ≤ free_of l.pool + 8 * l.place;
+      from_one : 1 ≤ l.place;
+      within : l.place ≤ l.terms;
+      stands : Stands l.pool;
+    }
+
+abbrev pub decreases-loop-place : goal.decreases-loop-place
+decreases-loop-place l = l.terms - l.place

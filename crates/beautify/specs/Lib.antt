@@ -1,0 +1,4 @@
+pub mod Lists
+pub mod Stacks
+pub mod Showing
+pub mod Room

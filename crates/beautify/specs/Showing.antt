@@ -1,0 +1,54 @@
+-- Nodes of reduced trees, as their faces need them.
+use Rattle.std.specs.Prelude.{◌≡◌, ⊤, Bool, true, false, nat_lt}
+use Rattle.calc_terms.specs.Faces.{unsigned_face, exponent_below}
+use Rattle.calc_terms.specs.Grammar.{SoFar, summed}
+use Rattle.calc_terms.specs.Integers.{int_is_negative}
+use Rattle.calc_terms.specs.Trees.{Tree, num, symbol, add, mult, power, root, Trees, none, more, append, count, HasTwo}
+use Rattle.beautify.specs.Lists.{behind}
+
+-- the faces of trees without their minus signs
+abbrev pub unsigned_faces : Trees → Trees
+unsigned_faces none = none
+unsigned_faces (more t ts) = more (unsigned_face t) (unsigned_faces ts)
+
+-- a list of trees begins with the faces of these without their minus signs
+pub record HoldsFaces (ts us : Trees) : Type 0 where
+  pub begins : us ≡ append (unsigned_faces ts) (behind (count ts) us)
+
+-- a rational below 0
+abbrev pub is_negative_num : Tree → Bool
+is_negative_num (num q) = int_is_negative q.num
+is_negative_num _ = false
+
+-- a power that stands below the line of a fraction
+abbrev pub stands_below : Tree → Bool
+stands_below (power b e) = nat_lt 0 (exponent_below e)
+stands_below _ = false
+
+-- what stands in a product
+abbrev pub IsFactor : Tree → Type 0
+IsFactor (num q) = ⊤
+IsFactor (symbol x) = ⊤
+IsFactor (add ts) = ⊤
+IsFactor (power b e) = ⊤
+IsFactor (root a) = ⊤
+IsFactor _ = ⊥
+
+abbrev pub AreFactors : Trees → Type 0
+AreFactors none = ⊤
+AreFactors (more t ts) = IsFactor t × AreFactors ts
+
+-- the root's own node is one of a reduced tree that is not Undef
+abbrev pub IsShowable : Tree → Type 0
+IsShowable (num q) = ⊤
+IsShowable (symbol x) = ⊤
+IsShowable (add ts) = HasTwo ts
+IsShowable (mult ts) = HasTwo ts × AreFactors ts
+IsShowable (power b e) = ⊤
+IsShowable (root a) = ⊤
+IsShowable _ = ⊥
+
+-- a sum that was made by `+`
+abbrev pub is_summed : SoFar → Bool
+is_summed (summed ts) = true
+is_summed _ = false

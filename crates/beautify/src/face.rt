@@ -1,0 +1,93 @@
+//! The face of a reduced tree.
+ghost use Rattle.std.specs.Prelude.{◌≡◌, ◌<◌, ◌≤◌, ◌+◌, ◌*◌, true, false, IfErr, IfOk, IsOk, OnOk, [], ◌∷◌, drop};
+ghost use Rattle.calc_terms.specs.Faces.{face};
+ghost use Rattle.calc_terms.specs.Reduced.{is_reduced};
+ghost use Rattle.beautify.specs.Showing.{IsShowable};
+ghost use Rattle.beautify.specs.Stacks.{stacked, IsStack, Restacks, FailsAbove};
+ghost use Rattle.calc_terms.specs.Trees.{none, more, is_undef, size, AllParts};
+ghost use Rattle.node_pool.specs.Nodes.{first_of};
+ghost use Rattle.node_pool.specs.State.{free_of};
+ghost use Rattle.reduce_port.specs.Causes.{LacksBytes};
+ghost use Rattle.reduce_port.specs.Rewritings.{KeepsMeanings, tree_of};
+ghost use Rattle.tree_handles.specs.Expressions.{IsExpression, plain};
+ghost use Rattle.tree_handles.specs.Forest.{flatten, nodes_in};
+ghost use Rattle.tree_handles.specs.Handed.{IsHanded, Gives, KeepsFront};
+ghost use Rattle.tree_handles.specs.Inside.{holds, tree_at};
+ghost use Rattle.tree_handles.specs.Roots.{without_root};
+ghost use Rattle.tree_handles.specs.Standing.{Stands, forest, KeepsRefusals, Refuses};
+
+use crate::nodes::show_node;
+use crate::stack::pop;
+use crate::sums::sign;
+use calc_terms::Kind;
+use node_pool::{Full, Id, Pool};
+use tree_handles::{Handle, node, release, tree_nodes};
+
+/// The face of a reduced tree that is not Undef. It is built beside the tree, from the last node
+/// to the first, on a stack that lies in the pool too: so the machine's stack that a call takes is
+/// the same for every tree. Refused where a node finds no place; then the tree still stands.
+pub fn face_of(pool: &mut Pool, reduced: Handle) -> Result<Handle, Full>
+    requires stands { Stands pool.old }
+    requires handed { IsHanded reduced (forest pool.old) }
+    requires reduced { is_reduced (tree_of reduced pool.old) ≡ true }
+    requires defined { is_undef (tree_of reduced pool.old) ≡ false }
+
+    // The face takes the tree's place, and each meaning of the tree is one of the face.
+    ensures ok { IfOk result (λ h. Gives (without_root reduced (forest pool.old)) (forest pool.new) h (λ t. t ≡ face (tree_of reduced pool.old))) }
+    ensures meanings { IfOk result (λ h. KeepsMeanings (tree_of reduced pool.old) (tree_of h pool.new)) }
+
+    // What stood before it stands, and a refusal is counted.
+    ensures front { KeepsFront (reduced ∷ []) (forest pool.old) (forest pool.new) }
+    ensures kept { OnOk result (KeepsRefusals pool.old pool.new) }
+    ensures refused { IfErr result (Refuses pool.old pool.new) }
+    ensures caused { IfErr result (LacksBytes pool.new) }
+
+    // Four times the tree's bytes are enough.
+    ensures enough { 4 * size (tree_of reduced pool.old) ≤ free_of pool.old → IsOk result }
+
+    ensures stands { Stands pool.new }
+{
+    let stack = node(pool, Kind::Add)?;
+    show_tree(pool, &stack, reduced.id())?;
+    let face = pop(pool, &stack, 0);
+    release(pool, stack);
+    release(pool, reduced);
+    Ok(face)
+}
+
+/// The face of a tree that stands before an empty stack comes to the stack.
+fn show_tree(pool: &mut Pool, stack: &Handle, tree: Id) -> Result<(), Full>
+    requires stands { Stands pool.old }
+    requires stack { IsStack stack.now (forest pool.old) }
+    requires empty { stacked stack.now (forest pool.old) ≡ none }
+    requires expression { IsExpression tree (without_root stack.now (forest pool.old)) }
+    requires showable { AllParts IsShowable (plain (tree_at tree (without_root stack.now (forest pool.old)))) }
+    ensures ok { let t = plain (tree_at tree (without_root stack.now (forest pool.old))) in
+        OnOk result (Restacks stack.now pool.old pool.new (more (face t) none)) }
+    ensures fails { IfErr result (FailsAbove stack.now pool.old pool.new) }
+    ensures room { let t = plain (tree_at tree (without_root stack.now (forest pool.old))) in
+        IfErr result (λ full. free_of pool.old + 8 < 4 * size t) }
+    ensures stands { Stands pool.new }
+{
+    let mut left = tree_nodes(pool, tree);
+    while left > 0 {
+        left -= 1;
+        let id = node_at(pool, tree, left);
+        show_node(pool, stack, id)?;
+    }
+    sign(pool, stack, 0, tree)
+}
+
+/// The node of a tree that stands behind so many others of it.
+fn node_at(pool: &Pool, tree: Id, others: u32) -> Id
+    requires stands { Stands pool.now }
+    requires live { holds tree (forest pool.now) ≡ true }
+    requires within { others < nodes_in (tree_at tree (forest pool.now)) }
+    ensures { result ≡ (first_of (drop others (flatten (tree_at tree (forest pool.now))))).id }
+{
+    let mut at = pool.locate(tree);
+    for _place in 0..others {
+        at += pool.header(at).size();
+    }
+    Id::of(pool.header(at).id)
+}

@@ -1,0 +1,12 @@
+//! The faces of reduced trees: signs, fractions and differences as people write them.
+#![tactic(auto)]
+
+mod face;
+mod fractions;
+mod nodes;
+mod products;
+mod reading;
+mod stack;
+mod sums;
+
+pub use face::face_of;

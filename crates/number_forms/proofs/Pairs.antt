@@ -1,0 +1,32 @@
+-- Two trees that were made one after the other.
+use Rattle.std.proofs.Common.{◌≡◌, ℕ, eqb, true, false, sym, ap, ◌∙◌}
+use Rattle.calc_terms.specs.Fractions.{Fraction}
+use Rattle.calc_terms.specs.Numbers.{is_number, is_term}
+use Rattle.calc_terms.specs.Trees.{Tree, num}
+use Rattle.calc_terms.proofs.NumberLaws.{number_test, term_words}
+use Rattle.number_forms.proofs.Loops.{other_plain}
+use Rattle.number_forms.proofs.Shaped.{term_number}
+use Rattle.tree_handles.specs.Expressions.{plain}
+use Rattle.tree_handles.specs.Forest.{Forest}
+use Rattle.tree_handles.specs.Handed.{IsHanded, Gives}
+use Rattle.tree_handles.specs.Roots.{root_tree, without_root}
+use Rattle.tree_handles.proofs.Given.{given_handed, given_root, given_told, given_other, given_apart, given_rest, given_without}
+use Rattle.tree_handles.proofs.Outcomes.{eqb-sym}
+
+pub first_handed : {f g h : Forest} {a b : ℕ} {P Q : Tree → Type 0} → Gives f g a P → Gives g h b Q → IsHanded a h
+first_handed x y = given_other y (given_handed x)
+
+pub pair_apart : {f g h : Forest} {P Q : Tree → Type 0} (a b : ℕ) → Gives f g a P → Gives g h b Q → eqb a b ≡ false
+pair_apart a b x y = eqb-sym b a (given_apart y (given_handed x))
+
+pub first_told : {f g h : Forest} {a b : ℕ} {P Q : Tree → Type 0} → Gives f g a P → Gives g h b Q → is_number (plain (root_tree a h)) ≡ is_number (plain (root_tree a g))
+first_told {a = a} x y = ap is_number (other_plain a y (given_root x))
+
+pub pair_rest : {f g h : Forest} {a b : ℕ} {P Q : Tree → Type 0} → Gives f g a P → Gives g h b Q → without_root b (without_root a h) ≡ f
+pair_rest x y = given_without y (given_handed x) ∙ given_rest x
+
+pub rational_test : (t : Tree) (q : Fraction) → t ≡ num q → is_number t ≡ true
+rational_test t q e = ap is_number e ∙ number_test (num q) tt
+
+pub term_is_number : (t : Tree) → is_term t ≡ true → is_number t ≡ true
+term_is_number t h = number_test t (term_number t (term_words t h))
