@@ -13,3 +13,4 @@ pub mod RationalCalls
 pub mod PowerSteps
 pub mod InverseSteps
 pub mod Pairs
+pub mod Room

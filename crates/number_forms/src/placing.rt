@@ -1,15 +1,13 @@
 //! Terms as trees.
-ghost use Rattle.std.specs.Prelude.{◌≡◌, ◌==◌, ◌≤◌, ◌<◌, ◌↔◌, ◌^◌, pos, true, false, IfOk, IfErr, IsOk, OnOk, [], ◌∷◌, ℕ};
+ghost use Rattle.std.specs.Prelude.{◌≡◌, ◌≤◌, ◌<◌, ◌^◌, pos, true, IfOk, IfErr, IsOk, OnOk, []};
+ghost use Rattle.calc_terms.specs.Fractions.{whole_fraction};
 ghost use Rattle.calc_terms.specs.Numbers.{is_term, term_of as term_of_tree};
 ghost use Rattle.calc_terms.specs.Rat.{value_of};
-ghost use Rattle.calc_terms.specs.Fractions.{whole_fraction};
 ghost use Rattle.calc_terms.specs.Trees.{num, root, mult, none, more};
 ghost use Rattle.node_pool.specs.State.{free_of};
 ghost use Rattle.reduce_port.specs.Causes.{LacksBytes};
 ghost use Rattle.surd_terms.specs.Terms.{term_of};
-ghost use Rattle.tree_handles.specs.Expressions.{plain, compound, takes_kind};
-ghost use Rattle.tree_handles.specs.Handed.{IsHanded, Gives, KeepsFront};
-ghost use Rattle.tree_handles.specs.Roots.{root_tree, without_root};
+ghost use Rattle.tree_handles.specs.Handed.{Gives, KeepsFront};
 ghost use Rattle.tree_handles.specs.Standing.{Stands, forest, KeepsRefusals, Refuses};
 
 use calc_terms::{Kind, Rat};
@@ -17,7 +15,8 @@ use node_pool::{Full, Pool};
 use surd_terms::Term;
 use tree_handles::{Handle, add_child, node, number};
 
-/// A new last tree that is the term: a rational, a root, or a rational other than 1 times a root.
+/// A new last tree that is the term: a rational, a root, or a rational other than 1 times a root. It takes 96
+/// bytes at most.
 pub fn place_term(pool: &mut Pool, term: Term) -> Result<Handle, Full>
     requires stands { Stands pool.old }
     ensures ok { IfOk result (λ h. Gives (forest pool.old) (forest pool.new) h (λ t. (is_term t ≡ true) × (term_of_tree t ≡ term_of term))) }
@@ -25,6 +24,7 @@ pub fn place_term(pool: &mut Pool, term: Term) -> Result<Handle, Full>
     ensures kept { OnOk result (KeepsRefusals pool.old pool.new) }
     ensures full { IfErr result (Refuses pool.old pool.new) }
     ensures caused { IfErr result (LacksBytes pool.new) }
+    ensures room { 96 ≤ free_of pool.old → IsOk result }
     ensures stands { Stands pool.new }
 {
     let coefficient = term.coefficient();
@@ -46,6 +46,7 @@ fn place_root(pool: &mut Pool, radicand: u128) -> Result<Handle, Full>
     ensures kept { OnOk result (KeepsRefusals pool.old pool.new) }
     ensures full { IfErr result (Refuses pool.old pool.new) }
     ensures caused { IfErr result (LacksBytes pool.new) }
+    ensures room { 48 ≤ free_of pool.old → IsOk result }
     ensures stands { Stands pool.new }
 {
     let rational = number(pool, whole(radicand))?;
@@ -63,6 +64,7 @@ fn place_multiple(pool: &mut Pool, coefficient: Rat, radicand: u128) -> Result<H
     ensures kept { OnOk result (KeepsRefusals pool.old pool.new) }
     ensures full { IfErr result (Refuses pool.old pool.new) }
     ensures caused { IfErr result (LacksBytes pool.new) }
+    ensures room { 96 ≤ free_of pool.old → IsOk result }
     ensures stands { Stands pool.new }
 {
     let rational = number(pool, coefficient)?;

@@ -1,7 +1,6 @@
 //! Square roots of reduced trees, in a pool.
 #![tactic(auto)]
 
-mod placing;
 mod roots;
 
 pub use roots::reduce_root;

@@ -14,9 +14,9 @@ ghost use Rattle.tree_handles.specs.Handed.{IsHanded, Gives, KeepsFront};
 ghost use Rattle.tree_handles.specs.Roots.{without_root};
 ghost use Rattle.tree_handles.specs.Standing.{Stands, forest, KeepsRefusals};
 
-use crate::placing::place_term;
 use calc_terms::{Kind, Rat};
 use node_pool::Pool;
+use number_forms::place_term;
 use surd_terms::square_root;
 use tree_handles::{
     Handle, NumberFault, child_id, kind, move_last, node, number, rational, release,

@@ -1,12 +1,12 @@
-use Rattle.std.proofs.Common.{◌≡◌, true, ap, sym, ◌∙◌, refl, subst}
+use Rattle.std.proofs.Common.{◌∙◌, refl, arith, ◌≤◌}
 use Rattle.calc_terms.specs.declared.kind.Kind.TheVariants as kind
 use Rattle.calc_terms.specs.Payload.{bare}
-use Rattle.calc_terms.specs.Trees.{Tree, num, root, mult, more, none}
-use Rattle.tree_handles.specs.Forest.{Forest}
-use Rattle.tree_handles.specs.Roots.{has_root}
+use Rattle.calc_terms.specs.Trees.{mult, more, none}
 use Rattle.tree_handles.proofs.Fronts.{behind_new, front_same, front_end, front_without}
 use Rattle.tree_handles.proofs.Given.{represents_none, represents_handed, represents_with, represents_node, gives, gives_as, given_root, given_handed, given_told, given_rest}
 use Rattle.tree_handles.proofs.Lasts.{last_held, last_apart, other_root, ends_as}
+use Rattle.node_pool.specs.State.{free_of}
+use Rattle.number_forms.proofs.Room.{left_after}
 use Rattle.number_forms.proofs.placing.place_multiple.Goals as goal
 
 pub add_child-requires-clause-live : goal.add_child-requires-clause-live
@@ -43,3 +43,11 @@ returns-clause-front c =
     let root = c.in_ok-root.ensures.ok in
     let one = ends_as (c.add_child.ensures.last _ _ c.in_ok-product.ensures.ok (given_root root)) refl (given_rest root) in
     front_end (c.add_child-2.ensures.last _ _ one (given_root rational)) (front_without (behind_new rational.ends front_same) c.number.ensures.front)
+
+pub returns-in_err-root-clause-room : goal.returns-in_err-root-clause-room
+returns-in_err-root-clause-room c = λ room. absurd (cc (c.in_err-root.ensures.room (left_after 48 c.requires.stands c.number.ensures.stands c.in_ok-rational.ensures.kept c.in_ok-rational.ensures.given (omega arith))))
+
+pub returns-in_err-product-clause-room : goal.returns-in_err-product-clause-room
+returns-in_err-product-clause-room c = λ room.
+    let more : 56 ≤ free_of c.number.new.pool = left_after 56 c.requires.stands c.number.ensures.stands c.in_ok-rational.ensures.kept c.in_ok-rational.ensures.given (omega arith) in
+    absurd (cc (c.in_err-product.ensures.exactly.1 (left_after 8 c.number.ensures.stands c.place_root.ensures.stands c.in_ok-root.ensures.kept c.in_ok-root.ensures.ok (omega arith))))

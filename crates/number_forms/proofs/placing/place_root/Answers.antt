@@ -1,10 +1,11 @@
-use Rattle.std.proofs.Common.{ap, ◌∙◌, refl}
+use Rattle.std.proofs.Common.{ap, ◌∙◌, refl, arith}
 use Rattle.calc_terms.specs.declared.kind.Kind.TheVariants as kind
 use Rattle.calc_terms.specs.Payload.{bare}
 use Rattle.calc_terms.specs.Trees.{num, root}
 use Rattle.tree_handles.proofs.Fronts.{behind_new, front_same, front_end, front_without}
 use Rattle.tree_handles.proofs.Given.{represents_none, represents_handed, represents_with, represents_node, gives, gives_as, given_root, given_handed, given_told, given_rest}
 use Rattle.tree_handles.proofs.Lasts.{last_held, last_apart, other_root}
+use Rattle.number_forms.proofs.Room.{left_after}
 use Rattle.number_forms.proofs.placing.place_root.Goals as goal
 
 pub add_child-requires-clause-live : goal.add_child-requires-clause-live
@@ -27,3 +28,6 @@ pub returns-clause-front : goal.returns-clause-front
 returns-clause-front c =
     let rational = c.in_ok-rational.ensures.given in
     front_end (c.add_child.ensures.last _ _ c.in_ok-root.ensures.ok (given_root rational)) (front_without (behind_new rational.ends front_same) c.number.ensures.front)
+
+pub returns-in_err-root-clause-room : goal.returns-in_err-root-clause-room
+returns-in_err-root-clause-room c = λ room. absurd (cc (c.in_err-root.ensures.exactly.1 (left_after 8 c.requires.stands c.number.ensures.stands c.in_ok-rational.ensures.kept c.in_ok-rational.ensures.given (omega arith))))

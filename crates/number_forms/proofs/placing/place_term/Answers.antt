@@ -1,10 +1,9 @@
-use Rattle.std.proofs.Common.{◌≡◌, ◌≢◌, ℕ, ◌≤◌, ◌<◌, sym, ap, ◌∙◌, arith, rules, to_z, of_z, FitsSigned}
+use Rattle.std.proofs.Common.{◌≡◌, ◌≢◌, ℕ, ◌≤◌, sym, ap, ◌∙◌, arith, rules, to_z, of_z, FitsSigned}
 use Rattle.std.specs.Int.{w128}
 use Rattle.std.specs.Prelude.{ℤ, pos}
 use Rattle.std.proofs.lemmas.Int.{to_z-of_z}
 use Rattle.calc_terms.specs.Fractions.{one_fraction}
-use Rattle.calc_terms.specs.Rat.{ratio_of, value_of}
-use Rattle.calc_terms.specs.declared.rat.Rat.{Rat}
+use Rattle.calc_terms.specs.Rat.{value_of}
 use Rattle.number_forms.proofs.TermTrees.{rational_tree, root_tree, multiple_tree, if_gives, is_one_value, not_one_num, not_one_den}
 use Rattle.number_forms.proofs.placing.place_term.Goals as goal
 use Rattle.number_forms.proofs.placing.place_term.Goals.{else-num-eq1-via-then-num-eq1+else-den-eq1, else-num-eq1-via-else-num-eq1}

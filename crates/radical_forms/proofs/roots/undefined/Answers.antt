@@ -3,7 +3,7 @@ use Rattle.tree_handles.proofs.Fronts.{behind_first, front_same, front_at, front
 use Rattle.tree_handles.proofs.Given.{owned}
 use Rattle.node_pool.specs.State.{free_of}
 use Rattle.reduce_port.specs.Rewritings.{tree_of}
-use Rattle.radical_forms.proofs.Room.{released_free, least_size}
+use Rattle.number_forms.proofs.Room.{released_free, least_size}
 use Rattle.radical_forms.proofs.roots.undefined.Goals as goal
 
 pub unreachable-requires : goal.unreachable-requires
