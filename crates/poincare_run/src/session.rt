@@ -79,7 +79,9 @@ impl Session {
         }
     }
 
-    /// The value of a line that is a sum, which is the last answer then.
+    /// The value of a line that is a sum, which is the last answer then. Never inlined: a function
+    /// pays at its entry for the tokens of a line, and a blank line has none.
+    #[inline(never)]
     fn sum(&mut self, line: &[u8]) -> Result<Rat, Refusal>
         requires { length line.now ≤ 1024 → is_blank_line_of line.now ≡ false }
         ensures sum { IsSum self.old.state line.now result self.new.state }

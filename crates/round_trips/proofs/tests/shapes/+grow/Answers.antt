@@ -7,7 +7,7 @@ use Rattle.tree_handles.specs.Expressions.{plain, compound, takes_kind}
 use Rattle.tree_handles.specs.Forest.{Forest}
 use Rattle.tree_handles.proofs.Given.{given_handed, given_other, given_apart, given_told, given_same, given_rest, given_without, gives_as}
 use Rattle.tree_handles.proofs.Outcomes.{eqb-sym}
-use Rattle.line_text.proofs.tests.shapes.+grow.Goals as goal
+use Rattle.round_trips.proofs.tests.shapes.+grow.Goals as goal
 
 two_writable : (k : Kind) (a b : Tree) → takes_kind k 2 ≡ true → IsWritable a → IsWritable b → IsWritable (compound k (more a (more b none)))
 two_writable kind.Add a b h v w = (v, (w, tt))

@@ -1,0 +1,5 @@
+//! Trees of a table are written, and their texts are read and built again.
+#![tactic(auto)]
+
+#[cfg(test)]
+mod tests;

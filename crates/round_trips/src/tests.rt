@@ -1,0 +1,308 @@
+mod shapes;
+
+ghost use Rattle.std.specs.Prelude.{◌≡◌, IfOk, IfSome};
+ghost use Rattle.calc_terms.specs.Texts.{IsWritable};
+ghost use Rattle.node_pool.specs.State.{IsPoolSize};
+ghost use Rattle.tree_handles.specs.Handed.{IsHanded, Gives};
+ghost use Rattle.tree_handles.specs.Expressions.{plain};
+ghost use Rattle.tree_handles.specs.Roots.{root_tree};
+ghost use Rattle.tree_handles.specs.Standing.{Stands, forest};
+
+use calc_parser::{build, check};
+use calc_tokens::scan;
+use line_text::{Text, write_text};
+use node_order::compare;
+use node_pool::Pool;
+use shapes::{Pair, Shape, Single, grow};
+use std::alloc::{AllocError, Global};
+use std::cmp::Ordering;
+use std::process::Abort;
+use std::test::Fail;
+use tree_handles::{Handle, tree_bytes};
+
+/// A pool with no tree in it.
+fn opened(alloc: Global, size: u32) -> Result<Pool, AllocError>
+    requires { IsPoolSize size }
+    ensures { IfOk result Stands }
+{
+    let pool = Pool::open(alloc, size)?;
+    Ok(pool)
+}
+
+/// The text of a tree, in twice its bytes.
+fn written(rt: &impl Abort, alloc: Global, pool: &Pool, tree: &Handle) -> Result<Text, AllocError>
+    requires stands { Stands pool.now }
+    requires handed { IsHanded tree.now (forest pool.now) }
+    requires writable { IsWritable (plain (root_tree tree.now (forest pool.now))) }
+{
+    let id = tree.id();
+    let bytes = tree_bytes(pool, id);
+    assert!(rt; bytes <= 1024);
+    let mut text = Text::open(alloc, 2 * bytes)?;
+    write_text(pool, id, &mut text);
+    Ok(text)
+}
+
+/// The tree of a line, which becomes the last one.
+fn read(pool: &mut Pool, line: &[u8]) -> Option<Handle>
+    requires stands { Stands pool.old }
+    ensures gives { IfSome result (λ h. Gives (forest pool.old) (forest pool.new) h (λ t. t ≡ t)) }
+    ensures stands { Stands pool.new }
+{
+    if line.len() > 1024 {
+        return None;
+    }
+    let Ok(tokens) = scan(line) else {
+        return None;
+    };
+    let Ok(_shape) = check(&tokens) else {
+        return None;
+    };
+    let Ok(tree) = build(pool, &tokens) else {
+        return None;
+    };
+    Some(tree)
+}
+
+/// Whether a tree is the one that its text reads as.
+fn is_read_again(pool: &mut Pool, tree: &Handle, line: &[u8]) -> bool
+    requires stands { Stands pool.old }
+    requires handed { IsHanded tree.now (forest pool.old) }
+{
+    match read(pool, line) {
+        Some(again) => compare(pool, tree.id(), again.id()) == Ordering::Equal,
+        None => false,
+    }
+}
+
+/// Writes the tree of a shape, compares its text, and reads it again.
+fn round_trip(rt: &impl Abort, alloc: Global, shape: &Shape, expected: &str) -> Result<(), Fail> {
+    let mut pool = opened(alloc, 1024)?;
+    let tree = grow(&mut pool, shape)?;
+    let text = written(rt, alloc, &pool, &tree)?;
+    assert_eq!(rt; text.bytes(), expected.as_bytes(), "{expected}");
+    assert!(rt; is_read_again(&mut pool, &tree, text.bytes()), "{expected}");
+    Ok(())
+}
+
+const A: Shape<'static> = Shape::Name(b"a");
+
+const B: Shape<'static> = Shape::Name(b"b");
+
+const C: Shape<'static> = Shape::Name(b"c");
+
+const SUM: Shape<'static> = Shape::Two(Pair::Sum, &A, &B);
+
+const PRODUCT: Shape<'static> = Shape::Two(Pair::Product, &A, &B);
+
+const POWER: Shape<'static> = Shape::Two(Pair::Power, &A, &B);
+
+const OPPOSITE: Shape<'static> = Shape::One(Single::Opposite, &A);
+
+/// A tree of each level, and opposites of some.
+const CHILDREN: [Shape<'static>; 11] = [
+    SUM,
+    Shape::Two(Pair::Difference, &A, &B),
+    OPPOSITE,
+    PRODUCT,
+    Shape::Two(Pair::Quotient, &A, &B),
+    POWER,
+    Shape::One(Single::Root, &A),
+    Shape::One(Single::Opposite, &SUM),
+    Shape::One(Single::Opposite, &PRODUCT),
+    Shape::One(Single::Opposite, &POWER),
+    Shape::One(Single::Opposite, &OPPOSITE),
+];
+
+/// Where such a tree stands.
+#[derive(Clone, Copy, Debug)]
+enum Around {
+    First(Pair),
+    Later(Pair),
+    Under(Single),
+}
+
+impl Around {
+    fn over<'a>(self, child: &'a Shape<'a>, other: &'a Shape<'a>) -> Shape<'a> {
+        match self {
+            Around::First(pair) => Shape::Two(pair, child, other),
+            Around::Later(pair) => Shape::Two(pair, other, child),
+            Around::Under(single) => Shape::One(single, child),
+        }
+    }
+}
+
+/// The text of each child at each place, with `c` on the other side. The texts come from a model of its own.
+const ROWS: [(Around, [&str; 11]); 12] = [
+    (
+        Around::First(Pair::Sum),
+        [
+            "(a+b)+c", "a-b+c", "-a+c", "a×b+c", "a/b+c", "a^b+c", "√(a)+c", "-(a+b)+c", "-a×b+c",
+            "-a^b+c", "--a+c",
+        ],
+    ),
+    (
+        Around::Later(Pair::Sum),
+        [
+            "c+(a+b)", "c+(a-b)", "c+-a", "c+a×b", "c+a/b", "c+a^b", "c+√(a)", "c+-(a+b)",
+            "c+-a×b", "c+-a^b", "c+--a",
+        ],
+    ),
+    (
+        Around::First(Pair::Difference),
+        [
+            "a+b-c", "a-b-c", "-a-c", "a×b-c", "a/b-c", "a^b-c", "√(a)-c", "-(a+b)-c", "-a×b-c",
+            "-a^b-c", "--a-c",
+        ],
+    ),
+    (
+        Around::Later(Pair::Difference),
+        [
+            "c-(a+b)", "c-(a-b)", "c--a", "c-a×b", "c-a/b", "c-a^b", "c-√(a)", "c--(a+b)",
+            "c--a×b", "c--a^b", "c---a",
+        ],
+    ),
+    (
+        Around::First(Pair::Product),
+        [
+            "(a+b)×c",
+            "(a-b)×c",
+            "(-a)×c",
+            "(a×b)×c",
+            "a/b×c",
+            "a^b×c",
+            "√(a)×c",
+            "(-(a+b))×c",
+            "(-a×b)×c",
+            "(-a^b)×c",
+            "(--a)×c",
+        ],
+    ),
+    (
+        Around::Later(Pair::Product),
+        [
+            "c×(a+b)",
+            "c×(a-b)",
+            "c×-a",
+            "c×(a×b)",
+            "c×(a/b)",
+            "c×a^b",
+            "c×√(a)",
+            "c×(-(a+b))",
+            "c×(-a×b)",
+            "c×-a^b",
+            "c×--a",
+        ],
+    ),
+    (
+        Around::First(Pair::Quotient),
+        [
+            "(a+b)/c",
+            "(a-b)/c",
+            "(-a)/c",
+            "a×b/c",
+            "a/b/c",
+            "a^b/c",
+            "√(a)/c",
+            "(-(a+b))/c",
+            "(-a×b)/c",
+            "(-a^b)/c",
+            "(--a)/c",
+        ],
+    ),
+    (
+        Around::Later(Pair::Quotient),
+        [
+            "c/(a+b)",
+            "c/(a-b)",
+            "c/-a",
+            "c/(a×b)",
+            "c/(a/b)",
+            "c/a^b",
+            "c/√(a)",
+            "c/(-(a+b))",
+            "c/(-a×b)",
+            "c/-a^b",
+            "c/--a",
+        ],
+    ),
+    (
+        Around::First(Pair::Power),
+        [
+            "(a+b)^c",
+            "(a-b)^c",
+            "(-a)^c",
+            "(a×b)^c",
+            "(a/b)^c",
+            "(a^b)^c",
+            "√(a)^c",
+            "(-(a+b))^c",
+            "(-a×b)^c",
+            "(-a^b)^c",
+            "(--a)^c",
+        ],
+    ),
+    (
+        Around::Later(Pair::Power),
+        [
+            "c^(a+b)",
+            "c^(a-b)",
+            "c^-a",
+            "c^(a×b)",
+            "c^(a/b)",
+            "c^a^b",
+            "c^√(a)",
+            "c^(-(a+b))",
+            "c^(-a×b)",
+            "c^-a^b",
+            "c^--a",
+        ],
+    ),
+    (
+        Around::Under(Single::Opposite),
+        [
+            "-(a+b)", "-(a-b)", "--a", "-a×b", "-a/b", "-a^b", "-√(a)", "--(a+b)", "--a×b",
+            "--a^b", "---a",
+        ],
+    ),
+    (
+        Around::Under(Single::Root),
+        [
+            "√(a+b)",
+            "√(a-b)",
+            "√(-a)",
+            "√(a×b)",
+            "√(a/b)",
+            "√(a^b)",
+            "√(√(a))",
+            "√(-(a+b))",
+            "√(-a×b)",
+            "√(-a^b)",
+            "√(--a)",
+        ],
+    ),
+];
+
+#[test]
+fn each_tree_is_read_again_from_its_text(rt: HostRuntime) -> Result<(), Fail> {
+    for (around, texts) in &ROWS {
+        for (child, text) in CHILDREN.iter().zip(texts) {
+            round_trip(&rt, rt.alloc(), &around.over(child, &C), text)?;
+        }
+    }
+    Ok(())
+}
+
+#[test]
+fn leaves_are_read_again(rt: HostRuntime) -> Result<(), Fail> {
+    round_trip(&rt, rt.alloc(), &Shape::Name(b"x1Y2z3W"), "x1Y2z3W")?;
+    round_trip(&rt, rt.alloc(), &Shape::Undef, "undef")?;
+    round_trip(&rt, rt.alloc(), &Shape::Number(0), "0")?;
+    round_trip(
+        &rt,
+        rt.alloc(),
+        &Shape::Number(18_446_744_073_709_551_615),
+        "18446744073709551615",
+    )?;
+    Ok(())
+}
