@@ -11,3 +11,6 @@ pub mod Lengths
 pub mod Places
 pub mod Steps
 pub mod FirstFactors
+pub mod Loops
+pub mod LedFactors
+pub mod Rewritten

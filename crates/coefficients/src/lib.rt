@@ -1,10 +1,12 @@
 //! The coefficient of a term or a product: taken off, and put back.
 #![tactic(auto)]
 
+mod multiples;
 mod products;
 mod splicing;
 mod taking;
 
+pub use multiples::distribute;
 pub use products::{as_product, unwrapped};
 pub use splicing::splice;
 pub use taking::{coefficient_length, split_product, take_coefficient};

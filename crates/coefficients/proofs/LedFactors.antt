@@ -1,0 +1,129 @@
+-- The rational or the sum that leads a product.
+use Rattle.std.proofs.Common.{◌≡◌, ℕ, ◌≤◌, [], ◌∷◌, Bool, true, false, if◌then◌else◌, refl, sym, ap, ◌∙◌, subst, arith}
+use Rattle.calc_terms.specs.declared.kind.Kind.TheVariants as kind
+use Rattle.calc_terms.specs.Fractions.{Fraction, times, is_one_fraction}
+use Rattle.calc_terms.specs.Numbers.{is_number}
+use Rattle.calc_terms.specs.Reduced.{product_tree, is_reduced}
+use Rattle.calc_terms.specs.Trees.{Tree, num, symbol, undef, add, mult, power, root, neg, sub, div, Trees, none, more, count, root_kind, is_mult}
+use Rattle.node_pool.specs.State.{State}
+use Rattle.reduce_port.specs.Rewritings.{tree_of}
+use Rattle.tree_handles.specs.Expressions.{nth, plain, children_of, IsExpression}
+use Rattle.tree_handles.specs.Forest.{Forest, kids, tree_nth, without_nth}
+use Rattle.tree_handles.specs.Handed.{IsHanded, Ends, KeepsFront}
+use Rattle.tree_handles.specs.Inside.{tree_at}
+use Rattle.tree_handles.specs.Roots.{root_tree, without_root, put}
+use Rattle.tree_handles.specs.Standing.{Stands, forest}
+use Rattle.tree_handles.proofs.Fronts.{behind_first, front_same, front_at, front_put}
+use Rattle.tree_handles.proofs.Given.{given_rest}
+use Rattle.coefficients.specs.Coefficients.{factors_of}
+use Rattle.coefficients.specs.Pairs.{LeavesRest}
+use Rattle.coefficients.specs.Multiples.{rational_times, rational_times_factors, rational_times_number, rational_times_term, leads_sum}
+use Rattle.coefficients.proofs.Lengths.{long}
+use Rattle.coefficients.proofs.Places.{IsOver, over_product, over_put, over_same}
+use Rattle.coefficients.proofs.Steps.{IsAdded, expression, seen, leaves_one}
+
+clash : false ≡ true → ⊥
+clash e = cc
+
+-- ---- a rational in front
+
+pub record IsRationalLed (q : Fraction) (ts : Trees) : Type 0 where
+  pub rest : Trees
+  pub whole : ts ≡ more (num q) rest
+  pub some : 1 ≤ count rest
+
+pub rational_led : (q : Fraction) (ts : Trees) → 2 ≤ count ts → nth 0 ts ≡ num q → IsRationalLed q ts
+rational_led q none l e = absurd (omega arith)
+rational_led q (more t ts) l e = record { rest = ts; whole = ap (λ (u : Tree). more u ts) e; some = omega arith }
+
+-- the first factor, as it is read
+pub first_seen : {s : State} {i j : ℕ} (k : ℕ) → j ≡ i → Stands s → IsHanded i (forest s)
+    → (IsExpression j (forest s) → plain (tree_at k (forest s)) ≡ nth 0 (children_of (plain (tree_at j (forest s)))))
+    → plain (tree_at k (forest s)) ≡ nth 0 (children_of (tree_of i s))
+first_seen k e st hand first = first (expression e st hand) ∙ ap (λ (t : Tree). nth 0 (children_of t)) (seen e st hand)
+
+-- a rational, as it is read
+pub first_led : {s : State} {i j : ℕ} {q : Fraction} (k : ℕ) → j ≡ i → Stands s → IsHanded i (forest s) → is_mult (tree_of i s) ≡ true → is_reduced (tree_of i s) ≡ true
+    → (IsExpression j (forest s) → plain (tree_at k (forest s)) ≡ nth 0 (children_of (plain (tree_at j (forest s))))) → plain (tree_at k (forest s)) ≡ num q
+    → IsRationalLed q (children_of (tree_of i s))
+first_led {s = s} {i = i} {q = q} k e st hand m r first is =
+    rational_led q (children_of (tree_of i s)) (long (tree_of i s) m r).two (sym (first_seen k e st hand first) ∙ is)
+
+-- it was taken out, and then released
+pub led_taken : {i h : ℕ} {q : Fraction} {ts : Trees} {old f : Forest} → IsOver kind.Mult i ts old → (l : IsRationalLed q ts)
+    → Ends h (tree_nth 0 (kids (root_tree i old))) (put i (without_nth 0 (kids (root_tree i old))) old) f → LeavesRest i old f h (num q) l.rest
+led_taken {i = i} {old = old} o l d = leaves_one (subst (λ (us : Trees). IsOver kind.Mult i us old) l.whole o) d
+
+pub led_dropped : {i h : ℕ} {q : Fraction} {ts : Trees} {old f new : Forest} → IsOver kind.Mult i ts old → (l : IsRationalLed q ts) → LeavesRest i old f h (num q) l.rest
+    → new ≡ without_root h f → IsAdded kind.Mult i l.rest old new
+led_dropped o l x e =
+    let whole = e ∙ given_rest x.given in
+    record { now = x.kids; kids = x.rest-are; whole = whole; over = over_same (over_put x.kids o x.rest-are) whole }
+
+pub added_front : {i : ℕ} {ts : Trees} {old new : Forest} → IsAdded kind.Mult i ts old new → KeepsFront (i ∷ []) old new
+added_front a = front_at (front_put a.now behind_first front_same) a.whole
+
+-- what the factors make with it, where the product of both is 1, and where it is not
+pub times_to_one : (q c l : Fraction) (ts rest : Trees) → ts ≡ more (num c) rest → l ≡ times q c → is_one_fraction l ≡ true → product_tree rest ≡ rational_times_factors q ts
+times_to_one q c l ts rest w p one =
+    sym (ap (rational_times_factors q) w ∙ ap (λ (b : Bool). if b then product_tree rest else mult (more (num (times q c)) rest)) (ap is_one_fraction (sym p) ∙ one))
+
+pub times_to_other : (q c l : Fraction) (ts rest : Trees) → ts ≡ more (num c) rest → l ≡ times q c → is_one_fraction l ≡ false → mult (more (num l) rest) ≡ rational_times_factors q ts
+times_to_other q c l ts rest w p other =
+    ap (λ (x : Fraction). mult (more (num x) rest)) p
+    ∙ sym (ap (rational_times_factors q) w ∙ ap (λ (b : Bool). if b then product_tree rest else mult (more (num (times q c)) rest)) (ap is_one_fraction (sym p) ∙ other))
+
+-- no rational in front
+pub times_unled : (q : Fraction) (ts : Trees) → (kind.Num ≡ root_kind (nth 0 ts) → ⊥) → mult (more (num q) ts) ≡ rational_times_factors q ts
+times_unled q none h = refl
+times_unled q (more (num c) ts) h = absurd (h refl)
+times_unled q (more t ts) h = refl
+
+-- ---- any tree
+
+pub times_number : (q c : Fraction) (t : Tree) → t ≡ num c → num (times q c) ≡ rational_times q t
+times_number q c t e = sym (ap (rational_times q) e)
+
+pub times_product : (q : Fraction) (t : Tree) → is_mult t ≡ true → rational_times_factors q (children_of t) ≡ rational_times q t
+times_product q (mult ts) m = refl
+times_product q t m = cc
+
+pub times_other : (q : Fraction) (t : Tree) → (kind.Num ≡ root_kind t → ⊥) → (kind.Mult ≡ root_kind t → ⊥) → mult (more (num q) (factors_of t)) ≡ rational_times q t
+times_other q (num c) h k = absurd (h refl)
+times_other q (mult ts) h k = absurd (k refl)
+times_other q t h k = refl
+
+-- ---- a sum in front
+
+pub record IsSumLed (t : Tree) : Type 0 where
+  pub terms : Trees
+  pub rest : Trees
+  pub whole : t ≡ mult (more (add terms) rest)
+  pub number : is_number (add terms) ≡ true
+
+pub sum_led : (t : Tree) → leads_sum t ≡ true → IsSumLed t
+sum_led (mult (more (add us) ts)) h = record { terms = us; rest = ts; whole = refl; number = h }
+sum_led t h = absurd (clash h)
+
+pub led_children : {t : Tree} (l : IsSumLed t) → children_of t ≡ more (add l.terms) l.rest
+led_children l = ap children_of l.whole
+
+pub led_product : {t : Tree} (l : IsSumLed t) → is_mult t ≡ true
+led_product l = ap is_mult l.whole
+
+pub led_over : {i : ℕ} {f : Forest} (l : IsSumLed (plain (root_tree i f))) → IsHanded i f → IsOver kind.Mult i (more (add l.terms) l.rest) f
+led_over {i = i} {f = f} l h = subst (λ (us : Trees). IsOver kind.Mult i us f) (led_children l) (over_product h (led_product l))
+
+pub led_reduced : {t : Tree} (l : IsSumLed t) → is_reduced t ≡ true → is_reduced (add l.terms) ≡ true
+led_reduced {t = t} l r =
+    let x = long t (led_product l) r in
+    ap (λ (us : Trees). is_reduced (nth 0 us)) (sym (led_children l)) ∙ x.child 0 (omega (arith, x.two))
+
+pub times_led : (q : Fraction) {t : Tree} (l : IsSumLed t) → mult (more (rational_times_number q l.terms) l.rest) ≡ rational_times_term q t
+times_led q l =
+    sym (ap (rational_times_term q) l.whole ∙ ap (λ (b : Bool). if b then mult (more (rational_times_number q l.terms) l.rest) else mult (more (num q) (more (add l.terms) l.rest))) l.number)
+
+-- none in front
+pub times_sum_unled : (q : Fraction) (t : Tree) → leads_sum t ≡ false → rational_times q t ≡ rational_times_term q t
+times_sum_unled q (mult (more (add us) ts)) h = sym (ap (λ (b : Bool). if b then mult (more (rational_times_number q us) ts) else mult (more (num q) (more (add us) ts))) h)
+times_sum_unled q t h = refl

@@ -1,0 +1,56 @@
+-- A child that was taken out of a root is rewritten, and put back.
+use Rattle.std.proofs.Common.{◌≡◌, ℕ, List, [], ◌∷◌, refl, ap, ◌∙◌, subst, true, false}
+use Rattle.calc_terms.specs.declared.kind.Kind.{Kind}
+use Rattle.calc_terms.specs.Reduced.{is_reduced, HasForm}
+use Rattle.calc_terms.specs.Trees.{Tree, add, Trees, none, more, append, count, is_add, AllParts, AllPartsOf}
+use Rattle.node_pool.specs.State.{State}
+use Rattle.tree_handles.specs.Expressions.{children_of, inserted, takes_kind, compound}
+use Rattle.tree_handles.specs.Forest.{Forest, arity, kids, with_nth}
+use Rattle.tree_handles.specs.Handed.{Ends, Gives, KeepsFront}
+use Rattle.tree_handles.specs.Inside.{holds, kids_of}
+use Rattle.tree_handles.specs.Roots.{has_root, root_tree, without_root, put}
+use Rattle.tree_handles.specs.Standing.{Stands, forest}
+use Rattle.tree_handles.proofs.Fronts.{behind_first, behind_new, front_after_one, front_end, front_put}
+use Rattle.tree_handles.proofs.Given.{gives_as, given_rest, given_root}
+use Rattle.tree_handles.proofs.Lasts.{apart, other_apart, other_root}
+use Rattle.tree_handles.proofs.Outcomes.{eqb-sym}
+use Rattle.tree_handles.proofs.Roots.{put-put}
+use Rattle.coefficients.proofs.Forms.{reduced_parts, parts_reduced}
+use Rattle.coefficients.proofs.Places.{IsOver, IsTaken, over_end, over_put}
+use Rattle.coefficients.proofs.Steps.{IsAdded, added_as, children_in}
+
+-- what is given stands behind the root without the child
+pub given_back : {k : Kind} {i n h j : ℕ} {t v : Tree} {others : Trees} {f new g : Forest} (a : IsTaken k i n t others f new h) → Gives (without_root h new) g j (λ u. u ≡ v) → Gives (put i a.now f) g j (λ u. u ≡ v)
+given_back a g = gives_as g (given_rest a.gives) (λ u x. x)
+
+pub over_back : {k : Kind} {i n h j : ℕ} {t v : Tree} {ts others : Trees} {f new g : Forest} → IsOver k i ts f → (a : IsTaken k i n t others f new h) → Gives (without_root h new) g j (λ u. u ≡ v)
+    → IsOver k i others g
+over_back o a g = over_end (over_put a.now o a.kids) (given_back a g).ends
+
+pub apart_back : {k : Kind} {i n h j : ℕ} {t v : Tree} {ts others : Trees} {f new : Forest} {s : State} → Stands s → IsOver k i ts f → (a : IsTaken k i n t others f new h)
+    → Gives (without_root h new) (forest s) j (λ u. u ≡ v) → holds i (root_tree j (forest s)) ≡ false
+apart_back {i = i} {j = j} st o a g = apart i j st (eqb-sym j i (other_apart i (given_back a g).ends (over_put a.now o a.kids).root)) (over_back o a g).root (given_root g)
+
+-- it is put in where it stood
+pub put_back : {k : Kind} {i n h j : ℕ} {t v : Tree} {ts others us : Trees} {f new g end : Forest} → IsOver k i ts f → (a : IsTaken k i n t others f new h) → Gives (without_root h new) g j (λ u. u ≡ v)
+    → end ≡ put i (with_nth n (root_tree j g) (kids (root_tree i g))) (without_root j g) → inserted n (more v none) others ≡ us → IsAdded k i us f end
+put_back {i = i} {n = n} {f = f} o a g e w =
+    let x = added_as n (over_put a.now o a.kids) (given_back a g) e w in
+    record { now = x.now; kids = x.kids; whole = x.whole ∙ put-put i x.now a.now f; over = x.over }
+
+-- what is given, in other words
+pub given_as : {others f : Forest} {i : ℕ} {u v : Tree} → Gives others f i (λ t. t ≡ u) → u ≡ v → Gives others f i (λ t. t ≡ v)
+given_as g e = gives_as g refl (λ t x. x ∙ e)
+
+-- the rewriting was refused
+pub front_lost : {handed : List ℕ} {i h : ℕ} {t old f new g : Forest} (n : Forest) → KeepsFront (i ∷ handed) old f → Ends h t (put i n f) new → KeepsFront (h ∷ []) new g → KeepsFront (i ∷ handed) old g
+front_lost n front e k = let x = front_put n behind_first front in front_after_one (behind_new e x) (front_end e x) k
+
+-- the terms of a reduced sum are reduced
+part_at : (done : Trees) (t : Tree) (rest : Trees) → AllPartsOf HasForm (append done (more t rest)) → AllParts HasForm t
+part_at none t rest h = h.0
+part_at (more u us) t rest h = part_at us t rest h.1
+
+pub term_reduced : (done : Trees) (t : Tree) (rest : Trees) (s : Tree) → is_add s ≡ true → is_reduced s ≡ true → children_of s ≡ append done (more t rest) → is_reduced t ≡ true
+term_reduced done t rest (add ts) m h e = parts_reduced t (part_at done t rest (subst (AllPartsOf HasForm) e (reduced_parts (add ts) h refl).1))
+term_reduced done t rest s m h e = cc

@@ -1,0 +1,50 @@
+use Rattle.std.proofs.Common.{◌≡◌, ap, ◌∙◌, sym, refl}
+use Rattle.calc_terms.specs.Rat.{value_of}
+use Rattle.calc_terms.specs.Trees.{num}
+use Rattle.tree_handles.proofs.Fronts.{behind_first, front_after, front_at, front_same, front_without}
+use Rattle.tree_handles.proofs.Given.{gives_as, owned}
+use Rattle.coefficients.proofs.LedFactors.{times_number, times_product, times_other}
+use Rattle.coefficients.proofs.Steps.{live, seen, kind_of_root, product_kind, if_map}
+use Rattle.coefficients.proofs.multiples.rational_times.Goals as goal
+
+pub kind-requires-clause-live : goal.kind-requires-clause-live
+kind-requires-clause-live c = live c.args.pool.now c.id.ensures c.requires.handed.root
+
+pub rational-requires-clause-live : goal.rational-requires-clause-live
+rational-requires-clause-live c = live c.args.pool.now c.id-in-Num.ensures c.requires.handed.root
+
+pub returns-in_err-number-in-Num-clause-front : goal.returns-in_err-number-in-Num-clause-front
+returns-in_err-number-in-Num-clause-front c =
+    front_after (front_at (front_without behind_first front_same) (c.release.ensures.owned (owned c.requires.handed))) c.number.ensures.front
+
+pub returns-in_ok-number-in-Num-clause-ok : goal.returns-in_ok-number-in-Num-clause-ok
+returns-in_ok-number-in-Num-clause-ok c =
+    let was = sym (seen c.id-in-Num.ensures c.requires.stands c.requires.handed) ∙ c.rational.ensures.plain in
+    gives_as c.in_ok-number-in-Num.ensures.given (c.release.ensures.owned (owned c.requires.handed))
+    (λ t e. e ∙ ap num c.in_ok-product-in-Num.ensures.product ∙ times_number (value_of c.args.q) (value_of c.rational.result) _ was)
+
+pub returns-in_ok-number-in-Num-clause-front : goal.returns-in_ok-number-in-Num-clause-front
+returns-in_ok-number-in-Num-clause-front c =
+    front_after (front_at (front_without behind_first front_same) (c.release.ensures.owned (owned c.requires.handed))) c.number.ensures.front
+
+pub rational_times_factors-requires-clause-product : goal.rational_times_factors-requires-clause-product
+rational_times_factors-requires-clause-product c =
+    product_kind _ (sym c.in-Mult.is ∙ kind_of_root {k = c.kind.result} c.id.ensures c.requires.stands c.requires.handed c.kind.ensures.plain)
+
+pub returns-in-Mult-clause-ok : goal.returns-in-Mult-clause-ok
+returns-in-Mult-clause-ok c =
+    let m = product_kind _ (sym c.in-Mult.is ∙ kind_of_root {k = c.kind.result} c.id.ensures c.requires.stands c.requires.handed c.kind.ensures.plain) in
+    if_map c.rational_times_factors.result _ _ c.rational_times_factors.ensures.ok (λ h x. gives_as x refl (λ t e. e ∙ times_product (value_of c.args.q) _ m))
+
+pub returns-in_ok-put_before-in_default : goal.returns-in_ok-put_before-in_default
+returns-in_ok-put_before-in_default c =
+    let put = c.in_ok-put_before-in_default.ensures in
+    let k = kind_of_root {k = c.kind.result} c.id.ensures c.requires.stands c.requires.handed c.kind.ensures.plain in
+    record {
+      ok = gives_as put.ok refl (λ t e. e ∙ times_other (value_of c.args.q) _ (λ n. c.in_default.not-Num (k ∙ sym n)) (λ n. c.in_default.not-Mult (k ∙ sym n)));
+      front = put.front;
+      kept = put.kept;
+      faults = tt;
+      caused = tt;
+      stands = put.stands;
+    }

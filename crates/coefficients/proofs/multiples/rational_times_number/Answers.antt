@@ -1,0 +1,100 @@
+use Rattle.std.proofs.Common.{◌≡◌, ap, ◌∙◌, refl, arith}
+use Rattle.calc_terms.specs.Rat.{value_of}
+use Rattle.calc_terms.specs.Reduced.{is_reduced}
+use Rattle.tree_handles.proofs.Forests.{keeps_none, keeps_after}
+use Rattle.tree_handles.proofs.Given.{given_handed, given_root, given_told}
+use Rattle.tree_handles.proofs.Roots.{root_held}
+use Rattle.coefficients.specs.Multiples.{rational_times}
+use Rattle.coefficients.proofs.Loops.{none_done, next_term, next_within, back_within, next_taken, next_done, all_done, part_front}
+use Rattle.coefficients.proofs.Places.{over_sum}
+use Rattle.coefficients.proofs.Rewritten.{given_as, over_back, apart_back, front_lost, term_reduced}
+use Rattle.coefficients.proofs.Steps.{live, children_at, children_in, moved, moved_front}
+use Rattle.coefficients.proofs.multiples.rational_times_number.Goals as goal
+
+pub children-terms-requires-clause-live : goal.children-terms-requires-clause-live
+children-terms-requires-clause-live c = live c.args.pool.now c.id.ensures c.requires.handed.root
+
+pub loop-at-init : goal.loop-at-init
+loop-at-init c = record {
+  stands = c.requires.stands;
+  kept = keeps_none c.args.pool.now;
+  part = none_done (rational_times (value_of c.args.q)) (over_sum c.requires.handed c.requires.sum);
+}
+
+pub take_child-term-requires-clause-within : goal.take_child-term-requires-clause-within
+take_child-term-requires-clause-within c =
+    let many = c.children-terms.ensures.value ∙ children_at (over_sum c.requires.handed c.requires.sum) c.requires.stands c.id.ensures in
+    let n = next_term c.loop-at.invariant.part (omega (arith, many, c.loop-at-test.true)) in
+    omega (arith, children_in c.loop-at.invariant.stands n.over, next_within n)
+
+pub rational_times-requires-clause-handed : goal.rational_times-requires-clause-handed
+rational_times-requires-clause-handed c =
+    let many = c.children-terms.ensures.value ∙ children_at (over_sum c.requires.handed c.requires.sum) c.requires.stands c.id.ensures in
+    let n = next_term c.loop-at.invariant.part (omega (arith, many, c.loop-at-test.true)) in
+    let a = next_taken n (c.take_child-term.ensures.last n.over.root) in
+    given_handed a.gives
+
+pub rational_times-requires-clause-reduced : goal.rational_times-requires-clause-reduced
+rational_times-requires-clause-reduced c =
+    let many = c.children-terms.ensures.value ∙ children_at (over_sum c.requires.handed c.requires.sum) c.requires.stands c.id.ensures in
+    let n = next_term c.loop-at.invariant.part (omega (arith, many, c.loop-at-test.true)) in
+    let a = next_taken n (c.take_child-term.ensures.last n.over.root) in
+    ap is_reduced (given_told a.gives) ∙ term_reduced n.done n.t n.rest _ c.requires.sum c.requires.reduced n.split
+
+pub returns-in_err-multiple-clause-front : goal.returns-in_err-multiple-clause-front
+returns-in_err-multiple-clause-front c =
+    let many = c.children-terms.ensures.value ∙ children_at (over_sum c.requires.handed c.requires.sum) c.requires.stands c.id.ensures in
+    let n = next_term c.loop-at.invariant.part (omega (arith, many, c.loop-at-test.true)) in
+    front_lost _ (part_front c.loop-at.invariant.part) (c.take_child-term.ensures.last n.over.root) c.rational_times.ensures.front
+
+pub add_child-requires-clause-live : goal.add_child-requires-clause-live
+add_child-requires-clause-live c =
+    let many = c.children-terms.ensures.value ∙ children_at (over_sum c.requires.handed c.requires.sum) c.requires.stands c.id.ensures in
+    let n = next_term c.loop-at.invariant.part (omega (arith, many, c.loop-at-test.true)) in
+    let a = next_taken n (c.take_child-term.ensures.last n.over.root) in
+    let g = given_as c.in_ok-multiple.ensures.ok (ap (rational_times (value_of c.args.q)) (given_told a.gives)) in
+    root_held c.args.sum _ (over_back n.over a g).root
+
+pub add_child-requires-clause-within : goal.add_child-requires-clause-within
+add_child-requires-clause-within c =
+    let many = c.children-terms.ensures.value ∙ children_at (over_sum c.requires.handed c.requires.sum) c.requires.stands c.id.ensures in
+    let n = next_term c.loop-at.invariant.part (omega (arith, many, c.loop-at-test.true)) in
+    let a = next_taken n (c.take_child-term.ensures.last n.over.root) in
+    let g = given_as c.in_ok-multiple.ensures.ok (ap (rational_times (value_of c.args.q)) (given_told a.gives)) in
+    omega (arith, children_in c.in_ok-multiple.ensures.stands (over_back n.over a g), back_within n)
+
+pub add_child-requires-clause-root : goal.add_child-requires-clause-root
+add_child-requires-clause-root c =
+    given_root c.in_ok-multiple.ensures.ok
+
+pub add_child-requires-clause-apart : goal.add_child-requires-clause-apart
+add_child-requires-clause-apart c =
+    let many = c.children-terms.ensures.value ∙ children_at (over_sum c.requires.handed c.requires.sum) c.requires.stands c.id.ensures in
+    let n = next_term c.loop-at.invariant.part (omega (arith, many, c.loop-at-test.true)) in
+    let a = next_taken n (c.take_child-term.ensures.last n.over.root) in
+    let g = given_as c.in_ok-multiple.ensures.ok (ap (rational_times (value_of c.args.q)) (given_told a.gives)) in
+    apart_back c.in_ok-multiple.ensures.stands n.over a g
+
+pub loop-at-preserved : goal.loop-at-preserved
+loop-at-preserved c =
+    let many = c.children-terms.ensures.value ∙ children_at (over_sum c.requires.handed c.requires.sum) c.requires.stands c.id.ensures in
+    let n = next_term c.loop-at.invariant.part (omega (arith, many, c.loop-at-test.true)) in
+    let a = next_taken n (c.take_child-term.ensures.last n.over.root) in
+    let g = given_as c.in_ok-multiple.ensures.ok (ap (rational_times (value_of c.args.q)) (given_told a.gives)) in
+    record {
+      stands = c.add_child.ensures.stands;
+      kept = keeps_after _ _ _ c.loop-at.invariant.kept (keeps_after _ _ _ c.take_child-term.ensures.kept (keeps_after _ _ _ c.in_ok-multiple.ensures.kept c.add_child.ensures.kept));
+      part = next_done n a g (c.add_child.ensures.root (over_back n.over a g).root);
+    }
+
+pub returns-clause-ok : goal.returns-clause-ok
+returns-clause-ok c =
+    let many = c.children-terms.ensures.value ∙ children_at (over_sum c.requires.handed c.requires.sum) c.requires.stands c.id.ensures in
+    let p = all_done c.loop-at.invariant.part (omega (arith, many, c.loop-at-test.false)) in
+    moved p refl c.move_last.ensures.last refl
+
+pub returns-clause-front : goal.returns-clause-front
+returns-clause-front c =
+    let many = c.children-terms.ensures.value ∙ children_at (over_sum c.requires.handed c.requires.sum) c.requires.stands c.id.ensures in
+    let p = all_done c.loop-at.invariant.part (omega (arith, many, c.loop-at-test.false)) in
+    moved_front p c.move_last.ensures.last

@@ -1,0 +1,14 @@
+use Rattle.calc_terms.specs.Rat.{value_of}
+use Rattle.coefficients.specs.Multiples.{rational_times}
+use Rattle.coefficients.proofs.Loops.{IsPartDone}
+use Rattle.reduce_port.specs.Rewritings.{tree_of}
+use Rattle.tree_handles.specs.Expressions.{children_of}
+use Rattle.tree_handles.specs.Standing.{Stands, forest, KeepsRefusals}
+use Rattle.coefficients.proofs.multiples.rational_times_number.Given as goal
+
+abbrev pub invariant-loop-at : goal.invariant-loop-at
+invariant-loop-at l = record {
+  stands : Stands l.pool;
+  kept : KeepsRefusals l.fn.pool l.pool;
+  part : IsPartDone (rational_times (value_of l.q)) l.sum l.at (children_of (tree_of l.sum l.fn.pool)) (forest l.fn.pool) (forest l.pool);
+}

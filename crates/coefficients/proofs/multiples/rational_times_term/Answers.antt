@@ -1,0 +1,103 @@
+use Rattle.std.proofs.Common.{◌≡◌, ap, ◌∙◌, sym, refl, arith}
+use Rattle.calc_terms.specs.Rat.{value_of}
+use Rattle.calc_terms.specs.Reduced.{is_reduced}
+use Rattle.calc_terms.specs.Trees.{Tree, add, none, is_add}
+use Rattle.tree_handles.specs.Expressions.{children_of}
+use Rattle.tree_handles.proofs.Fronts.{front_same}
+use Rattle.tree_handles.proofs.Given.{gives_as, given_handed, given_root, given_told}
+use Rattle.tree_handles.proofs.Roots.{root_held}
+use Rattle.coefficients.specs.Multiples.{leads_sum, rational_times_number}
+use Rattle.coefficients.proofs.LedFactors.{sum_led, led_over, led_reduced, times_led, times_sum_unled}
+use Rattle.coefficients.proofs.Places.{taken}
+use Rattle.coefficients.proofs.Rewritten.{given_as, over_back, apart_back, put_back, front_lost}
+use Rattle.coefficients.proofs.Steps.{expression, seen, children_in, if_map, moved, moved_front}
+use Rattle.coefficients.proofs.multiples.rational_times_term.Goals as goal
+
+pub is_led_by_sum-requires-clause-expression : goal.is_led_by_sum-requires-clause-expression
+is_led_by_sum-requires-clause-expression c = expression c.id.ensures c.requires.stands c.requires.handed
+
+pub is_led_by_sum-requires-clause-reduced : goal.is_led_by_sum-requires-clause-reduced
+is_led_by_sum-requires-clause-reduced c = ap is_reduced (seen c.id.ensures c.requires.stands c.requires.handed) ∙ c.requires.reduced
+
+pub returns-then-not-is_led_by_sum-clause-ok : goal.returns-then-not-is_led_by_sum-clause-ok
+returns-then-not-is_led_by_sum-clause-ok c =
+    let unled = ap leads_sum (sym (seen c.id.ensures c.requires.stands c.requires.handed)) ∙ sym c.if-not-is_led_by_sum.ensures in
+    if_map c.rational_times.result _ _ c.rational_times.ensures.ok (λ h x. gives_as x refl (λ t e. e ∙ times_sum_unled (value_of c.args.q) _ unled))
+
+pub take_child-coefficient-requires-clause-within : goal.take_child-coefficient-requires-clause-within
+take_child-coefficient-requires-clause-within c =
+    let l = sum_led _ (ap leads_sum (sym (seen c.id.ensures c.requires.stands c.requires.handed)) ∙ sym c.if-not-is_led_by_sum.ensures) in
+    let o = led_over l c.requires.handed in
+    omega (arith, children_in c.requires.stands o)
+
+pub rational_times_number-requires-clause-handed : goal.rational_times_number-requires-clause-handed
+rational_times_number-requires-clause-handed c =
+    let l = sum_led _ (ap leads_sum (sym (seen c.id.ensures c.requires.stands c.requires.handed)) ∙ sym c.if-not-is_led_by_sum.ensures) in
+    let o = led_over l c.requires.handed in
+    let a = taken 0 none (add l.terms) l.rest o refl (c.take_child-coefficient.ensures.last c.requires.handed.root) in
+    given_handed a.gives
+
+pub rational_times_number-requires-clause-sum : goal.rational_times_number-requires-clause-sum
+rational_times_number-requires-clause-sum c =
+    let l = sum_led _ (ap leads_sum (sym (seen c.id.ensures c.requires.stands c.requires.handed)) ∙ sym c.if-not-is_led_by_sum.ensures) in
+    let o = led_over l c.requires.handed in
+    let a = taken 0 none (add l.terms) l.rest o refl (c.take_child-coefficient.ensures.last c.requires.handed.root) in
+    ap is_add (given_told a.gives)
+
+pub rational_times_number-requires-clause-reduced : goal.rational_times_number-requires-clause-reduced
+rational_times_number-requires-clause-reduced c =
+    let l = sum_led _ (ap leads_sum (sym (seen c.id.ensures c.requires.stands c.requires.handed)) ∙ sym c.if-not-is_led_by_sum.ensures) in
+    let o = led_over l c.requires.handed in
+    let a = taken 0 none (add l.terms) l.rest o refl (c.take_child-coefficient.ensures.last c.requires.handed.root) in
+    ap is_reduced (given_told a.gives) ∙ led_reduced l c.requires.reduced
+
+pub returns-in_err-multiple-clause-front : goal.returns-in_err-multiple-clause-front
+returns-in_err-multiple-clause-front c =
+    front_lost _ front_same (c.take_child-coefficient.ensures.last c.requires.handed.root) c.rational_times_number.ensures.front
+
+pub add_child-requires-clause-live : goal.add_child-requires-clause-live
+add_child-requires-clause-live c =
+    let l = sum_led _ (ap leads_sum (sym (seen c.id.ensures c.requires.stands c.requires.handed)) ∙ sym c.if-not-is_led_by_sum.ensures) in
+    let o = led_over l c.requires.handed in
+    let a = taken 0 none (add l.terms) l.rest o refl (c.take_child-coefficient.ensures.last c.requires.handed.root) in
+    let g = given_as c.in_ok-multiple.ensures.ok (ap (λ (u : Tree). rational_times_number (value_of c.args.q) (children_of u)) (given_told a.gives)) in
+    root_held c.args.term _ (over_back o a g).root
+
+pub add_child-requires-clause-root : goal.add_child-requires-clause-root
+add_child-requires-clause-root c =
+    given_root c.in_ok-multiple.ensures.ok
+
+pub add_child-requires-clause-apart : goal.add_child-requires-clause-apart
+add_child-requires-clause-apart c =
+    let l = sum_led _ (ap leads_sum (sym (seen c.id.ensures c.requires.stands c.requires.handed)) ∙ sym c.if-not-is_led_by_sum.ensures) in
+    let o = led_over l c.requires.handed in
+    let a = taken 0 none (add l.terms) l.rest o refl (c.take_child-coefficient.ensures.last c.requires.handed.root) in
+    let g = given_as c.in_ok-multiple.ensures.ok (ap (λ (u : Tree). rational_times_number (value_of c.args.q) (children_of u)) (given_told a.gives)) in
+    apart_back c.in_ok-multiple.ensures.stands o a g
+
+pub move_last-requires-clause-root : goal.move_last-requires-clause-root
+move_last-requires-clause-root c =
+    let l = sum_led _ (ap leads_sum (sym (seen c.id.ensures c.requires.stands c.requires.handed)) ∙ sym c.if-not-is_led_by_sum.ensures) in
+    let o = led_over l c.requires.handed in
+    let a = taken 0 none (add l.terms) l.rest o refl (c.take_child-coefficient.ensures.last c.requires.handed.root) in
+    let g = given_as c.in_ok-multiple.ensures.ok (ap (λ (u : Tree). rational_times_number (value_of c.args.q) (children_of u)) (given_told a.gives)) in
+    let p = put_back o a g (c.add_child.ensures.root (over_back o a g).root) refl in
+    p.over.root
+
+pub returns-clause-ok : goal.returns-clause-ok
+returns-clause-ok c =
+    let l = sum_led _ (ap leads_sum (sym (seen c.id.ensures c.requires.stands c.requires.handed)) ∙ sym c.if-not-is_led_by_sum.ensures) in
+    let o = led_over l c.requires.handed in
+    let a = taken 0 none (add l.terms) l.rest o refl (c.take_child-coefficient.ensures.last c.requires.handed.root) in
+    let g = given_as c.in_ok-multiple.ensures.ok (ap (λ (u : Tree). rational_times_number (value_of c.args.q) (children_of u)) (given_told a.gives)) in
+    let p = put_back o a g (c.add_child.ensures.root (over_back o a g).root) refl in
+    moved p refl c.move_last.ensures.last (times_led (value_of c.args.q) l)
+
+pub returns-clause-front : goal.returns-clause-front
+returns-clause-front c =
+    let l = sum_led _ (ap leads_sum (sym (seen c.id.ensures c.requires.stands c.requires.handed)) ∙ sym c.if-not-is_led_by_sum.ensures) in
+    let o = led_over l c.requires.handed in
+    let a = taken 0 none (add l.terms) l.rest o refl (c.take_child-coefficient.ensures.last c.requires.handed.root) in
+    let g = given_as c.in_ok-multiple.ensures.ok (ap (λ (u : Tree). rational_times_number (value_of c.args.q) (children_of u)) (given_told a.gives)) in
+    let p = put_back o a g (c.add_child.ensures.root (over_back o a g).root) refl in
+    moved_front p c.move_last.ensures.last
