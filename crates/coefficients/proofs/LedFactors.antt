@@ -4,7 +4,7 @@ use Rattle.calc_terms.specs.declared.kind.Kind.TheVariants as kind
 use Rattle.calc_terms.specs.Fractions.{Fraction, times, is_one_fraction}
 use Rattle.calc_terms.specs.Numbers.{is_number}
 use Rattle.calc_terms.specs.Reduced.{product_tree, is_reduced}
-use Rattle.calc_terms.specs.Trees.{Tree, num, symbol, undef, add, mult, power, root, neg, sub, div, Trees, none, more, count, root_kind, is_mult}
+use Rattle.calc_terms.specs.Trees.{Tree, num, add, mult, Trees, none, more, count, root_kind, is_mult}
 use Rattle.node_pool.specs.State.{State}
 use Rattle.reduce_port.specs.Rewritings.{tree_of}
 use Rattle.tree_handles.specs.Expressions.{nth, plain, children_of, IsExpression}

@@ -14,3 +14,4 @@ pub mod FirstFactors
 pub mod Loops
 pub mod LedFactors
 pub mod Rewritten
+pub mod Puttings

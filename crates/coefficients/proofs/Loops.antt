@@ -1,7 +1,7 @@
 -- Loops over the terms of a sum, in which each term is taken out, rewritten and put back.
-use Rattle.std.proofs.Common.{◌≡◌, ℕ, zero, suc, ◌+◌, ◌≤◌, ◌<◌, [], ◌∷◌, refl, sym, ap, ◌∙◌, subst, arith}
+use Rattle.std.proofs.Common.{◌≡◌, ℕ, suc, ◌+◌, ◌≤◌, ◌<◌, [], ◌∷◌, refl, sym, ap, ◌∙◌, subst, arith}
 use Rattle.calc_terms.specs.declared.kind.Kind.TheVariants as kind
-use Rattle.calc_terms.specs.Trees.{Tree, add, Trees, none, more, append, count}
+use Rattle.calc_terms.specs.Trees.{Tree, Trees, none, more, append, count}
 use Rattle.coefficients.specs.Multiples.{mapped}
 use Rattle.tree_handles.specs.Expressions.{inserted}
 use Rattle.tree_handles.specs.Forest.{Forest, kids, with_nth, tree_nth, without_nth}
@@ -10,7 +10,7 @@ use Rattle.tree_handles.specs.Roots.{root_tree, without_root, put}
 use Rattle.tree_handles.proofs.Fronts.{behind_first, front_same, front_at, front_put}
 use Rattle.tree_handles.proofs.Given.{gives_as, given_rest, append-none}
 use Rattle.tree_handles.proofs.Roots.{put-put, put-same}
-use Rattle.coefficients.proofs.Places.{IsOver, IsTaken, taken, over_put, over_same, inserted_behind}
+use Rattle.coefficients.proofs.Places.{IsOver, IsTaken, taken, over_put, inserted_behind}
 use Rattle.coefficients.proofs.Steps.{IsAdded, added_as}
 
 -- ---- lists

@@ -1,23 +1,23 @@
 -- A child that was taken out of a root is rewritten, and put back.
-use Rattle.std.proofs.Common.{◌≡◌, ℕ, List, [], ◌∷◌, refl, ap, ◌∙◌, subst, true, false}
+use Rattle.std.proofs.Common.{◌≡◌, ℕ, List, [], ◌∷◌, refl, ◌∙◌, subst, true, false}
 use Rattle.calc_terms.specs.declared.kind.Kind.{Kind}
 use Rattle.calc_terms.specs.Reduced.{is_reduced, HasForm}
-use Rattle.calc_terms.specs.Trees.{Tree, add, Trees, none, more, append, count, is_add, AllParts, AllPartsOf}
+use Rattle.calc_terms.specs.Trees.{Tree, add, Trees, none, more, append, is_add, AllParts, AllPartsOf}
 use Rattle.node_pool.specs.State.{State}
-use Rattle.tree_handles.specs.Expressions.{children_of, inserted, takes_kind, compound}
-use Rattle.tree_handles.specs.Forest.{Forest, arity, kids, with_nth}
+use Rattle.tree_handles.specs.Expressions.{children_of, inserted}
+use Rattle.tree_handles.specs.Forest.{Forest, kids, with_nth}
 use Rattle.tree_handles.specs.Handed.{Ends, Gives, KeepsFront}
-use Rattle.tree_handles.specs.Inside.{holds, kids_of}
-use Rattle.tree_handles.specs.Roots.{has_root, root_tree, without_root, put}
+use Rattle.tree_handles.specs.Inside.{holds}
+use Rattle.tree_handles.specs.Roots.{root_tree, without_root, put}
 use Rattle.tree_handles.specs.Standing.{Stands, forest}
 use Rattle.tree_handles.proofs.Fronts.{behind_first, behind_new, front_after_one, front_end, front_put}
 use Rattle.tree_handles.proofs.Given.{gives_as, given_rest, given_root}
-use Rattle.tree_handles.proofs.Lasts.{apart, other_apart, other_root}
+use Rattle.tree_handles.proofs.Lasts.{apart, other_apart}
 use Rattle.tree_handles.proofs.Outcomes.{eqb-sym}
 use Rattle.tree_handles.proofs.Roots.{put-put}
 use Rattle.coefficients.proofs.Forms.{reduced_parts, parts_reduced}
 use Rattle.coefficients.proofs.Places.{IsOver, IsTaken, over_end, over_put}
-use Rattle.coefficients.proofs.Steps.{IsAdded, added_as, children_in}
+use Rattle.coefficients.proofs.Steps.{IsAdded, added_as}
 
 -- what is given stands behind the root without the child
 pub given_back : {k : Kind} {i n h j : ℕ} {t v : Tree} {others : Trees} {f new g : Forest} (a : IsTaken k i n t others f new h) → Gives (without_root h new) g j (λ u. u ≡ v) → Gives (put i a.now f) g j (λ u. u ≡ v)
@@ -47,10 +47,10 @@ pub front_lost : {handed : List ℕ} {i h : ℕ} {t old f new g : Forest} (n : F
 front_lost n front e k = let x = front_put n behind_first front in front_after_one (behind_new e x) (front_end e x) k
 
 -- the terms of a reduced sum are reduced
-part_at : (done : Trees) (t : Tree) (rest : Trees) → AllPartsOf HasForm (append done (more t rest)) → AllParts HasForm t
+part_at : (before : Trees) (t : Tree) (rest : Trees) → AllPartsOf HasForm (append before (more t rest)) → AllParts HasForm t
 part_at none t rest h = h.0
 part_at (more u us) t rest h = part_at us t rest h.1
 
-pub term_reduced : (done : Trees) (t : Tree) (rest : Trees) (s : Tree) → is_add s ≡ true → is_reduced s ≡ true → children_of s ≡ append done (more t rest) → is_reduced t ≡ true
-term_reduced done t rest (add ts) m h e = parts_reduced t (part_at done t rest (subst (AllPartsOf HasForm) e (reduced_parts (add ts) h refl).1))
-term_reduced done t rest s m h e = cc
+pub term_reduced : (before : Trees) (t : Tree) (rest : Trees) (s : Tree) → is_add s ≡ true → is_reduced s ≡ true → children_of s ≡ append before (more t rest) → is_reduced t ≡ true
+term_reduced before t rest (add ts) m h e = parts_reduced t (part_at before t rest (subst (AllPartsOf HasForm) e (reduced_parts (add ts) h refl).1))
+term_reduced before t rest s m h e = cc

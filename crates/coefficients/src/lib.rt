@@ -3,10 +3,12 @@
 
 mod multiples;
 mod products;
+mod putting;
 mod splicing;
 mod taking;
 
 pub use multiples::distribute;
 pub use products::{as_product, unwrapped};
+pub use putting::put_coefficient;
 pub use splicing::splice;
 pub use taking::{coefficient_length, split_product, take_coefficient};

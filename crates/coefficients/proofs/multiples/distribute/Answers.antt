@@ -1,4 +1,4 @@
-use Rattle.std.proofs.Common.{◌≡◌, ap, ◌∙◌, refl, arith}
+use Rattle.std.proofs.Common.{ap, ◌∙◌, refl, arith}
 use Rattle.calc_terms.specs.Rat.{value_of}
 use Rattle.calc_terms.specs.Reduced.{is_reduced}
 use Rattle.tree_handles.proofs.Forests.{keeps_none, keeps_after}

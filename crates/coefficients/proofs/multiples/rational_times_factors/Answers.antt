@@ -1,4 +1,4 @@
-use Rattle.std.proofs.Common.{◌≡◌, ◌≤◌, ap, ◌∙◌, sym, subst, arith, inl, refl}
+use Rattle.std.proofs.Common.{◌≤◌, ap, ◌∙◌, sym, subst, arith, inl, refl}
 use Rattle.calc_terms.specs.Rat.{value_of}
 use Rattle.calc_terms.specs.Reduced.{product_tree}
 use Rattle.calc_terms.specs.Trees.{Tree, num, mult, more, count, is_mult, root_kind}

@@ -1,0 +1,60 @@
+-- A coefficient before a part, by the kinds of both.
+use Rattle.std.proofs.Common.{◌≡◌, ℕ, Bool, true, false, if◌then◌else◌, refl, sym, ap, ◌∙◌, Result, Ok, Err}
+use Rattle.std.specs.Prelude.{OnOk, IfErr, pos}
+use Rattle.calc_terms.specs.declared.kind.Kind.TheVariants as kind
+use Rattle.calc_terms.specs.declared.rat.Rat.{Rat}
+use Rattle.calc_terms.specs.Fractions.{Fraction, lowest, zero_fraction, is_zero_fraction, is_one_fraction}
+use Rattle.calc_terms.specs.Rat.{ratio_of, value_of}
+use Rattle.calc_terms.specs.Ratio.{Ratio, whole}
+use Rattle.calc_terms.specs.Trees.{Tree, num, add, root_kind, is_add}
+use Rattle.node_pool.specs.State.{State}
+use Rattle.tree_handles.specs.declared.fault.NumberFault.{NumberFault}
+use Rattle.tree_handles.specs.Expressions.{children_of}
+use Rattle.tree_handles.specs.Faults.{Faults}
+use Rattle.tree_handles.specs.Standing.{KeepsRefusals}
+use Rattle.tree_handles.proofs.Forests.{keeps_after}
+use Rattle.number_forms.proofs.Loops.{faults_after}
+use Rattle.coefficients.specs.Coefficients.{spliced, rational_before, with_coefficient}
+use Rattle.coefficients.specs.Multiples.{rational_times_sum}
+
+-- ---- refusals of a call that comes after others
+
+pub on_ok_after : {E : Type 0} (r : Result ℕ E) (s t u : State) → KeepsRefusals s t → OnOk r (KeepsRefusals t u) → OnOk r (KeepsRefusals s u)
+on_ok_after (Ok h) s t u k p = keeps_after s t u k p
+on_ok_after (Err e) s t u k p = tt
+
+pub fault_after : (r : Result ℕ NumberFault) (s t u : State) → KeepsRefusals s t → IfErr r (Faults t u) → IfErr r (Faults s u)
+fault_after (Ok h) s t u k p = tt
+fault_after (Err e) s t u k p = faults_after s t u e k p
+
+-- ---- a rational before a part
+
+pub before_sum : (q : Fraction) (t : Tree) → is_add t ≡ true → rational_times_sum q (children_of t) ≡ rational_before q t
+before_sum q (add ts) m = refl
+before_sum q t m = cc
+
+pub before_other : (q : Fraction) (t : Tree) → is_add t ≡ false → spliced (num q) t ≡ rational_before q t
+before_other q (add ts) m = cc
+before_other q t m = refl
+
+pub zero_value : (r : Rat) → ratio_of r ≡ whole (pos 0) → value_of r ≡ zero_fraction
+unfolding zero_fraction
+zero_value r e = ap (λ (x : Ratio). lowest x.num x.den) e
+
+pub with_zero : (q : Fraction) (t : Tree) → is_zero_fraction q ≡ true → num zero_fraction ≡ with_coefficient (num q) t
+with_zero q t z = sym (ap (λ (b : Bool). if b then num zero_fraction else (if is_one_fraction q then t else rational_before q t)) z)
+
+pub with_no_zero : (q : Fraction) (t : Tree) → is_zero_fraction q ≡ false → with_coefficient (num q) t ≡ (if is_one_fraction q then t else rational_before q t)
+with_no_zero q t z = ap (λ (b : Bool). if b then num zero_fraction else (if is_one_fraction q then t else rational_before q t)) z
+
+pub with_one : (q : Fraction) (t : Tree) → is_zero_fraction q ≡ false → is_one_fraction q ≡ true → t ≡ with_coefficient (num q) t
+with_one q t z o = sym (with_no_zero q t z ∙ ap (λ (b : Bool). if b then t else rational_before q t) o)
+
+pub with_other : (q : Fraction) (t : Tree) → is_zero_fraction q ≡ false → is_one_fraction q ≡ false → rational_before q t ≡ with_coefficient (num q) t
+with_other q t z o = sym (with_no_zero q t z ∙ ap (λ (b : Bool). if b then t else rational_before q t) o)
+
+-- ---- no rational
+
+pub with_irrational : (c t : Tree) → (kind.Num ≡ root_kind c → ⊥) → spliced c t ≡ with_coefficient c t
+with_irrational (num q) t h = absurd (h refl)
+with_irrational c t h = refl

@@ -1,0 +1,61 @@
+use Rattle.std.proofs.Common.{◌∙◌, sym, ap, refl}
+use Rattle.calc_terms.specs.Reduced.{is_reduced}
+use Rattle.tree_handles.specs.Expressions.{plain}
+use Rattle.tree_handles.specs.Forest.{Forest}
+use Rattle.tree_handles.specs.Roots.{root_tree, without_root}
+use Rattle.tree_handles.specs.Standing.{forest}
+use Rattle.tree_handles.proofs.Fronts.{behind_first, behind_later, front_after_one, front_at, front_same, front_without}
+use Rattle.tree_handles.proofs.Given.{gives_as, handed_at, handed_beside, owned}
+use Rattle.tree_handles.proofs.Outcomes.{eqb-sym}
+use Rattle.tree_handles.proofs.Roots.{tree-without, without-swap}
+use Rattle.coefficients.specs.Coefficients.{with_coefficient}
+use Rattle.coefficients.proofs.Puttings.{on_ok_after, fault_after, with_irrational}
+use Rattle.coefficients.proofs.Steps.{live, seen, kind_of_root, if_map}
+use Rattle.coefficients.proofs.putting.put_coefficient.Goals as goal
+
+pub kind-requires-clause-live : goal.kind-requires-clause-live
+kind-requires-clause-live c = live c.args.pool.now c.id.ensures c.requires.first.root
+
+pub rational-q-requires-clause-live : goal.rational-q-requires-clause-live
+rational-q-requires-clause-live c = live c.args.pool.now c.id-in-Num.ensures c.requires.first.root
+
+pub put_rational-requires-clause-handed : goal.put_rational-requires-clause-handed
+put_rational-requires-clause-handed c = handed_at (handed_beside c.args.coefficient c.requires.apart c.requires.second) (c.release.ensures.owned (owned c.requires.first))
+
+pub put_rational-requires-clause-reduced : goal.put_rational-requires-clause-reduced
+put_rational-requires-clause-reduced c =
+    let gone = c.release.ensures.owned (owned c.requires.first) in
+    let same = ap (λ (f : Forest). plain (root_tree c.args.part f)) gone ∙ ap plain (tree-without c.args.coefficient c.args.part (forest c.args.pool.now) c.requires.apart) in
+    ap is_reduced same ∙ c.requires.reduced
+
+pub returns-in-Num-clause-ok : goal.returns-in-Num-clause-ok
+returns-in-Num-clause-ok c =
+    let gone = c.release.ensures.owned (owned c.requires.first) in
+    let same = ap (λ (f : Forest). plain (root_tree c.args.part f)) gone ∙ ap plain (tree-without c.args.coefficient c.args.part (forest c.args.pool.now) c.requires.apart) in
+    let was = sym c.rational-q.ensures.plain ∙ seen c.id-in-Num.ensures c.requires.stands c.requires.first in
+    let swapped = without-swap c.args.part c.args.coefficient (forest c.args.pool.now) (eqb-sym c.args.coefficient c.args.part c.requires.apart) in
+    if_map c.put_rational.result _ _ c.put_rational.ensures.ok
+    (λ h x. gives_as x (ap (without_root c.args.part) gone ∙ swapped) (λ t e. e ∙ (λ i. with_coefficient (was i) (same i))))
+
+pub returns-in-Num-clause-front : goal.returns-in-Num-clause-front
+returns-in-Num-clause-front c =
+    front_after_one (behind_later behind_first) (front_at (front_without behind_first front_same) (c.release.ensures.owned (owned c.requires.first))) c.put_rational.ensures.front
+
+pub returns-in-Num-clause-kept : goal.returns-in-Num-clause-kept
+returns-in-Num-clause-kept c = on_ok_after c.put_rational.result _ _ _ c.release.ensures.kept c.put_rational.ensures.kept
+
+pub returns-in-Num-clause-faults : goal.returns-in-Num-clause-faults
+returns-in-Num-clause-faults c = fault_after c.put_rational.result _ _ _ c.release.ensures.kept c.put_rational.ensures.faults
+
+pub returns-in_ok-splice-in_default : goal.returns-in_ok-splice-in_default
+returns-in_ok-splice-in_default c =
+    let splice = c.in_ok-splice-in_default.ensures in
+    let k = kind_of_root {k = c.kind.result} c.id.ensures c.requires.stands c.requires.first c.kind.ensures.plain in
+    record {
+      ok = gives_as splice.ok refl (λ t e. e ∙ with_irrational _ _ (λ n. c.in_default.not-Num (k ∙ sym n)));
+      front = splice.front;
+      kept = splice.kept;
+      faults = tt;
+      caused = tt;
+      stands = splice.stands;
+    }

@@ -1,0 +1,31 @@
+use Rattle.std.proofs.Common.{◌∙◌, sym, refl}
+use Rattle.calc_terms.specs.Rat.{value_of}
+use Rattle.tree_handles.proofs.Given.{gives_as}
+use Rattle.coefficients.proofs.Puttings.{before_sum, before_other}
+use Rattle.coefficients.proofs.Steps.{live, kind_of_root, sum_kind, no_sum_kind, if_map}
+use Rattle.coefficients.proofs.putting.put_other_rational.Goals as goal
+
+pub kind-requires-clause-live : goal.kind-requires-clause-live
+kind-requires-clause-live c = live c.args.pool.now c.id.ensures c.requires.handed.root
+
+pub distribute-requires-clause-sum : goal.distribute-requires-clause-sum
+distribute-requires-clause-sum c =
+    sum_kind _ (sym c.in-Add.is ∙ kind_of_root {k = c.kind.result} c.id.ensures c.requires.stands c.requires.handed c.kind.ensures.plain)
+
+pub returns-in-Add-clause-ok : goal.returns-in-Add-clause-ok
+returns-in-Add-clause-ok c =
+    let m = sum_kind _ (sym c.in-Add.is ∙ kind_of_root {k = c.kind.result} c.id.ensures c.requires.stands c.requires.handed c.kind.ensures.plain) in
+    if_map c.distribute.result _ _ c.distribute.ensures.ok (λ h x. gives_as x refl (λ t e. e ∙ before_sum (value_of c.args.q) _ m))
+
+pub returns-in_ok-put_before-in_default : goal.returns-in_ok-put_before-in_default
+returns-in_ok-put_before-in_default c =
+    let put = c.in_ok-put_before-in_default.ensures in
+    let k = kind_of_root {k = c.kind.result} c.id.ensures c.requires.stands c.requires.handed c.kind.ensures.plain in
+    record {
+      ok = gives_as put.ok refl (λ t e. e ∙ before_other (value_of c.args.q) _ (no_sum_kind _ (λ n. c.in_default.not-Add (k ∙ sym n))));
+      front = put.front;
+      kept = put.kept;
+      faults = tt;
+      caused = tt;
+      stands = put.stands;
+    }

@@ -1,0 +1,33 @@
+use Rattle.std.proofs.Common.{◌∙◌, sym, ap, refl}
+use Rattle.calc_terms.specs.Rat.{value_of}
+use Rattle.calc_terms.specs.Trees.{num}
+use Rattle.tree_handles.proofs.Fronts.{behind_first, front_after, front_at, front_end, front_same, front_without}
+use Rattle.tree_handles.proofs.Given.{gives, gives_as, owned, represents_handed}
+use Rattle.coefficients.proofs.Puttings.{zero_value, with_zero, with_one, with_other}
+use Rattle.coefficients.proofs.Steps.{if_map}
+use Rattle.coefficients.proofs.putting.put_rational.Goals as goal
+
+pub returns-in_err-number-clause-front : goal.returns-in_err-number-clause-front
+returns-in_err-number-clause-front c =
+    front_after (front_at (front_without behind_first front_same) (c.release.ensures.owned (owned c.requires.handed))) c.number.ensures.front
+
+pub returns-then-is_zero-clause-ok : goal.returns-then-is_zero-clause-ok
+returns-then-is_zero-clause-ok c =
+    gives_as c.in_ok-number.ensures.given (c.release.ensures.owned (owned c.requires.handed))
+    (λ t e. e ∙ ap num (zero_value c.whole.result c.whole.ensures) ∙ with_zero (value_of c.args.q) _ (sym c.if-is_zero.ensures))
+
+pub returns-then-is_zero-clause-front : goal.returns-then-is_zero-clause-front
+returns-then-is_zero-clause-front c =
+    front_after (front_at (front_without behind_first front_same) (c.release.ensures.owned (owned c.requires.handed))) c.number.ensures.front
+
+pub returns-then-is_one-clause-ok : goal.returns-then-is_one-clause-ok
+returns-then-is_one-clause-ok c =
+    gives c.move_last.ensures.last (represents_handed c.requires.handed) (with_one (value_of c.args.q) _ (sym c.if-is_zero.ensures) (sym c.if-is_one.ensures))
+
+pub returns-then-is_one-clause-front : goal.returns-then-is_one-clause-front
+returns-then-is_one-clause-front c = front_end c.move_last.ensures.last (front_without behind_first front_same)
+
+pub returns-clause-ok : goal.returns-clause-ok
+returns-clause-ok c =
+    if_map c.put_other_rational.result _ _ c.put_other_rational.ensures.ok
+    (λ h x. gives_as x refl (λ t e. e ∙ with_other (value_of c.args.q) _ (sym c.if-is_zero.ensures) (sym c.if-is_one.ensures)))
