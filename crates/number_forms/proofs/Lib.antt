@@ -14,3 +14,5 @@ pub mod PowerSteps
 pub mod InverseSteps
 pub mod Pairs
 pub mod Room
+pub mod Rising
+pub mod Recognized

@@ -68,7 +68,7 @@ unshaped (mult (more (num q) (more (root (num r)) none))) h e = cc
 unshaped (add ts) h e = cc
 unshaped _ h e = refl
 
-unshaped_term : (t : Tree) → has_term_shape t ≡ false → is_term t ≡ false
+pub unshaped_term : (t : Tree) → has_term_shape t ≡ false → is_term t ≡ false
 unshaped_term (num q) h = cc
 unshaped_term (root (num r)) h = cc
 unshaped_term (mult (more (num q) (more (root (num r)) none))) h = cc

@@ -32,3 +32,9 @@ pub record IsPlace (n r : ℕ) (ts : Trees) : Type 0 where
   pub within : n ≤ count ts
   pub below : (k : ℕ) → k < n → (term_of (nth k ts)).radicand < r
   pub above : n < count ts → r ≤ (term_of (nth n ts)).radicand
+
+-- the trees from a place on, counted from 0
+abbrev pub trees_from : ℕ → Trees → Trees
+trees_from zero ts = ts
+trees_from (suc n) none = none
+trees_from (suc n) (more t ts) = trees_from n ts

@@ -8,8 +8,10 @@ mod joining;
 mod multiplying;
 mod placing;
 mod powers;
+mod radicand;
 mod rationals;
 mod read;
+mod recognize;
 mod shape;
 mod term;
 
@@ -19,6 +21,7 @@ pub use multiplying::multiply_numbers;
 pub use placing::place_term;
 pub use powers::power_number;
 pub use read::{classes, is_reduced_number, is_zero, whole};
+pub use recognize::is_number;
 pub use term::term_at;
 
 #[cfg(test)]

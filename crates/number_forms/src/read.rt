@@ -41,7 +41,7 @@ pub fn whole(pool: &Pool, id: Id) -> Option<i128>
 }
 
 /// The whole number that a rational is, if it is one.
-fn whole_of(q: Rat) -> Option<i128>
+pub(crate) fn whole_of(q: Rat) -> Option<i128>
     ensures value { MatchOption result ((value_of q).den == 1 ≡ false) (λ n. value_of q ≡ whole_fraction n) }
     ensures fits { IfSome result (λ n. nat_abs n < 2 ^ 127) }
 {

@@ -1,5 +1,5 @@
 -- The parts that trial division leaves are clean.
-use Rattle.std.proofs.Common.{◌≡◌, ◌≢◌, ℕ, ◌+◌, ◌*◌, ◌^◌, ◌<◌, ◌≤◌, ◌⊎◌, inl, inr, sym, ap, ◌∙◌, subst, arith}
+use Rattle.std.proofs.Common.{◌≡◌, ◌≢◌, ℕ, ◌+◌, ◌*◌, ◌^◌, ◌<◌, ◌≤◌, ◌⊎◌, inl, inr, refl, sym, ap, ◌∙◌, subst, arith}
 use Rattle.std.specs.Int.{◌∣◌}
 use Rattle.std.proofs.lemmas.Bool.{cases_lt}
 use Rattle.std.proofs.lemmas.Nat.Gcd.{dvd_refl, dvd_trans, le_of_dvd}
@@ -107,6 +107,23 @@ rounded_no_square n r within next differ s big e =
     more : (s : ℕ) → s * s < (s + 1) * (s + 1)
     more s = omega arith
 
+-- where the rest is a great square the number is not clean
+pub square_not_clean : (f : Found) (m : ℕ) → IsFound f → HasNoOtherDivisor f.rest → 100000000 < f.rest → m * m ≡ f.rest → IsClean (number_of f) → ⊥
+square_not_clean f m found only far e clean =
+    let c-positive : 0 < f.clean = clean_positive f.root f.clean f.rest found.positive in
+    let n-positive : 0 < f.rest = omega arith in
+    let whole-positive : 0 < f.clean * f.rest = grind arith in
+    let rough : IsRough f.rest = record { none = λ d two le h. let same : d ≡ f.rest = only.whole d two le h in omega arith } in
+    let left : left_of (f.clean * f.rest) ≡ f.rest = left_of_part (f.clean * f.rest) f.rest f.clean whole-positive n-positive (omega arith) found.smooth rough in
+    let itself : number_of f ≡ f.clean * f.rest = ap (λ n. n * n * (f.clean * f.rest)) (found.untaken clean) ∙ one_times (f.clean * f.rest) in
+    clean.no_rest m (above m (omega arith)) (ap left_of itself ∙ left ∙ sym e)
+  where
+    one_times : (n : ℕ) → 1 * 1 * n ≡ n
+    one_times n = omega arith
+
+    above : (m : ℕ) → 1 < m * m → 1 < m
+    above m h = grind arith
+
 -- ---- the numbers of the answer
 
 pub square_product : (f : Found) (m : ℕ) → m * m ≡ f.rest → number_of f ≡ (f.root * m) * (f.root * m) * f.clean
@@ -128,6 +145,7 @@ whole_found r positive fits = record {
   square_free = record { only_one = λ e h. eq-one_of_dvd-one (dvd_trans e (dvd-mul_right e e) h) };
   smooth = IsSmooth-one;
   apart = IsGcd-from_coprime 1 r (record { common = λ d d1 dr. d1 });
+  untaken = λ clean. refl;
 }
 
 pub nothing_below_two : (n : ℕ) → HasNoDivisorBelow 2 n

@@ -4,7 +4,7 @@ use Rattle.std.specs.Int.{IsGcd, ◌∣◌}
 use Rattle.std.proofs.lemmas.Bool.{cases_lt}
 use Rattle.std.proofs.lemmas.Nat.Gcd.{dvd_refl, dvd_trans, le_of_dvd, dvd_of_mod-eq-zero, mod-eq-zero_of_dvd}
 use Rattle.std.proofs.Math.Nat.{mul-div_cancel', dvd-mul_left, mul-dvd-mul, dvd_of_mul-dvd-mul_right, eq-one_of_dvd-one}
-use Rattle.calc_terms.specs.Clean.{trial_limit}
+use Rattle.calc_terms.specs.Clean.{trial_limit, IsClean}
 use Rattle.rational128.proofs.Coprime.{IsCoprime, IsCoprime-swap, IsCoprime-from_gcd, IsGcd-from_coprime, IsCoprime-divisors, IsCoprime-mul, other_factor, positive_factor}
 use Rattle.square_parts.specs.declared.division.Found.{Found}
 use Rattle.square_parts.specs.Divisors.{IsSmooth, IsSquareFree, HasNoDivisorBelow}
@@ -53,11 +53,11 @@ moved_once : (r d c q : ℕ) → r * r * ((c * d) * q) ≡ r * r * (c * (d * q))
 moved_once r d c q = omega arith
 
 -- the square of d goes to the square part
-pub square_step : (f : Found) (d : ℕ) → IsFound f → HasNoDivisorBelow d f.rest → 2 ≤ d → f.rest % d ≡ 0 → f.rest / d % d ≡ 0
+pub square_step : (f : Found) (d : ℕ) → IsFound f → HasNoDivisorBelow d f.rest → 2 ≤ d → d ≤ trial_limit → f.rest % d ≡ 0 → f.rest / d % d ≡ 0
     → IsStep f (record { root = f.root * d; clean = f.clean; rest = f.rest / d / d }) d
-square_step f d found none two once twice = record {
+square_step f d found none two le once twice = record {
   same = same;
-  found = record { positive = positive; fits = fits; square_free = found.square_free; smooth = found.smooth; apart = apart };
+  found = record { positive = positive; fits = fits; square_free = found.square_free; smooth = found.smooth; apart = apart; untaken = untaken };
   below = fewer_divisors d f.rest q q-divides none;
   less = less;
   root_fits = omega (arith, fits, root_at_most (f.root * d) f.clean q positive);
@@ -98,6 +98,13 @@ square_step f d found none two once twice = record {
 
     apart : IsGcd f.clean q 1
     apart = IsGcd-from_coprime f.clean q (IsCoprime-divisors f.clean f.rest f.clean q (dvd_refl f.clean) q-divides (IsCoprime-from_gcd f.clean f.rest found.apart))
+
+    -- a number with the square of d is not clean
+    square : d * d ∣ (f.root * d) * (f.root * d) * (f.clean * q)
+    square = subst (λ n. d * d ∣ n) (omega arith) (dvd-mul_left (d * d) (f.root * f.root * (f.clean * q)))
+
+    untaken : IsClean ((f.root * d) * (f.root * d) * (f.clean * q)) → f.root * d ≡ 1
+    untaken clean = absurd (clean.no_square d two le square)
 
 -- a number d that divides what is left has no divisor below d
 no_divisor : (d n : ℕ) → d ∣ n → HasNoDivisorBelow d n → HasNoDivisorBelow d d
@@ -142,7 +149,7 @@ pub clean_step : (f : Found) (d : ℕ) → IsFound f → HasNoDivisorBelow d f.r
     → IsStep f (record { root = f.root; clean = f.clean * d; rest = f.rest / d }) d
 clean_step f d found none two le once not_twice = record {
   same = same;
-  found = record { positive = positive; fits = fits; square_free = square_free_more f.clean d two own apart_from_d found.square_free; smooth = smooth; apart = apart };
+  found = record { positive = positive; fits = fits; square_free = square_free_more f.clean d two own apart_from_d found.square_free; smooth = smooth; apart = apart; untaken = λ clean. found.untaken (subst IsClean same clean) };
   below = fewer_divisors d f.rest q q-divides none;
   less = less_quotient d q f.rest two whole q-positive;
   root_fits = omega (arith, fits, root_at_most f.root (f.clean * d) q positive);
@@ -204,10 +211,10 @@ done_with d n none last = record { none = λ e two lt en. by e two en lt (cases_
 
 -- ---- the same at the numbers that the program computes
 
-pub square_found : (f : Found) (d d' once rest : ℕ) → IsFound f → HasNoDivisorBelow d f.rest → 2 ≤ d → f.rest % d ≡ 0 → once ≡ f.rest / d → once % d ≡ 0 → d' ≡ d → rest ≡ once / d
+pub square_found : (f : Found) (d d' once rest : ℕ) → IsFound f → HasNoDivisorBelow d f.rest → 2 ≤ d → d ≤ trial_limit → f.rest % d ≡ 0 → once ≡ f.rest / d → once % d ≡ 0 → d' ≡ d → rest ≡ once / d
     → IsStep f (record { root = f.root * d'; clean = f.clean; rest = rest }) d
-square_found f d d' once rest found none two divides once-is again d-is rest-is =
-    rw (rest-is, once-is, d-is) (square_step f d found none two divides (subst (λ n. n % d ≡ 0) once-is again))
+square_found f d d' once rest found none two le divides once-is again d-is rest-is =
+    rw (rest-is, once-is, d-is) (square_step f d found none two le divides (subst (λ n. n % d ≡ 0) once-is again))
 
 pub clean_found : (f : Found) (d d' once : ℕ) → IsFound f → HasNoDivisorBelow d f.rest → 2 ≤ d → d ≤ trial_limit → f.rest % d ≡ 0 → once ≡ f.rest / d → once % d ≢ 0 → d' ≡ d
     → IsStep f (record { root = f.root; clean = f.clean * d'; rest = once }) d

@@ -12,11 +12,13 @@ const SQUARE_OF_TRIAL_LIMIT: u128 = 100_000_000;
 
 /// s and t where r = s * s * t and t is clean: no square of a number from 2 to 10,000 divides t,
 /// and what is left of t when all divisors from 2 to 10,000 are divided out is no square above 1.
+/// So s is 1 exactly where r is clean.
 pub fn split(r: u128) -> (u128, u128)
     requires positive { 1 ≤ r }
     requires fits { r < 2 ^ 127 }
     ensures product { r ≡ result.0 * result.0 * result.1 }
     ensures clean { IsClean result.1 }
+    ensures untaken { IsClean r → result.0 ≡ 1 }
 {
     let whole = Found {
         root: 1,
@@ -38,6 +40,7 @@ fn parts_of(found: Found) -> (u128, u128)
     requires no_other { HasNoOtherDivisor found.rest }
     ensures product { number_of found ≡ result.0 * result.0 * result.1 }
     ensures clean { IsClean result.1 }
+    ensures untaken { IsClean (number_of found) → result.0 ≡ 1 }
 {
     // A square up to this one would have its root among the divisors.
     if SQUARE_OF_TRIAL_LIMIT < found.rest {

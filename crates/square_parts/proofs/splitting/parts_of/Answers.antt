@@ -1,5 +1,5 @@
 use Rattle.std.proofs.Common.{arith}
-use Rattle.square_parts.proofs.CleanParts.{clean_alone, clean_with_rest, small_no_square, rounded_no_square, square_fits}
+use Rattle.square_parts.proofs.CleanParts.{clean_alone, clean_with_rest, small_no_square, rounded_no_square, square_not_clean, square_fits}
 use Rattle.square_parts.proofs.splitting.parts_of.Goals as goal
 use Rattle.square_parts.proofs.splitting.parts_of.Goals.{then-found-gt-SQUARE_OF_TRIAL_LIMIT+else-root-found, else-found-gt-SQUARE_OF_TRIAL_LIMIT}
 
@@ -8,6 +8,9 @@ overflow_mul-result c = omega (arith, square_fits c.args.found c.isqrt-root.resu
 
 pub returns-then-root-found-clause-clean : goal.returns-then-root-found-clause-clean
 returns-then-root-found-clause-clean c = clean_alone c.args.found c.requires.found
+
+pub returns-then-root-found-clause-untaken : goal.returns-then-root-found-clause-untaken
+returns-then-root-found-clause-untaken c = λ clean. absurd (square_not_clean c.args.found c.isqrt-root.result c.requires.found c.requires.no_other c.if-found-gt-SQUARE_OF_TRIAL_LIMIT.true c.if-root-found.true clean)
 
 pub returns-clause-clean : goal.returns-clause-clean
 returns-clause-clean c =

@@ -5,7 +5,7 @@ use Rattle.square_parts.proofs.division.Found.divided_once.Goals.{Then-divides, 
 
 -- the steps, at what the quotients and the cast give
 squared : (c : Then-divides) (d' rest : ℕ) → d' ≡ c.args.d → rest ≡ c.quotient-once.result / c.args.d → IsStep c.args.self (record { root = c.args.self.root * d'; clean = c.args.self.clean; rest = rest }) c.args.d
-squared c d' rest d-is rest-is = square_found c.args.self c.args.d d' c.quotient-once.result rest c.requires.found c.requires.below c.requires.at_least_two c.requires.divides c.quotient-once.ensures (c.if-divides.ensures.0 refl) d-is rest-is
+squared c d' rest d-is rest-is = square_found c.args.self c.args.d d' c.quotient-once.result rest c.requires.found c.requires.below c.requires.at_least_two c.requires.within c.requires.divides c.quotient-once.ensures (c.if-divides.ensures.0 refl) d-is rest-is
 
 cleaned : (c : Else-divides) (d' : ℕ) → d' ≡ c.args.d → IsStep c.args.self (record { root = c.args.self.root; clean = c.args.self.clean * d'; rest = c.quotient-once.result }) c.args.d
 cleaned c d' d-is =

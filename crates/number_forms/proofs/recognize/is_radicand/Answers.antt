@@ -1,0 +1,18 @@
+use Rattle.std.proofs.Common.{rules, FitsSigned, ap, ◌∙◌}
+use Rattle.std.specs.Int.{w128}
+use Rattle.std.specs.Prelude.{nat_abs}
+use Rattle.std.proofs.lemmas.Int.{to_z-of_z}
+use Rattle.calc_terms.specs.Rat.{value_of}
+use Rattle.number_forms.proofs.Recognized.{small_whole, clean_whole}
+use Rattle.number_forms.proofs.recognize.is_radicand.Goals as goal
+
+pub returns-then-n-lt2 : goal.returns-then-n-lt2
+returns-then-n-lt2 c =
+    let fits : FitsSigned w128 c.in-Some.n = search rules in
+    small_whole (value_of c.args.r) c.in-Some.n _ c.in-Some.ensures.value c.if-n-lt2.true (to_z-of_z w128 _ fits)
+
+pub returns : goal.returns
+returns c =
+    let fits : FitsSigned w128 c.in-Some.n = search rules in
+    let told = to_z-of_z w128 c.in-Some.n fits in
+    clean_whole (value_of c.args.r) c.in-Some.n _ _ _ c.in-Some.ensures.value c.if-n-lt2.false told (c.unsigned_abs.ensures.value ∙ ap nat_abs told) c.is_clean.ensures

@@ -1,0 +1,14 @@
+use Rattle.std.proofs.Common.{◌≡◌, sym, ap, ◌∙◌, of_z}
+use Rattle.std.specs.Int.{w128}
+use Rattle.std.specs.Prelude.{pos}
+use Rattle.calc_terms.specs.Fractions.{Fraction, zero_fraction}
+use Rattle.calc_terms.proofs.FractionFacts.{whole_numerator}
+use Rattle.rational128.proofs.LowestTerms.{ratio_parts}
+use Rattle.number_forms.proofs.tests.building.term.Goals as goal
+
+zero_num : zero_fraction.num ≡ pos 0
+unfolding zero_fraction
+zero_num = whole_numerator (pos 0)
+
+pub rational-requires : goal.rational-requires
+rational-requires c = λ e. c.if-num-eq0.false (ap (of_z w128) (c.num.ensures.value ∙ sym (ratio_parts c.ratio-coefficient.result).num ∙ ap (λ (f : Fraction). f.num) e ∙ zero_num))
