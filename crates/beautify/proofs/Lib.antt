@@ -16,3 +16,4 @@ pub mod Places
 pub mod Signs
 pub mod Sizes
 pub mod Extending
+pub mod Examples

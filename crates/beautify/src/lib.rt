@@ -10,3 +10,6 @@ mod stack;
 mod sums;
 
 pub use face::face_of;
+
+#[cfg(test)]
+mod tests;

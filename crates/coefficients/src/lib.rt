@@ -12,3 +12,6 @@ pub use products::{as_product, unwrapped};
 pub use putting::put_coefficient;
 pub use splicing::splice;
 pub use taking::{coefficient_length, split_product, take_coefficient};
+
+#[cfg(test)]
+mod tests;

@@ -5,3 +5,5 @@ pub mod Causes
 pub mod EasyTrees
 pub mod PlainTrees
 pub mod Faults
+pub mod Children
+pub mod Steps

@@ -1,0 +1,82 @@
+//! Faces of numbers, worked by hand: a sign of 8 bytes, a line of 8 bytes, and 40 for each whole
+//! number, where a denominator of 1 is not written.
+ghost use Rattle.std.specs.Prelude.{IfOk};
+ghost use Rattle.node_pool.specs.State.{IsPoolSize};
+ghost use Rattle.tree_handles.specs.Standing.{Stands};
+
+use crate::face_of;
+use calc_terms::Rat;
+use node_pool::Pool;
+use std::alloc::{AllocError, Global};
+use std::test::Fail;
+use tree_handles::number;
+
+/// A numerator, a denominator, and the bytes of the face.
+const ROWS: [(i8, u8, u32); 10] = [
+    (-3, 2, 96),
+    (-1, 2, 96),
+    (1, 2, 88),
+    (2, 3, 88),
+    (3, 1, 40),
+    (1, 1, 40),
+    (0, 1, 40),
+    (-1, 1, 48),
+    (-5, 1, 48),
+    (-128, 255, 96),
+];
+
+/// A pool with no tree in it.
+fn opened(alloc: Global, size: u32) -> Result<Pool, AllocError>
+    requires { IsPoolSize size }
+    ensures { IfOk result Stands }
+{
+    let pool = Pool::open(alloc, size)?;
+    Ok(pool)
+}
+
+/// The bytes that are used when the face of a number stands alone, or none where a placing was
+/// refused.
+fn bytes_of_face(pool: &mut Pool, value: Rat) -> Option<u32>
+    requires { Stands pool.old }
+    ensures { Stands pool.new }
+{
+    let Ok(number) = number(pool, value) else {
+        return None;
+    };
+    let Ok(_face) = face_of(pool, number) else {
+        return None;
+    };
+    Some(pool.used())
+}
+
+fn rational(num: i8, den: u8) -> Rat {
+    if den == 0 {
+        Rat::whole(i128::from(num))
+    } else {
+        Rat::ratio(i128::from(num), i128::from(den))
+    }
+}
+
+#[test]
+fn faces_of_numbers(rt: HostRuntime) -> Result<(), Fail> {
+    for (num, den, bytes) in ROWS {
+        let mut pool = opened(rt.alloc(), 512)?;
+        let used = bytes_of_face(&mut pool, rational(num, den));
+        assert_eq!(rt; used, Some(bytes), "{num}/{den}");
+    }
+    Ok(())
+}
+
+/// The number takes 40 bytes, the stack 8, and the face of -3/2 beside them 96.
+#[test]
+fn small_pools_refuse(rt: HostRuntime) -> Result<(), Fail> {
+    for size in [64u32, 72, 80, 88, 96, 104, 112, 120, 128, 136] {
+        let mut pool = opened(rt.alloc(), size)?;
+        let used = bytes_of_face(&mut pool, rational(-3, 2));
+        assert_eq!(rt; used, None, "{size}");
+        assert_eq!(rt; pool.refusals(), 1, "{size}");
+    }
+    let mut pool = opened(rt.alloc(), 144)?;
+    assert_eq!(rt; bytes_of_face(&mut pool, rational(-3, 2)), Some(96));
+    Ok(())
+}

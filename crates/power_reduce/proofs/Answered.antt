@@ -1,0 +1,175 @@
+-- The answers to the powers that no rule rewrites.
+use Rattle.std.proofs.Common.{◌≡◌, ◌≤◌, ◌<◌, Bool, true, false, not, ◌&&◌, ◌||◌, [], ◌++◌, length, inl, inr, refl, sym, ap, ◌∙◌, arith}
+use Rattle.std.specs.Prelude.{nat_le}
+use Rattle.std.proofs.lemmas.Bool.{and_parts, eqb-true, lt-leb}
+use Rattle.std.proofs.lemmas.List.Elements.{Contains-append_left}
+use Rattle.calc_terms.specs.Fractions.{Fraction, zero_fraction, one_fraction}
+use Rattle.calc_terms.specs.Integers.{int_is_negative}
+use Rattle.calc_terms.specs.Loads.{nest, nest_of, load}
+use Rattle.calc_terms.specs.Numbers.{is_number, classes, IsNumber, IsTerm, AreTerms}
+use Rattle.calc_terms.specs.Reduced.{is_reduced, HasForm, IsPowerForm, num_one}
+use Rattle.calc_terms.specs.Trees.{Tree, num, undef, add, mult, power, root, Trees, none, more, names, names_of, AllParts, AllPartsOf, is_undef, itself, in_base, in_exponent}
+use Rattle.calc_terms.proofs.NumberLaws.{number_words, number_test}
+use Rattle.calc_terms.proofs.PowerRewrites.{power_one_is_base, power_zero_is_one}
+use Rattle.calc_terms.proofs.ReducedLaws.{reduced_test}
+use Rattle.calc_terms.proofs.UndefRewrites.{undef_part}
+use Rattle.coefficients.proofs.Forms.{reduced_parts}
+use Rattle.reduce_port.specs.Rewritings.{HasNoNewName, KeepsMeanings}
+use Rattle.reduce_port.proofs.Rewritings.{keeps, Rewrites-refl, reduces}
+use Rattle.number_forms.specs.Readers.{is_zero}
+use Rattle.power_reduce.specs.PowerAnswers.{has_no_power, has_number_power, IsPowerAnswer}
+use Rattle.power_reduce.proofs.Bounds.{load_at_most_weight, transparent_load, opaque_load}
+
+no_names : (t u : Tree) → names u ≡ [] → HasNoNewName t u
+no_names t u e = record { name = λ x c. absurd (let f : length (names u) ≡ 0 = ap length e in let k : c.0 < length (names u) = c.1 in omega arith) }
+
+-- ---- Numbers
+
+pub record IsPlain (t : Tree) : Type 0 where
+  pub no_name : names t ≡ []
+  pub flat : nest t ≡ 0
+  pub reduced : is_reduced t ≡ true
+  pub defined : is_undef t ≡ false
+
+term_names : (t : Tree) → IsTerm t → names t ≡ []
+term_names (num q) h = refl
+term_names (root (num r)) h = refl
+term_names (mult (more (num q) (more (root (num r)) none))) h = refl
+term_names _ h = absurd h
+
+term_nest : (t : Tree) → IsTerm t → nest t ≡ 0
+term_nest (num q) h = refl
+term_nest (root (num r)) h = refl
+term_nest (mult (more (num q) (more (root (num r)) none))) h = refl
+term_nest _ h = absurd h
+
+terms_names : (ts : Trees) → AreTerms ts → names_of ts ≡ []
+terms_names none h = refl
+terms_names (more t ts) (h, hs) = λ i. term_names t h i ++ terms_names ts hs i
+
+terms_nest : (ts : Trees) → AreTerms ts → nest_of ts ≡ 0
+terms_nest none h = refl
+terms_nest (more t ts) (h, hs) = omega (arith, term_nest t h, terms_nest ts hs)
+
+term_parts : (t : Tree) → IsTerm t → AllParts HasForm t
+term_parts (num q) h = inl tt
+term_parts (root (num r)) h = (inl h, inl tt)
+term_parts (mult (more (num q) (more (root (num r)) none))) h = (inl h, (inl tt, ((inl h.2, inl tt), tt)))
+term_parts _ h = absurd h
+
+terms_parts : (ts : Trees) → AreTerms ts → AllPartsOf HasForm ts
+terms_parts none h = tt
+terms_parts (more t ts) (h, hs) = (term_parts t h, terms_parts ts hs)
+
+single : (t : Tree) → is_undef t ≡ false → IsTerm t → IsPlain t
+single t u h = record { no_name = term_names t h; flat = term_nest t h; reduced = reduced_test t (inr (term_parts t h)); defined = u }
+
+pub number_plain : (t : Tree) → IsNumber t → IsPlain t
+number_plain (num q) h = record { no_name = refl; flat = refl; reduced = reduced_test (num q) (inr (inl tt)); defined = refl }
+number_plain (add ts) h = record { no_name = terms_names ts h.1; flat = terms_nest ts h.1; reduced = reduced_test (add ts) (inr (inl h, terms_parts ts h.1)); defined = refl }
+number_plain (root a) h = single (root a) refl h
+number_plain (mult ts) h = single (mult ts) refl h
+number_plain _ h = absurd h
+
+no_load : (t : Tree) → is_number t ≡ true → load t ≡ 0
+no_load t h = rw h refl
+
+-- a Number that keeps the meanings of the power
+pub number_answer : (b e t : Tree) → is_number t ≡ true → has_no_power b e ≡ false → KeepsMeanings (power b e) t → IsPowerAnswer b e t
+number_answer b e t h d k =
+    let p = number_plain t (number_words t h) in record {
+      reduces = record { reduced = p.reduced; no_new_name = no_names (power b e) t p.no_name; meanings = k };
+      undefined = p.defined ∙ sym d;
+      number = λ k x. h;
+      nest_bound = omega (arith, p.flat);
+      load_bound = λ o. omega (arith, no_load t h);
+      opaque_bound = omega (arith, no_load t h);
+    }
+
+-- ---- exponents 0 and 1
+
+-- b ^ 0 is 1, where b is neither Undef nor 0
+pub zero_exponent_answer : (b : Tree) → has_no_power b (num zero_fraction) ≡ false → IsPowerAnswer b (num zero_fraction) num_one
+zero_exponent_answer b d = number_answer b (num zero_fraction) num_one (number_test num_one tt) d (keeps (power_zero_is_one b))
+
+number_nest : (b : Tree) (q : Fraction) → nest (power b (num q)) ≡ nest b
+number_nest b q = rw (number_test (num q) tt) refl
+
+-- a power that is a Number's has a Number as its base
+number_base : (b : Tree) (q : Fraction) → has_number_power b (num q) ≡ true → is_number b ≡ true
+number_base b q h = let (p, s) = and_parts _ _ h in (and_parts _ _ p).0
+
+-- b ^ 1 is b
+pub one_exponent_answer : (b : Tree) → is_reduced b ≡ true → is_undef b ≡ false → has_no_power b (num one_fraction) ≡ false → IsPowerAnswer b (num one_fraction) b
+one_exponent_answer b h u d = record {
+  reduces = record { reduced = h; no_new_name = record { name = λ x k. Contains-append_left (names b) [] x k }; meanings = keeps (power_one_is_base b) };
+  undefined = u ∙ sym d;
+  number = λ k x. number_base b one_fraction k;
+  nest_bound = omega (arith, number_nest b one_fraction);
+  load_bound = λ o. load_at_most_weight b;
+  opaque_bound = omega (arith, load_at_most_weight b);
+}
+
+-- ---- Undef
+
+undef_load : load undef ≡ 0
+unfolding is_number
+undef_load = refl
+
+-- a power that has no meaning
+pub undefined_answer : (b e : Tree) → has_no_power b e ≡ true → KeepsMeanings (power b e) undef → IsPowerAnswer b e undef
+undefined_answer b e h k = record {
+  reduces = record { reduced = reduced_test undef (inl refl); no_new_name = no_names (power b e) undef refl; meanings = k };
+  undefined = sym h;
+  number = λ k d. absurd cc;
+  nest_bound = omega arith;
+  load_bound = λ o. omega (arith, undef_load);
+  opaque_bound = omega (arith, undef_load);
+}
+
+-- a power of Undef
+pub undef_base_answer : (e : Tree) → IsPowerAnswer undef e undef
+undef_base_answer e = undefined_answer undef e refl (keeps (undef_part (power undef e) (in_base itself)))
+
+-- a power whose exponent is Undef
+pub undef_exponent_answer : (b : Tree) → IsPowerAnswer b undef undef
+undef_exponent_answer b = undefined_answer b undef (either (is_undef b)) (keeps (undef_part (power b undef) (in_exponent itself)))
+  where
+    either : (c : Bool) → (c || true || is_zero b && false) ≡ true
+    either true = refl
+    either false = refl
+
+-- ---- powers that are kept
+
+-- a reduced power is none of a Number that has a power
+whole_number : (b : Tree) (q : Fraction) → IsPowerForm b (num q) → has_number_power b (num q) ≡ true → ⊥
+whole_number b q f h =
+    let (p, s) = and_parts _ _ h in
+    let (n, d) = and_parts _ _ p in
+    let w = (f (eqb-true q.den 1 d)).wide n in
+    narrow (int_is_negative q.num) (nat_le (classes b) 2) s w.0 (lt-leb _ _ (let l : 3 ≤ classes b = w.1 in omega arith))
+  where
+    narrow : (m l : Bool) → (not m || l) ≡ true → m ≡ true → l ≡ false → ⊥
+    narrow true true h a b = cc
+    narrow true false h a b = cc
+    narrow false l h a b = cc
+
+power_number : (b e : Tree) → IsNumber (power b e) → ⊥
+power_number b e h = h
+
+own_power_form : (b e : Tree) → is_reduced (power b e) ≡ true → IsPowerForm b e
+own_power_form b e h = elim ((reduced_parts (power b e) h refl).0) [ inl n ↦ absurd (power_number b e n) | inr f ↦ f ]
+
+kept_number : (b e : Tree) → is_reduced (power b e) ≡ true → has_number_power b e ≡ true → is_number (power b e) ≡ true
+kept_number b (num q) h k = absurd (whole_number b q (own_power_form b (num q) h) k)
+kept_number b e h k = cc
+
+pub kept_answer : (b e : Tree) → is_reduced (power b e) ≡ true → has_no_power b e ≡ false → IsPowerAnswer b e (power b e)
+kept_answer b e h d = record {
+  reduces = reduces (Rewrites-refl (power b e)) h;
+  undefined = sym d;
+  number = λ k x. kept_number b e h k;
+  nest_bound = omega arith;
+  load_bound = λ o. transparent_load b e o;
+  opaque_bound = opaque_load b e;
+}

@@ -1,0 +1,175 @@
+-- By which rule a power was rewritten, and what falls.
+use Rattle.std.proofs.Common.{◌≡◌, ◌+◌, ◌≤◌, ◌<◌, suc, ◌⊎◌, inl, inr, Bool, true, false, ◌&&◌, ◌||◌, not, if◌then◌else◌, Some, None, refl, sym, ap, ◌∙◌, subst, arith}
+use Rattle.std.specs.Prelude.{max, ◌==◌}
+use Rattle.std.proofs.lemmas.Bool.{and_parts, eqb-true, eq-eqb}
+use Rattle.calc_terms.specs.Fractions.{Fraction, whole_fraction}
+use Rattle.calc_terms.specs.Loads.{nest, nest_of, load, weight, load_of_factor, load_of_factors}
+use Rattle.calc_terms.specs.Numbers.{is_number, IsNumber}
+use Rattle.calc_terms.specs.Reduced.{is_reduced, is_whole_num, is_opaque_exponent, HasForm}
+use Rattle.calc_terms.specs.Trees.{Tree, num, symbol, undef, add, mult, power, root, neg, sub, div, Trees, none, more, AllParts, is_undef}
+use Rattle.calc_terms.proofs.FractionFacts.{whole_denominator}
+use Rattle.calc_terms.proofs.NumberLaws.{number_test, number_words}
+use Rattle.coefficients.proofs.Forms.{reduced_parts, parts_reduced}
+use Rattle.number_forms.specs.Readers.{is_zero}
+use Rattle.power_reduce.specs.PowerAnswers.{has_no_power, has_number_power}
+use Rattle.power_reduce.specs.PowerRules.{EachTree, HalvesRoot, JoinsExponents, IsLighterPart, RaisesParts, IsByRule, IsRewritable}
+use Rattle.power_reduce.specs.PowerSteps.{goes_inside, is_zero_or_one, is_even_whole, half, parts_of, raised, rewritten}
+use Rattle.power_reduce.proofs.Answered.{number_plain}
+use Rattle.power_reduce.proofs.Bounds.{number_load}
+use Rattle.power_reduce.proofs.Rules.{chosen, nothing}
+use Rattle.power_reduce.proofs.Weights.{product_parts, each_lighter, powers_nest, powers_load}
+
+-- ---- roots
+
+nest_to_number : (b : Tree) (q : Fraction) → nest (power b (num q)) ≡ nest b
+nest_to_number b q = rw (number_test (num q) tt) refl
+
+root_weight : (a : Tree) → is_number (root a) ≡ false → weight (root a) ≡ suc (weight a)
+root_weight a h = rw h refl
+
+halves : (a : Tree) (q : Fraction) → is_reduced (root a) ≡ true → is_number (root a) ≡ false → HalvesRoot (root a) (num q) (power a (num (whole_fraction (half q.num))))
+halves a q r n = record {
+  argument = a;
+  half = whole_fraction (half q.num);
+  base-is = refl;
+  tree-is = refl;
+  whole = whole_denominator (half q.num);
+  reduced = parts_reduced a (reduced_parts (root a) r refl).1;
+  lighter = omega (arith, root_weight a n);
+  nest_kept = omega (arith, nest_to_number a (whole_fraction (half q.num)), nest_to_number (root a) q);
+}
+
+-- ---- powers of powers
+
+number_nest : (t : Tree) → is_number t ≡ true → nest t ≡ 0
+number_nest t h = (number_plain t (number_words t h)).flat
+
+both : (a b : Bool) → a ≡ true → b ≡ true → (a && b) ≡ true
+both a b h k = rw (h, k) refl
+
+not_both : (a b : Bool) → (a && b) ≡ false → a ≡ true → b ≡ true → ⊥
+not_both a b h p q = cc (both a b p q)
+
+-- the nest of a power, as its exponent is a Number or not
+to_number : (b e : Tree) → is_number e ≡ true → nest (power b e) ≡ nest b
+to_number b e h = rw h refl
+
+to_other : (b e : Tree) → is_number e ≡ false → nest (power b e) ≡ max (nest b) (suc (nest e))
+to_other b e h = rw h refl
+
+exponents : (c f e : Tree) → (is_number f && is_number e) ≡ false → max (nest f) (max (nest e) 0) < nest (power (power c f) e)
+exponents c f e h = by (is_number f) (is_number e) refl refl
+  where
+    by : (a b : Bool) → is_number f ≡ a → is_number e ≡ b → max (nest f) (max (nest e) 0) < nest (power (power c f) e)
+    by true true p q = absurd (not_both _ _ h p q)
+    by true false p q = omega (arith, number_nest f p, to_other (power c f) e q)
+    by false true p q = omega (arith, number_nest e q, to_number (power c f) e q, to_other c f p)
+    by false false p q = omega (arith, to_other (power c f) e q, to_other c f p)
+
+flat_exponents : (f e : Tree) → (is_number f && is_number e) ≡ true → max (nest f) (max (nest e) 0) ≡ 0
+flat_exponents f e h = omega (arith, number_nest f (and_parts _ _ h).0, number_nest e (and_parts _ _ h).1)
+
+no_load : (f e : Tree) → (is_number f && is_number e) ≡ true → load (mult (more f (more e none))) ≡ 0
+no_load f e h = by (is_number (mult (more f (more e none)))) (and_parts _ _ h)
+  where
+    by : (b : Bool) → (is_number f ≡ true) × (is_number e ≡ true) → (if b || false then 0 else load_of_factor f + (load_of_factor e + 0)) ≡ 0
+    by true k = refl
+    by false k = omega (arith, number_load f k.0, number_load e k.1)
+
+base_nest : (c f : Tree) → nest c ≤ nest (power c f)
+base_nest c f = by (is_number f)
+  where
+    by : (b : Bool) → nest c ≤ (if b then nest c else max (nest c) (suc (nest f)))
+    by true = omega arith
+    by false = omega arith
+
+joined_nest : (c f e p : Tree) → nest p ≤ max (nest f) (max (nest e) 0) → ((is_number f && is_number e) ≡ true → is_number p ≡ true) → nest (power c p) ≤ nest (power (power c f) e)
+joined_nest c f e p l n = by (is_number p) (is_number f && is_number e) refl refl
+  where
+    by : (a b : Bool) → is_number p ≡ a → (is_number f && is_number e) ≡ b → nest (power c p) ≤ nest (power (power c f) e)
+    by true b h k = omega (arith, to_number c p h, base_nest c f, base_nest (power c f) e)
+    by false true h k = absurd (cc (n k))
+    by false false h k = omega (arith, to_other c p h, base_nest c f, base_nest (power c f) e, exponents c f e k)
+
+joins : (c f e : Tree) → is_reduced (power c f) ≡ true → JoinsExponents (power c f) e (power c (mult (more f (more e none))))
+joins c f e r =
+    let p = reduced_parts (power c f) r refl in record {
+      inner = c;
+      first = f;
+      base-is = refl;
+      tree-is = refl;
+      base_reduced = parts_reduced c p.1;
+      first_reduced = parts_reduced f p.2;
+      lighter = omega arith;
+      exponents_nest = exponents c f e;
+      exponents_flat = flat_exponents f e;
+      exponents_load = no_load f e;
+      nest_kept = joined_nest c f e;
+    }
+
+-- ---- powers of products
+
+raises : (ts : Trees) (e : Tree) → is_reduced (mult ts) ≡ true → is_number (mult ts) ≡ false → RaisesParts (mult ts) e (mult (raised (parts_of ts) e))
+raises ts e r n =
+    let p = product_parts ts r n in record {
+      factors = ts;
+      base-is = refl;
+      tree-is = refl;
+      parts = subst (EachTree (IsLighterPart (mult ts) e)) (sym p.are.are) (each_lighter (mult ts) e p.parts p.are.formed p.are.weights-are p.are.nests);
+      nest_kept = powers_nest ts e p;
+      load_below = powers_load ts e p;
+    }
+
+-- ---- all rewritings
+
+is_false : (b : Bool) → not b ≡ true → b ≡ false
+is_false true h = cc
+is_false false h = refl
+
+pub by_rule : (b e t : Tree) → is_reduced b ≡ true → rewritten b e ≡ Some t → IsByRule b e t
+by_rule (root a) (num q) t r h = chosen _ _ t (IsByRule (root a) (num q)) h (λ k. inl (halves a q r (is_false _ (and_parts _ _ k).1)))
+by_rule (power c f) e t r h = chosen _ _ t (IsByRule (power c f) e) h (λ k. inr (inl (joins c f e r)))
+by_rule (mult ts) e t r h = chosen _ _ t (IsByRule (mult ts) e) h (λ k. inr (inr (raises ts e r (is_false _ (and_parts _ _ k).1))))
+by_rule b e t r h = nothing t (IsByRule b e) h
+
+-- ---- what is known of the exponent and the base
+
+inside : (e : Tree) → goes_inside e ≡ true → (is_undef e ≡ false) × (is_opaque_exponent e ≡ false)
+inside e h = let (p, q) = and_parts _ _ h in let (u, z) = and_parts _ _ p in (is_false _ u, is_false _ q)
+
+-- a whole exponent makes no opaque power
+pub transparent_whole : (e : Tree) → is_whole_num e ≡ true → is_opaque_exponent e ≡ false
+transparent_whole e h = rw h (never (is_number e))
+  where
+    never : (b : Bool) → (b && false) ≡ false
+    never true = refl
+    never false = refl
+
+whole_is : (q : Fraction) → (q.den == 1) ≡ true → is_whole_num (num q) ≡ true
+whole_is q h = h
+
+even_inside : (q : Fraction) → is_even_whole q ≡ true → is_opaque_exponent (num q) ≡ false
+even_inside q h = transparent_whole (num q) (whole_is q (and_parts _ _ (and_parts _ _ h).0).0)
+
+no_number_power : (b e : Tree) → is_number b ≡ false → has_number_power b e ≡ false
+no_number_power b (num q) h = rw h refl
+no_number_power b e h = refl
+
+power_no_number : (c f : Tree) → is_number (power c f) ≡ false
+unfolding is_number
+power_no_number c f = refl
+
+pub has_power : (b e : Tree) → is_undef b ≡ false → is_zero b ≡ false → is_undef e ≡ false → has_no_power b e ≡ false
+has_power b e u z v = rw (u, z, v) refl
+
+rewritable : (b e : Tree) → is_undef b ≡ false → is_zero b ≡ false → is_number b ≡ false → is_undef e ≡ false → is_opaque_exponent e ≡ false → IsRewritable b e
+rewritable b e u z n v o = record { exponent_defined = v; transparent = o; has_power = has_power b e u z v; no_number = no_number_power b e n }
+
+pub is_rewritable : (b e t : Tree) → rewritten b e ≡ Some t → IsRewritable b e
+is_rewritable (root a) (num q) t h =
+    chosen _ _ t (λ u. IsRewritable (root a) (num q)) h (λ k. let (p, n) = and_parts _ _ k in rewritable (root a) (num q) refl refl (is_false _ n) refl (even_inside q p))
+is_rewritable (power c f) e t h =
+    chosen _ _ t (λ u. IsRewritable (power c f) e) h (λ k. let i = inside e (and_parts _ _ k).0 in rewritable (power c f) e refl refl (power_no_number c f) i.0 i.1)
+is_rewritable (mult ts) e t h =
+    chosen _ _ t (λ u. IsRewritable (mult ts) e) h (λ k. let (p, n) = and_parts _ _ k in let i = inside e p in rewritable (mult ts) e refl refl (is_false _ n) i.0 i.1)
+is_rewritable b e t h = nothing t (λ u. IsRewritable b e) h

@@ -1,0 +1,439 @@
+-- Which powers no rule rewrites, by what the program tests.
+use Rattle.std.proofs.Common.{◌≡◌, ◌≢◌, ℕ, ◌%◌, ◌<◌, ◌^◌, ℤ, pos, negsuc, zero, suc, neg_ℤ, Bool, true, false, ◌&&◌, ◌||◌, not, if◌then◌else◌, Some, None, Result, Ok, Err, ◌⊎◌, inl, inr, refl, sym, ap, ◌∙◌, subst, arith, to_z, of_z, FitsSigned}
+use Rattle.std.proofs.lemmas.Bool.{and_parts, eqb-true, eq-eqb}
+use Rattle.std.proofs.lemmas.Int.{ints, rem_is, fits_signed_from_abs}
+use Rattle.std.specs.Int.{w128}
+use Rattle.std.specs.Result.{IsErrAnd}
+use Rattle.std.specs.Prelude.{nat_abs, int_rem, ◌==◌, nat_eq}
+use Rattle.calc_terms.specs.declared.kind.Kind.TheVariants as kind
+use Rattle.calc_terms.specs.Fractions.{Fraction, whole_fraction, zero_fraction, one_fraction, is_zero_fraction, is_one_fraction}
+use Rattle.calc_terms.specs.Integers.{int_is_zero, int_is_one, int_is_even}
+use Rattle.calc_terms.specs.Numbers.{is_number}
+use Rattle.calc_terms.specs.PlainValues.{PlainValue, plain_value, powered, nothing}
+use Rattle.calc_terms.specs.Reduced.{is_reduced, is_whole_num, is_opaque_exponent}
+use Rattle.calc_terms.specs.Trees.{Tree, num, symbol, undef, add, mult, power, root, neg, sub, div, none, more, root_kind, is_num, is_undef, is_mult, is_root}
+use Rattle.calc_terms.proofs.FractionFacts.{whole_numerator, whole_denominator, zero_is}
+use Rattle.calc_terms.proofs.NumberLaws.{number_test, number_words}
+use Rattle.node_pool.specs.State.{State}
+use Rattle.number_forms.specs.Answers.{AnswersRationals}
+use Rattle.number_forms.specs.Readers.{is_zero}
+use Rattle.power_reduce.specs.PowerAnswers.{is_power, base_in, exponent_in, is_at_most_zero, has_no_power, IsPowerAnswer, HasReducedSides}
+use Rattle.power_reduce.specs.PowerSteps.{goes_inside, is_zero_or_one, is_even_whole, half, parts_of, raised, rewritten}
+use Rattle.power_reduce.proofs.Answered.{kept_answer, undef_base_answer, undef_exponent_answer}
+use Rattle.power_reduce.proofs.ByRule.{has_power}
+use Rattle.power_reduce.proofs.Kept.{reduced_power, kept_form, whole_inside, other_inside}
+use Rattle.power_reduce.proofs.Powers.{power_is}
+use Rattle.power_reduce.proofs.Rules.{rewriting}
+use Rattle.power_reduce.proofs.Whole.{whole_is, opaque_is}
+use Rattle.rational128.proofs.Signed.{told}
+use Rattle.rational128.specs.declared.overflow.Overflow.{Overflow}
+use Rattle.reduce_port.specs.PlainTrees.{IsPlainAnswer, IsPlainOverflow}
+use Rattle.reduce_port.specs.Rewritings.{Rewrites, tree_of}
+use Rattle.reduce_port.specs.Steps.{AnswersRationalStep, IfAgain}
+use Rattle.reduce_port.specs.declared.step.Step.{Step}
+use Rattle.reduce_port.specs.declared.step.Step.TheVariants as step
+use Rattle.tree_handles.specs.declared.fault.NumberFault.{NumberFault}
+use Rattle.tree_handles.specs.declared.fault.NumberFault.TheVariants as fault
+use Rattle.tree_handles.specs.Forest.{Forest}
+use Rattle.tree_handles.specs.Handed.{Gives}
+use Rattle.tree_handles.proofs.Given.{gives_as}
+use Rattle.tree_handles.proofs.Outcomes.{by_test}
+
+-- ---- tests
+
+and_false : (b : Bool) → (b && false) ≡ false
+and_false true = refl
+and_false false = refl
+
+is_false : (b : Bool) → not b ≡ true → b ≡ false
+is_false true h = cc
+is_false false h = refl
+
+clash : {A : Type 0} (b : Bool) → b ≡ true → b ≡ false → A
+clash b h k = absurd cc
+
+-- ---- kinds
+
+pub power_kind : (t : Tree) → kind.Pow ≡ root_kind t → is_power t ≡ true
+power_kind (power b e) h = refl
+power_kind (num q) h = cc
+power_kind (symbol x) h = cc
+power_kind undef h = cc
+power_kind (add ts) h = cc
+power_kind (mult ts) h = cc
+power_kind (root a) h = cc
+power_kind (neg a) h = cc
+power_kind (sub a b) h = cc
+power_kind (div a b) h = cc
+
+pub no_rational_power : {A : Type 0} (t : Tree) → kind.Pow ≡ root_kind t → is_num t ≡ true → A
+no_rational_power (num q) h k = absurd cc
+no_rational_power t h k = absurd cc
+
+pub no_rational_product : {A : Type 0} (t : Tree) → kind.Mult ≡ root_kind t → is_num t ≡ true → A
+no_rational_product (num q) h k = absurd cc
+no_rational_product t h k = absurd cc
+
+pub no_rational : {A : Type 0} (t : Tree) → is_num t ≡ true → is_num t ≡ false → A
+no_rational t h k = absurd cc
+
+pub rational_number : (t : Tree) (q : Fraction) → t ≡ num q → is_number t ≡ true
+rational_number t q h = ap is_number h ∙ number_test (num q) tt
+
+pub no_num_kind : (t : Tree) → (kind.Num ≡ root_kind t → ⊥) → is_num t ≡ false
+no_num_kind (num q) h = absurd (h refl)
+no_num_kind t h = refl
+
+-- ---- what goes inside
+
+pub inside_other : (e : Tree) → goes_inside e ≡ true → is_zero_or_one e ≡ false
+inside_other e h = is_false _ (and_parts _ _ (and_parts _ _ h).0).1
+
+zero_is_whole : (q : Fraction) → is_zero_fraction q ≡ true → (q.den == 1) ≡ true
+unfolding zero_fraction
+zero_is_whole q h = ap (λ (x : Fraction). x.den == 1) (zero_is q h) ∙ eq-eqb zero_fraction.den 1 zero_den
+  where
+    zero_den : zero_fraction.den ≡ 1
+    zero_den = whole_denominator (pos 0)
+
+pub broken_other : (e : Tree) → is_whole_num e ≡ false → is_zero_or_one e ≡ false
+broken_other (num q) h = by (is_zero_fraction q) (is_one_fraction q) refl refl
+  where
+    by : (a b : Bool) → is_zero_fraction q ≡ a → is_one_fraction q ≡ b → (a || b) ≡ false
+    by true b k l = clash (q.den == 1) (zero_is_whole q k) h
+    by false true k l = clash (q.den == 1) (and_parts _ _ l).1 h
+    by false false k l = refl
+broken_other (symbol x) h = refl
+broken_other undef h = refl
+broken_other (add ts) h = refl
+broken_other (mult ts) h = refl
+broken_other (power b e) h = refl
+broken_other (root a) h = refl
+broken_other (neg a) h = refl
+broken_other (sub a b) h = refl
+broken_other (div a b) h = refl
+
+pub broken_inside : (e : Tree) → is_undef e ≡ false → is_whole_num e ≡ false → is_number e ≡ false → goes_inside e ≡ true
+broken_inside e u w n = other_inside e u (broken_other e w) n
+
+pub broken_number : (b e : Tree) → is_whole_num e ≡ false → (is_number b && is_whole_num e) ≡ false
+broken_number b e h = rw h (and_false (is_number b))
+
+pub no_number : (b e : Tree) → is_number b ≡ false → (is_number b && is_whole_num e) ≡ false
+no_number b e h = rw h refl
+
+-- ---- whole exponents
+
+one_or_zero : (z : ℤ) → z ≢ pos 0 → z ≢ pos 1 → (int_is_zero z || int_is_one z) ≡ false
+one_or_zero (pos zero) a b = absurd (a refl)
+one_or_zero (pos (suc zero)) a b = absurd (b refl)
+one_or_zero (pos (suc (suc n))) a b = refl
+one_or_zero (negsuc n) a b = refl
+
+and_true : (b : Bool) → (b && true) ≡ b
+and_true true = refl
+and_true false = refl
+
+whole_other : (z : ℤ) → z ≢ pos 0 → z ≢ pos 1 → is_zero_or_one (num (whole_fraction z)) ≡ false
+whole_other z a b = rw (whole_numerator z, whole_denominator z) (ap (λ (x : Bool). int_is_zero z || x) (and_true (int_is_one z)) ∙ one_or_zero z a b)
+
+pub whole_goes_inside : (e : Tree) (z : ℤ) → e ≡ num (whole_fraction z) → z ≢ pos 0 → z ≢ pos 1 → goes_inside e ≡ true
+whole_goes_inside e z h a b = ap goes_inside h ∙ whole_inside (whole_fraction z) (whole_denominator z) (whole_other z a b)
+
+two_fits : FitsSigned w128 (pos 2)
+two_fits = fits_signed_from_abs w128 (pos 2) (omega arith)
+
+remainder : (z : ℤ) → nat_abs z < 2 ^ 127 → to_z w128 (of_z w128 (int_rem (to_z w128 (of_z w128 z)) (to_z w128 (of_z w128 (pos 2))))) ≡ int_rem z (pos 2)
+remainder z fits = rem_is w128 z (pos 2) (fits_signed_from_abs w128 z fits) two_fits
+
+even_rem : (z : ℤ) → int_rem z (pos 2) ≡ pos 0 → int_is_even z ≡ true
+even_rem (pos n) h = eq-eqb (n % 2) 0 (same h)
+  where
+    same : {a b : ℕ} → pos a ≡ pos b → a ≡ b
+    same e = cc
+even_rem (negsuc n) h = eq-eqb (n % 2) 1 (let k : suc n % 2 ≡ 0 = below (suc n % 2) h in omega arith)
+  where
+    below : (m : ℕ) → neg_ℤ (pos m) ≡ pos 0 → m ≡ 0
+    below m h = omega (arith, ints)
+
+rem_even : (z : ℤ) → int_is_even z ≡ true → int_rem z (pos 2) ≡ pos 0
+rem_even (pos n) h = let k : n % 2 ≡ 0 = eqb-true (n % 2) 0 h in ap pos k
+rem_even (negsuc n) h = let k : n % 2 ≡ 1 = eqb-true (n % 2) 1 h in let l : suc n % 2 ≡ 0 = omega arith in ap (λ m. neg_ℤ (pos m)) l
+
+pub even_bits : (z : ℤ) → nat_abs z < 2 ^ 127 → of_z w128 (int_rem (to_z w128 (of_z w128 z)) (to_z w128 (of_z w128 (pos 2)))) ≡ 0 → int_is_even z ≡ true
+even_bits z fits h = even_rem z (sym (remainder z fits) ∙ ap (to_z w128) h)
+
+pub odd_bits : (z : ℤ) → nat_abs z < 2 ^ 127 → (of_z w128 (int_rem (to_z w128 (of_z w128 z)) (to_z w128 (of_z w128 (pos 2)))) ≡ 0 → ⊥) → int_is_even z ≡ false
+odd_bits z fits h = by_test (λ b. int_is_even z ≡ b → b ≡ false) (int_is_even z)
+    (λ x y. absurd (h (ap (λ a. of_z w128 (int_rem a (to_z w128 (of_z w128 (pos 2))))) (told z fits) ∙ ap (λ a. of_z w128 (int_rem z a)) (told (pos 2) (omega arith)) ∙ ap (of_z w128) (rem_even z y)))) (λ x y. refl) refl
+
+no_zero : (z : ℤ) → z ≢ pos 0 → int_is_zero z ≡ false
+no_zero (pos zero) h = absurd (h refl)
+no_zero (pos (suc n)) h = refl
+no_zero (negsuc n) h = refl
+
+pub even_whole : (z : ℤ) → int_is_even z ≡ true → z ≢ pos 0 → is_even_whole (whole_fraction z) ≡ true
+even_whole z h k = rw (whole_numerator z, whole_denominator z, h, no_zero z k) refl
+
+odd_whole : (z : ℤ) → int_is_even z ≡ false → is_even_whole (whole_fraction z) ≡ false
+odd_whole z h = rw (whole_numerator z, whole_denominator z, h) refl
+
+-- ---- powers that no rule rewrites
+
+-- an exponent that does not go inside, and is no even whole number
+outside_kept : (b e : Tree) → goes_inside e ≡ false → ((q : Fraction) → e ≡ num q → is_even_whole q ≡ false) → rewritten b e ≡ None
+outside_kept (root a) (num q) h k = rw (k q refl) refl
+outside_kept (root a) (symbol x) h k = refl
+outside_kept (root a) undef h k = refl
+outside_kept (root a) (add ts) h k = refl
+outside_kept (root a) (mult ts) h k = refl
+outside_kept (root a) (power b e) h k = refl
+outside_kept (root a) (root b) h k = refl
+outside_kept (root a) (neg b) h k = refl
+outside_kept (root a) (sub b c) h k = refl
+outside_kept (root a) (div b c) h k = refl
+outside_kept (power c f) e h k = rw h refl
+outside_kept (mult ts) e h k = rw h refl
+outside_kept (num p) e h k = refl
+outside_kept (symbol x) e h k = refl
+outside_kept undef e h k = refl
+outside_kept (add ts) e h k = refl
+outside_kept (neg b) e h k = refl
+outside_kept (sub b c) e h k = refl
+outside_kept (div b c) e h k = refl
+
+pub undef_exponent_kept : (b e : Tree) → is_undef e ≡ true → rewritten b e ≡ None
+undef_exponent_kept b undef h = outside_kept b undef refl (λ q k. absurd cc)
+undef_exponent_kept b e h = absurd cc
+
+pub undef_base_kept : (b e : Tree) → is_undef b ≡ true → rewritten b e ≡ None
+undef_base_kept undef e h = refl
+undef_base_kept b e h = absurd cc
+
+num_same : {p q : Fraction} → num p ≡ num q → p ≡ q
+num_same e = cc
+
+-- an opaque exponent
+pub opaque_kept : (b e : Tree) → is_number e ≡ true → is_whole_num e ≡ false → rewritten b e ≡ None
+opaque_kept b e n w =
+    outside_kept b e (rw (opaque_is e w, n) (and_false (not (is_undef e) && not (is_zero_or_one e))))
+    (λ q h. ap (λ (x : Bool). x && int_is_even q.num && not (is_zero_fraction q)) (ap is_whole_num (sym h) ∙ w))
+
+-- the exponents 0 and 1
+pub zero_kept : (b e : Tree) (z : ℤ) → e ≡ num (whole_fraction z) → z ≡ pos 0 → rewritten b e ≡ None
+unfolding is_number
+zero_kept b e z h k =
+    let w : e ≡ num (whole_fraction (pos 0)) = h ∙ ap (λ x. num (whole_fraction x)) k in
+    outside_kept b e (ap goes_inside w ∙ rw (whole_numerator (pos 0)) refl)
+    (λ q l. ap is_even_whole (num_same (sym l ∙ w)) ∙ rw (whole_denominator (pos 0), whole_numerator (pos 0)) refl)
+
+pub one_kept : (b e : Tree) (z : ℤ) → e ≡ num (whole_fraction z) → z ≡ pos 1 → rewritten b e ≡ None
+unfolding is_number
+one_kept b e z h k =
+    let w : e ≡ num (whole_fraction (pos 1)) = h ∙ ap (λ x. num (whole_fraction x)) k in
+    outside_kept b e (ap goes_inside w ∙ rw (whole_numerator (pos 1), whole_denominator (pos 1)) refl)
+    (λ q l. ap is_even_whole (num_same (sym l ∙ w)) ∙ rw (whole_denominator (pos 1), whole_numerator (pos 1)) refl)
+
+-- a Number
+pub number_kept : (b e : Tree) → is_number b ≡ true → rewritten b e ≡ None
+number_kept (root a) (num q) h = rw h (ap (λ (x : Bool). if x then Some (power a (num (whole_fraction (half q.num)))) else None) (and_false (is_even_whole q)))
+number_kept (mult ts) e h = rw h (ap (λ (x : Bool). if x then Some (mult (raised (parts_of ts) e)) else None) (and_false (goes_inside e)))
+number_kept (power c f) e h = absurd (number_words (power c f) h)
+number_kept (root a) (symbol x) h = refl
+number_kept (root a) undef h = refl
+number_kept (root a) (add ts) h = refl
+number_kept (root a) (mult ts) h = refl
+number_kept (root a) (power b e) h = refl
+number_kept (root a) (root b) h = refl
+number_kept (root a) (neg b) h = refl
+number_kept (root a) (sub b c) h = refl
+number_kept (root a) (div b c) h = refl
+number_kept (num p) e h = refl
+number_kept (symbol x) e h = refl
+number_kept undef e h = refl
+number_kept (add ts) e h = refl
+number_kept (neg b) e h = refl
+number_kept (sub b c) e h = refl
+number_kept (div b c) e h = refl
+
+-- an opaque power
+pub sealed_kept : (b e : Tree) → is_power b ≡ true → is_opaque_exponent (exponent_in b) ≡ true → rewritten b e ≡ None
+sealed_kept (power c f) e p h = rw h (ap (λ (x : Bool). if x then Some (power c (mult (more f (more e none)))) else None) (and_false (goes_inside e)))
+sealed_kept b e p h = absurd cc
+
+-- any other base
+pub other_kept : (b e : Tree) → (kind.Pow ≡ root_kind b → ⊥) → (kind.Mult ≡ root_kind b → ⊥) → (is_root b ≡ true → rewritten b e ≡ None) → rewritten b e ≡ None
+other_kept (power c f) e p m r = absurd (p refl)
+other_kept (mult ts) e p m r = absurd (m refl)
+other_kept (root a) e p m r = r refl
+other_kept (num q) e p m r = refl
+other_kept (symbol x) e p m r = refl
+other_kept undef e p m r = refl
+other_kept (add ts) e p m r = refl
+other_kept (neg b) e p m r = refl
+other_kept (sub b c) e p m r = refl
+other_kept (div b c) e p m r = refl
+
+-- an odd power of a root, and one that is no whole power
+root_kept : (b e : Tree) → is_root b ≡ true → ((q : Fraction) → e ≡ num q → is_even_whole q ≡ false) → rewritten b e ≡ None
+root_kept (root a) (num q) r k = rw (k q refl) refl
+root_kept (root a) (symbol x) r k = refl
+root_kept (root a) undef r k = refl
+root_kept (root a) (add ts) r k = refl
+root_kept (root a) (mult ts) r k = refl
+root_kept (root a) (power b e) r k = refl
+root_kept (root a) (root b) r k = refl
+root_kept (root a) (neg b) r k = refl
+root_kept (root a) (sub b c) r k = refl
+root_kept (root a) (div b c) r k = refl
+root_kept b e r k = absurd cc
+
+pub odd_root_kept : (b e : Tree) (z : ℤ) → is_root b ≡ true → e ≡ num (whole_fraction z) → int_is_even z ≡ false → rewritten b e ≡ None
+odd_root_kept b e z r h k = root_kept b e r (λ q l. ap is_even_whole (num_same (sym l ∙ h)) ∙ odd_whole z k)
+
+pub broken_root_kept : (b e : Tree) → is_root b ≡ true → is_whole_num e ≡ false → rewritten b e ≡ None
+broken_root_kept b e r h = root_kept b e r (λ q l. ap (λ (x : Bool). x && int_is_even q.num && not (is_zero_fraction q)) (ap is_whole_num (sym l) ∙ h))
+
+-- ---- the base and the exponent of a power of another base
+
+no_zero_base : (b : Tree) → is_number b ≡ false → is_zero b ≡ false
+unfolding is_number
+no_zero_base (num q) h = cc
+no_zero_base b h = refl
+
+pub other_power : (b e : Tree) → is_undef b ≡ false → is_undef e ≡ false → is_number b ≡ false → has_no_power b e ≡ false
+other_power b e u v n = has_power b e u (no_zero_base b n) v
+
+-- ---- their answers
+
+no_zero_power : (b e : Tree) → (is_number b && is_whole_num e) ≡ false → (is_zero b && is_at_most_zero e) ≡ false
+no_zero_power (num p) e h = ap (λ (x : Bool). is_zero_fraction p && x) (broken e (ap (λ (x : Bool). x && is_whole_num e) (sym (number_test (num p) tt)) ∙ h)) ∙ and_false (is_zero_fraction p)
+  where
+    broken : (e : Tree) → is_whole_num e ≡ false → is_at_most_zero e ≡ false
+    broken (num q) k = rw k refl
+    broken (symbol x) k = refl
+    broken undef k = refl
+    broken (add ts) k = refl
+    broken (mult ts) k = refl
+    broken (power b e) k = refl
+    broken (root a) k = refl
+    broken (neg a) k = refl
+    broken (sub a b) k = refl
+    broken (div a b) k = refl
+no_zero_power (symbol x) e h = refl
+no_zero_power undef e h = refl
+no_zero_power (add ts) e h = refl
+no_zero_power (mult ts) e h = refl
+no_zero_power (power b f) e h = refl
+no_zero_power (root a) e h = refl
+no_zero_power (neg a) e h = refl
+no_zero_power (sub a b) e h = refl
+no_zero_power (div a b) e h = refl
+
+pub kept_power_answer : (t : Tree) → HasReducedSides t → is_zero_or_one (exponent_in t) ≡ false → (is_number (base_in t) && is_whole_num (exponent_in t)) ≡ false → rewritten (base_in t) (exponent_in t) ≡ None
+    → IsPowerAnswer (base_in t) (exponent_in t) t
+kept_power_answer t s z n r =
+    let b = base_in t in
+    let e = exponent_in t in
+    let form = reduced_power b e s.base s.exponent s.base_defined s.exponent_defined (kept_form b e s.exponent_defined z n r) in
+    subst (IsPowerAnswer b e) (sym (power_is t s.power)) (kept_answer b e form (rw (s.base_defined, s.exponent_defined) (no_zero_power b e n)))
+
+-- ---- one rewriting
+
+pub again : {others f : Forest} {h : ℕ} (t : Tree) → is_power t ≡ true → Gives others f h (λ u. rewritten (base_in t) (exponent_in t) ≡ Some u) → Gives others f h (λ u. (rewritten (base_in t) (exponent_in t) ≡ Some u) × Rewrites t u)
+again t p g = gives_as g refl (λ u w. (w, subst (λ (x : Tree). Rewrites x u) (sym (power_is t p)) (rewriting (base_in t) (exponent_in t) u w)))
+
+-- ---- rationals
+
+no_whole : (q : Fraction) (z : ℤ) (d : ℕ) → (d == 1) ≡ false → powered q z d ≡ nothing
+no_whole q (pos zero) zero h = refl
+no_whole q (pos zero) (suc zero) h = cc
+no_whole q (pos zero) (suc (suc d)) h = refl
+no_whole q (pos (suc n)) zero h = refl
+no_whole q (pos (suc n)) (suc zero) h = cc
+no_whole q (pos (suc n)) (suc (suc d)) h = refl
+no_whole q (negsuc n) zero h = refl
+no_whole q (negsuc n) (suc zero) h = cc
+no_whole q (negsuc n) (suc (suc d)) h = refl
+
+no_plain_value : (b e : Tree) → is_num b ≡ true → is_num e ≡ true → is_whole_num e ≡ false → plain_value (power b e) ≡ nothing
+no_plain_value (num p) (num q) h k w = no_whole p q.num q.den w
+no_plain_value (num p) (symbol x) h k w = absurd cc
+no_plain_value (num p) undef h k w = absurd cc
+no_plain_value (num p) (add ts) h k w = absurd cc
+no_plain_value (num p) (mult ts) h k w = absurd cc
+no_plain_value (num p) (power b e) h k w = absurd cc
+no_plain_value (num p) (root a) h k w = absurd cc
+no_plain_value (num p) (neg a) h k w = absurd cc
+no_plain_value (num p) (sub a b) h k w = absurd cc
+no_plain_value (num p) (div a b) h k w = absurd cc
+no_plain_value (symbol x) e h k w = absurd cc
+no_plain_value undef e h k w = absurd cc
+no_plain_value (add ts) e h k w = absurd cc
+no_plain_value (mult ts) e h k w = absurd cc
+no_plain_value (power b f) e h k w = absurd cc
+no_plain_value (root a) e h k w = absurd cc
+no_plain_value (neg a) e h k w = absurd cc
+no_plain_value (sub a b) e h k w = absurd cc
+no_plain_value (div a b) e h k w = absurd cc
+
+-- a rational to an exponent that is not whole
+pub rational_kept : (t : Tree) (s : State) (x : Step) → is_power t ≡ true → is_whole_num (exponent_in t) ≡ false → IfAgain x (λ h. ⊥) → is_num (base_in t) ≡ true → is_num (exponent_in t) ≡ true → AnswersRationalStep (plain_value t) s (Ok x)
+rational_kept t s (step.Done h) p w k b e = subst (λ (v : PlainValue). IsPlainAnswer v (tree_of h s)) (sym (ap plain_value (power_is t p) ∙ no_plain_value (base_in t) (exponent_in t) b e w)) tt
+rational_kept t s (step.Again h) p w k b e = absurd k
+
+pub rational_whole : (b e : Tree) → is_num b ≡ true → (is_number b && is_whole_num e) ≡ false → is_whole_num e ≡ false
+rational_whole (num p) e h k = ap (λ (x : Bool). x && is_whole_num e) (sym (number_test (num p) tt)) ∙ k
+rational_whole b e h k = absurd cc
+
+-- a refusal, of a step
+pub step_fault : (v : PlainValue) (s : State) (x : NumberFault) (r : Result Step NumberFault) → IsErrAnd r (λ e. e ≡ x) → AnswersRationals v s (Err x) → AnswersRationalStep v s r
+step_fault v s (fault.Full f) (Ok y) h k = absurd h
+step_fault v s (fault.Overflow o) (Ok y) h k = absurd h
+step_fault v s (fault.Full f) (Err y) h k = absurd k
+step_fault v s (fault.Overflow o) (Err (fault.Full f)) h k = absurd cc
+step_fault v s (fault.Overflow o) (Err (fault.Overflow p)) h k = subst (IsPlainOverflow v) (sym (same p o h)) k
+  where
+    same : (p o : Overflow) → fault.Overflow p ≡ fault.Overflow o → p ≡ o
+    same p o e = cc
+
+-- ---- Undef
+
+-- a side is Undef
+pub HasUndef : Tree → Tree → Type 0
+HasUndef b e = (is_undef b ≡ true) ⊎ (is_undef e ≡ true)
+
+pub undef_base : (b e : Tree) → is_undef b ≡ true → HasUndef b e
+unfolding HasUndef
+undef_base b e h = inl h
+
+pub undef_exponent : (b e : Tree) → is_undef e ≡ true → HasUndef b e
+unfolding HasUndef
+undef_exponent b e h = inr h
+
+pub undef_kept : (b e : Tree) → HasUndef b e → rewritten b e ≡ None
+unfolding HasUndef
+undef_kept b e (inl h) = undef_base_kept b e h
+undef_kept b e (inr h) = undef_exponent_kept b e h
+
+base_answer : (b e : Tree) → is_undef b ≡ true → IsPowerAnswer b e undef
+base_answer undef e h = undef_base_answer e
+base_answer b e h = absurd cc
+
+exponent_answer : (b e : Tree) → is_undef e ≡ true → IsPowerAnswer b e undef
+exponent_answer b undef h = undef_exponent_answer b
+exponent_answer b e h = absurd cc
+
+pub undef_answer : (b e t : Tree) → HasUndef b e → t ≡ undef → IsPowerAnswer b e t
+unfolding HasUndef
+undef_answer b e t (inl h) u = subst (IsPowerAnswer b e) (sym u) (base_answer b e h)
+undef_answer b e t (inr h) u = subst (IsPowerAnswer b e) (sym u) (exponent_answer b e h)
+
+no_rational_undef : (t : Tree) → is_num t ≡ true → is_undef t ≡ true → ⊥
+no_rational_undef (num q) h k = cc
+no_rational_undef t h k = cc
+
+pub defined_rationals : {A : Type 0} (b e : Tree) → HasUndef b e → is_num b ≡ true → is_num e ≡ true → A
+unfolding HasUndef
+defined_rationals b e (inl h) n m = absurd (no_rational_undef b n h)
+defined_rationals b e (inr h) n m = absurd (no_rational_undef e m h)

@@ -1,0 +1,161 @@
+-- Powers that no rule changes are reduced.
+use Rattle.std.proofs.Common.{◌≡◌, ◌≤◌, Bool, true, false, ◌&&◌, ◌||◌, not, if◌then◌else◌, inl, inr, Some, None, pos, refl, ap, ◌∙◌, arith}
+use Rattle.std.proofs.lemmas.Bool.{and_from, eq-eqb, not_from_false}
+use Rattle.calc_terms.specs.Fractions.{Fraction, zero_fraction, one_fraction, is_zero_fraction, is_one_fraction}
+use Rattle.calc_terms.specs.Integers.{int_is_zero, int_is_one, int_is_even, int_is_negative}
+use Rattle.calc_terms.specs.Numbers.{is_number, classes}
+use Rattle.calc_terms.specs.Reduced.{is_reduced, is_whole_num, is_transparent_power, IsReduced, HasForm, IsPowerForm, IsWholePowerForm, IsOtherPowerForm}
+use Rattle.calc_terms.specs.Trees.{Tree, num, symbol, undef, add, mult, power, root, neg, sub, div, AllParts, is_undef, is_mult, is_root}
+use Rattle.calc_terms.proofs.FractionFacts.{whole_numerator, whole_denominator}
+use Rattle.calc_terms.proofs.ReducedLaws.{reduced_words, reduced_test}
+use Rattle.power_reduce.specs.PowerSteps.{is_zero_or_one, goes_inside, is_even_whole, rewritten}
+
+-- the parts of a reduced tree that is not Undef have their forms
+parts_of : (t : Tree) → is_reduced t ≡ true → is_undef t ≡ false → AllParts HasForm t
+parts_of t h u = by (reduced_words t h)
+  where
+    by : IsReduced t → AllParts HasForm t
+    by (inl e) = absurd (let f : is_undef t ≡ true = ap is_undef e in cc)
+    by (inr p) = p
+
+pub reduced_power : (b e : Tree) → is_reduced b ≡ true → is_reduced e ≡ true → is_undef b ≡ false → is_undef e ≡ false → IsPowerForm b e → is_reduced (power b e) ≡ true
+reduced_power b e hb he ub ue form = reduced_test (power b e) (inr (inr form, parts_of b hb ub, parts_of e he ue))
+
+-- ---- tests that fail
+
+refused : (t : Bool) (u : Tree) → (if t then Some u else None) ≡ None → t ≡ false
+refused true u h = absurd (no u h)
+  where
+    no : (u : Tree) → Some u ≡ None → ⊥
+    no u h = cc
+refused false u h = refl
+
+second_fails : (a b : Bool) → (a && b) ≡ false → a ≡ true → b ≡ false
+second_fails true b h e = h
+second_fails false b h e = cc
+
+not_fails : (b : Bool) → not b ≡ false → b ≡ true
+not_fails true h = refl
+not_fails false h = cc
+
+contradiction : (a : Bool) → a ≡ true → a ≡ false → ⊥
+contradiction a h k = cc
+
+either_fails : (a b : Bool) → (a || b) ≡ false → (a ≡ false) × (b ≡ false)
+either_fails true b h = cc
+either_fails false b h = (refl, h)
+
+-- ---- whole exponents
+
+pub whole_inside : (q : Fraction) → q.den ≡ 1 → is_zero_or_one (num q) ≡ false → goes_inside (num q) ≡ true
+unfolding is_number
+whole_inside q d z = rw (z, eq-eqb q.den 1 d) refl
+
+whole_is : (q : Fraction) → q.den ≡ 1 → is_whole_num (num q) ≡ true
+whole_is q d = eq-eqb q.den 1 d
+
+no_number : (b : Tree) (q : Fraction) → q.den ≡ 1 → (is_number b && is_whole_num (num q)) ≡ false → is_number b ≡ false
+no_number b q d h = by (is_number b) (is_whole_num (num q)) h (whole_is q d)
+  where
+    by : (a c : Bool) → (a && c) ≡ false → c ≡ true → a ≡ false
+    by true c h e = absurd (contradiction c e h)
+    by false c h e = refl
+
+zero_test_true : is_zero_fraction zero_fraction ≡ true
+unfolding zero_fraction
+zero_test_true = ap int_is_zero (whole_numerator (pos 0))
+
+one_test_true : is_one_fraction one_fraction ≡ true
+unfolding one_fraction
+one_test_true = and_from _ _ (ap int_is_one (whole_numerator (pos 1))) (eq-eqb _ 1 (whole_denominator (pos 1)))
+
+whole_form : (b : Tree) (q : Fraction) → is_zero_or_one (num q) ≡ false → is_mult b ≡ false → is_transparent_power b ≡ false → (int_is_even q.num ≡ true → is_root b ≡ false) → is_number b ≡ false → IsWholePowerForm b q
+whole_form b q z m p r n =
+    let (zero, one) = either_fails (is_zero_fraction q) (is_one_fraction q) z in record {
+      not_zero = λ e. contradiction (is_zero_fraction q) (ap is_zero_fraction e ∙ zero_test_true) zero;
+      not_one = λ e. contradiction (is_one_fraction q) (ap is_one_fraction e ∙ one_test_true) one;
+      no_product = m;
+      no_power = p;
+      no_root = r;
+      wide = λ e. absurd (contradiction (is_number b) e n);
+    }
+
+even_whole : (q : Fraction) → q.den ≡ 1 → is_zero_or_one (num q) ≡ false → int_is_even q.num ≡ true → is_even_whole q ≡ true
+even_whole q d z e = and_from _ _ (and_from _ _ (eq-eqb q.den 1 d) e) (not_from_false _ (either_fails (is_zero_fraction q) (is_one_fraction q) z).0)
+
+no_even_root : (a : Tree) (q : Fraction) → q.den ≡ 1 → is_zero_or_one (num q) ≡ false → is_number (root a) ≡ false → rewritten (root a) (num q) ≡ None → int_is_even q.num ≡ true → is_root (root a) ≡ false
+no_even_root a q d z n r e = absurd (contradiction (is_number (root a)) (not_fails _ (second_fails _ _ (refused _ _ r) (even_whole q d z e))) n)
+
+whole_kept : (b : Tree) (q : Fraction) → q.den ≡ 1 → is_zero_or_one (num q) ≡ false → is_number b ≡ false → rewritten b (num q) ≡ None → IsWholePowerForm b q
+whole_kept (root a) q d z n r = whole_form (root a) q z refl refl (no_even_root a q d z n r) n
+whole_kept (power c f) q d z n r = whole_form (power c f) q z refl (second_fails _ _ (refused _ _ r) (whole_inside q d z)) (λ e. refl) n
+whole_kept (mult ts) q d z n r = absurd (contradiction (is_number (mult ts)) (not_fails _ (second_fails _ _ (refused _ _ r) (whole_inside q d z))) n)
+whole_kept (num p) q d z n r = whole_form (num p) q z refl refl (λ e. refl) n
+whole_kept (symbol x) q d z n r = whole_form (symbol x) q z refl refl (λ e. refl) n
+whole_kept undef q d z n r = whole_form undef q z refl refl (λ e. refl) n
+whole_kept (add ts) q d z n r = whole_form (add ts) q z refl refl (λ e. refl) n
+whole_kept (neg a) q d z n r = whole_form (neg a) q z refl refl (λ e. refl) n
+whole_kept (sub a c) q d z n r = whole_form (sub a c) q z refl refl (λ e. refl) n
+whole_kept (div a c) q d z n r = whole_form (div a c) q z refl refl (λ e. refl) n
+
+-- ---- other exponents
+
+pub other_inside : (e : Tree) → is_undef e ≡ false → is_zero_or_one e ≡ false → is_number e ≡ false → goes_inside e ≡ true
+other_inside e u z n = rw (u, z, n) refl
+
+other_kept : (b e : Tree) → is_undef e ≡ false → is_zero_or_one e ≡ false → is_number e ≡ false → rewritten b e ≡ None → IsOtherPowerForm b
+other_kept (power c f) e u z n r = record { no_power = second_fails _ _ (refused _ _ r) (other_inside e u z n); no_product = λ m. absurd cc }
+other_kept (mult ts) e u z n r = record { no_power = refl; no_product = λ m. not_fails _ (second_fails _ _ (refused _ _ r) (other_inside e u z n)) }
+other_kept (root a) e u z n r = record { no_power = refl; no_product = λ m. absurd cc }
+other_kept (num p) e u z n r = record { no_power = refl; no_product = λ m. absurd cc }
+other_kept (symbol x) e u z n r = record { no_power = refl; no_product = λ m. absurd cc }
+other_kept undef e u z n r = record { no_power = refl; no_product = λ m. absurd cc }
+other_kept (add ts) e u z n r = record { no_power = refl; no_product = λ m. absurd cc }
+other_kept (neg a) e u z n r = record { no_power = refl; no_product = λ m. absurd cc }
+other_kept (sub a c) e u z n r = record { no_power = refl; no_product = λ m. absurd cc }
+other_kept (div a c) e u z n r = record { no_power = refl; no_product = λ m. absurd cc }
+
+-- a power that no rule changes has its form
+pub kept_form : (b e : Tree) → is_undef e ≡ false → is_zero_or_one e ≡ false → (is_number b && is_whole_num e) ≡ false → rewritten b e ≡ None → IsPowerForm b e
+kept_form b (num q) u z n r = λ d. whole_kept b q d z (no_number b q d n) r
+kept_form b e u z n r = λ k. other_kept b e u z k r
+
+-- ---- Numbers of three classes
+
+record IsWide (b : Tree) : Type 0 where
+  no_product : is_mult b ≡ false
+  no_power : is_transparent_power b ≡ false
+  no_root : is_root b ≡ false
+  defined : is_undef b ≡ false
+
+wide_sum : (b : Tree) → 3 ≤ classes b → IsWide b
+wide_sum (mult ts) h = absurd (omega arith)
+wide_sum (power c f) h = absurd (omega arith)
+wide_sum (root a) h = absurd (omega arith)
+wide_sum undef h = absurd (omega arith)
+wide_sum (num q) h = record { no_product = refl; no_power = refl; no_root = refl; defined = refl }
+wide_sum (symbol x) h = record { no_product = refl; no_power = refl; no_root = refl; defined = refl }
+wide_sum (add ts) h = record { no_product = refl; no_power = refl; no_root = refl; defined = refl }
+wide_sum (neg a) h = record { no_product = refl; no_power = refl; no_root = refl; defined = refl }
+wide_sum (sub a c) h = record { no_product = refl; no_power = refl; no_root = refl; defined = refl }
+wide_sum (div a c) h = record { no_product = refl; no_power = refl; no_root = refl; defined = refl }
+
+zero_not_negative : int_is_negative zero_fraction.num ≡ false
+unfolding zero_fraction
+zero_not_negative = ap int_is_negative (whole_numerator (pos 0))
+
+one_not_negative : int_is_negative one_fraction.num ≡ false
+unfolding one_fraction
+one_not_negative = ap int_is_negative (whole_numerator (pos 1))
+
+pub wide_power : (b : Tree) (n : Fraction) → is_reduced b ≡ true → 3 ≤ classes b → int_is_negative n.num ≡ true → is_reduced (power b (num n)) ≡ true
+wide_power b n h c l =
+    let w = wide_sum b c in
+    reduced_power b (num n) h (reduced_test (num n) (inr (inl tt))) w.defined refl (λ d. record {
+      not_zero = λ e. contradiction (int_is_negative n.num) l (ap (λ (q : Fraction). int_is_negative q.num) e ∙ zero_not_negative);
+      not_one = λ e. contradiction (int_is_negative n.num) l (ap (λ (q : Fraction). int_is_negative q.num) e ∙ one_not_negative);
+      no_product = w.no_product;
+      no_power = w.no_power;
+      no_root = λ e. w.no_root;
+      wide = λ e. (l, c);
+    })

@@ -1,0 +1,62 @@
+-- Trees that the tests build.
+use Rattle.std.proofs.Common.{◌≡◌, ◌≢◌, ℕ, List, true, false, pos, Result, Ok, Err, inl, inr, refl, sym, ap, ◌∙◌, subst}
+use Rattle.std.specs.Prelude.{IfOk}
+use Rattle.calc_terms.specs.Clean.{is_clean, left_of}
+use Rattle.calc_terms.specs.Fractions.{Fraction, lowest, whole_fraction, zero_fraction, one_fraction}
+use Rattle.calc_terms.specs.Gcd.{gcd}
+use Rattle.calc_terms.specs.Numbers.{is_number}
+use Rattle.calc_terms.specs.Rat.{ratio_of, value_of}
+use Rattle.calc_terms.specs.Ratio.{Ratio, whole}
+use Rattle.calc_terms.specs.Reduced.{is_reduced}
+use Rattle.calc_terms.specs.SquareRoots.{square_root}
+use Rattle.calc_terms.specs.Trees.{Tree, num, symbol, mult, power, root, none, more}
+use Rattle.calc_terms.specs.declared.rat.Rat.{Rat}
+use Rattle.calc_terms.proofs.ReducedLaws.{reduced_test}
+use Rattle.node_pool.specs.State.{State}
+use Rattle.power_reduce.specs.PowerAnswers.{IsStep}
+use Rattle.reduce_port.specs.Rewritings.{tree_of}
+use Rattle.reduce_port.specs.Steps.{IfDone}
+use Rattle.reduce_port.specs.declared.step.Step.{Step}
+use Rattle.reduce_port.specs.declared.step.Step.TheVariants as step
+use Rattle.tree_handles.specs.declared.fault.NumberFault.{NumberFault}
+use Rattle.tree_handles.specs.Forest.{Forest}
+use Rattle.tree_handles.specs.Handed.{IsHanded}
+use Rattle.tree_handles.specs.Standing.{forest}
+use Rattle.tree_handles.proofs.Given.{given_handed, given_told}
+
+pub number_reduced : (q : Fraction) → is_reduced (num q) ≡ true
+number_reduced q = reduced_test (num q) (inr (inl tt))
+
+pub symbol_reduced : (x : List ℕ) → is_reduced (symbol x) ≡ true
+symbol_reduced x = reduced_test (symbol x) (inr (inr tt))
+
+pub root_reduced : (x : List ℕ) → is_reduced (root (symbol x)) ≡ true
+root_reduced x = reduced_test (root (symbol x)) (inr (inr refl, inr tt))
+
+two_reduced : (x : List ℕ) → is_reduced (mult (more (num (whole_fraction (pos 2))) (more (symbol x) none))) ≡ true
+unfolding is_reduced is_number gcd lowest zero_fraction one_fraction
+two_reduced x = refl
+
+value_is : (r : Rat) → ratio_of r ≡ whole (pos 2) → value_of r ≡ whole_fraction (pos 2)
+value_is r e = ap (λ (q : Ratio). lowest q.num q.den) e
+
+pub product_reduced : (r : Rat) (x : List ℕ) → ratio_of r ≡ whole (pos 2) → is_reduced (mult (more (num (value_of r)) (more (symbol x) none))) ≡ true
+product_reduced r x e = ap (λ (q : Fraction). is_reduced (mult (more (num q) (more (symbol x) none)))) (value_is r e) ∙ two_reduced x
+
+root_of_two : is_reduced (root (num (whole_fraction (pos 2)))) ≡ true
+unfolding is_reduced is_number is_clean left_of square_root gcd lowest zero_fraction one_fraction
+root_of_two = refl
+
+pub number_root_reduced : (r : Rat) → ratio_of r ≡ whole (pos 2) → is_reduced (root (num (value_of r))) ≡ true
+number_root_reduced r e = ap (λ (q : Fraction). is_reduced (root (num q))) (value_is r e) ∙ root_of_two
+
+step_done : (t : Tree) (others : Forest) (new : State) (s : Step) → IsStep t others new s → IfDone s (λ h. IsHanded h (forest new) × (is_reduced (tree_of h new) ≡ true))
+step_done t others new (step.Done h) k = (given_handed k.1, (given_told k.1).reduces.reduced)
+step_done t others new (step.Again h) k = tt
+
+pub done_reduced : (r : Result Step NumberFault) (t : Tree) (others : Forest) (new : State) → IfOk r (IsStep t others new) → IfOk r (λ s. IfDone s (λ h. IsHanded h (forest new) × (is_reduced (tree_of h new) ≡ true)))
+done_reduced (Ok s) t others new k = step_done t others new s k
+done_reduced (Err e) t others new k = tt
+
+pub when_done : (s : State) (x : Step) (h : ℕ) → x ≡ step.Done h → IfDone x (λ h. IsHanded h (forest s) × (is_reduced (tree_of h s) ≡ true)) → IsHanded h (forest s) × (is_reduced (tree_of h s) ≡ true)
+when_done s x h e k = subst (λ (y : Step). IfDone y (λ h. IsHanded h (forest s) × (is_reduced (tree_of h s) ≡ true))) e k

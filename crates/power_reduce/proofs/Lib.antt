@@ -1,0 +1,17 @@
+pub mod Rules
+pub mod Kept
+pub mod Bounds
+pub mod Answered
+pub mod Weights
+pub mod ByRule
+pub mod Powers
+pub mod Whole
+pub mod RationalPowers
+pub mod NumberPowers
+pub mod InPlace
+pub mod Halves
+pub mod Joining
+pub mod Raising
+pub mod PartsOf
+pub mod Cases
+pub mod Leaves

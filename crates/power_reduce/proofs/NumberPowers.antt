@@ -1,0 +1,103 @@
+-- Whole powers of Numbers that are no rationals.
+use Rattle.std.proofs.Common.{◌≡◌, ◌≢◌, ℕ, ◌≤◌, ◌<◌, ◌≤ℤ◌, ◌<ℤ◌, ℤ, pos, negsuc, neg_ℤ, zero, suc, Bool, true, false, ◌&&◌, refl, sym, ap, ◌∙◌, subst, arith}
+use Rattle.std.proofs.lemmas.Int.{ints}
+use Rattle.std.specs.Prelude.{nat_abs}
+use Rattle.calc_terms.specs.Fractions.{whole_fraction, zero_fraction, one_fraction}
+use Rattle.calc_terms.specs.Integers.{int_is_negative}
+use Rattle.calc_terms.specs.Numbers.{is_number, classes, value, terms_of, IsNumber}
+use Rattle.calc_terms.specs.SquareClasses.{Same, Inverts}
+use Rattle.calc_terms.specs.Surds.{Surd, surd_power}
+use Rattle.calc_terms.specs.Reduced.{is_reduced, num_one}
+use Rattle.calc_terms.specs.Trees.{Tree, num, symbol, undef, add, mult, power, root, neg, sub, div, is_num, is_undef}
+use Rattle.calc_terms.proofs.FractionFacts.{whole_numerator}
+use Rattle.calc_terms.proofs.NumberLaws.{number_words, number_test}
+use Rattle.calc_terms.proofs.NumberRewrites.{power_of_number, power_of_inverse}
+use Rattle.number_forms.specs.Answers.{IsNumberOf}
+use Rattle.number_forms.specs.Inverses.{IsInverseOf, AnswersInverse}
+use Rattle.number_forms.specs.Readers.{is_zero}
+use Rattle.number_forms.specs.declared.inverting.Inverse.{Inverse}
+use Rattle.number_forms.specs.declared.inverting.Inverse.TheVariants as inverse
+use Rattle.power_reduce.specs.PowerAnswers.{IsPowerAnswer, has_no_power, base_in, exponent_in, HasReducedSides}
+use Rattle.power_reduce.proofs.Answered.{number_answer, zero_exponent_answer, one_exponent_answer, kept_answer}
+use Rattle.power_reduce.proofs.ByRule.{has_power}
+use Rattle.power_reduce.proofs.Kept.{wide_power}
+use Rattle.power_reduce.proofs.Powers.{power_is}
+use Rattle.reduce_port.proofs.Rewritings.{keeps}
+use Rattle.tree_handles.specs.Forest.{Forest}
+use Rattle.tree_handles.specs.Handed.{Gives}
+
+no_zero : (b : Tree) → is_num b ≡ false → is_zero b ≡ false
+no_zero (num q) h = absurd cc
+no_zero b h = refl
+
+number_defined : (b : Tree) → IsNumber b → is_undef b ≡ false
+number_defined undef h = absurd h
+number_defined b h = refl
+
+-- a Number that is no rational has every power
+pub irrational_power : (b e : Tree) → is_number b ≡ true → is_num b ≡ false → is_undef e ≡ false → has_no_power b e ≡ false
+irrational_power b e n r u = has_power b e (number_defined b (number_words b n)) (no_zero b r) u
+
+-- ---- the exponent 0
+
+pub zero_answer : (b e : Tree) (z : ℤ) (t : Tree) → e ≡ num (whole_fraction z) → z ≡ pos 0 → has_no_power b e ≡ false → t ≡ num_one → IsPowerAnswer b e t
+unfolding zero_fraction
+zero_answer b e z t h k d u =
+    let w : e ≡ num zero_fraction = h ∙ ap (λ x. num (whole_fraction x)) k in
+    subst (λ (x : Tree). IsPowerAnswer b x t) (sym w) (subst (IsPowerAnswer b (num zero_fraction)) (sym u) (zero_exponent_answer b (ap (has_no_power b) (sym w) ∙ d)))
+
+-- and 1
+pub one_answer : (b e : Tree) (z : ℤ) (t : Tree) → e ≡ num (whole_fraction z) → z ≡ pos 1 → is_reduced b ≡ true → is_undef b ≡ false → has_no_power b e ≡ false → t ≡ b → IsPowerAnswer b e t
+unfolding one_fraction
+one_answer b e z t h k r u d v =
+    let w : e ≡ num one_fraction = h ∙ ap (λ x. num (whole_fraction x)) k in
+    subst (λ (x : Tree). IsPowerAnswer b x t) (sym w) (subst (IsPowerAnswer b (num one_fraction)) (sym v) (one_exponent_answer b r u (ap (has_no_power b) (sym w) ∙ d)))
+
+-- ---- exponents above 0
+
+above_answer : (b t : Tree) (z : ℤ) → pos 1 ≤ℤ z → is_number b ≡ true → has_no_power b (num (whole_fraction z)) ≡ false → IsNumberOf (surd_power (value b) (nat_abs z)) t → IsPowerAnswer b (num (whole_fraction z)) t
+above_answer b t (pos zero) l n d h = absurd (omega (arith, ints))
+above_answer b t (pos (suc m)) l n d h = number_answer b (num (whole_fraction (pos (suc m)))) t h.number d (keeps (power_of_number b t m (number_words b n) (number_words t h.number) h.worth))
+above_answer b t (negsuc m) l n d h = absurd (omega (arith, ints))
+
+pub power_answer : (b e a t : Tree) (y z : ℤ) → e ≡ num (whole_fraction z) → pos 1 ≤ℤ z → is_number b ≡ true → has_no_power b e ≡ false → a ≡ b → y ≡ z → IsNumberOf (surd_power (value a) (nat_abs y)) t → IsPowerAnswer b e t
+power_answer b e a t y z k l n d p q h =
+    subst (λ (x : Tree). IsPowerAnswer b x t) (sym k)
+    (above_answer b t z l n (ap (has_no_power b) (sym k) ∙ d) (subst (λ (v : Surd). IsNumberOf v t) (λ i. surd_power (value (p i)) (nat_abs (q i))) h))
+
+-- ---- exponents below 0
+
+pub negative_is : (z : ℤ) → z <ℤ pos 0 → int_is_negative z ≡ true
+negative_is (pos n) h = absurd (omega (arith, ints))
+negative_is (negsuc n) h = refl
+
+-- a Number of three classes or more is kept
+pub wide_answer : (t : Tree) (z : ℤ) → HasReducedSides t → exponent_in t ≡ num (whole_fraction z) → z <ℤ pos 0 → 3 ≤ classes (base_in t) → has_no_power (base_in t) (exponent_in t) ≡ false → IsPowerAnswer (base_in t) (exponent_in t) t
+wide_answer t z s e l c d =
+    let w : is_reduced (power (base_in t) (num (whole_fraction z))) ≡ true = wide_power (base_in t) (whole_fraction z) s.base c (ap int_is_negative (whole_numerator z) ∙ negative_is z l) in
+    subst (IsPowerAnswer (base_in t) (exponent_in t)) (sym (power_is t s.power))
+    (kept_answer (base_in t) (exponent_in t) (ap (λ (x : Tree). is_reduced (power (base_in t) x)) e ∙ w) d)
+
+below_answer : (b t : Tree) (v : Surd) (z : ℤ) → z <ℤ pos 0 → is_number b ≡ true → has_no_power b (num (whole_fraction z)) ≡ false → Inverts v (value b) → IsNumberOf (surd_power v (nat_abs (neg_ℤ z))) t → IsPowerAnswer b (num (whole_fraction z)) t
+below_answer b t v (pos m) l n d i h = absurd (omega (arith, ints))
+below_answer b t v (negsuc m) l n d i h = number_answer b (num (whole_fraction (negsuc m))) t h.number d (keeps (power_of_inverse b t v m (number_words b n) (number_words t h.number) i h.worth))
+
+pub inverse_answer : (b e a t : Tree) (v : Surd) (y z : ℤ) → e ≡ num (whole_fraction z) → z <ℤ pos 0 → is_number b ≡ true → has_no_power b e ≡ false → a ≡ b → y ≡ neg_ℤ z → Inverts v (value a) → IsNumberOf (surd_power v (nat_abs y)) t → IsPowerAnswer b e t
+inverse_answer b e a t v y z k l n d p q i h =
+    subst (λ (x : Tree). IsPowerAnswer b x t) (sym k)
+    (below_answer b t v z l n (ap (has_no_power b) (sym k) ∙ d) (subst (λ (x : Tree). Inverts v (value x)) p i) (subst (λ (x : Surd). IsNumberOf x t) (λ j. surd_power v (nat_abs (q j))) h))
+
+-- ---- the inverse
+
+pub inverse_given : (a : Tree) (f g : Forest) (x : Inverse) (h : ℕ) → x ≡ inverse.Value h → AnswersInverse a f g x → Gives f g h (IsInverseOf (value a))
+inverse_given a f g x h e k = (subst (AnswersInverse a f g) e k).2
+
+some_class : (t : Tree) → is_number t ≡ true → is_num t ≡ false → classes t ≡ 0 → ⊥
+some_class (num q) n r e = cc
+some_class (add ts) n r e = let l : 2 ≤ 0 = subst (λ k. 2 ≤ k) e (number_words (add ts) n).0 in omega arith
+some_class t n r e = omega arith
+
+pub has_inverse : (a b : Tree) (f g : Forest) (x : Inverse) → a ≡ b → is_number b ≡ true → is_num b ≡ false → classes b ≤ 2 → AnswersInverse a f g x → ((h : ℕ) → x ≡ inverse.Value h → ⊥) → ⊥
+has_inverse a b f g (inverse.Value h) e n r l k other = other h refl
+has_inverse a b f g inverse.Zero e n r l k other = some_class b n r (ap classes (sym e) ∙ k.0)
+has_inverse a b f g (inverse.Wide h) e n r l k other = let c : 3 ≤ classes b = subst (λ (t : Tree). 3 ≤ classes t) e k.0 in omega arith

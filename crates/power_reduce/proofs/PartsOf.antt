@@ -1,0 +1,61 @@
+-- The parts of a product: its coefficient, where it is not 1, before its factors.
+use Rattle.std.proofs.Common.{◌≡◌, ℕ, ◌≤◌, Bool, true, false, Some, if◌then◌else◌, refl, sym, ap, ◌∙◌, subst, arith}
+use Rattle.calc_terms.specs.Numbers.{is_number}
+use Rattle.calc_terms.specs.Reduced.{is_reduced, is_num_one, split_product}
+use Rattle.calc_terms.specs.Trees.{Tree, mult, power, Trees, more, count, is_mult}
+use Rattle.coefficients.specs.Pairs.{GivesTwo}
+use Rattle.coefficients.proofs.Lengths.{some_factors}
+use Rattle.coefficients.proofs.Steps.{seen}
+use Rattle.node_pool.specs.State.{State}
+use Rattle.power_reduce.specs.PowerSteps.{goes_inside, parts_of, raised, rewritten}
+use Rattle.reduce_port.specs.Rewritings.{tree_of}
+use Rattle.tree_handles.specs.Expressions.{plain, children_of}
+use Rattle.tree_handles.specs.Forest.{Forest}
+use Rattle.tree_handles.specs.Handed.{IsHanded, Gives}
+use Rattle.tree_handles.specs.Inside.{tree_at}
+use Rattle.tree_handles.specs.Roots.{root_tree}
+use Rattle.tree_handles.specs.Standing.{Stands, forest}
+use Rattle.tree_handles.proofs.Given.{given_handed, given_other, given_root, given_same, given_told}
+
+-- with a coefficient 1, and with another
+pub led_by_one : (ts : Trees) → is_num_one (split_product ts).coefficient ≡ true → parts_of ts ≡ (split_product ts).factors
+led_by_one ts h = rw h refl
+
+pub led_by_other : (ts : Trees) → is_num_one (split_product ts).coefficient ≡ false → parts_of ts ≡ more (split_product ts).coefficient (split_product ts).factors
+led_by_other ts h = rw h refl
+
+-- ---- two trees that were given
+
+pub first_handed : {others : Forest} {i j : ℕ} {t u : Tree} (f : Forest) → GivesTwo others f i j (λ x. x ≡ t) (λ x. x ≡ u) → IsHanded i f
+first_handed f g = given_other g.second-given (given_handed g.first-given)
+
+pub first_tree : {others : Forest} {i j : ℕ} {t u : Tree} (f : Forest) → GivesTwo others f i j (λ x. x ≡ t) (λ x. x ≡ u) → plain (root_tree i f) ≡ t
+first_tree {i = i} f g = ap plain (given_same i g.second-given (given_root g.first-given)) ∙ given_told g.first-given
+
+-- as it is read
+pub first_seen : {others : Forest} {i j k : ℕ} {t u : Tree} (s : State) → k ≡ i → Stands s → GivesTwo others (forest s) i j (λ x. x ≡ t) (λ x. x ≡ u) → plain (tree_at k (forest s)) ≡ t
+first_seen s e st g = seen e st (first_handed (forest s) g) ∙ first_tree (forest s) g
+
+pub gives_at : {others f new : Forest} {i : ℕ} {P : Tree → Type 0} → Gives others f i P → new ≡ f → Gives others new i P
+gives_at {others = others} {i = i} {P = P} g e = subst (λ (x : Forest). Gives others x i P) (sym e) g
+
+-- ---- there are parts
+
+many_parts : (ts : Trees) → 1 ≤ count (split_product ts).factors → 1 ≤ count (parts_of ts)
+many_parts ts h = by (is_num_one (split_product ts).coefficient)
+  where
+    by : (b : Bool) → 1 ≤ count (if b then (split_product ts).factors else more (split_product ts).coefficient (split_product ts).factors)
+    by true = h
+    by false = omega arith
+
+pub some_parts : (t : Tree) → is_mult t ≡ true → is_reduced t ≡ true → is_number t ≡ false → 1 ≤ count (parts_of (children_of t))
+some_parts t m h n = many_parts (children_of t) (some_factors t m h n)
+
+pub powers_rewritten : (b e : Tree) → is_mult b ≡ true → is_number b ≡ false → goes_inside e ≡ true → rewritten b e ≡ Some (mult (raised (parts_of (children_of b)) e))
+powers_rewritten (mult ts) e m n i = rw (i, n) refl
+powers_rewritten b e m n i = absurd cc
+
+pub powers_as : (b e t u x a : Tree) → is_mult b ≡ true → is_number b ≡ false → goes_inside e ≡ true → t ≡ mult (raised (children_of u) x) → u ≡ mult (parts_of (children_of a)) → a ≡ b → x ≡ e → rewritten b e ≡ Some t
+powers_as b e t u x a m n i h p q r =
+    let w : t ≡ mult (raised (parts_of (children_of b)) e) = h ∙ (λ k. mult (raised (children_of (p k)) (r k))) ∙ ap (λ (y : Tree). mult (raised (parts_of (children_of y)) e)) q in
+    powers_rewritten b e m n i ∙ ap Some (sym w)

@@ -1,0 +1,117 @@
+-- A root of the pool that is a power: its sides, and what is left when they are taken.
+use Rattle.std.proofs.Common.{◌≡◌, ℕ, ◌+◌, ◌≤◌, ◌<◌, [], ◌∷◌, inl, refl, sym, ap, ◌∙◌, subst, arith, true, false}
+use Rattle.calc_terms.specs.declared.kind.Kind.TheVariants as kind
+use Rattle.calc_terms.specs.Payload.{Payload, rational, named, bare}
+use Rattle.calc_terms.specs.Trees.{Tree, num, symbol, undef, add, mult, power, root, neg, sub, div, Trees, none, more, is_num, size}
+use Rattle.coefficients.specs.Pairs.{GivesTwo}
+use Rattle.coefficients.proofs.Places.{IsOver, IsTaken, taken, over_put, once_count, without_put}
+use Rattle.coefficients.proofs.Steps.{children_at, children_in, seen, expression, gives_without, gives_put}
+use Rattle.node_pool.specs.State.{State}
+use Rattle.power_reduce.specs.PowerAnswers.{is_power, base_in, exponent_in}
+use Rattle.reduce_port.specs.Rewritings.{tree_of}
+use Rattle.tree_handles.specs.Expressions.{nth, grown, plains, plain, IsExpression, children_of}
+use Rattle.tree_handles.specs.Forest.{Forest, empty, tree, arity, kids, root_payload, root_count, tree_nth, without_nth}
+use Rattle.tree_handles.specs.Handed.{IsOnce, AllOnce, IsOwned, IsHanded, Represents, Ends, Gives, KeepsFront}
+use Rattle.tree_handles.specs.Inside.{tree_at, kids_of}
+use Rattle.tree_handles.specs.Roots.{has_root, root_tree, without_root, put}
+use Rattle.tree_handles.specs.Standing.{Stands, forest}
+use Rattle.tree_handles.proofs.Counted.{all-kids}
+use Rattle.tree_handles.proofs.Fronts.{behind_first, front_same, front_at, front_end, front_put, front_without}
+use Rattle.tree_handles.proofs.Given.{gives_as, given_root}
+use Rattle.tree_handles.proofs.Lasts.{ends_without, ends_as, ends_at}
+use Rattle.tree_handles.proofs.Plains.{children_of-plain, whole_kids}
+use Rattle.tree_handles.proofs.Roots.{root_arity, put-put}
+
+-- ---- powers
+
+pub power_is : (t : Tree) → is_power t ≡ true → t ≡ power (base_in t) (exponent_in t)
+power_is (power b e) h = refl
+power_is t h = cc
+
+pub power_children : (t : Tree) → is_power t ≡ true → children_of t ≡ more (base_in t) (more (exponent_in t) none)
+power_children (power b e) h = refl
+power_children t h = cc
+
+-- a power with a rational as its exponent has the bytes of another rational
+pub number_room : (t : Tree) → is_power t ≡ true → is_num (exponent_in t) ≡ true → 40 ≤ size t
+number_room (power b (num q)) h k = omega arith
+number_room (power b e) h k = absurd cc
+number_room t h k = absurd cc
+
+-- ---- a root that is a power
+
+payload_power : (x : Payload) (ts : Trees) → is_power (grown x ts) ≡ true → x ≡ bare kind.Pow
+payload_power (bare kind.Pow) ts h = refl
+payload_power x ts h = cc
+
+holds_power : (t : Forest) → is_power (plain t) ≡ true → root_payload t ≡ bare kind.Pow
+holds_power empty h = cc
+holds_power (tree l b r) h = payload_power l.payload (plains b) h
+
+pub over_power : {i : ℕ} {f : Forest} → IsHanded i f → is_power (plain (root_tree i f)) ≡ true → IsOver kind.Pow i (more (base_in (plain (root_tree i f))) (more (exponent_in (plain (root_tree i f))) none)) f
+over_power {i = i} {f = f} h e = record {
+  root = h.root;
+  payload = holds_power (root_tree i f) e;
+  count = once_count (root_tree i f) (root_arity i f h.root) h.once;
+  kids = record { once = all-kids IsOnce (root_tree i f) h.once; whole = whole_kids (root_tree i f) h.whole; plain_trees = sym (children_of-plain (root_tree i f) h.whole) ∙ power_children (plain (root_tree i f)) e };
+}
+
+-- it has two children
+pub two_sides : {s : State} {i j : ℕ} → Stands s → IsHanded i (forest s) → is_power (tree_of i s) ≡ true → j ≡ i → arity (kids_of j (forest s)) ≡ 2
+two_sides st h p e = children_at (over_power h p) st e
+
+-- as they are read
+pub side_is : {s : State} {i j : ℕ} (k n : ℕ) → Stands s → IsHanded i (forest s) → is_power (tree_of i s) ≡ true → j ≡ i
+    → (IsExpression j (forest s) → plain (tree_at k (forest s)) ≡ nth n (children_of (plain (tree_at j (forest s)))))
+    → plain (tree_at k (forest s)) ≡ nth n (more (base_in (tree_of i s)) (more (exponent_in (tree_of i s)) none))
+side_is {s = s} {i = i} k n st h p e r = r (expression e st h) ∙ ap (λ (t : Tree). nth n (children_of t)) (seen e st h) ∙ ap (nth n) (power_children (tree_of i s) p)
+
+-- ---- owned roots
+
+once_one : (t : Forest) → arity t ≡ 1 → root_count t ≡ 1 → AllOnce (kids t) → AllOnce t
+once_one empty e c h = tt
+once_one (tree l b empty) e c h = (c, h, tt)
+once_one (tree l b (tree m d s)) e c h = absurd (omega arith)
+
+-- a root over trees whose nodes are held once is owned
+pub over_owned : {k : _} {i : ℕ} {ts : Trees} {f : Forest} → IsOver k i ts f → IsOwned i f
+over_owned {i = i} {f = f} o = record { root = o.root; once = once_one (root_tree i f) (root_arity i f o.root) o.count o.kids.once }
+
+-- ---- the sides are taken
+
+-- a child was taken, and then its parent goes
+pub taken_alone : {k : _} {i n h : ℕ} {t : Tree} {ts us : Trees} {f new end : Forest} → IsOver k i us f → IsTaken k i n t ts f new h → end ≡ without_root i new → Gives (without_root i f) end h (λ u. u ≡ t)
+taken_alone {i = i} {f = f} o a e =
+    let g = a.gives in record {
+      tree = g.tree;
+      ends = ends_as (ends_at (ends_without i g.ends (over_put a.now o a.kids).root) e) refl (without_put i a.now f);
+      once = g.once;
+      whole = g.whole;
+      told = g.told;
+    }
+
+pub taken_front : {k : _} {i n h : ℕ} {t : Tree} {ts : Trees} {f new : Forest} → IsTaken k i n t ts f new h → KeepsFront (i ∷ []) f new
+taken_front a = front_end a.gives.ends (front_put a.now behind_first front_same)
+
+pub alone_front : {k : _} {i n h : ℕ} {t : Tree} {ts : Trees} {f new end : Forest} → IsTaken k i n t ts f new h → end ≡ without_root i new → KeepsFront (i ∷ []) f end
+alone_front a e = front_at (front_without behind_first (taken_front a)) e
+
+-- the base was taken, and then the exponent
+pub base_taken : {i h : ℕ} {b e : Tree} {f new : Forest} → IsOver kind.Pow i (more b (more e none)) f
+    → Ends h (tree_nth 0 (kids (root_tree i f))) (put i (without_nth 0 (kids (root_tree i f))) f) new → IsTaken kind.Pow i 0 b (more e none) f new h
+base_taken {b = b} {e = e} o d = taken 0 none b (more e none) o refl d
+
+pub exponent_taken : {i h : ℕ} {e : Tree} {f new : Forest} → IsOver kind.Pow i (more e none) f
+    → Ends h (tree_nth 0 (kids (root_tree i f))) (put i (without_nth 0 (kids (root_tree i f))) f) new → IsTaken kind.Pow i 0 e none f new h
+exponent_taken {e = e} o d = taken 0 none e none o refl d
+
+pub sides_taken : {i h j : ℕ} {b e : Tree} {f g new end : Forest} → IsOver kind.Pow i (more b (more e none)) f → (a : IsTaken kind.Pow i 0 b (more e none) f g h) → (c : IsTaken kind.Pow i 0 e none g new j)
+    → end ≡ without_root i new → GivesTwo (without_root i f) end h j (λ t. t ≡ b) (λ t. t ≡ e)
+sides_taken {i = i} {f = f} {g = g} o a c e = record {
+  between = without_root i g;
+  first-given = gives_as (gives_without i a.gives (over_put a.now o a.kids).root) (without_put i a.now f) (λ t x. x);
+  second-given = taken_alone a.over c e;
+}
+
+pub sides_front : {i h j : ℕ} {b e : Tree} {f g new end : Forest} → IsTaken kind.Pow i 0 b (more e none) f g h → IsTaken kind.Pow i 0 e none g new j → end ≡ without_root i new → KeepsFront (i ∷ []) f end
+sides_front a c e = front_at (front_without behind_first (front_end c.gives.ends (front_put c.now behind_first (taken_front a)))) e

@@ -1,0 +1,160 @@
+-- The rewritings of a power keep meanings and have no new names.
+use Rattle.std.proofs.Common.{◌≡◌, ℕ, suc, ◌+◌, ◌/◌, ◌%◌, ℤ, pos, negsuc, neg_ℤ, ◌+ℤ◌, List, ◌++◌, [], Bool, true, false, if◌then◌else◌, ◌⊎◌, inl, inr, Some, None, refl, sym, ap, ◌∙◌, subst, arith, append_assoc, append-nil}
+use Rattle.std.specs.List.{Contains}
+use Rattle.std.proofs.lemmas.Int.{ints}
+use Rattle.std.proofs.lemmas.Bool.{and_parts, eqb-true}
+use Rattle.std.proofs.lemmas.List.Elements.{Contains-append_left, Contains-append_right, Contains-append_cases}
+use Rattle.calc_terms.specs.Fractions.{Fraction, whole_fraction}
+use Rattle.calc_terms.specs.Integers.{int_is_even}
+use Rattle.calc_terms.specs.Numbers.{is_number, is_radicand}
+use Rattle.calc_terms.specs.Reduced.{is_num_one, split_product, split, num_one}
+use Rattle.calc_terms.specs.Trees.{Tree, num, symbol, undef, add, mult, power, root, neg, sub, div, Trees, none, more, names, names_of}
+use Rattle.calc_terms.proofs.FractionFacts.{one_is}
+use Rattle.calc_terms.proofs.MeaningRewrites as rewrites
+use Rattle.calc_terms.proofs.MeaningRewrites.{KeepsMeanings-trans, KeepsMeanings-refl, KeepsMeanings-eq, KeepsMeanings-power, one_factor_of_product}
+use Rattle.calc_terms.proofs.NumberRewrites.{fraction_whole, split_keeps}
+use Rattle.calc_terms.proofs.PowerRewrites.{powers, power_of_power, power_of_product, power_of_root}
+use Rattle.reduce_port.specs.Rewritings.{Rewrites, HasNoNewName}
+use Rattle.reduce_port.proofs.Rewritings.{keeps}
+use Rattle.power_reduce.specs.PowerSteps.{is_even_whole, half, raised, parts_of, rewritten}
+
+-- ---- even powers of roots
+
+halves : (z : ℤ) → int_is_even z ≡ true → z ≡ half z +ℤ half z
+halves (pos n) h = let e : n % 2 ≡ 0 = eqb-true (n % 2) 0 h in ap pos (omega arith)
+halves (negsuc n) h = let e : n % 2 ≡ 1 = eqb-true (n % 2) 1 h in negated n (suc n / 2) (omega arith)
+  where
+    negated : (n m : ℕ) → suc n ≡ m + m → negsuc n ≡ neg_ℤ (pos m) +ℤ neg_ℤ (pos m)
+    negated n m e = omega (arith, ints)
+
+even_root : (a : Tree) (q : Fraction) → is_even_whole q ≡ true → Rewrites (power (root a) (num q)) (power a (num (whole_fraction (half q.num))))
+even_root a q h =
+    let (whole_even, nonzero) = and_parts _ _ h in
+    let (whole, even) = and_parts _ _ whole_even in record {
+      no_new_name = record { name = λ x c. c };
+      meanings = keeps (KeepsMeanings-trans (KeepsMeanings-eq (ap (λ p. power (root a) (num p)) (fraction_whole q (eqb-true q.den 1 whole)))) (power_of_root a q.num (half q.num) (halves q.num even)));
+    }
+
+-- ---- powers of powers
+
+nested : (c f e : Tree) → Rewrites (power (power c f) e) (power c (mult (more f (more e none))))
+nested c f e = record {
+  no_new_name = record { name = λ x k. subst (λ l. Contains l x) (moved (names c) (names f) (names e)) k };
+  meanings = keeps (power_of_power c f e);
+}
+  where
+    moved : (a b d : List (List ℕ)) → a ++ (b ++ (d ++ [])) ≡ (a ++ b) ++ d
+    moved a b d = ap (λ l. a ++ (b ++ l)) (append-nil d) ∙ sym (append_assoc a b d)
+
+-- ---- powers of products
+
+raised_powers : (ts : Trees) (e : Tree) → powers ts e ≡ raised ts e
+raised_powers none e = refl
+raised_powers (more t ts) e = ap (more (power t e)) (raised_powers ts e)
+
+one_is_written : (c : Tree) → is_num_one c ≡ true → c ≡ num_one
+one_is_written (num q) h = ap num (one_is q h)
+one_is_written (symbol x) h = cc
+one_is_written undef h = cc
+one_is_written (add ts) h = cc
+one_is_written (mult ts) h = cc
+one_is_written (power b e) h = cc
+one_is_written (root a) h = cc
+one_is_written (neg a) h = cc
+one_is_written (sub a b) h = cc
+one_is_written (div a b) h = cc
+
+-- a coefficient 1 goes
+without_one : (c : Tree) (ts : Trees) → rewrites.KeepsMeanings (mult (more c ts)) (mult (if is_num_one c then ts else more c ts))
+without_one c ts = by (is_num_one c) refl
+  where
+    by : (b : Bool) → is_num_one c ≡ b → rewrites.KeepsMeanings (mult (more c ts)) (mult (if b then ts else more c ts))
+    by true e = KeepsMeanings-trans (KeepsMeanings-eq (ap (λ t. mult (more t ts)) (one_is_written c e))) (one_factor_of_product ts)
+    by false e = KeepsMeanings-refl (mult (more c ts))
+
+product_power : (ts : Trees) (e : Tree) → rewrites.KeepsMeanings (power (mult ts) e) (mult (raised (parts_of ts) e))
+product_power ts e =
+    KeepsMeanings-trans (KeepsMeanings-power (KeepsMeanings-trans (split_keeps ts) (without_one (split_product ts).coefficient (split_product ts).factors)) (KeepsMeanings-refl e))
+    (KeepsMeanings-trans (power_of_product (parts_of ts) e) (KeepsMeanings-eq (ap mult (raised_powers (parts_of ts) e))))
+
+-- a coefficient and the factors behind it have the names of the product
+split_names : (ts : Trees) → names (split_product ts).coefficient ++ names_of (split_product ts).factors ≡ names_of ts
+split_names (more (num q) (more (root (num r)) ts)) = by (is_radicand r)
+  where
+    by : (b : Bool) → names (if b then split (mult (more (num q) (more (root (num r)) none))) ts else split (num q) (more (root (num r)) ts)).coefficient
+        ++ names_of (if b then split (mult (more (num q) (more (root (num r)) none))) ts else split (num q) (more (root (num r)) ts)).factors ≡ names_of ts
+    by true = refl
+    by false = refl
+split_names (more (num q) ts) = refl
+split_names (more (root (num r)) ts) = by (is_radicand r)
+  where
+    by : (b : Bool) → names (if b then split (root (num r)) ts else split num_one (more (root (num r)) ts)).coefficient ++ names_of (if b then split (root (num r)) ts else split num_one (more (root (num r)) ts)).factors ≡ names_of ts
+    by true = refl
+    by false = refl
+split_names (more (add us) ts) = by (is_number (add us))
+  where
+    by : (b : Bool) → names (if b then split (add us) ts else split num_one (more (add us) ts)).coefficient ++ names_of (if b then split (add us) ts else split num_one (more (add us) ts)).factors ≡ names_of us ++ names_of ts
+    by true = refl
+    by false = refl
+split_names ts = refl
+
+factor_names : (ts : Trees) (x : List ℕ) → Contains (names_of (parts_of ts)) x → Contains (names_of ts) x
+factor_names ts x = by (is_num_one (split_product ts).coefficient)
+  where
+    by : (b : Bool) → Contains (names_of (if b then (split_product ts).factors else more (split_product ts).coefficient (split_product ts).factors)) x → Contains (names_of ts) x
+    by true k = subst (λ l. Contains l x) (split_names ts) (Contains-append_right (names (split_product ts).coefficient) (names_of (split_product ts).factors) x k)
+    by false k = subst (λ l. Contains l x) (split_names ts) k
+
+names_joined : (t : Tree) (ts : Trees) (e : Tree) (x : List ℕ) → Contains (names t) x ⊎ Contains (names e) x → Contains (names t ++ names_of ts) x ⊎ Contains (names e) x
+names_joined t ts e x (inl h) = inl (Contains-append_left (names t) (names_of ts) x h)
+names_joined t ts e x (inr h) = inr h
+
+names_behind : (t : Tree) (ts : Trees) (e : Tree) (x : List ℕ) → Contains (names_of ts) x ⊎ Contains (names e) x → Contains (names t ++ names_of ts) x ⊎ Contains (names e) x
+names_behind t ts e x (inl h) = inl (Contains-append_right (names t) (names_of ts) x h)
+names_behind t ts e x (inr h) = inr h
+
+either : {A B C : Type 0} → A ⊎ B → (A → C) → (B → C) → C
+either (inl a) f g = f a
+either (inr b) f g = g b
+
+raised_names : (ts : Trees) (e : Tree) (x : List ℕ) → Contains (names_of (raised ts e)) x → Contains (names_of ts) x ⊎ Contains (names e) x
+raised_names none e x k = inl k
+raised_names (more t ts) e x k =
+    either (Contains-append_cases (names t ++ names e) (names_of (raised ts e)) x k)
+    (λ h. names_joined t ts e x (Contains-append_cases (names t) (names e) x h))
+    (λ h. names_behind t ts e x (raised_names ts e x h))
+
+product_names : (ts : Trees) (e : Tree) → HasNoNewName (power (mult ts) e) (mult (raised (parts_of ts) e))
+product_names ts e = record { name = λ x k. by x (raised_names (parts_of ts) e x k) }
+  where
+    by : (x : List ℕ) → Contains (names_of (parts_of ts)) x ⊎ Contains (names e) x → Contains (names_of ts ++ names e) x
+    by x (inl h) = Contains-append_left (names_of ts) (names e) x (factor_names ts x h)
+    by x (inr h) = Contains-append_right (names_of ts) (names e) x h
+
+powered : (ts : Trees) (e : Tree) → Rewrites (power (mult ts) e) (mult (raised (parts_of ts) e))
+powered ts e = record { no_new_name = product_names ts e; meanings = keeps (product_power ts e) }
+
+-- ---- all rewritings
+
+-- what an outcome holds where the test is passed
+pub chosen : (b : Bool) (u t : Tree) (P : Tree → Type 0) → (if b then Some u else None) ≡ Some t → (b ≡ true → P u) → P t
+chosen true u t P e h = subst P (same u t e) (h refl)
+  where
+    same : (u t : Tree) → Some u ≡ Some t → u ≡ t
+    same u t e = cc
+chosen false u t P e h = absurd (none u t e)
+  where
+    none : (u t : Tree) → None ≡ Some t → ⊥
+    none u t e = cc
+
+pub nothing : (t : Tree) (P : Tree → Type 0) → None ≡ Some t → P t
+nothing t P e = absurd (no t e)
+  where
+    no : (t : Tree) → None ≡ Some t → ⊥
+    no t e = cc
+
+pub rewriting : (b e t : Tree) → rewritten b e ≡ Some t → Rewrites (power b e) t
+rewriting (root a) (num q) t h = chosen _ _ t (Rewrites (power (root a) (num q))) h (λ k. even_root a q (and_parts _ _ k).0)
+rewriting (power c f) e t h = chosen _ _ t (Rewrites (power (power c f) e)) h (λ k. nested c f e)
+rewriting (mult ts) e t h = chosen _ _ t (Rewrites (power (mult ts) e)) h (λ k. powered ts e)
+rewriting b e t h = nothing t (Rewrites (power b e)) h

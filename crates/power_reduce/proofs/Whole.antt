@@ -1,0 +1,74 @@
+-- Whole exponents, as the program tests them.
+use Rattle.std.proofs.Common.{◌≡◌, ◌≢◌, ℕ, ◌<◌, ◌^◌, ℤ, pos, negsuc, zero, suc, Bool, true, false, ◌&&◌, not, refl, sym, ap, ◌∙◌, arith, to_z, of_z, nat_eq}
+use Rattle.std.specs.Int.{w128}
+use Rattle.std.specs.Prelude.{nat_abs, ◌==◌}
+use Rattle.std.proofs.lemmas.Bool.{eqb-true, eq-eqb}
+use Rattle.calc_terms.specs.Fractions.{Fraction, whole_fraction}
+use Rattle.calc_terms.specs.Integers.{int_is_one}
+use Rattle.calc_terms.specs.Numbers.{is_number}
+use Rattle.calc_terms.specs.Reduced.{is_reduced, is_num_one, is_whole_num, is_opaque_exponent}
+use Rattle.calc_terms.specs.Trees.{Tree, num, power}
+use Rattle.calc_terms.proofs.FractionFacts.{whole_numerator, whole_denominator}
+use Rattle.coefficients.proofs.Forms.{reduced_parts, parts_reduced}
+use Rattle.number_forms.proofs.CodeTests.{unequal}
+use Rattle.power_reduce.specs.PowerAnswers.{is_power, exponent_in}
+use Rattle.power_reduce.proofs.ByRule.{transparent_whole}
+use Rattle.power_reduce.proofs.Powers.{power_children}
+use Rattle.rational128.proofs.Signed.{told}
+use Rattle.tree_handles.specs.Expressions.{nth, children_of}
+use Rattle.tree_handles.proofs.Outcomes.{by_test}
+
+-- ---- 1
+
+and_true : (b : Bool) → (b && true) ≡ b
+and_true true = refl
+and_true false = refl
+
+no_one : (z : ℤ) → (of_z w128 z ≡ 1 → ⊥) → int_is_one z ≡ false
+no_one (pos zero) h = refl
+no_one (pos (suc zero)) h = absurd (h refl)
+no_one (pos (suc (suc n))) h = refl
+no_one (negsuc n) h = refl
+
+pub one_bits : (z : ℤ) → nat_abs z < 2 ^ 127 → of_z w128 z ≡ 1 → z ≡ pos 1
+one_bits z fits e = sym (told z fits) ∙ ap (to_z w128) e
+
+one_test : (z : ℤ) → nat_abs z < 2 ^ 127 → nat_eq (of_z w128 z) 1 ≡ int_is_one z
+one_test z fits = by_test (λ t. nat_eq (of_z w128 z) 1 ≡ t → t ≡ int_is_one z) (nat_eq (of_z w128 z) 1)
+    (λ u q. sym (ap int_is_one (one_bits z fits (eqb-true (of_z w128 z) 1 q))))
+    (λ u q. sym (no_one z (λ k. clash (sym (eq-eqb (of_z w128 z) 1 k) ∙ q)))) refl
+  where
+    clash : true ≡ false → ⊥
+    clash e = cc
+
+pub no_one_bits : (z : ℤ) → (of_z w128 z ≡ 1 → ⊥) → z ≢ pos 1
+no_one_bits z h e = h (ap (of_z w128) e)
+
+whole_one : (z : ℤ) → is_num_one (num (whole_fraction z)) ≡ int_is_one z
+whole_one z = rw (whole_numerator z, whole_denominator z) (and_true (int_is_one z))
+
+-- whether a whole number is 1
+pub is_one_as : (z : ℤ) (t : Tree) → nat_abs z < 2 ^ 127 → t ≡ num (whole_fraction z) → nat_eq (of_z w128 z) 1 ≡ is_num_one t
+is_one_as z t fits e = one_test z fits ∙ sym (whole_one z) ∙ ap is_num_one (sym e)
+
+-- ---- opaque exponents
+
+pub whole_is : (z : ℤ) → is_whole_num (num (whole_fraction z)) ≡ true
+whole_is z = eq-eqb (whole_fraction z).den 1 (whole_denominator z)
+
+pub opaque_is : (e : Tree) → is_whole_num e ≡ false → is_opaque_exponent e ≡ is_number e
+opaque_is e h = rw h (and_true (is_number e))
+
+-- the exponent of a power, as it is read
+pub first_is : (b t x : Tree) → t ≡ b → is_power b ≡ true → x ≡ nth 1 (children_of t) → x ≡ exponent_in b
+first_is b t x e p h = h ∙ ap (λ (u : Tree). nth 1 (children_of u)) e ∙ ap (nth 1) (power_children b p)
+
+pub first_reduced : (b : Tree) → is_power b ≡ true → is_reduced b ≡ true → is_reduced (exponent_in b) ≡ true
+first_reduced (power c f) p h = parts_reduced f (reduced_parts (power c f) h refl).2
+first_reduced b p h = absurd cc
+
+pub whole_first : (x f : Tree) (z : ℤ) → x ≡ f → x ≡ num (whole_fraction z) → false ≡ is_opaque_exponent f
+whole_first x f z e k = sym (ap is_opaque_exponent (sym e ∙ k) ∙ transparent_whole (num (whole_fraction z)) (whole_is z))
+
+pub other_first : (x f : Tree) (b : Bool) → x ≡ f → is_whole_num x ≡ false → b ≡ is_number x → b ≡ is_opaque_exponent f
+other_first x f b e k h = h ∙ sym (opaque_is x k) ∙ ap is_opaque_exponent e

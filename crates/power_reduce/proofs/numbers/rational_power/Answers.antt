@@ -1,0 +1,55 @@
+use Rattle.std.proofs.Common.{◌≡◌, pos, ◌≤ℤ◌, true, refl, sym, ap, ◌∙◌, subst, arith}
+use Rattle.std.specs.Prelude.{nat_abs}
+use Rattle.calc_terms.specs.Fractions.{is_zero_fraction}
+use Rattle.calc_terms.specs.Integers.{int_is_zero}
+use Rattle.calc_terms.specs.PlainValues.{PlainValue, powered}
+use Rattle.calc_terms.specs.Rat.{value_of}
+use Rattle.number_forms.specs.Answers.{AnswersRationals}
+use Rattle.reduce_port.specs.PlainTrees.{IsPlainAnswer, IsPlainOverflow}
+use Rattle.tree_handles.proofs.Given.{gives_as, given_told}
+use Rattle.power_reduce.proofs.Powers.{power_is}
+use Rattle.power_reduce.proofs.RationalPowers.{at_most, not_at_most, zero_rational, no_zero_rational, plain_power, powered_undefined, nothing_answer, value_answer, overflow_answer, plain_as, rationals_as}
+use Rattle.rational128.proofs.Signed.{told}
+use Rattle.power_reduce.proofs.numbers.rational_power.Goals as goal
+use Rattle.power_reduce.proofs.numbers.rational_power.Goals.{Then-n-le0, Joined-else-num-eq0, else-num-eq0-via-then-num-eq0+else-n-le0, else-num-eq0-via-else-num-eq0}
+
+zero : (c : Then-n-le0) → is_zero_fraction (value_of c.args.q) ≡ true
+zero c = zero_rational c.args.q c.num.result c.num.ensures.value c.if-num-eq0.true
+
+pub returns-then-n-le0-clause-ok : goal.returns-then-n-le0-clause-ok
+returns-then-n-le0-clause-ok c =
+    gives_as c.undefined.ensures.gives refl
+    (λ t u. nothing_answer _ _ _ c.args.n t c.requires.base c.requires.exponent (zero (goal.at.returns-then-n-le0-clause-ok c).Then-n-le0) (at_most c.args.n c.requires.fits c.if-n-le0.true) u)
+
+pub returns-then-n-le0-clause-rationals : goal.returns-then-n-le0-clause-rationals
+returns-then-n-le0-clause-rationals c =
+    plain_as _ _ _
+    (plain_power _ _ _ _ c.args.n (power_is _ c.requires.sides.power) c.requires.base c.requires.exponent
+    ∙ powered_undefined (value_of c.args.q) c.args.n (at_most c.args.n c.requires.fits c.if-n-le0.true) (zero (goal.at.returns-then-n-le0-clause-rationals c).Then-n-le0))
+    (given_told c.undefined.ensures.gives)
+
+some : (c : Joined-else-num-eq0) → is_zero_fraction (value_of c.args.q) ≡ true → pos 1 ≤ℤ c.args.n
+some c = elim c.else-num-eq0.branch [
+  | else-num-eq0-via-then-num-eq0+else-n-le0 w ↦ λ h. not_at_most c.args.n c.requires.fits w.if-n-le0.false
+  | else-num-eq0-via-else-num-eq0 w ↦ λ h. absurd (no_zero_rational c.args.q c.num.result c.num.ensures.value w.if-num-eq0.false h)
+]
+
+pub power_of-requires-clause-some : goal.power_of-requires-clause-some
+power_of-requires-clause-some c = λ h. subst (λ z. pos 1 ≤ℤ z) (sym (told c.args.n c.requires.fits)) (some c h)
+
+pub returns-in_err-value-clause-rationals : goal.returns-in_err-value-clause-rationals
+returns-in_err-value-clause-rationals c =
+    rationals_as _ _ c.args.pool.now _ (plain_power _ _ _ _ c.args.n (power_is _ c.requires.sides.power) c.requires.base c.requires.exponent)
+    (overflow_answer _ c.args.pool.now _ c.in_err-value.field-0.0 c.from_residual.ensures.1 (subst (λ z. IsPlainOverflow (powered (value_of c.args.q) z 1) c.in_err-value.field-0.0) (told c.args.n c.requires.fits) c.in_err-value.ensures.named))
+
+pub returns-clause-ok : goal.returns-clause-ok
+returns-clause-ok c =
+    gives_as c.with_number.ensures.gives refl (λ t u. value_answer _ _ (value_of c.args.q) c.args.n t _ c.requires.base c.requires.exponent (some (goal.at.returns-clause-ok c).Joined-else-num-eq0)
+    (ap (λ z. powered (value_of c.args.q) z 1) (sym (told c.args.n c.requires.fits)) ∙ c.in_ok-value.ensures.value) u)
+
+pub returns-clause-rationals : goal.returns-clause-rationals
+returns-clause-rationals c =
+    plain_as _ _ _
+    (plain_power _ _ _ _ c.args.n (power_is _ c.requires.sides.power) c.requires.base c.requires.exponent
+    ∙ ap (λ z. powered (value_of c.args.q) z 1) (sym (told c.args.n c.requires.fits)) ∙ c.in_ok-value.ensures.value)
+    (given_told c.with_number.ensures.gives)

@@ -1,0 +1,144 @@
+use Rattle.std.proofs.Common.{refl, sym, ap, ◌∙◌, arith}
+use Rattle.coefficients.proofs.Places.{over_end, without_put}
+use Rattle.coefficients.proofs.Steps.{children_in, added_as, moved}
+use Rattle.power_reduce.proofs.InPlace.{first_alone, merged_front, apart_last, without_added}
+use Rattle.power_reduce.proofs.Joining.{sides_merged, first_taken, then_taken, first_on, product_given, alone_over, joined}
+use Rattle.power_reduce.proofs.Powers.{over_power}
+use Rattle.tree_handles.specs.Roots.{without_root}
+use Rattle.tree_handles.proofs.Fronts.{behind_first, front_after, front_at, front_end, front_put, front_without}
+use Rattle.tree_handles.proofs.Given.{gives_as, given_rest, given_root}
+use Rattle.tree_handles.proofs.Lasts.{ends_as, last_apart, last_held, other_root}
+use Rattle.tree_handles.proofs.Roots.{root_held}
+use Rattle.power_reduce.proofs.rewriting.join_exponents.Goals as goal
+
+pub merge_children-requires-clause-within : goal.merge_children-requires-clause-within
+merge_children-requires-clause-within c = omega (arith, children_in c.requires.stands (over_power c.requires.handed c.requires.sides.power))
+
+pub merge_children-requires-clause-unshared : goal.merge_children-requires-clause-unshared
+merge_children-requires-clause-unshared c = first_alone c.requires.stands (over_power c.requires.handed c.requires.sides.power)
+
+pub take_child-first-requires-clause-within : goal.take_child-first-requires-clause-within
+take_child-first-requires-clause-within c =
+    let m = sides_merged c.args.pool.now c.requires.handed c.requires.sides.power c.requires.base (c.merge_children.ensures.root c.requires.handed.root) in
+    omega (arith, children_in c.merge_children.ensures.stands m.over)
+
+pub take_child-exponent-requires-clause-within : goal.take_child-exponent-requires-clause-within
+take_child-exponent-requires-clause-within c =
+    let m = sides_merged c.args.pool.now c.requires.handed c.requires.sides.power c.requires.base (c.merge_children.ensures.root c.requires.handed.root) in
+    let a = first_taken m.over (c.take_child-first.ensures.last m.over.root) in
+    omega (arith, children_in c.take_child-first.ensures.stands a.over)
+
+pub returns-in_err-product-clause-front : goal.returns-in_err-product-clause-front
+returns-in_err-product-clause-front c =
+    let m = sides_merged c.args.pool.now c.requires.handed c.requires.sides.power c.requires.base (c.merge_children.ensures.root c.requires.handed.root) in
+    let a = first_taken m.over (c.take_child-first.ensures.last m.over.root) in
+    let b = then_taken a.over (c.take_child-exponent.ensures.last a.over.root) in
+    front_after (front_end b.gives.ends (front_put b.now behind_first (front_end a.gives.ends (front_put a.now behind_first (merged_front m))))) c.node.ensures.front
+
+pub add_child-requires-clause-live : goal.add_child-requires-clause-live
+add_child-requires-clause-live c = last_held c.in_ok-product.ensures.ok
+
+pub add_child-requires-clause-root : goal.add_child-requires-clause-root
+add_child-requires-clause-root c =
+    let m = sides_merged c.args.pool.now c.requires.handed c.requires.sides.power c.requires.base (c.merge_children.ensures.root c.requires.handed.root) in
+    let a = first_taken m.over (c.take_child-first.ensures.last m.over.root) in
+    let b = then_taken a.over (c.take_child-exponent.ensures.last a.over.root) in
+    other_root c.take_child-exponent.result c.in_ok-product.ensures.ok (given_root b.gives)
+
+pub add_child-requires-clause-apart : goal.add_child-requires-clause-apart
+add_child-requires-clause-apart c =
+    let m = sides_merged c.args.pool.now c.requires.handed c.requires.sides.power c.requires.base (c.merge_children.ensures.root c.requires.handed.root) in
+    let a = first_taken m.over (c.take_child-first.ensures.last m.over.root) in
+    let b = then_taken a.over (c.take_child-exponent.ensures.last a.over.root) in
+    last_apart c.take_child-exponent.result c.in_ok-product.ensures.stands c.in_ok-product.ensures.ok (given_root b.gives)
+
+pub add_child-requires-2-clause-root : goal.add_child-requires-2-clause-root
+add_child-requires-2-clause-root c =
+    let m = sides_merged c.args.pool.now c.requires.handed c.requires.sides.power c.requires.base (c.merge_children.ensures.root c.requires.handed.root) in
+    let a = first_taken m.over (c.take_child-first.ensures.last m.over.root) in
+    let b = then_taken a.over (c.take_child-exponent.ensures.last a.over.root) in
+    let one = ends_as (c.add_child.ensures.last _ _ c.in_ok-product.ensures.ok (given_root b.gives)) refl (given_rest b.gives) in
+    other_root c.take_child-first.result one (given_root (first_on m.over a b))
+
+pub add_child-requires-2-clause-apart : goal.add_child-requires-2-clause-apart
+add_child-requires-2-clause-apart c =
+    let m = sides_merged c.args.pool.now c.requires.handed c.requires.sides.power c.requires.base (c.merge_children.ensures.root c.requires.handed.root) in
+    let a = first_taken m.over (c.take_child-first.ensures.last m.over.root) in
+    let b = then_taken a.over (c.take_child-exponent.ensures.last a.over.root) in
+    let one = ends_as (c.add_child.ensures.last _ _ c.in_ok-product.ensures.ok (given_root b.gives)) refl (given_rest b.gives) in
+    last_apart c.take_child-first.result c.add_child.ensures.stands one (given_root (first_on m.over a b))
+
+pub add_child-requires-3-clause-live : goal.add_child-requires-3-clause-live
+add_child-requires-3-clause-live c =
+    let m = sides_merged c.args.pool.now c.requires.handed c.requires.sides.power c.requires.base (c.merge_children.ensures.root c.requires.handed.root) in
+    let a = first_taken m.over (c.take_child-first.ensures.last m.over.root) in
+    let b = then_taken a.over (c.take_child-exponent.ensures.last a.over.root) in
+    let one = ends_as (c.add_child.ensures.last _ _ c.in_ok-product.ensures.ok (given_root b.gives)) refl (given_rest b.gives) in
+    let p = product_given m.over a b (c.add_child-2.ensures.last _ _ one (given_root (first_on m.over a b))) in
+    let o = alone_over m.over b in
+    root_held c.args.power _ (over_end o p.ends).root
+
+pub add_child-requires-3-clause-within : goal.add_child-requires-3-clause-within
+add_child-requires-3-clause-within c =
+    let m = sides_merged c.args.pool.now c.requires.handed c.requires.sides.power c.requires.base (c.merge_children.ensures.root c.requires.handed.root) in
+    let a = first_taken m.over (c.take_child-first.ensures.last m.over.root) in
+    let b = then_taken a.over (c.take_child-exponent.ensures.last a.over.root) in
+    let one = ends_as (c.add_child.ensures.last _ _ c.in_ok-product.ensures.ok (given_root b.gives)) refl (given_rest b.gives) in
+    let p = product_given m.over a b (c.add_child-2.ensures.last _ _ one (given_root (first_on m.over a b))) in
+    let o = alone_over m.over b in
+    omega (arith, children_in c.add_child-2.ensures.stands (over_end o p.ends))
+
+pub add_child-requires-3-clause-root : goal.add_child-requires-3-clause-root
+add_child-requires-3-clause-root c =
+    let m = sides_merged c.args.pool.now c.requires.handed c.requires.sides.power c.requires.base (c.merge_children.ensures.root c.requires.handed.root) in
+    let a = first_taken m.over (c.take_child-first.ensures.last m.over.root) in
+    let b = then_taken a.over (c.take_child-exponent.ensures.last a.over.root) in
+    let one = ends_as (c.add_child.ensures.last _ _ c.in_ok-product.ensures.ok (given_root b.gives)) refl (given_rest b.gives) in
+    let p = product_given m.over a b (c.add_child-2.ensures.last _ _ one (given_root (first_on m.over a b))) in
+    let o = alone_over m.over b in
+    given_root p
+
+pub add_child-requires-3-clause-apart : goal.add_child-requires-3-clause-apart
+add_child-requires-3-clause-apart c =
+    let m = sides_merged c.args.pool.now c.requires.handed c.requires.sides.power c.requires.base (c.merge_children.ensures.root c.requires.handed.root) in
+    let a = first_taken m.over (c.take_child-first.ensures.last m.over.root) in
+    let b = then_taken a.over (c.take_child-exponent.ensures.last a.over.root) in
+    let one = ends_as (c.add_child.ensures.last _ _ c.in_ok-product.ensures.ok (given_root b.gives)) refl (given_rest b.gives) in
+    let p = product_given m.over a b (c.add_child-2.ensures.last _ _ one (given_root (first_on m.over a b))) in
+    let o = alone_over m.over b in
+    apart_last c.add_child-2.ensures.stands o p
+
+pub move_last-requires-clause-root : goal.move_last-requires-clause-root
+move_last-requires-clause-root c =
+    let m = sides_merged c.args.pool.now c.requires.handed c.requires.sides.power c.requires.base (c.merge_children.ensures.root c.requires.handed.root) in
+    let a = first_taken m.over (c.take_child-first.ensures.last m.over.root) in
+    let b = then_taken a.over (c.take_child-exponent.ensures.last a.over.root) in
+    let one = ends_as (c.add_child.ensures.last _ _ c.in_ok-product.ensures.ok (given_root b.gives)) refl (given_rest b.gives) in
+    let p = product_given m.over a b (c.add_child-2.ensures.last _ _ one (given_root (first_on m.over a b))) in
+    let o = alone_over m.over b in
+    let x = added_as 1 o p (c.add_child-3.ensures.root (over_end o p.ends).root) refl in
+    x.over.root
+
+pub returns-clause-ok : goal.returns-clause-ok
+returns-clause-ok c =
+    let m = sides_merged c.args.pool.now c.requires.handed c.requires.sides.power c.requires.base (c.merge_children.ensures.root c.requires.handed.root) in
+    let a = first_taken m.over (c.take_child-first.ensures.last m.over.root) in
+    let b = then_taken a.over (c.take_child-exponent.ensures.last a.over.root) in
+    let one = ends_as (c.add_child.ensures.last _ _ c.in_ok-product.ensures.ok (given_root b.gives)) refl (given_rest b.gives) in
+    let p = product_given m.over a b (c.add_child-2.ensures.last _ _ one (given_root (first_on m.over a b))) in
+    let o = alone_over m.over b in
+    let x = added_as 1 o p (c.add_child-3.ensures.root (over_end o p.ends).root) refl in
+    gives_as (moved x refl c.move_last.ensures.last (joined _ _ c.requires.base c.requires.inside c.requires.transparent))
+    (without_put c.args.power b.now _ ∙ without_added m) (λ t y. y)
+
+pub returns-clause-front : goal.returns-clause-front
+returns-clause-front c =
+    let m = sides_merged c.args.pool.now c.requires.handed c.requires.sides.power c.requires.base (c.merge_children.ensures.root c.requires.handed.root) in
+    let a = first_taken m.over (c.take_child-first.ensures.last m.over.root) in
+    let b = then_taken a.over (c.take_child-exponent.ensures.last a.over.root) in
+    let one = ends_as (c.add_child.ensures.last _ _ c.in_ok-product.ensures.ok (given_root b.gives)) refl (given_rest b.gives) in
+    let p = product_given m.over a b (c.add_child-2.ensures.last _ _ one (given_root (first_on m.over a b))) in
+    let o = alone_over m.over b in
+    let x = added_as 1 o p (c.add_child-3.ensures.root (over_end o p.ends).root) refl in
+    let front = front_put b.now behind_first (merged_front m) in
+    front_end c.move_last.ensures.last (front_without behind_first (front_at (front_put x.now behind_first front) x.whole))

@@ -1,0 +1,57 @@
+use Rattle.std.proofs.Common.{◌≡◌, refl, inl, sym, ap, ◌∙◌, true, false}
+use Rattle.calc_terms.specs.Reduced.{is_num_one, split_product}
+use Rattle.calc_terms.specs.Trees.{Trees, is_mult, mult, more}
+use Rattle.coefficients.proofs.FirstFactors.{first_factor, first_front}
+use Rattle.coefficients.proofs.Places.{over_gives}
+use Rattle.coefficients.proofs.Steps.{expression, gives_without}
+use Rattle.power_reduce.proofs.PartsOf.{led_by_one, led_by_other, first_handed, first_tree, first_seen, gives_at}
+use Rattle.reduce_port.specs.Rewritings.{tree_of}
+use Rattle.tree_handles.specs.Expressions.{children_of}
+use Rattle.tree_handles.proofs.Fronts.{behind_first, behind_new, front_same, front_at, front_end, front_without, front_after_two}
+use Rattle.tree_handles.proofs.Given.{gives_as, given_apart, given_handed, given_rest, given_root, given_told, owned}
+use Rattle.tree_handles.proofs.Lasts.{ends_as, last_apart, last_held, last_tree, other_root}
+use Rattle.power_reduce.proofs.rewriting.product_of_parts.Goals as goal
+
+pub is_one-requires-clause-expression : goal.is_one-requires-clause-expression
+is_one-requires-clause-expression c = expression c.id.ensures c.in_ok-coefficient.ensures.stands (first_handed _ c.in_ok-coefficient.ensures.ok)
+
+pub release-requires-clause-releasable : goal.release-requires-clause-releasable
+release-requires-clause-releasable c = inl (first_handed _ c.in_ok-coefficient.ensures.ok).root
+
+pub returns-then-is_one-clause-ok : goal.returns-then-is_one-clause-ok
+returns-then-is_one-clause-ok c =
+    let g = c.in_ok-coefficient.ensures.ok in
+    let one = ap is_num_one (sym (first_seen c.split_product.new.pool c.id.ensures c.in_ok-coefficient.ensures.stands g)) ∙ sym c.is_one.ensures ∙ c.if-is_one.true in
+    gives_as (gives_at (gives_without c.in_ok-coefficient.coefficient g.second-given (given_root g.first-given)) (c.release.ensures.owned (owned (first_handed _ g)))) (given_rest g.first-given)
+    (λ t e. e ∙ ap mult (sym (led_by_one (children_of (tree_of c.args.product c.args.pool.now)) one)))
+
+pub returns-then-is_one-clause-front : goal.returns-then-is_one-clause-front
+returns-then-is_one-clause-front c =
+    let g = c.in_ok-coefficient.ensures.ok in
+    front_at (front_without (behind_new g.first-given.ends (front_without behind_first front_same)) c.split_product.ensures.front) (c.release.ensures.owned (owned (first_handed _ g)))
+
+pub add_child-requires-clause-live : goal.add_child-requires-clause-live
+add_child-requires-clause-live c = last_held c.in_ok-coefficient.ensures.ok.second-given.ends
+
+pub add_child-requires-clause-root : goal.add_child-requires-clause-root
+add_child-requires-clause-root c = (first_handed _ c.in_ok-coefficient.ensures.ok).root
+
+pub add_child-requires-clause-apart : goal.add_child-requires-clause-apart
+add_child-requires-clause-apart c =
+    let g = c.in_ok-coefficient.ensures.ok in
+    last_apart c.in_ok-coefficient.coefficient c.in_ok-coefficient.ensures.stands g.second-given.ends (given_root g.first-given)
+
+pub returns-clause-ok : goal.returns-clause-ok
+returns-clause-ok c =
+    let g = c.in_ok-coefficient.ensures.ok in
+    let other = ap is_num_one (sym (first_seen c.split_product.new.pool c.id.ensures c.in_ok-coefficient.ensures.stands g)) ∙ sym c.is_one.ensures ∙ c.if-is_one.false in
+    let x = first_factor (given_handed g.second-given) (first_handed _ g) (given_apart g.second-given (given_handed g.first-given)) (ap is_mult (given_told g.second-given)) (c.add_child.ensures.root (given_root g.second-given)) in
+    let d = c.add_child.ensures.last _ _ g.second-given.ends (given_root g.first-given) in
+    over_gives x.over refl (ends_as d (sym (last_tree d)) (given_rest g.first-given))
+    (ap mult ((λ i. more (first_tree _ g i) (children_of (given_told g.second-given i))) ∙ sym (led_by_other (children_of (tree_of c.args.product c.args.pool.now)) other)))
+
+pub returns-clause-front : goal.returns-clause-front
+returns-clause-front c =
+    let g = c.in_ok-coefficient.ensures.ok in
+    let x = first_factor (given_handed g.second-given) (first_handed _ g) (given_apart g.second-given (given_handed g.first-given)) (ap is_mult (given_told g.second-given)) (c.add_child.ensures.root (given_root g.second-given)) in
+    front_after_two (behind_new g.second-given.ends (front_end g.first-given.ends (front_without behind_first front_same))) (behind_new g.first-given.ends (front_without behind_first front_same)) c.split_product.ensures.front (first_front x)

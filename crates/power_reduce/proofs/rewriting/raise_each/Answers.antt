@@ -1,0 +1,120 @@
+use Rattle.std.proofs.Common.{◌≡◌, ◌+◌, refl, ap, ◌∙◌, arith}
+use Rattle.calc_terms.specs.Trees.{Tree, Trees, count, is_mult}
+use Rattle.coefficients.proofs.Places.{over_product, over_handed, over_plain}
+use Rattle.coefficients.proofs.Steps.{live, expression, seen, children_at}
+use Rattle.power_reduce.proofs.Raising.{none_raised, part_front, exponent_beside, exponent_tree, part_count, product_behind, product_tree, next_raised, next_kids, last_kids, all_raised, kids_over, raised_last, kids_front}
+use Rattle.reduce_port.specs.Rewritings.{tree_of}
+use Rattle.tree_handles.specs.Expressions.{children_of}
+use Rattle.tree_handles.specs.Standing.{forest}
+use Rattle.tree_handles.proofs.Forests.{keeps_none, keeps_after}
+use Rattle.tree_handles.proofs.Fronts.{behind_first, behind_later, behind_new, front_at, front_end, front_without, front_after_two}
+use Rattle.tree_handles.proofs.Given.{given_apart, given_handed}
+use Rattle.tree_handles.proofs.Outcomes.{eqb-sym}
+use Rattle.tree_handles.proofs.Roots.{root_held}
+use Rattle.power_reduce.proofs.rewriting.raise_each.Goals as goal
+
+pub children-last-requires-clause-live : goal.children-last-requires-clause-live
+children-last-requires-clause-live c = live c.args.pool.now c.id.ensures c.requires.first.root
+
+pub overflow_sub-last : goal.overflow_sub-last
+overflow_sub-last c =
+    let many = c.children-last.ensures.value ∙ children_at (over_product c.requires.first c.requires.product) c.requires.stands c.id.ensures in
+    omega (arith, many, c.requires.some)
+
+pub loop-at-init : goal.loop-at-init
+loop-at-init c = record {
+  stands = c.requires.stands;
+  kept = keeps_none c.args.pool.now;
+  part = none_raised _ (over_product c.requires.first c.requires.product);
+}
+
+pub copy_tree-requires-clause-live : goal.copy_tree-requires-clause-live
+copy_tree-requires-clause-live c = live c.loop-at.pool c.id-in-loop-at.ensures (exponent_beside c.loop-at.invariant.part c.requires.apart c.requires.second).root
+
+pub returns-in_err-copy-clause-front : goal.returns-in_err-copy-clause-front
+returns-in_err-copy-clause-front c = front_at (part_front c.loop-at.invariant.part) c.in_err-copy.ensures.full.same
+
+pub raise_factor-requires-clause-first : goal.raise_factor-requires-clause-first
+raise_factor-requires-clause-first c =
+    let many = c.children-last.ensures.value ∙ children_at (over_product c.requires.first c.requires.product) c.requires.stands c.id.ensures in
+    let g = c.in_ok-copy.ensures.given (expression c.id-in-loop-at.ensures c.loop-at.invariant.stands (exponent_beside c.loop-at.invariant.part c.requires.apart c.requires.second)) in
+    product_behind c.loop-at.invariant.part g
+
+pub raise_factor-requires-clause-second : goal.raise_factor-requires-clause-second
+raise_factor-requires-clause-second c =
+    let many = c.children-last.ensures.value ∙ children_at (over_product c.requires.first c.requires.product) c.requires.stands c.id.ensures in
+    let g = c.in_ok-copy.ensures.given (expression c.id-in-loop-at.ensures c.loop-at.invariant.stands (exponent_beside c.loop-at.invariant.part c.requires.apart c.requires.second)) in
+    given_handed g
+
+pub raise_factor-requires-clause-apart : goal.raise_factor-requires-clause-apart
+raise_factor-requires-clause-apart c =
+    let many = c.children-last.ensures.value ∙ children_at (over_product c.requires.first c.requires.product) c.requires.stands c.id.ensures in
+    let g = c.in_ok-copy.ensures.given (expression c.id-in-loop-at.ensures c.loop-at.invariant.stands (exponent_beside c.loop-at.invariant.part c.requires.apart c.requires.second)) in
+    eqb-sym _ _ (given_apart g (over_handed c.loop-at.invariant.part.over refl))
+
+pub raise_factor-requires-clause-product : goal.raise_factor-requires-clause-product
+raise_factor-requires-clause-product c =
+    let many = c.children-last.ensures.value ∙ children_at (over_product c.requires.first c.requires.product) c.requires.stands c.id.ensures in
+    let g = c.in_ok-copy.ensures.given (expression c.id-in-loop-at.ensures c.loop-at.invariant.stands (exponent_beside c.loop-at.invariant.part c.requires.apart c.requires.second)) in
+    ap is_mult (product_tree c.loop-at.invariant.part g)
+
+pub raise_factor-requires-clause-within : goal.raise_factor-requires-clause-within
+raise_factor-requires-clause-within c =
+    let many = c.children-last.ensures.value ∙ children_at (over_product c.requires.first c.requires.product) c.requires.stands c.id.ensures in
+    let g = c.in_ok-copy.ensures.given (expression c.id-in-loop-at.ensures c.loop-at.invariant.stands (exponent_beside c.loop-at.invariant.part c.requires.apart c.requires.second)) in
+    omega (arith, many, c.loop-at-test.true, ap (λ (t : Tree). count (children_of t)) (product_tree c.loop-at.invariant.part g), part_count c.loop-at.invariant.part)
+
+pub returns-in_err-raise_factor-clause-front : goal.returns-in_err-raise_factor-clause-front
+returns-in_err-raise_factor-clause-front c =
+    let many = c.children-last.ensures.value ∙ children_at (over_product c.requires.first c.requires.product) c.requires.stands c.id.ensures in
+    let g = c.in_ok-copy.ensures.given (expression c.id-in-loop-at.ensures c.loop-at.invariant.stands (exponent_beside c.loop-at.invariant.part c.requires.apart c.requires.second)) in
+    let p = part_front c.loop-at.invariant.part in
+    front_after_two behind_first (behind_new g.ends p) (front_end g.ends p) c.raise_factor.ensures.front
+
+pub loop-at-preserved : goal.loop-at-preserved
+loop-at-preserved c =
+    let many = c.children-last.ensures.value ∙ children_at (over_product c.requires.first c.requires.product) c.requires.stands c.id.ensures in
+    let g = c.in_ok-copy.ensures.given (expression c.id-in-loop-at.ensures c.loop-at.invariant.stands (exponent_beside c.loop-at.invariant.part c.requires.apart c.requires.second)) in
+    record {
+      stands = c.in_ok-raise_factor.ensures.stands;
+      kept = keeps_after _ _ _ c.loop-at.invariant.kept (keeps_after _ _ _ c.in_ok-copy.ensures.kept c.in_ok-raise_factor.ensures.kept);
+      part = next_raised c.loop-at.invariant.part (omega (arith, many, c.loop-at-test.true)) (next_kids c.loop-at.invariant.part g (seen c.id-in-loop-at.ensures c.loop-at.invariant.stands (exponent_beside c.loop-at.invariant.part c.requires.apart c.requires.second) ∙ exponent_tree c.args.exponent c.loop-at.invariant.part c.requires.apart) c.in_ok-raise_factor.ensures.ok);
+    }
+
+pub raise_factor-requires-2-clause-first : goal.raise_factor-requires-2-clause-first
+raise_factor-requires-2-clause-first c = over_handed c.loop-at.invariant.part.over refl
+
+pub raise_factor-requires-2-clause-second : goal.raise_factor-requires-2-clause-second
+raise_factor-requires-2-clause-second c = exponent_beside c.loop-at.invariant.part c.requires.apart c.requires.second
+
+pub raise_factor-requires-2-clause-product : goal.raise_factor-requires-2-clause-product
+raise_factor-requires-2-clause-product c = ap is_mult (over_plain c.loop-at.invariant.part.over refl)
+
+pub raise_factor-requires-2-clause-within : goal.raise_factor-requires-2-clause-within
+raise_factor-requires-2-clause-within c =
+    let many = c.children-last.ensures.value ∙ children_at (over_product c.requires.first c.requires.product) c.requires.stands c.id.ensures in
+    omega (arith, many, c.requires.some, ap (λ (t : Tree). count (children_of t)) (over_plain c.loop-at.invariant.part.over refl), part_count c.loop-at.invariant.part)
+
+pub returns-in_err-raise_factor-2-clause-front : goal.returns-in_err-raise_factor-2-clause-front
+returns-in_err-raise_factor-2-clause-front c = front_after_two behind_first (behind_later behind_first) (part_front c.loop-at.invariant.part) c.raise_factor-2.ensures.front
+
+pub move_last-requires-clause-root : goal.move_last-requires-clause-root
+move_last-requires-clause-root c =
+    let many = c.children-last.ensures.value ∙ children_at (over_product c.requires.first c.requires.product) c.requires.stands c.id.ensures in
+    let end : c.loop-at.at + 1 ≡ count (children_of (tree_of c.args.product c.args.pool.now)) = omega (arith, many, c.requires.some, c.loop-at-test.false, c.loop-at.auto.at-end) in
+    (kids_over c.args.exponent (over_product c.requires.first c.requires.product) c.requires.apart
+    (all_raised c.args.exponent c.loop-at.invariant.part c.requires.apart end (last_kids c.args.exponent _ c.loop-at.invariant.part c.requires.apart refl (omega (arith, many, c.requires.some, c.loop-at-test.false, c.loop-at.auto.at-end)) c.in_ok-raise_factor-2.ensures.ok))).root
+
+pub returns-clause-ok : goal.returns-clause-ok
+returns-clause-ok c =
+    let many = c.children-last.ensures.value ∙ children_at (over_product c.requires.first c.requires.product) c.requires.stands c.id.ensures in
+    let end : c.loop-at.at + 1 ≡ count (children_of (tree_of c.args.product c.args.pool.now)) = omega (arith, many, c.requires.some, c.loop-at-test.false, c.loop-at.auto.at-end) in
+    raised_last c.args.exponent (over_product c.requires.first c.requires.product) c.requires.apart
+    (all_raised c.args.exponent c.loop-at.invariant.part c.requires.apart end (last_kids c.args.exponent _ c.loop-at.invariant.part c.requires.apart refl (omega (arith, many, c.requires.some, c.loop-at-test.false, c.loop-at.auto.at-end)) c.in_ok-raise_factor-2.ensures.ok)) c.move_last.ensures.last
+
+pub returns-clause-front : goal.returns-clause-front
+returns-clause-front c =
+    let many = c.children-last.ensures.value ∙ children_at (over_product c.requires.first c.requires.product) c.requires.stands c.id.ensures in
+    let end : c.loop-at.at + 1 ≡ count (children_of (tree_of c.args.product c.args.pool.now)) = omega (arith, many, c.requires.some, c.loop-at-test.false, c.loop-at.auto.at-end) in
+    front_end c.move_last.ensures.last (front_without behind_first (kids_front
+    (all_raised c.args.exponent c.loop-at.invariant.part c.requires.apart end (last_kids c.args.exponent _ c.loop-at.invariant.part c.requires.apart refl (omega (arith, many, c.requires.some, c.loop-at-test.false, c.loop-at.auto.at-end)) c.in_ok-raise_factor-2.ensures.ok))))

@@ -1,0 +1,12 @@
+use Rattle.power_reduce.proofs.Raising.{IsPartRaised}
+use Rattle.reduce_port.specs.Rewritings.{tree_of}
+use Rattle.tree_handles.specs.Expressions.{children_of}
+use Rattle.tree_handles.specs.Standing.{Stands, forest, KeepsRefusals}
+use Rattle.power_reduce.proofs.rewriting.raise_each.Given as goal
+
+abbrev pub invariant-loop-at : goal.invariant-loop-at
+invariant-loop-at l = record {
+  stands : Stands l.pool;
+  kept : KeepsRefusals l.fn.pool l.pool;
+  part : IsPartRaised (tree_of l.exponent l.fn.pool) l.product l.at (children_of (tree_of l.product l.fn.pool)) (forest l.fn.pool) (forest l.pool);
+}

@@ -1,0 +1,124 @@
+use Rattle.std.proofs.Common.{refl, arith}
+use Rattle.coefficients.proofs.Places.{over_product, over_end}
+use Rattle.coefficients.proofs.Steps.{children_in, added_as}
+use Rattle.power_reduce.proofs.InPlace.{apart_last}
+use Rattle.power_reduce.proofs.Raising.{split_at, split_over, split_within, factor_taken, taken_front, power_given, product_on, words, kids_of_raised, kids_front}
+use Rattle.reduce_port.specs.Rewritings.{tree_of}
+use Rattle.tree_handles.proofs.Fronts.{front_after}
+use Rattle.tree_handles.proofs.Given.{given_rest, given_root, handed_by_put}
+use Rattle.tree_handles.proofs.Lasts.{ends_as, last_apart, last_held, other_root}
+use Rattle.tree_handles.proofs.Roots.{root_held}
+use Rattle.power_reduce.proofs.rewriting.raise_factor.Goals as goal
+
+pub take_child-factor-requires-clause-within : goal.take_child-factor-requires-clause-within
+take_child-factor-requires-clause-within c = omega (arith, children_in c.requires.stands (over_product c.requires.first c.requires.product), c.requires.within)
+
+pub returns-in_err-power-clause-front : goal.returns-in_err-power-clause-front
+returns-in_err-power-clause-front c =
+    let o = over_product c.requires.first c.requires.product in
+    let s = split_at c.args.at _ c.requires.within in
+    let a = factor_taken o s (c.take_child-factor.ensures.last c.requires.first.root) in
+    front_after (taken_front a) c.node.ensures.front
+
+pub add_child-requires-clause-live : goal.add_child-requires-clause-live
+add_child-requires-clause-live c = last_held c.in_ok-power.ensures.ok
+
+pub add_child-requires-clause-root : goal.add_child-requires-clause-root
+add_child-requires-clause-root c =
+    let o = over_product c.requires.first c.requires.product in
+    let s = split_at c.args.at _ c.requires.within in
+    let a = factor_taken o s (c.take_child-factor.ensures.last c.requires.first.root) in
+    other_root c.take_child-factor.result c.in_ok-power.ensures.ok (given_root a.gives)
+
+pub add_child-requires-clause-apart : goal.add_child-requires-clause-apart
+add_child-requires-clause-apart c =
+    let o = over_product c.requires.first c.requires.product in
+    let s = split_at c.args.at _ c.requires.within in
+    let a = factor_taken o s (c.take_child-factor.ensures.last c.requires.first.root) in
+    last_apart c.take_child-factor.result c.in_ok-power.ensures.stands c.in_ok-power.ensures.ok (given_root a.gives)
+
+pub add_child-requires-2-clause-root : goal.add_child-requires-2-clause-root
+add_child-requires-2-clause-root c =
+    let o = over_product c.requires.first c.requires.product in
+    let s = split_at c.args.at _ c.requires.within in
+    let a = factor_taken o s (c.take_child-factor.ensures.last c.requires.first.root) in
+    let one = ends_as (c.add_child.ensures.last _ _ c.in_ok-power.ensures.ok (given_root a.gives)) refl (given_rest a.gives) in
+    let beside = handed_by_put c.args.product.now a.now c.requires.apart c.requires.second in
+    other_root c.args.exponent one beside.root
+
+pub add_child-requires-2-clause-apart : goal.add_child-requires-2-clause-apart
+add_child-requires-2-clause-apart c =
+    let o = over_product c.requires.first c.requires.product in
+    let s = split_at c.args.at _ c.requires.within in
+    let a = factor_taken o s (c.take_child-factor.ensures.last c.requires.first.root) in
+    let one = ends_as (c.add_child.ensures.last _ _ c.in_ok-power.ensures.ok (given_root a.gives)) refl (given_rest a.gives) in
+    let beside = handed_by_put c.args.product.now a.now c.requires.apart c.requires.second in
+    last_apart c.args.exponent c.add_child.ensures.stands one beside.root
+
+pub add_child-requires-3-clause-live : goal.add_child-requires-3-clause-live
+add_child-requires-3-clause-live c =
+    let o = over_product c.requires.first c.requires.product in
+    let s = split_at c.args.at _ c.requires.within in
+    let a = factor_taken o s (c.take_child-factor.ensures.last c.requires.first.root) in
+    let one = ends_as (c.add_child.ensures.last _ _ c.in_ok-power.ensures.ok (given_root a.gives)) refl (given_rest a.gives) in
+    let beside = handed_by_put c.args.product.now a.now c.requires.apart c.requires.second in
+    let p = power_given a c.requires.apart c.requires.second (c.add_child-2.ensures.last _ _ one beside.root) in
+    let b = product_on c.args.exponent o a c.requires.apart in
+    root_held c.args.product.now _ (over_end b p.ends).root
+
+pub add_child-requires-3-clause-within : goal.add_child-requires-3-clause-within
+add_child-requires-3-clause-within c =
+    let o = over_product c.requires.first c.requires.product in
+    let s = split_at c.args.at _ c.requires.within in
+    let a = factor_taken o s (c.take_child-factor.ensures.last c.requires.first.root) in
+    let one = ends_as (c.add_child.ensures.last _ _ c.in_ok-power.ensures.ok (given_root a.gives)) refl (given_rest a.gives) in
+    let beside = handed_by_put c.args.product.now a.now c.requires.apart c.requires.second in
+    let p = power_given a c.requires.apart c.requires.second (c.add_child-2.ensures.last _ _ one beside.root) in
+    let b = product_on c.args.exponent o a c.requires.apart in
+    omega (arith, children_in c.add_child-2.ensures.stands (over_end b p.ends), split_within c.args.at _ s)
+
+pub add_child-requires-3-clause-root : goal.add_child-requires-3-clause-root
+add_child-requires-3-clause-root c =
+    let o = over_product c.requires.first c.requires.product in
+    let s = split_at c.args.at _ c.requires.within in
+    let a = factor_taken o s (c.take_child-factor.ensures.last c.requires.first.root) in
+    let one = ends_as (c.add_child.ensures.last _ _ c.in_ok-power.ensures.ok (given_root a.gives)) refl (given_rest a.gives) in
+    let beside = handed_by_put c.args.product.now a.now c.requires.apart c.requires.second in
+    let p = power_given a c.requires.apart c.requires.second (c.add_child-2.ensures.last _ _ one beside.root) in
+    let b = product_on c.args.exponent o a c.requires.apart in
+    given_root p
+
+pub add_child-requires-3-clause-apart : goal.add_child-requires-3-clause-apart
+add_child-requires-3-clause-apart c =
+    let o = over_product c.requires.first c.requires.product in
+    let s = split_at c.args.at _ c.requires.within in
+    let a = factor_taken o s (c.take_child-factor.ensures.last c.requires.first.root) in
+    let one = ends_as (c.add_child.ensures.last _ _ c.in_ok-power.ensures.ok (given_root a.gives)) refl (given_rest a.gives) in
+    let beside = handed_by_put c.args.product.now a.now c.requires.apart c.requires.second in
+    let p = power_given a c.requires.apart c.requires.second (c.add_child-2.ensures.last _ _ one beside.root) in
+    let b = product_on c.args.exponent o a c.requires.apart in
+    apart_last c.add_child-2.ensures.stands b p
+
+pub returns-clause-ok : goal.returns-clause-ok
+returns-clause-ok c =
+    let o = over_product c.requires.first c.requires.product in
+    let s = split_at c.args.at _ c.requires.within in
+    let a = factor_taken o s (c.take_child-factor.ensures.last c.requires.first.root) in
+    let one = ends_as (c.add_child.ensures.last _ _ c.in_ok-power.ensures.ok (given_root a.gives)) refl (given_rest a.gives) in
+    let beside = handed_by_put c.args.product.now a.now c.requires.apart c.requires.second in
+    let p = power_given a c.requires.apart c.requires.second (c.add_child-2.ensures.last _ _ one beside.root) in
+    let b = product_on c.args.exponent o a c.requires.apart in
+    let x = added_as c.args.at b p (c.add_child-3.ensures.root (over_end b p.ends).root) (words c.args.at _ (tree_of c.args.exponent c.args.pool.now) s) in
+    kids_of_raised c.args.exponent a c.requires.apart x
+
+pub returns-clause-front : goal.returns-clause-front
+returns-clause-front c =
+    let o = over_product c.requires.first c.requires.product in
+    let s = split_at c.args.at _ c.requires.within in
+    let a = factor_taken o s (c.take_child-factor.ensures.last c.requires.first.root) in
+    let one = ends_as (c.add_child.ensures.last _ _ c.in_ok-power.ensures.ok (given_root a.gives)) refl (given_rest a.gives) in
+    let beside = handed_by_put c.args.product.now a.now c.requires.apart c.requires.second in
+    let p = power_given a c.requires.apart c.requires.second (c.add_child-2.ensures.last _ _ one beside.root) in
+    let b = product_on c.args.exponent o a c.requires.apart in
+    let x = added_as c.args.at b p (c.add_child-3.ensures.root (over_end b p.ends).root) (words c.args.at _ (tree_of c.args.exponent c.args.pool.now) s) in
+    kids_front (kids_of_raised c.args.exponent a c.requires.apart x)

@@ -1,0 +1,75 @@
+use Rattle.std.proofs.Common.{◌≡◌, ◌≤◌, refl, sym, ap, ◌∙◌, subst, Some}
+use Rattle.calc_terms.specs.Numbers.{is_number}
+use Rattle.calc_terms.specs.Reduced.{is_reduced}
+use Rattle.calc_terms.specs.Trees.{Tree, count, is_mult}
+use Rattle.coefficients.proofs.Steps.{if_map}
+use Rattle.power_reduce.proofs.PartsOf.{first_handed, first_tree, some_parts, powers_as}
+use Rattle.reduce_port.specs.Rewritings.{tree_of}
+use Rattle.tree_handles.specs.Expressions.{plain, children_of}
+use Rattle.tree_handles.proofs.Fronts.{behind_first, behind_new, front_same, front_end, front_without, front_after_one, front_after_two}
+use Rattle.tree_handles.proofs.Given.{gives_as, given_apart, given_handed, given_other, given_rest, given_same, given_told, given_without, handed_beside}
+use Rattle.tree_handles.proofs.Outcomes.{eqb-sym}
+use Rattle.tree_handles.proofs.Roots.{tree-without}
+use Rattle.power_reduce.proofs.rewriting.raise_factors.Goals as goal
+
+pub product_of_parts-requires-clause-handed : goal.product_of_parts-requires-clause-handed
+product_of_parts-requires-clause-handed c = first_handed _ c.take_sides-base.ensures.gives
+
+pub product_of_parts-requires-clause-product : goal.product_of_parts-requires-clause-product
+product_of_parts-requires-clause-product c = ap is_mult (first_tree _ c.take_sides-base.ensures.gives) ∙ c.requires.base
+
+pub product_of_parts-requires-clause-reduced : goal.product_of_parts-requires-clause-reduced
+product_of_parts-requires-clause-reduced c = ap is_reduced (first_tree _ c.take_sides-base.ensures.gives) ∙ c.requires.sides.base
+
+pub returns-in_err-product-clause-front : goal.returns-in_err-product-clause-front
+returns-in_err-product-clause-front c =
+    let g = c.take_sides-base.ensures.gives in
+    front_after_one (behind_new g.first-given.ends (front_without behind_first front_same)) c.take_sides-base.ensures.front c.product_of_parts.ensures.front
+
+pub raise_each-requires-clause-first : goal.raise_each-requires-clause-first
+raise_each-requires-clause-first c = given_handed c.in_ok-product.ensures.ok
+
+pub raise_each-requires-clause-second : goal.raise_each-requires-clause-second
+raise_each-requires-clause-second c =
+    let g = c.take_sides-base.ensures.gives in
+    let p = c.in_ok-product.ensures.ok in
+    let e = handed_beside c.take_sides-base.result.0 (eqb-sym _ _ (given_apart g.second-given (given_handed g.first-given))) (given_handed g.second-given) in
+    given_other p e
+
+pub raise_each-requires-clause-apart : goal.raise_each-requires-clause-apart
+raise_each-requires-clause-apart c =
+    let g = c.take_sides-base.ensures.gives in
+    let p = c.in_ok-product.ensures.ok in
+    let e = handed_beside c.take_sides-base.result.0 (eqb-sym _ _ (given_apart g.second-given (given_handed g.first-given))) (given_handed g.second-given) in
+    given_apart p e
+
+pub raise_each-requires-clause-product : goal.raise_each-requires-clause-product
+raise_each-requires-clause-product c = ap is_mult (given_told c.in_ok-product.ensures.ok)
+
+pub raise_each-requires-clause-some : goal.raise_each-requires-clause-some
+raise_each-requires-clause-some c =
+    let g = c.take_sides-base.ensures.gives in
+    let p = c.in_ok-product.ensures.ok in
+    let e = handed_beside c.take_sides-base.result.0 (eqb-sym _ _ (given_apart g.second-given (given_handed g.first-given))) (given_handed g.second-given) in
+    let b = first_tree _ g in
+    subst (λ (t : Tree). 1 ≤ count (children_of t)) (sym (given_told p)) (some_parts _ (ap is_mult b ∙ c.requires.base) (ap is_reduced b ∙ c.requires.sides.base) (ap is_number b ∙ c.requires.number))
+
+pub returns-clause-ok : goal.returns-clause-ok
+returns-clause-ok c =
+    let g = c.take_sides-base.ensures.gives in
+    let p = c.in_ok-product.ensures.ok in
+    let e = handed_beside c.take_sides-base.result.0 (eqb-sym _ _ (given_apart g.second-given (given_handed g.first-given))) (given_handed g.second-given) in
+    let apart = eqb-sym _ _ (given_apart g.second-given (given_handed g.first-given)) in
+    let b = first_tree _ g in
+    let x = ap plain (given_same c.take_sides-base.result.1 p e.root ∙ tree-without c.take_sides-base.result.0 c.take_sides-base.result.1 _ apart) ∙ given_told g.second-given in
+    if_map c.raise_each.result _ _ c.raise_each.ensures.ok
+    (λ h k. gives_as k (given_without p e ∙ given_without g.second-given (given_handed g.first-given) ∙ given_rest g.first-given)
+    (λ t w. powers_as _ _ t _ _ _ c.requires.base c.requires.number c.requires.inside w (given_told p) b x))
+
+pub returns-clause-front : goal.returns-clause-front
+returns-clause-front c =
+    let g = c.take_sides-base.ensures.gives in
+    let p = c.in_ok-product.ensures.ok in
+    let base = behind_new g.first-given.ends (front_without behind_first front_same) in
+    let exponent = behind_new g.second-given.ends (front_end g.first-given.ends (front_without behind_first front_same)) in
+    front_after_two (behind_new p.ends (front_without base c.take_sides-base.ensures.front)) exponent (front_after_one base c.take_sides-base.ensures.front c.product_of_parts.ensures.front) c.raise_each.ensures.front

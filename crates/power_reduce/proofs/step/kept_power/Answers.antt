@@ -1,0 +1,14 @@
+use Rattle.reduce_port.specs.Rewritings.{tree_of}
+use Rattle.tree_handles.proofs.Fronts.{behind_first, front_same, front_end, front_without}
+use Rattle.tree_handles.proofs.Given.{gives, represents_handed}
+use Rattle.power_reduce.proofs.Cases.{kept_power_answer}
+use Rattle.power_reduce.proofs.step.kept_power.Goals as goal
+
+pub returns-clause-step : goal.returns-clause-step
+returns-clause-step c = (
+  c.requires.kept,
+  gives c.move_last.ensures.last (represents_handed c.requires.handed) (kept_power_answer (tree_of c.args.power c.args.pool.now) c.requires.sides c.requires.exponent c.requires.number c.requires.kept),
+)
+
+pub returns-clause-front : goal.returns-clause-front
+returns-clause-front c = front_end c.move_last.ensures.last (front_without behind_first front_same)

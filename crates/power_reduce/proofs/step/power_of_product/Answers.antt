@@ -1,0 +1,22 @@
+use Rattle.std.proofs.Common.{sym, ap, ◌∙◌}
+use Rattle.calc_terms.specs.Numbers.{is_number}
+use Rattle.calc_terms.specs.Reduced.{is_reduced}
+use Rattle.reduce_port.specs.Rewritings.{tree_of}
+use Rattle.power_reduce.specs.PowerAnswers.{base_in, exponent_in}
+use Rattle.power_reduce.proofs.Cases.{inside_other, number_kept, again}
+use Rattle.power_reduce.proofs.step.power_of_product.Goals as goal
+
+pub is_reduced_number-requires-clause-reduced : goal.is_reduced_number-requires-clause-reduced
+is_reduced_number-requires-clause-reduced c = ap is_reduced c.base_id.ensures.tree ∙ c.requires.sides.base
+
+pub kept_power-requires-clause-exponent : goal.kept_power-requires-clause-exponent
+kept_power-requires-clause-exponent c = inside_other (exponent_in (tree_of c.args.power c.args.pool.now)) c.requires.inside
+
+pub kept_power-requires-clause-kept : goal.kept_power-requires-clause-kept
+kept_power-requires-clause-kept c = number_kept _ _ (sym (ap is_number c.base_id.ensures.tree) ∙ sym c.is_reduced_number.ensures ∙ c.if-is_reduced_number.true)
+
+pub raise_factors-requires-clause-number : goal.raise_factors-requires-clause-number
+raise_factors-requires-clause-number c = sym (ap is_number c.base_id.ensures.tree) ∙ sym c.is_reduced_number.ensures ∙ c.if-is_reduced_number.false
+
+pub returns-clause-ok : goal.returns-clause-ok
+returns-clause-ok c = again (tree_of c.args.power c.args.pool.now) c.requires.sides.power c.in_ok-raised.ensures.ok

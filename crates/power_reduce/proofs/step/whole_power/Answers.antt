@@ -1,0 +1,30 @@
+use Rattle.std.proofs.Common.{◌≡◌, sym, ap, ◌∙◌, false}
+use Rattle.calc_terms.specs.Trees.{root_kind, is_num}
+use Rattle.reduce_port.specs.Rewritings.{tree_of}
+use Rattle.power_reduce.specs.PowerAnswers.{base_in, exponent_in}
+use Rattle.power_reduce.proofs.Cases.{no_num_kind, number_kept, no_rational, rational_number, step_fault}
+use Rattle.power_reduce.proofs.step.whole_power.Goals as goal
+
+pub kind-requires-clause-live : goal.kind-requires-clause-live
+kind-requires-clause-live c = c.base_id-base.ensures.expression.live
+
+pub rational-q-requires-clause-live : goal.rational-q-requires-clause-live
+rational-q-requires-clause-live c = c.base_id-base.ensures.expression.live
+
+pub rational_power-requires-clause-base : goal.rational_power-requires-clause-base
+rational_power-requires-clause-base c = sym c.base_id-base.ensures.tree ∙ c.rational-q.ensures.plain
+
+pub returns-in_ok-answer-in-Num-clause-ok : goal.returns-in_ok-answer-in-Num-clause-ok
+returns-in_ok-answer-in-Num-clause-ok c = (number_kept _ _ (rational_number _ _ (sym c.base_id-base.ensures.tree ∙ c.rational-q.ensures.plain)), c.in_ok-answer-in-Num.ensures.ok)
+
+pub returns-in_ok-answer-in-Num-clause-rationals : goal.returns-in_ok-answer-in-Num-clause-rationals
+returns-in_ok-answer-in-Num-clause-rationals c = λ b e. c.in_ok-answer-in-Num.ensures.rationals
+
+pub returns-in_err-answer-in-Num-clause-rationals : goal.returns-in_err-answer-in-Num-clause-rationals
+returns-in_err-answer-in-Num-clause-rationals c = λ b e. step_fault _ c.rational_power.new.pool c.in_err-answer-in-Num.field-0.0 _ c.from_residual.ensures.1 c.in_err-answer-in-Num.ensures.rationals
+
+pub whole_power_of_other-requires-clause-base : goal.whole_power_of_other-requires-clause-base
+whole_power_of_other-requires-clause-base c = no_num_kind _ (λ e. c.in_default.not-Num ((c.kind.ensures.plain c.base_id-base.ensures.expression ∙ ap root_kind c.base_id-base.ensures.tree) ∙ sym e))
+
+pub returns-in_default-clause-rationals : goal.returns-in_default-clause-rationals
+returns-in_default-clause-rationals c = λ b e. no_rational _ b (no_num_kind (base_in (tree_of c.args.power c.args.pool.now)) (λ x. c.in_default.not-Num ((c.kind.ensures.plain c.base_id-base.ensures.expression ∙ ap root_kind c.base_id-base.ensures.tree) ∙ sym x)))

@@ -1,0 +1,69 @@
+use Rattle.std.proofs.Common.{◌≡◌, ℤ, pos, true, false, None, refl, sym, ap, ◌∙◌, subst}
+use Rattle.calc_terms.specs.Fractions.{whole_fraction}
+use Rattle.calc_terms.specs.Numbers.{is_number}
+use Rattle.calc_terms.specs.Reduced.{is_reduced}
+use Rattle.calc_terms.specs.Trees.{num, is_num, is_root}
+use Rattle.coefficients.proofs.Steps.{one_value}
+use Rattle.reduce_port.specs.Rewritings.{tree_of}
+use Rattle.tree_handles.proofs.Given.{gives_as}
+use Rattle.power_reduce.specs.PowerAnswers.{base_in, exponent_in}
+use Rattle.power_reduce.specs.PowerSteps.{is_even_whole, rewritten}
+use Rattle.power_reduce.proofs.Cases.{number_kept, zero_kept, one_kept, other_power, whole_goes_inside, no_number, even_bits, odd_bits, even_whole, odd_root_kept, again}
+use Rattle.power_reduce.proofs.NumberPowers.{zero_answer, one_answer}
+use Rattle.power_reduce.proofs.RationalPowers.{zero_bits, no_zero_bits}
+use Rattle.power_reduce.proofs.Whole.{one_bits, no_one_bits}
+use Rattle.rational128.proofs.Signed.{told}
+use Rattle.power_reduce.proofs.step.whole_power_of_other.Goals as goal
+use Rattle.power_reduce.proofs.step.whole_power_of_other.Goals.{else-n-eq0-2-via-then-n-eq0-2+else-is_root, else-n-eq0-2-via-else-n-eq0-2}
+
+pub is_reduced_number-requires-clause-reduced : goal.is_reduced_number-requires-clause-reduced
+is_reduced_number-requires-clause-reduced c = ap is_reduced c.base_id-base.ensures.tree ∙ c.requires.sides.base
+
+pub irrational_power-requires-clause-number : goal.irrational_power-requires-clause-number
+irrational_power-requires-clause-number c = sym (ap is_number c.base_id-base.ensures.tree) ∙ sym c.is_reduced_number.ensures ∙ c.if-is_reduced_number.true
+
+pub returns-then-is_reduced_number-clause-ok : goal.returns-then-is_reduced_number-clause-ok
+returns-then-is_reduced_number-clause-ok c = (number_kept (base_in (tree_of c.args.power c.args.pool.now)) (exponent_in (tree_of c.args.power c.args.pool.now)) (sym (ap is_number c.base_id-base.ensures.tree) ∙ sym c.is_reduced_number.ensures ∙ c.if-is_reduced_number.true), c.in_ok-answer.ensures.ok)
+
+pub with_number-requires-clause-exponent : goal.with_number-requires-clause-exponent
+with_number-requires-clause-exponent c = ap is_num c.requires.exponent
+
+pub returns-then-n-eq0-clause-ok : goal.returns-then-n-eq0-clause-ok
+returns-then-n-eq0-clause-ok c =
+    let z = zero_bits c.args.n c.requires.fits c.if-n-eq0.true in (
+      zero_kept (base_in (tree_of c.args.power c.args.pool.now)) (exponent_in (tree_of c.args.power c.args.pool.now)) c.args.n c.requires.exponent z,
+      gives_as c.with_number.ensures.gives refl (λ t u. zero_answer _ _ c.args.n t c.requires.exponent z
+          (other_power (base_in (tree_of c.args.power c.args.pool.now)) (exponent_in (tree_of c.args.power c.args.pool.now)) c.requires.sides.base_defined c.requires.sides.exponent_defined (sym (ap is_number c.base_id-base.ensures.tree) ∙ sym c.is_reduced_number.ensures ∙ c.if-is_reduced_number.false)) (u ∙ ap num (one_value c.whole.result c.whole.ensures))),
+    )
+
+pub returns-then-n-eq1-clause-ok : goal.returns-then-n-eq1-clause-ok
+returns-then-n-eq1-clause-ok c =
+    let z = one_bits c.args.n c.requires.fits c.if-n-eq1.true in (
+      one_kept (base_in (tree_of c.args.power c.args.pool.now)) (exponent_in (tree_of c.args.power c.args.pool.now)) c.args.n c.requires.exponent z,
+      gives_as c.take_base.ensures.gives refl (λ t u. one_answer _ _ c.args.n t c.requires.exponent z c.requires.sides.base c.requires.sides.base_defined
+          (other_power (base_in (tree_of c.args.power c.args.pool.now)) (exponent_in (tree_of c.args.power c.args.pool.now)) c.requires.sides.base_defined c.requires.sides.exponent_defined (sym (ap is_number c.base_id-base.ensures.tree) ∙ sym c.is_reduced_number.ensures ∙ c.if-is_reduced_number.false)) u),
+    )
+
+pub halve_root-requires-clause-even : goal.halve_root-requires-clause-even
+halve_root-requires-clause-even c = ap (λ z. is_even_whole (whole_fraction z)) (told c.args.n c.requires.fits) ∙ even_whole c.args.n (even_bits c.args.n c.requires.fits c.if-n-eq0-2.true) (no_zero_bits c.args.n c.if-n-eq0.false)
+
+pub halve_root-requires-clause-root : goal.halve_root-requires-clause-root
+halve_root-requires-clause-root c = sym (ap is_root c.base_id-base.ensures.tree) ∙ sym c.is_root.ensures ∙ c.if-is_root.true
+
+pub halve_root-requires-clause-number : goal.halve_root-requires-clause-number
+halve_root-requires-clause-number c = sym (ap is_number c.base_id-base.ensures.tree) ∙ sym c.is_reduced_number.ensures ∙ c.if-is_reduced_number.false
+
+pub returns-then-is_root-clause-ok : goal.returns-then-is_root-clause-ok
+returns-then-is_root-clause-ok c = again (tree_of c.args.power c.args.pool.now) c.requires.sides.power c.halve_root.ensures.gives
+
+pub power_inside-requires-clause-inside : goal.power_inside-requires-clause-inside
+power_inside-requires-clause-inside c = whole_goes_inside (exponent_in (tree_of c.args.power c.args.pool.now)) c.args.n c.requires.exponent (no_zero_bits c.args.n c.if-n-eq0.false) (no_one_bits c.args.n c.if-n-eq1.false)
+
+pub power_inside-requires-clause-number : goal.power_inside-requires-clause-number
+power_inside-requires-clause-number c = no_number (base_in (tree_of c.args.power c.args.pool.now)) (exponent_in (tree_of c.args.power c.args.pool.now)) (sym (ap is_number c.base_id-base.ensures.tree) ∙ sym c.is_reduced_number.ensures ∙ c.if-is_reduced_number.false)
+
+pub power_inside-requires-clause-root : goal.power_inside-requires-clause-root
+power_inside-requires-clause-root c = elim c.else-n-eq0-2.branch [
+  | else-n-eq0-2-via-then-n-eq0-2+else-is_root w ↦ λ r. absurd (cc (sym (ap is_root c.base_id-base.ensures.tree) ∙ sym w.is_root.ensures ∙ w.if-is_root.false, r))
+  | else-n-eq0-2-via-else-n-eq0-2 w ↦ λ r. odd_root_kept (base_in (tree_of c.args.power c.args.pool.now)) (exponent_in (tree_of c.args.power c.args.pool.now)) c.args.n r c.requires.exponent (odd_bits c.args.n c.requires.fits w.if-n-eq0-2.false)
+]

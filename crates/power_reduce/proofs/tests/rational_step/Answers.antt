@@ -1,0 +1,11 @@
+use Rattle.std.proofs.Common.{ap, ◌∙◌}
+use Rattle.calc_terms.specs.Reduced.{is_reduced}
+use Rattle.power_reduce.proofs.Leaves.{number_reduced}
+use Rattle.tree_handles.proofs.Given.{given_handed, given_told}
+use Rattle.power_reduce.proofs.tests.rational_step.Goals as goal
+
+pub step-requires-clause-handed : goal.step-requires-clause-handed
+step-requires-clause-handed c = given_handed c.in_ok-base.ensures.given
+
+pub step-requires-clause-reduced : goal.step-requires-clause-reduced
+step-requires-clause-reduced c = ap is_reduced (given_told c.in_ok-base.ensures.given) ∙ number_reduced _

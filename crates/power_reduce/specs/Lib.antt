@@ -1,0 +1,4 @@
+pub mod PowerSteps
+pub mod PowerAnswers
+pub mod PowerRules
+pub mod Raising

@@ -1,0 +1,67 @@
+//! Laws of one step on a power, each the contract of a function without a body.
+ghost use Rattle.std.specs.Prelude.{◌≡◌, ◌≤◌, ◌+◌, ◌&&◌, true, false, Some, None};
+ghost use Rattle.calc_terms.specs.Integers.{int_is_negative};
+ghost use Rattle.calc_terms.specs.Loads.{load, weight};
+ghost use Rattle.calc_terms.specs.Numbers.{is_number, classes};
+ghost use Rattle.calc_terms.specs.Reduced.{is_reduced, is_whole_num, is_opaque_exponent, num_one};
+ghost use Rattle.calc_terms.specs.Trees.{Tree, num, power, undef, is_undef};
+ghost use Rattle.calc_terms.specs.Fractions.{Fraction, one_fraction, zero_fraction};
+ghost use Rattle.power_reduce.specs.PowerAnswers.{has_no_power, IsPowerAnswer};
+ghost use Rattle.power_reduce.specs.PowerRules.{IsByRule, IsRewritable};
+ghost use Rattle.power_reduce.specs.PowerSteps.{is_zero_or_one, rewritten};
+ghost use Rattle.reduce_port.specs.Rewritings.{Rewrites, Reduces, KeepsMeanings};
+
+/// A rewriting keeps every meaning and has no new name.
+pub fn rewriting_keeps_meanings()
+    ensures { (b e t : Tree) → rewritten b e ≡ Some t → Rewrites (power b e) t }
+{}
+
+/// A rewriting is by one of three rules, and each leaves trees that are reduced, weigh less and nest no more.
+pub fn rewritings_are_by_rule()
+    ensures { (b e t : Tree) → is_reduced b ≡ true → rewritten b e ≡ Some t → IsByRule b e t }
+{}
+
+/// A power that is rewritten is no Number's, and neither opaque nor Undef at once.
+pub fn rewritten_powers_are_transparent()
+    ensures { (b e t : Tree) → rewritten b e ≡ Some t → IsRewritable b e }
+{}
+
+/// A power that no rule changes is reduced: none that is rewritten, whose exponent is 0 or 1, or that is a
+/// whole power of a Number.
+pub fn other_powers_are_reduced()
+    ensures { (b e : Tree) → is_reduced b ≡ true → is_reduced e ≡ true → is_undef b ≡ false → is_undef e ≡ false
+        → is_zero_or_one e ≡ false → (is_number b && is_whole_num e) ≡ false → rewritten b e ≡ None
+        → is_reduced (power b e) ≡ true }
+{}
+
+/// A negative whole power of a Number of three classes or more is reduced.
+pub fn wide_powers_are_reduced()
+    ensures { (b : Tree) (n : Fraction) → is_reduced b ≡ true → is_number b ≡ true → 3 ≤ classes b
+        → int_is_negative n.num ≡ true → is_reduced (power b (num n)) ≡ true }
+{}
+
+/// The power 1 of a reduced tree is that tree, and the power 0 of one is 1.
+pub fn powers_one_and_zero()
+    ensures one { (b : Tree) → is_reduced b ≡ true → Reduces (power b (num one_fraction)) b }
+    ensures zero { (b : Tree) → Reduces (power b (num zero_fraction)) num_one }
+{}
+
+/// The load of a tree is at most its weight, and that of a power at most its base's weight, or one more where it
+/// is opaque.
+pub fn loads_are_bounded()
+    ensures tree { (b : Tree) → load b ≤ weight b }
+    ensures transparent { (b e : Tree) → is_opaque_exponent e ≡ false → load (power b e) ≤ weight b }
+    ensures opaque { (b e : Tree) → load (power b e) ≤ 1 + weight b }
+{}
+
+/// What a power is answered by that no rule rewrites: Undef, 1, the base, a Number of its meaning, or itself.
+pub fn answers_are_reduced()
+    ensures undef_base { (e : Tree) → IsPowerAnswer undef e undef }
+    ensures undef_exponent { (b : Tree) → IsPowerAnswer b undef undef }
+    ensures undefined { (b e : Tree) → has_no_power b e ≡ true → KeepsMeanings (power b e) undef → IsPowerAnswer b e undef }
+    ensures zero { (b : Tree) → has_no_power b (num zero_fraction) ≡ false → IsPowerAnswer b (num zero_fraction) num_one }
+    ensures one { (b : Tree) → is_reduced b ≡ true → is_undef b ≡ false → has_no_power b (num one_fraction) ≡ false
+        → IsPowerAnswer b (num one_fraction) b }
+    ensures number { (b e t : Tree) → is_number t ≡ true → has_no_power b e ≡ false → KeepsMeanings (power b e) t → IsPowerAnswer b e t }
+    ensures kept { (b e : Tree) → is_reduced (power b e) ≡ true → has_no_power b e ≡ false → IsPowerAnswer b e (power b e) }
+{}

@@ -1,0 +1,171 @@
+//! The three rewritings of a power.
+ghost use Rattle.std.specs.Prelude.{◌≡◌, ◌==◌, ◌<◌, ◌≤◌, ◌^◌, nat_abs, Some, IfOk, IfErr, OnOk, [], ◌∷◌, true, false};
+ghost use Rattle.calc_terms.specs.Fractions.{whole_fraction};
+ghost use Rattle.calc_terms.specs.Numbers.{is_number};
+ghost use Rattle.calc_terms.specs.Reduced.{is_reduced, is_opaque_exponent};
+ghost use Rattle.calc_terms.specs.Trees.{num, mult, count, is_mult, is_root};
+ghost use Rattle.power_reduce.specs.PowerAnswers.{is_power, base_in, exponent_in, HasReducedSides};
+ghost use Rattle.power_reduce.specs.PowerSteps.{goes_inside, is_even_whole, parts_of, raised, rewritten};
+ghost use Rattle.power_reduce.specs.Raising.{HasKids, raised_at};
+ghost use Rattle.reduce_port.specs.Causes.{LacksBytes};
+ghost use Rattle.reduce_port.specs.Rewritings.{tree_of};
+ghost use Rattle.tree_handles.specs.Expressions.{children_of};
+ghost use Rattle.tree_handles.specs.Handed.{IsHanded, Gives, KeepsFront};
+ghost use Rattle.tree_handles.specs.Roots.{without_root};
+ghost use Rattle.tree_handles.specs.Standing.{Stands, forest, KeepsRefusals, Refuses};
+
+use crate::sides::{is_one, take_sides};
+use calc_terms::{Kind, Rat};
+use coefficients::split_product;
+use node_pool::{Full, Pool};
+use tree_handles::{
+    Handle, add_child, children, copy_tree, merge_children, move_last, node, number, release,
+    take_child,
+};
+
+/// An even power of a root as a power of its argument, in place: the bytes of the old exponent suffice for its
+/// half.
+pub(crate) fn halve_root(pool: &mut Pool, power: Handle, n: i128) -> Handle
+    requires stands { Stands pool.old }
+    requires handed { IsHanded power (forest pool.old) }
+    requires sides { HasReducedSides (tree_of power pool.old) }
+    requires exponent { exponent_in (tree_of power pool.old) ≡ num (whole_fraction n) }
+    requires fits { nat_abs n < 2 ^ 127 }
+    requires even { is_even_whole (whole_fraction n) ≡ true }
+    requires root { is_root (base_in (tree_of power pool.old)) ≡ true }
+    requires number { is_number (base_in (tree_of power pool.old)) ≡ false }
+    ensures gives { Gives (without_root power (forest pool.old)) (forest pool.new) result (λ u. rewritten (base_in (tree_of power pool.old)) (exponent_in (tree_of power pool.old)) ≡ Some u) }
+    ensures front { KeepsFront (power ∷ []) (forest pool.old) (forest pool.new) }
+    ensures kept { KeepsRefusals pool.old pool.new }
+    ensures stands { Stands pool.new }
+{
+    merge_children(pool, &power, 0);
+    let exponent = take_child(pool, &power, 1);
+    release(pool, exponent);
+    match number(pool, Rat::whole(n / 2)) {
+        Ok(half) => {
+            add_child(pool, &power, 1, half);
+            move_last(pool, &power);
+            power
+        }
+        Err(_) => unreachable!(),
+    }
+}
+
+/// A power of a power as one of the inner base, with the product of the exponents.
+pub(crate) fn join_exponents(pool: &mut Pool, power: Handle) -> Result<Handle, Full>
+    requires stands { Stands pool.old }
+    requires handed { IsHanded power (forest pool.old) }
+    requires sides { HasReducedSides (tree_of power pool.old) }
+    requires inside { goes_inside (exponent_in (tree_of power pool.old)) ≡ true }
+    requires base { is_power (base_in (tree_of power pool.old)) ≡ true }
+    requires transparent { is_opaque_exponent (exponent_in (base_in (tree_of power pool.old))) ≡ false }
+    ensures ok { IfOk result (λ h. Gives (without_root power (forest pool.old)) (forest pool.new) h (λ u. rewritten (base_in (tree_of power pool.old)) (exponent_in (tree_of power pool.old)) ≡ Some u)) }
+    ensures front { KeepsFront (power ∷ []) (forest pool.old) (forest pool.new) }
+    ensures kept { OnOk result (KeepsRefusals pool.old pool.new) }
+    ensures full { IfErr result (Refuses pool.old pool.new) }
+    ensures caused { IfErr result (LacksBytes pool.new) }
+    ensures stands { Stands pool.new }
+{
+    merge_children(pool, &power, 0);
+    let first = take_child(pool, &power, 1);
+    let exponent = take_child(pool, &power, 1);
+    let product = node(pool, Kind::Mult)?;
+    add_child(pool, &product, 0, exponent);
+    add_child(pool, &product, 0, first);
+    add_child(pool, &power, 1, product);
+    move_last(pool, &power);
+    Ok(power)
+}
+
+/// A power of a product as the product of the powers of its parts.
+pub(crate) fn raise_factors(pool: &mut Pool, power: Handle) -> Result<Handle, Full>
+    requires stands { Stands pool.old }
+    requires handed { IsHanded power (forest pool.old) }
+    requires sides { HasReducedSides (tree_of power pool.old) }
+    requires inside { goes_inside (exponent_in (tree_of power pool.old)) ≡ true }
+    requires base { is_mult (base_in (tree_of power pool.old)) ≡ true }
+    requires number { is_number (base_in (tree_of power pool.old)) ≡ false }
+    ensures ok { IfOk result (λ h. Gives (without_root power (forest pool.old)) (forest pool.new) h (λ u. rewritten (base_in (tree_of power pool.old)) (exponent_in (tree_of power pool.old)) ≡ Some u)) }
+    ensures front { KeepsFront (power ∷ []) (forest pool.old) (forest pool.new) }
+    ensures kept { OnOk result (KeepsRefusals pool.old pool.new) }
+    ensures full { IfErr result (Refuses pool.old pool.new) }
+    ensures caused { IfErr result (LacksBytes pool.new) }
+    ensures stands { Stands pool.new }
+{
+    let (base, exponent) = take_sides(pool, power);
+    let product = product_of_parts(pool, base)?;
+    raise_each(pool, product, exponent)
+}
+
+/// The coefficient of a reduced product as one Number, where it is not 1, and the factors behind it.
+fn product_of_parts(pool: &mut Pool, product: Handle) -> Result<Handle, Full>
+    requires stands { Stands pool.old }
+    requires handed { IsHanded product (forest pool.old) }
+    requires product { is_mult (tree_of product pool.old) ≡ true }
+    requires reduced { is_reduced (tree_of product pool.old) ≡ true }
+    ensures ok { IfOk result (λ h. Gives (without_root product (forest pool.old)) (forest pool.new) h (λ t. t ≡ mult (parts_of (children_of (tree_of product pool.old))))) }
+    ensures front { KeepsFront (product ∷ []) (forest pool.old) (forest pool.new) }
+    ensures kept { OnOk result (KeepsRefusals pool.old pool.new) }
+    ensures full { IfErr result (Refuses pool.old pool.new) }
+    ensures caused { IfErr result (LacksBytes pool.new) }
+    ensures stands { Stands pool.new }
+{
+    let (coefficient, product) = split_product(pool, product)?;
+    if is_one(pool, coefficient.id()) {
+        release(pool, coefficient);
+        return Ok(product);
+    }
+    add_child(pool, &product, 0, coefficient);
+    Ok(product)
+}
+
+/// Each factor to a power: copies of the exponent, and the last one is the exponent itself.
+fn raise_each(pool: &mut Pool, product: Handle, exponent: Handle) -> Result<Handle, Full>
+    requires stands { Stands pool.old }
+    requires first { IsHanded product (forest pool.old) }
+    requires second { IsHanded exponent (forest pool.old) }
+    requires apart { (product == exponent) ≡ false }
+    requires product { is_mult (tree_of product pool.old) ≡ true }
+    requires some { 1 ≤ count (children_of (tree_of product pool.old)) }
+    ensures ok { IfOk result (λ h. Gives (without_root product (without_root exponent (forest pool.old))) (forest pool.new) h
+        (λ t. t ≡ mult (raised (children_of (tree_of product pool.old)) (tree_of exponent pool.old)))) }
+    ensures front { KeepsFront (product ∷ exponent ∷ []) (forest pool.old) (forest pool.new) }
+    ensures kept { OnOk result (KeepsRefusals pool.old pool.new) }
+    ensures full { IfErr result (Refuses pool.old pool.new) }
+    ensures caused { IfErr result (LacksBytes pool.new) }
+    ensures stands { Stands pool.new }
+{
+    let last = children(pool, product.id()) - 1;
+    for at in 0..last {
+        let copy = copy_tree(pool, exponent.id())?;
+        raise_factor(pool, &product, at, copy)?;
+    }
+    raise_factor(pool, &product, last, exponent)?;
+    move_last(pool, &product);
+    Ok(product)
+}
+
+/// A factor of a product is raised to an exponent, where it stands.
+fn raise_factor(pool: &mut Pool, product: &Handle, at: u16, exponent: Handle) -> Result<(), Full>
+    requires stands { Stands pool.old }
+    requires first { IsHanded product.now (forest pool.old) }
+    requires second { IsHanded exponent (forest pool.old) }
+    requires apart { (product.now == exponent) ≡ false }
+    requires product { is_mult (tree_of product.now pool.old) ≡ true }
+    requires within { at < count (children_of (tree_of product.now pool.old)) }
+    ensures ok { IfOk result (λ u. HasKids product.now (without_root exponent (forest pool.old)) (forest pool.new)
+        (raised_at at (tree_of exponent pool.old) (children_of (tree_of product.now pool.old)))) }
+    ensures front { KeepsFront (product.now ∷ exponent ∷ []) (forest pool.old) (forest pool.new) }
+    ensures kept { OnOk result (KeepsRefusals pool.old pool.new) }
+    ensures full { IfErr result (Refuses pool.old pool.new) }
+    ensures caused { IfErr result (LacksBytes pool.new) }
+    ensures stands { Stands pool.new }
+{
+    let factor = take_child(pool, product, at);
+    let power = node(pool, Kind::Pow)?;
+    add_child(pool, &power, 0, factor);
+    add_child(pool, &power, 1, exponent);
+    add_child(pool, product, at, power);
+    Ok(())
+}

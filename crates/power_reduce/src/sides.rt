@@ -1,0 +1,133 @@
+//! The base and the exponent of a power: read, taken out, and the power replaced.
+ghost use Rattle.std.specs.Prelude.{◌≡◌, IfOk, IfErr, OnOk, [], ◌∷◌, true, false};
+ghost use Rattle.calc_terms.specs.Rat.{value_of};
+ghost use Rattle.calc_terms.specs.Reduced.{is_reduced, is_opaque_exponent, is_num_one};
+ghost use Rattle.calc_terms.specs.Trees.{num, undef, is_num};
+ghost use Rattle.coefficients.specs.Pairs.{GivesTwo};
+ghost use Rattle.power_reduce.specs.PowerAnswers.{is_power, base_in, exponent_in, HasReducedSides};
+ghost use Rattle.reduce_port.specs.Rewritings.{tree_of};
+ghost use Rattle.tree_handles.specs.Expressions.{IsExpression, plain};
+ghost use Rattle.tree_handles.specs.Handed.{IsHanded, Gives, KeepsFront};
+ghost use Rattle.tree_handles.specs.Inside.{tree_at};
+ghost use Rattle.tree_handles.specs.Roots.{without_root};
+ghost use Rattle.tree_handles.specs.Standing.{Stands, forest, KeepsRefusals};
+
+use calc_terms::{Kind, Rat};
+use node_pool::{Id, Pool};
+use number_forms::{is_reduced_number, whole};
+use tree_handles::{Handle, child_id, node, number, release, take_child};
+
+/// The base of a power.
+pub(crate) fn base_id(pool: &Pool, power: &Handle) -> Id
+    requires stands { Stands pool.now }
+    requires handed { IsHanded power.now (forest pool.now) }
+    requires power { is_power (tree_of power.now pool.now) ≡ true }
+    ensures expression { IsExpression result (forest pool.now) }
+    ensures tree { plain (tree_at result (forest pool.now)) ≡ base_in (tree_of power.now pool.now) }
+{
+    child_id(pool, power.id(), 0)
+}
+
+/// The exponent of a power.
+pub(crate) fn exponent_id(pool: &Pool, power: &Handle) -> Id
+    requires stands { Stands pool.now }
+    requires handed { IsHanded power.now (forest pool.now) }
+    requires power { is_power (tree_of power.now pool.now) ≡ true }
+    ensures expression { IsExpression result (forest pool.now) }
+    ensures tree { plain (tree_at result (forest pool.now)) ≡ exponent_in (tree_of power.now pool.now) }
+{
+    child_id(pool, power.id(), 1)
+}
+
+/// Whether the exponent of the power that a reduced power has as its base makes that one opaque.
+pub(crate) fn first_exponent_is_opaque(pool: &Pool, power: &Handle) -> bool
+    requires stands { Stands pool.now }
+    requires handed { IsHanded power.now (forest pool.now) }
+    requires power { is_power (tree_of power.now pool.now) ≡ true }
+    requires base { is_power (base_in (tree_of power.now pool.now)) ≡ true }
+    requires reduced { is_reduced (base_in (tree_of power.now pool.now)) ≡ true }
+    ensures { result ≡ is_opaque_exponent (exponent_in (base_in (tree_of power.now pool.now))) }
+{
+    let first = child_id(pool, base_id(pool, power), 1);
+    match whole(pool, first) {
+        Some(_) => false,
+        None => is_reduced_number(pool, first),
+    }
+}
+
+/// Whether a tree is the rational 1.
+pub(crate) fn is_one(pool: &Pool, id: Id) -> bool
+    requires stands { Stands pool.now }
+    requires expression { IsExpression id (forest pool.now) }
+    ensures { result ≡ is_num_one (plain (tree_at id (forest pool.now))) }
+{
+    match whole(pool, id) {
+        Some(n) => n == 1,
+        None => false,
+    }
+}
+
+/// The base, and the rest of the power goes.
+pub(crate) fn take_base(pool: &mut Pool, power: Handle) -> Handle
+    requires stands { Stands pool.old }
+    requires handed { IsHanded power (forest pool.old) }
+    requires power { is_power (tree_of power pool.old) ≡ true }
+    ensures gives { Gives (without_root power (forest pool.old)) (forest pool.new) result (λ t. t ≡ base_in (tree_of power pool.old)) }
+    ensures front { KeepsFront (power ∷ []) (forest pool.old) (forest pool.new) }
+    ensures kept { KeepsRefusals pool.old pool.new }
+    ensures stands { Stands pool.new }
+{
+    let base = take_child(pool, &power, 0);
+    release(pool, power);
+    base
+}
+
+/// The base and the exponent, whose node goes.
+pub(crate) fn take_sides(pool: &mut Pool, power: Handle) -> (Handle, Handle)
+    requires stands { Stands pool.old }
+    requires handed { IsHanded power (forest pool.old) }
+    requires power { is_power (tree_of power pool.old) ≡ true }
+    ensures gives { GivesTwo (without_root power (forest pool.old)) (forest pool.new) result.0 result.1 (λ t. t ≡ base_in (tree_of power pool.old)) (λ t. t ≡ exponent_in (tree_of power pool.old)) }
+    ensures front { KeepsFront (power ∷ []) (forest pool.old) (forest pool.new) }
+    ensures kept { KeepsRefusals pool.old pool.new }
+    ensures stands { Stands pool.new }
+{
+    let base = take_child(pool, &power, 0);
+    let exponent = take_child(pool, &power, 0);
+    release(pool, power);
+    (base, exponent)
+}
+
+/// Undef in the place of a power, whose bytes suffice for it.
+pub(crate) fn undefined(pool: &mut Pool, power: Handle) -> Handle
+    requires stands { Stands pool.old }
+    requires handed { IsHanded power (forest pool.old) }
+    ensures gives { Gives (without_root power (forest pool.old)) (forest pool.new) result (λ t. t ≡ undef) }
+    ensures front { KeepsFront (power ∷ []) (forest pool.old) (forest pool.new) }
+    ensures kept { KeepsRefusals pool.old pool.new }
+    ensures stands { Stands pool.new }
+{
+    release(pool, power);
+    match node(pool, Kind::Undef) {
+        Ok(undef) => undef,
+        Err(_) => unreachable!(),
+    }
+}
+
+/// A rational in the place of a power whose exponent is one, whose bytes suffice for it.
+pub(crate) fn with_number(pool: &mut Pool, power: Handle, q: Rat) -> Handle
+    requires stands { Stands pool.old }
+    requires handed { IsHanded power (forest pool.old) }
+    requires power { is_power (tree_of power pool.old) ≡ true }
+    requires exponent { is_num (exponent_in (tree_of power pool.old)) ≡ true }
+    ensures gives { Gives (without_root power (forest pool.old)) (forest pool.new) result (λ t. t ≡ num (value_of q)) }
+    ensures front { KeepsFront (power ∷ []) (forest pool.old) (forest pool.new) }
+    ensures kept { KeepsRefusals pool.old pool.new }
+    ensures stands { Stands pool.new }
+{
+    release(pool, power);
+    match number(pool, q) {
+        Ok(number) => number,
+        Err(_) => unreachable!(),
+    }
+}

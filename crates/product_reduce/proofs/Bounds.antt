@@ -1,0 +1,138 @@
+-- Nest and Load of the factors of a product.
+use Rattle.std.proofs.Common.{ℕ, ◌+◌, ◌≤◌, max, ◌≡◌, Bool, true, false, ◌||◌, refl, if◌then◌else◌, sym, ap, ◌∙◌, arith}
+use Rattle.coefficients.specs.Coefficients.{factors_of}
+use Rattle.calc_terms.specs.Loads.{nest, nest_of, weight, load, load_of_factor, load_of_factors}
+use Rattle.calc_terms.specs.Numbers.{is_number, IsNumber, IsTerm, AreTerms}
+use Rattle.calc_terms.specs.Reduced.{is_num_one, product_tree}
+use Rattle.calc_terms.specs.Trees.{Tree, num, add, mult, root, Trees, none, more, append, is_undef}
+use Rattle.calc_terms.proofs.MeaningRewrites.{Permuted, permuted_none, permuted_more, permuted_swap, permuted_trans}
+use Rattle.calc_terms.proofs.NumberLaws.{number_words, number_test}
+use Rattle.product_reduce.specs.Factors.{opened, others_in, coefficient_before}
+
+-- ---- Nest
+
+pub nest-append : (ts us : Trees) → nest_of (append ts us) ≡ max (nest_of ts) (nest_of us)
+nest-append none us = omega arith
+nest-append (more t ts) us = omega (arith, nest-append ts us)
+
+nest_term : (t : Tree) → IsTerm t → nest t ≡ 0
+nest_term (num q) h = refl
+nest_term (root (num r)) h = refl
+nest_term (mult (more (num q) (more (root (num r)) none))) h = refl
+nest_term t h = absurd h
+
+nest_terms : (ts : Trees) → AreTerms ts → nest_of ts ≡ 0
+nest_terms none h = refl
+nest_terms (more t ts) h = omega (arith, nest_term t h.0, nest_terms ts h.1)
+
+nest_is : (t : Tree) → IsNumber t → nest t ≡ 0
+nest_is (num q) h = refl
+nest_is (add ts) h = nest_terms ts h.1
+nest_is (root a) h = nest_term (root a) h
+nest_is (mult ts) h = nest_term (mult ts) h
+nest_is t h = absurd h
+
+pub nest_number : (t : Tree) → is_number t ≡ true → nest t ≡ 0
+nest_number t h = nest_is t (number_words t h)
+
+pub nest_factors : (t : Tree) → nest_of (factors_of t) ≡ nest t
+nest_factors (mult ts) = refl
+nest_factors t = omega arith
+
+pub nest_opened : (ts : Trees) → nest_of (opened ts) ≡ nest_of ts
+nest_opened none = refl
+nest_opened (more t ts) = omega (arith, nest-append (factors_of t) (opened ts), nest_factors t, nest_opened ts)
+
+pub nest_others : (ts : Trees) → nest_of (others_in ts) ≤ nest_of ts
+nest_others none = omega arith
+nest_others (more t ts) = by (nest_others ts) (is_number t)
+  where
+    by : nest_of (others_in ts) ≤ nest_of ts → (k : Bool) → nest_of (if k then others_in ts else more t (others_in ts)) ≤ max (nest t) (nest_of ts)
+    by go true = omega arith
+    by go false = omega arith
+
+pub nest_with : (c : Tree) (ts : Trees) → is_number c ≡ true → nest_of (coefficient_before c ts) ≤ nest_of ts
+nest_with c ts h = by (is_num_one c)
+  where
+    by : (k : Bool) → nest_of (if k then ts else append (factors_of c) ts) ≤ nest_of ts
+    by true = omega arith
+    by false = omega (arith, nest-append (factors_of c) ts, nest_factors c, nest_number c h)
+
+pub nest_permuted : {ts us : Trees} → Permuted ts us → nest_of ts ≡ nest_of us
+nest_permuted permuted_none = refl
+nest_permuted (permuted_more {t} h) = ap (max (nest t)) (nest_permuted h)
+nest_permuted (permuted_swap {t} {u} {ts}) = omega arith
+nest_permuted (permuted_trans h k) = nest_permuted h ∙ nest_permuted k
+
+pub nest_tree : (ts : Trees) → nest (product_tree ts) ≤ nest_of ts
+nest_tree none = omega arith
+nest_tree (more t none) = omega arith
+nest_tree (more t (more u ts)) = omega arith
+
+-- ---- Load
+
+pub load-append : (ts us : Trees) → load_of_factors (append ts us) ≡ load_of_factors ts + load_of_factors us
+load-append none us = omega arith
+load-append (more t ts) us = omega (arith, load-append ts us)
+
+load_is : (t : Tree) → IsNumber t → load_of_factor t ≡ 0
+unfolding is_number
+load_is (num q) h = refl
+load_is (add ts) h = ap (λ (k : Bool). if k then 0 else 2) (number_test (add ts) h)
+load_is (root a) h = ap (λ (k : Bool). if k then 0 else weight (root a)) (number_test (root a) h)
+load_is (mult (more (num q) (more (root (num r)) none))) h = rw (number_test (root (num r)) h.2) refl
+load_is t h = absurd h
+
+pub load_number : (t : Tree) → is_number t ≡ true → load_of_factor t ≡ 0
+load_number t h = load_is t (number_words t h)
+
+pub load_factors : (t : Tree) → load_of_factors (factors_of t) ≡ load_of_factor t
+load_factors (mult ts) = refl
+load_factors t = omega arith
+
+pub load_opened : (ts : Trees) → load_of_factors (opened ts) ≡ load_of_factors ts
+load_opened none = refl
+load_opened (more t ts) = omega (arith, load-append (factors_of t) (opened ts), load_factors t, load_opened ts)
+
+pub load_others : (ts : Trees) → load_of_factors (others_in ts) ≤ load_of_factors ts
+load_others none = omega arith
+load_others (more t ts) = by (load_others ts) (is_number t)
+  where
+    by : load_of_factors (others_in ts) ≤ load_of_factors ts → (k : Bool) → load_of_factors (if k then others_in ts else more t (others_in ts)) ≤ load_of_factor t + load_of_factors ts
+    by go true = omega arith
+    by go false = omega arith
+
+pub load_with : (c : Tree) (ts : Trees) → is_number c ≡ true → load_of_factors (coefficient_before c ts) ≤ load_of_factors ts
+load_with c ts h = by (is_num_one c)
+  where
+    by : (k : Bool) → load_of_factors (if k then ts else append (factors_of c) ts) ≤ load_of_factors ts
+    by true = omega arith
+    by false = omega (arith, load-append (factors_of c) ts, load_factors c, load_number c h)
+
+pub load_permuted : {ts us : Trees} → Permuted ts us → load_of_factors ts ≡ load_of_factors us
+load_permuted permuted_none = refl
+load_permuted (permuted_more {t} h) = ap (λ (n : ℕ). load_of_factor t + n) (load_permuted h)
+load_permuted (permuted_swap {t} {u} {ts}) = omega arith
+load_permuted (permuted_trans h k) = load_permuted h ∙ load_permuted k
+
+-- a tree loads as a factor does, or not at all
+pub load_at_most : (t : Tree) → load t ≤ load_of_factor t
+load_at_most t = by (is_number t || is_undef t)
+  where
+    by : (k : Bool) → (if k then 0 else load_of_factor t) ≤ load_of_factor t
+    by true = omega arith
+    by false = omega arith
+
+pub load_tree : (ts : Trees) → load (product_tree ts) ≤ load_of_factors ts
+unfolding is_number
+load_tree none = omega arith
+load_tree (more t none) = omega (arith, load_at_most t)
+load_tree (more t (more u ts)) = load_at_most (mult (more t (more u ts)))
+
+-- a product loads as its factors do
+pub load_product : (ts : Trees) → load (mult ts) ≡ load_of_factors ts
+load_product ts = by (is_number (mult ts)) refl
+  where
+    by : (k : Bool) → is_number (mult ts) ≡ k → (if k || false then 0 else load_of_factors ts) ≡ load_of_factors ts
+    by true e = sym (load_number (mult ts) e)
+    by false e = refl

@@ -1,0 +1,267 @@
+-- The trees that a step on a product gives.
+use Rattle.std.proofs.Common.{◌≡◌, ◌≤◌, inl, inr, Bool, true, false, ◌&&◌, ◌||◌, refl, if◌then◌else◌, sym, ap, ◌∙◌, subst, arith, [], ℕ, zero, suc, ◌<◌, not}
+use Rattle.reduce_port.specs.Children.{has_undef, are_numbers, are_rationals, are_reduced}
+use Rattle.coefficients.specs.Coefficients.{factors_of}
+use Rattle.number_forms.specs.Readers.{is_zero}
+use Rattle.std.proofs.lemmas.Bool.{and_parts, and_from, or_right}
+use Rattle.calc_terms.specs.Fractions.{zero_fraction, is_one_fraction, lowest}
+use Rattle.calc_terms.specs.Gcd.{gcd}
+use Rattle.calc_terms.specs.Loads.{nest, nest_of, load, load_of_factor, load_of_factors}
+use Rattle.calc_terms.specs.Numbers.{is_number, is_radicand, value}
+use Rattle.calc_terms.specs.Reduced.{split, product_tree, is_reduced, has_form, all_parts, NoneIs, RisesBy, base_of, is_undistributed, HasForm}
+use Rattle.calc_terms.specs.Surds.{surd_of}
+use Rattle.calc_terms.proofs.TermLaws.{Same-eq}
+use Rattle.calc_terms.specs.declared.kind.Kind.TheVariants as kind
+use Rattle.tree_handles.specs.Expressions.{nth, children_of}
+use Rattle.std.specs.Prelude.{ℤ, Option, Some, None, MatchOption}
+use Rattle.std.specs.Option.{is_some}
+use Rattle.calc_terms.specs.Fractions.{whole_fraction}
+use Rattle.calc_terms.specs.Reduced.{is_whole_num, is_opaque_exponent}
+use Rattle.calc_terms.proofs.FractionFacts.{whole_denominator}
+use Rattle.std.proofs.lemmas.Bool.{eq-eqb}
+use Rattle.calc_terms.specs.Trees.{Tree, num, symbol, undef, add, mult, power, root, neg, sub, div, Trees, none, more, append, names, names_of, is_undef, is_mult, itself, in_mult, IsPartOf, first, later, root_kind, count}
+use Rattle.calc_terms.proofs.FractionFacts.{zero_is}
+use Rattle.calc_terms.proofs.MeaningLaws.{Same-sym}
+use Rattle.calc_terms.proofs.MeaningRewrites.{KeepsMeanings, KeepsMeanings-refl, KeepsMeanings-eq, KeepsMeanings-trans, Permuted, permuted_none, permuted_more, permuted_swap, permuted_trans, permuted_product, KeepsMeanings-product_more, zero_product}
+use Rattle.calc_terms.proofs.NumberClasses.{number_zero}
+use Rattle.calc_terms.proofs.NumberLaws.{number_words}
+use Rattle.calc_terms.proofs.NumberRewrites.{product_tree_keeps}
+use Rattle.calc_terms.proofs.SquareClassLaws.{Same-trans}
+use Rattle.calc_terms.proofs.UndefRewrites.{undef_part}
+use Rattle.reduce_port.proofs.Rewritings.{keeps, reduces_after}
+use Rattle.product_reduce.specs.Answers.{AreJoinable, IsJoined, IsFinished, IsEnding, IsStop, at_zero, at_end, IsRejoined}
+use Rattle.product_reduce.specs.Factors.{opened, others_in, IsCoefficient, coefficient_before}
+use Rattle.product_reduce.specs.Joining.{have_partners, joined}
+use Rattle.product_reduce.proofs.Opened.{opened_keeps, collected, coefficient_in_front}
+use Rattle.product_reduce.proofs.Joined.{joined_keeps}
+use Rattle.product_reduce.proofs.NoNewNames.{Within, within_eq, within_none, within_both, within_left, within_same, within_trans, names_opened, names_others, names_with_coefficient, names_joined, names_permuted, number_names, no_new_name}
+use Rattle.product_reduce.proofs.Forms.{IsFormed, AllFormed, IsSorted, formed, number_formed, formed_with, product_formed, product_tree_formed, opened_formed, others_formed, others_no_numbers, opened_flat, others_none}
+use Rattle.product_reduce.proofs.Sorted.{none_permuted}
+use Rattle.product_reduce.proofs.Bounds.{nest_opened, nest_others, nest_with, nest_permuted, nest_tree, nest_number, load_opened, load_others, load_with, load_permuted, load_tree, load_product}
+
+-- ---- reduced factors
+
+formed_unless_undef : (t : Tree) → is_reduced t ≡ true → is_undef t ≡ false → IsFormed t
+unfolding is_reduced
+formed_unless_undef t h d = formed t (ap (λ (k : Bool). k || all_parts has_form t) (sym d) ∙ h)
+
+pub or_none : (a b : Bool) → (a || b) ≡ false → (a ≡ false) × (b ≡ false)
+or_none true b h = cc
+or_none false b h = (refl, h)
+
+pub reduced_formed : (ts : Trees) → are_reduced ts ≡ true → has_undef ts ≡ false → AllFormed ts
+reduced_formed none h d = tt
+reduced_formed (more t ts) h d =
+    let (a, b) = and_parts (is_reduced t) (are_reduced ts) h in
+    let (x, y) = or_none (is_undef t) (has_undef ts) d in
+    (formed_unless_undef t a x, reduced_formed ts b y)
+
+pub formed_reduced : (t : Tree) → IsFormed t → is_reduced t ≡ true
+unfolding is_reduced
+formed_reduced t h = or_right (is_undef t) (all_parts has_form t) h.parts
+
+pub formed_defined : (t : Tree) → IsFormed t → is_undef t ≡ false
+formed_defined undef h = elim h.form [ inl x ↦ absurd x | inr x ↦ absurd x ]
+formed_defined t h = refl
+
+-- ---- the steps so far
+
+-- the coefficient and the other factors keep the meanings
+pub split_keeps : (c : Tree) (ts : Trees) → IsCoefficient c (opened ts) → KeepsMeanings (mult ts) (mult (more c (others_in (opened ts))))
+split_keeps c ts h = KeepsMeanings-trans (opened_keeps ts) (collected c (opened ts) h)
+
+-- and so with any rewriting of the others
+pub product_keeps : (c : Tree) (ts us : Trees) → IsCoefficient c (opened ts) → KeepsMeanings (mult (others_in (opened ts))) (mult us) → KeepsMeanings (mult ts) (mult (coefficient_before c us))
+product_keeps c ts us h k = KeepsMeanings-trans (split_keeps c ts h) (KeepsMeanings-trans (KeepsMeanings-product_more (KeepsMeanings-refl c) k) (coefficient_in_front c us))
+
+others_within : (ts : Trees) → Within (names_of ts) (names_of (others_in (opened ts)))
+others_within ts = within_trans (names_opened ts) (names_others (opened ts))
+
+product_within : (c : Tree) (ts us : Trees) → is_number c ≡ true → Within (names_of (others_in (opened ts))) (names_of us) → Within (names_of ts) (names_of (coefficient_before c us))
+product_within c ts us h k = within_trans (within_trans (others_within ts) k) (names_with_coefficient c us h)
+
+-- ---- Again
+
+pub joined_product : (c : Tree) (ts : Trees) → AreJoinable c ts → IsJoined ts (mult (coefficient_before c (joined (others_in (opened ts)))))
+joined_product c ts h =
+    let os = others_in (opened ts) in
+    record {
+      coefficient = c;
+      joinable = h;
+      is = refl;
+      rewrites = record {
+        no_new_name = no_new_name (product_within c ts (joined os) h.coefficient.number (names_joined os));
+        meanings = keeps (product_keeps c ts (joined os) h.coefficient (joined_keeps os));
+      };
+    }
+
+-- ---- Done: Undef
+
+undef_inside : (ts : Trees) → has_undef ts ≡ true → IsPartOf undef ts
+undef_inside none h = cc
+undef_inside (more t ts) h = by (undef_inside ts) t h
+  where
+    by : (has_undef ts ≡ true → IsPartOf undef ts) → (u : Tree) → (is_undef u || has_undef ts) ≡ true → IsPartOf undef (more u ts)
+    by go undef h = first itself
+    by go u h = later (go h)
+
+-- Undef is no Number
+numbers_defined : (ts : Trees) → are_numbers ts ≡ true → has_undef ts ≡ false
+unfolding is_number
+numbers_defined none h = refl
+numbers_defined (more t ts) h = let (a, b) = and_parts (is_number t) (are_numbers ts) h in by (numbers_defined ts b) t a
+  where
+    by : has_undef ts ≡ false → (u : Tree) → is_number u ≡ true → (is_undef u || has_undef ts) ≡ false
+    by go undef e = absurd cc
+    by go u e = go
+
+pub undef_finished : (ts : Trees) → has_undef ts ≡ true → IsFinished ts undef
+unfolding is_reduced is_number
+undef_finished ts h = record {
+  reduces = record { reduced = refl; no_new_name = no_new_name (within_none (names_of ts)); meanings = keeps (undef_part (mult ts) (in_mult (undef_inside ts h))) };
+  undefined = sym h;
+  nest = omega arith;
+  load = omega arith;
+  number = λ e. absurd (let d = numbers_defined ts e in cc);
+  final = λ c j. absurd (cc (j.defined, h));
+}
+
+-- ---- Done: zero
+
+zero_words : (c : Tree) → is_zero c ≡ true → c ≡ num zero_fraction
+zero_words (num q) h = ap num (zero_is q h)
+zero_words _ h = cc
+
+zero_value : (c : Tree) → is_zero c ≡ true → value c ≡ []
+zero_value (num q) h = ap (λ (k : Bool). if k then [] else surd_of q) h
+zero_value _ h = cc
+
+-- the coefficient is 0, whichever Number is taken for it
+zero_again : (b c : Tree) (ts : Trees) → IsCoefficient b ts → IsCoefficient c ts → is_zero c ≡ true → is_zero b ≡ true
+unfolding zero_fraction lowest gcd
+zero_again b c ts k h z = ap is_zero (number_zero b (number_words b k.number) (Same-trans k.same (Same-trans (Same-sym h.same) (Same-eq (zero_value c z)))))
+
+pub load_of_number : (t : Tree) → is_number t ≡ true → load t ≡ 0
+load_of_number t h = ap (λ (k : Bool). if k || is_undef t then 0 else load_of_factor t) h
+
+pub zero_finished : (c : Tree) (ts : Trees) → has_undef ts ≡ false → IsCoefficient c (opened ts) → is_zero c ≡ true → IsFinished ts c
+zero_finished c ts d h z =
+    let e = zero_words c z in
+    let f = number_formed c h.number in
+    record {
+      reduces = record {
+        reduced = formed_reduced c f;
+        no_new_name = no_new_name (within_trans (within_none (names_of ts)) (within_eq (number_names c h.number)));
+        meanings = keeps (KeepsMeanings-trans (split_keeps c ts h) (KeepsMeanings-trans (KeepsMeanings-eq (ap (λ (x : Tree). mult (more x (others_in (opened ts)))) e)) (KeepsMeanings-trans (zero_product (others_in (opened ts))) (KeepsMeanings-eq (sym e)))));
+      };
+      undefined = formed_defined c f ∙ sym d;
+      nest = omega (arith, nest_number c h.number);
+      load = omega (arith, load_of_number c h.number);
+      number = λ x. h.number;
+      final = λ b j. absurd (cc (j.not_zero, zero_again b c (opened ts) j.coefficient h z));
+    }
+
+-- ---- Numbers alone
+
+numbers-append : (ts us : Trees) → are_numbers (append ts us) ≡ (are_numbers ts && are_numbers us)
+numbers-append none us = refl
+numbers-append (more t ts) us = by (is_number t) (numbers-append ts us)
+  where
+    by : (k : Bool) → are_numbers (append ts us) ≡ (are_numbers ts && are_numbers us) → (k && are_numbers (append ts us)) ≡ ((k && are_numbers ts) && are_numbers us)
+    by true h = h
+    by false h = refl
+
+number_factors : (t : Tree) → is_number t ≡ true → are_numbers (factors_of t) ≡ true
+unfolding is_number
+number_factors (mult (more (num q) (more (root (num r)) none))) h = and_from _ _ refl (and_from _ _ (and_parts _ (is_radicand r) h).1 refl)
+number_factors (mult ts) h = cc
+number_factors (num q) h = refl
+number_factors (root a) h = and_from _ _ h refl
+number_factors (add ts) h = and_from _ _ h refl
+number_factors t h = cc
+
+numbers_opened : (ts : Trees) → are_numbers ts ≡ true → are_numbers (opened ts) ≡ true
+numbers_opened none h = refl
+numbers_opened (more t ts) h =
+    let (a, b) = and_parts (is_number t) (are_numbers ts) h in
+    numbers-append (factors_of t) (opened ts) ∙ and_from _ _ (number_factors t a) (numbers_opened ts b)
+
+no_others : (ts : Trees) → are_numbers ts ≡ true → others_in ts ≡ none
+no_others none h = refl
+no_others (more t ts) h = let (a, b) = and_parts (is_number t) (are_numbers ts) h in ap (λ (k : Bool). if k then others_in ts else more t (others_in ts)) a ∙ no_others ts b
+
+-- ---- parts of reduced trees
+
+pub reduced_nth : (n : ℕ) (ts : Trees) → n < count ts → are_reduced ts ≡ true → is_reduced (nth n ts) ≡ true
+reduced_nth n none l h = absurd (omega arith)
+reduced_nth zero (more t ts) l h = (and_parts (is_reduced t) (are_reduced ts) h).0
+reduced_nth (suc n) (more t ts) l h = reduced_nth n ts (omega arith) (and_parts (is_reduced t) (are_reduced ts) h).1
+
+pub reduced_exponent : (t : Tree) → is_reduced t ≡ true → root_kind t ≡ kind.Pow → is_reduced (nth 1 (children_of t)) ≡ true
+unfolding is_reduced
+reduced_exponent (power b e) h k = or_right (is_undef e) _ (and_parts (has_form (power b e) && all_parts has_form b) _ h).1
+reduced_exponent (num q) h k = cc
+reduced_exponent (symbol x) h k = cc
+reduced_exponent undef h k = cc
+reduced_exponent (add ts) h k = cc
+reduced_exponent (mult ts) h k = cc
+reduced_exponent (root a) h k = cc
+reduced_exponent (neg a) h k = cc
+reduced_exponent (sub a b) h k = cc
+reduced_exponent (div a b) h k = cc
+
+-- an exponent that is a Number is opaque unless it is whole
+pub opaque_unless_whole : (t : Tree) (r : Option ℤ) → is_number t ≡ true → MatchOption r (is_whole_num t ≡ false) (λ n. t ≡ num (whole_fraction n)) → is_opaque_exponent t ≡ not (is_some r)
+opaque_unless_whole t None h w = rw (h, w) refl
+opaque_unless_whole t (Some n) h w = rw h (ap not (ap is_whole_num w ∙ eq-eqb (whole_fraction n).den 1 (whole_denominator n)))
+
+-- ---- Done, from what a reduced ending tells
+
+pub ending_finished : (c : Tree) (ts : Trees) (new : Tree) → has_undef ts ≡ false → IsCoefficient c (opened ts) → have_partners (others_in (opened ts)) ≡ false → IsEnding c (others_in (opened ts)) new → IsFinished ts new
+ending_finished c ts new d k a e =
+    let os = others_in (opened ts) in
+    let names = within_both (names_of ts) (names c) (names_of os) (within_trans (within_none (names_of ts)) (within_eq (number_names c k.number))) (others_within ts) in
+    record {
+      reduces = reduces_after (record { no_new_name = no_new_name names; meanings = keeps (split_keeps c ts k) }) e.reduces;
+      undefined = e.defined ∙ sym d;
+      nest = omega (arith, e.nest, nest_others (opened ts), nest_opened ts);
+      load = omega (arith, e.load, load_others (opened ts), load_opened ts, load_product ts);
+      number = λ h. e.number (no_others (opened ts) (numbers_opened ts h));
+      final = λ b j. absurd (let p = j.partners in cc);
+    }
+
+-- ---- from a coefficient and the other factors to the product
+
+pub stopped : (c : Tree) (ts us : Trees) (new : Tree) → has_undef ts ≡ false → IsCoefficient c (opened ts) → us ≡ others_in (opened ts) → IsStop c us new → IsFinished ts new
+stopped c ts us new d k e (at_zero z q) = subst (IsFinished ts) (sym q) (zero_finished c ts d k z)
+stopped c ts us new d k e (at_end z p x) = ending_finished c ts new d k (ap have_partners (sym e) ∙ p) (subst (λ (y : Trees). IsEnding c y new) e x)
+
+pub rejoined : (c : Tree) (ts us : Trees) (new : Tree) → has_undef ts ≡ false → IsCoefficient c (opened ts) → us ≡ others_in (opened ts) → IsRejoined c us new → IsJoined ts new
+rejoined c ts us new d k e r =
+    subst (IsJoined ts) (sym (r.is ∙ ap (λ (x : Trees). mult (coefficient_before c (joined x))) e))
+    (joined_product c ts (record { defined = d; coefficient = k; not_zero = r.not_zero; partners = ap have_partners (sym e) ∙ r.partners }))
+
+-- ---- opened factors are reduced, and rationals are as they were
+
+pub reduced_opened : (ts : Trees) → are_reduced ts ≡ true → has_undef ts ≡ false → are_reduced (opened ts) ≡ true
+reduced_opened ts r d = by (opened ts) (opened_formed ts (reduced_formed ts r d))
+  where
+    by : (us : Trees) → AllFormed us → are_reduced us ≡ true
+    by none h = refl
+    by (more t us) h = and_from _ _ (formed_reduced t h.0) (by us h.1)
+
+pub opened_rationals : (ts : Trees) → are_rationals ts ≡ true → opened ts ≡ ts
+opened_rationals none h = refl
+opened_rationals (more (num q) ts) h = ap (more (num q)) (opened_rationals ts h)
+opened_rationals (more _ ts) h = cc
+
+pub rationals_alone : (ts : Trees) → are_rationals ts ≡ true → others_in ts ≡ none
+unfolding is_number
+rationals_alone none h = refl
+rationals_alone (more (num q) ts) h = rationals_alone ts h
+rationals_alone (more _ ts) h = cc
+
+pub rationals_defined : (ts : Trees) → are_rationals ts ≡ true → has_undef ts ≡ false
+rationals_defined none h = refl
+rationals_defined (more (num q) ts) h = rationals_defined ts h
+rationals_defined (more _ ts) h = cc

@@ -1,0 +1,205 @@
+-- The joint of two factors: its exponents, its nest and its load.
+use Rattle.std.proofs.Common.{ℕ, zero, suc, ◌+◌, ◌≤◌, ◌<◌, max, ◌≡◌, inl, inr, Bool, true, false, ◌&&◌, not, if◌then◌else◌, refl, sym, ap, ◌∙◌, subst, arith}
+use Rattle.std.specs.Prelude.{⊤}
+use Rattle.std.proofs.lemmas.Bool.{and_parts}
+use Rattle.calc_terms.specs.Fractions.{Fraction, one_fraction, is_zero_fraction}
+use Rattle.calc_terms.specs.Loads.{nest, nest_of, weight, weight_of_factors, load_of_factor, load_of_factors, has_coefficient}
+use Rattle.calc_terms.specs.Numbers.{is_number, IsNumber, Rises, terms_of}
+use Rattle.calc_terms.specs.Reduced.{is_opaque_exponent, is_whole_num, is_reduced, has_form, all_parts, HasForm, IsSumForm, NoneIs, base_of, number_terms, other_terms}
+use Rattle.calc_terms.specs.Trees.{Tree, num, symbol, undef, add, mult, power, root, Trees, none, more, count, is_mult}
+use Rattle.calc_terms.proofs.NumberLaws.{number_words, number_test}
+use Rattle.coefficients.proofs.Forms.{reduced_parts}
+use Rattle.number_forms.proofs.Shaped.{term_number}
+use Rattle.number_forms.specs.Sums.{removed}
+use Rattle.reduce_port.specs.Children.{are_numbers}
+use Rattle.tree_handles.specs.Expressions.{nth}
+use Rattle.product_reduce.specs.Joining.{exponent_of, joint}
+use Rattle.product_reduce.proofs.Forms.{IsFormed, formed}
+
+-- ---- the exponents of a joint
+
+-- a whole number, or no Number
+pub data IsExponent (e : Tree) : Type 0 where
+  is_rational : (q : Fraction) → e ≡ num q → IsExponent e
+  is_other : is_number e ≡ false → IsExponent e
+
+whole_words : (e : Tree) → is_whole_num e ≡ true → IsExponent e
+whole_words (num q) h = is_rational q refl
+whole_words _ h = cc
+
+pub exponent_words : (t : Tree) → IsExponent (exponent_of t)
+exponent_words (power b e) = by (is_number e) (is_whole_num e) refl refl
+  where
+    by : (k w : Bool) → is_number e ≡ k → is_whole_num e ≡ w → IsExponent (if k && not w then num one_fraction else e)
+    by true true n h = whole_words e h
+    by true false n h = is_rational one_fraction refl
+    by false w n h = is_other n
+exponent_words t = is_rational one_fraction refl
+
+clash : true ≡ false → ⊥
+clash e = cc
+
+-- one that is no Number is nested less than its power
+pub exponent_nest : (t : Tree) → is_number (exponent_of t) ≡ false → suc (nest (exponent_of t)) ≤ nest t
+unfolding is_number
+exponent_nest (power b e) h = by (is_number e) (is_whole_num e) refl h
+  where
+    by : (k w : Bool) → is_number e ≡ k → is_number (if k && not w then num one_fraction else e) ≡ false → suc (nest (if k && not w then num one_fraction else e)) ≤ (if k then nest b else max (nest b) (suc (nest e)))
+    by true true n h = absurd (clash (sym n ∙ h))
+    by true false n h = absurd (clash h)
+    by false w n h = omega arith
+exponent_nest t h = absurd (clash h)
+
+under_power : (k : Bool) (b e : ℕ) → b ≤ (if k then b else max b (suc e))
+under_power true b e = omega arith
+under_power false b e = omega arith
+
+pub base_nest : (t : Tree) → nest (base_of t) ≤ nest t
+base_nest (power b e) = by (is_opaque_exponent e)
+  where
+    by : (k : Bool) → nest (if k then power b e else b) ≤ nest (power b e)
+    by true = omega arith
+    by false = under_power (is_number e) (nest b) (nest e)
+base_nest t = omega arith
+
+-- ---- a sum of two exponents is no Number
+
+no_number : (e : Tree) → is_number e ≡ false → IsNumber e → ⊥
+no_number e n h = absurd (let k = number_test e h in cc)
+
+no_number_words : (e f : Tree) → IsExponent e → IsExponent f → IsNumber (add (more e (more f none))) → ⊥
+no_number_words e f (is_other n) y h = no_number e n (term_number e h.1.0)
+no_number_words e f x (is_other n) h = no_number f n (term_number f h.1.1.0)
+no_number_words e f (is_rational p a) (is_rational q b) h =
+    let r : Rises (terms_of (more (num p) (more (num q) none))) = subst (λ (ts : Trees). Rises (terms_of ts)) (λ i. more (a i) (more (b i) none)) h.2 in
+    absurd (let l = r.0.0 in omega arith)
+
+pub sum_is_no_number : (e f : Tree) → IsExponent e → IsExponent f → is_number (add (more e (more f none))) ≡ false
+sum_is_no_number e f x y = by (is_number (add (more e (more f none)))) refl
+  where
+    by : (k : Bool) → is_number (add (more e (more f none))) ≡ k → k ≡ false
+    by true h = absurd (no_number_words e f x y (number_words (add (more e (more f none))) h))
+    by false h = refl
+
+-- and one of two rationals is not reduced
+no_sum_form : (p q : Fraction) → IsSumForm (more (num p) (more (num q) none)) → ⊥
+unfolding is_number
+no_sum_form p q s = by (is_zero_fraction p) (is_zero_fraction q) s.number s.no_number
+  where
+    by : (j k : Bool) → Rises (terms_of (if not j then more (num p) (if not k then more (num q) none else none) else none))
+        → NoneIs is_number (if not j then (if not k then none else more (num q) none) else more (num p) (more (num q) none)) → ⊥
+    by true k x y = absurd (let n = y.0 in cc)
+    by false true x y = absurd (let n = y.0 in cc)
+    by false false x y = absurd (let l = x.0.0 in omega arith)
+
+no_sum : (p q : Fraction) → HasForm (add (more (num p) (more (num q) none))) → ⊥
+no_sum p q (inl h) = no_number_words (num p) (num q) (is_rational p refl) (is_rational q refl) h
+no_sum p q (inr s) = no_sum_form p q s
+
+pub joint_of_numbers_is_not_reduced : (b : Tree) (p q : Fraction) → is_reduced (power b (add (more (num p) (more (num q) none)))) ≡ true → ⊥
+joint_of_numbers_is_not_reduced b p q h = no_sum p q (reduced_parts (power b (add (more (num p) (more (num q) none)))) h refl).2.0
+
+-- ---- nests of factors and of a joint among them
+
+-- nested at most so, or a joint whose exponents are rationals over such a base
+pub data IsSmall (n : ℕ) (u : Tree) : Type 0 where
+  is_within : nest u ≤ n → IsSmall n u
+  is_over : (b : Tree) (p q : Fraction) → u ≡ power b (add (more (num p) (more (num q) none))) → nest b ≤ n → IsSmall n u
+
+abbrev pub AllSmall : ℕ → Trees → Type 0
+AllSmall n none = ⊤
+AllSmall n (more t ts) = IsSmall n t × AllSmall n ts
+
+pub all_within : (n : ℕ) (ts : Trees) → nest_of ts ≤ n → AllSmall n ts
+all_within n none h = tt
+all_within n (more t ts) h = (is_within (omega arith), all_within n ts (omega arith))
+
+pub joint_small : (n : ℕ) (t u : Tree) → nest t ≤ n → nest u ≤ n → IsSmall n (joint t u)
+joint_small n t u h k = by (exponent_words t) (exponent_words u)
+  where
+    other : (j : Bool) → nest (exponent_of t) < n → nest (exponent_of u) < n → (if j then nest (base_of t) else max (nest (base_of t)) (suc (max (nest (exponent_of t)) (max (nest (exponent_of u)) 0)))) ≤ n
+    other true l m = omega (arith, base_nest t, h)
+    other false l m = omega (arith, base_nest t, h, l, m)
+
+    by : IsExponent (exponent_of t) → IsExponent (exponent_of u) → IsSmall n (joint t u)
+    by (is_rational p a) (is_rational q b) = is_over (base_of t) p q (λ i. power (base_of t) (add (more (a i) (more (b i) none)))) (omega (arith, base_nest t, h))
+    by (is_other l) (is_other m) = is_within (other (is_number (add (more (exponent_of t) (more (exponent_of u) none)))) (omega (arith, exponent_nest t l, h)) (omega (arith, exponent_nest u m, k)))
+    by (is_other l) (is_rational q b) =
+        is_within (other (is_number (add (more (exponent_of t) (more (exponent_of u) none)))) (omega (arith, exponent_nest t l, h)) (let z : nest (exponent_of u) ≡ 0 = ap nest b in omega (arith, z, exponent_nest t l, h)))
+    by (is_rational p a) (is_other m) =
+        is_within (other (is_number (add (more (exponent_of t) (more (exponent_of u) none)))) (let z : nest (exponent_of t) ≡ 0 = ap nest a in omega (arith, z, exponent_nest u m, k)) (omega (arith, exponent_nest u m, k)))
+
+pub small_at : (n at : ℕ) (ts : Trees) → at < count ts → AllSmall n ts → IsSmall n (nth at ts)
+small_at n at none l h = absurd (omega arith)
+small_at n zero (more t ts) l h = h.0
+small_at n (suc at) (more t ts) l h = small_at n at ts (omega arith) h.1
+
+pub small_removed : (n at : ℕ) (ts : Trees) → AllSmall n ts → AllSmall n (removed at ts)
+small_removed n at none h = tt
+small_removed n zero (more t ts) h = h.1
+small_removed n (suc at) (more t ts) h = (h.0, small_removed n at ts h.1)
+
+-- ---- loads
+
+pub flat_load : (t : Tree) → is_mult t ≡ false → is_number t ≡ false → load_of_factor t ≡ weight (base_of t)
+flat_load (mult ts) m h = cc
+flat_load t m h = ap (λ (k : Bool). if k then 0 else weight (base_of t)) h
+
+power_is_no_number : (b x : Tree) → is_number (power b x) ≡ false
+unfolding is_number
+power_is_no_number b x = refl
+
+pub joint_load : (t u : Tree) → load_of_factor (joint t u) ≡ weight (base_of t)
+joint_load t u =
+    let x = add (more (exponent_of t) (more (exponent_of u) none)) in
+    let n : is_number x ≡ false = sum_is_no_number (exponent_of t) (exponent_of u) (exponent_words t) (exponent_words u) in
+    flat_load (joint t u) refl (power_is_no_number (base_of t) x) ∙ ap (λ (k : Bool). weight (if k && true then power (base_of t) x else base_of t)) n
+
+pub load_split : (at : ℕ) (ts : Trees) → at < count ts → load_of_factors ts ≡ load_of_factor (nth at ts) + load_of_factors (removed at ts)
+load_split at none l = absurd (omega arith)
+load_split zero (more t ts) l = refl
+load_split (suc at) (more t ts) l = omega (arith, load_split at ts (omega arith))
+
+-- ---- weights
+
+some_weight : (t : Tree) → 1 ≤ weight t
+some_weight (root a) = by (is_number (root a))
+  where
+    by : (k : Bool) → 1 ≤ (if k then 2 else suc (weight a))
+    by true = omega arith
+    by false = omega arith
+some_weight (power b e) = omega arith
+some_weight (mult ts) = by (is_number (mult ts))
+  where
+    by : (k : Bool) → 1 ≤ (if k then 2 else 1 + (if has_coefficient ts then 2 else 0) + weight_of_factors ts)
+    by true = omega arith
+    by false = omega arith
+some_weight t = omega arith
+
+formed_weight : (t : Tree) → HasForm t → 2 ≤ weight t
+formed_weight (root a) h = by (is_number (root a)) (some_weight a)
+  where
+    by : (k : Bool) → 1 ≤ weight a → 2 ≤ (if k then 2 else suc (weight a))
+    by true l = omega arith
+    by false l = omega arith
+formed_weight (power b e) h = omega (arith, some_weight b)
+formed_weight (mult none) (inl h) = absurd h
+formed_weight (mult none) (inr h) = absurd h.two
+formed_weight (mult (more t ts)) h = by (is_number (mult (more t ts))) (is_number t) (some_weight t)
+  where
+    by : (k l : Bool) → 1 ≤ weight t → 2 ≤ (if k then 2 else 1 + (if l then 2 else 0) + ((if l then 0 else weight t) + weight_of_factors ts))
+    by true l m = omega arith
+    by false true m = omega arith
+    by false false m = omega arith
+formed_weight t h = omega arith
+
+base_formed : (t : Tree) → IsFormed t → IsFormed (base_of t)
+base_formed (power b e) h = by (is_opaque_exponent e)
+  where
+    by : (k : Bool) → IsFormed (if k then power b e else b)
+    by true = h
+    by false = formed b (and_parts (has_form (power b e)) _ (and_parts (has_form (power b e) && all_parts has_form b) _ h.parts).0).1
+base_formed t h = h
+
+pub base_weight : (t : Tree) → IsFormed t → 2 ≤ weight (base_of t)
+base_weight t h = formed_weight (base_of t) (base_formed t h).form

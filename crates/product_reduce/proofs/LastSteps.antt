@@ -1,0 +1,92 @@
+-- A coefficient and sorted factors whose bases differ make a reduced tree.
+use Rattle.std.proofs.Common.{◌≡◌, ◌≤◌, [], true, false, refl, sym, ap, ◌∙◌, arith}
+use Rattle.calc_terms.specs.Loads.{nest, nest_of, load, load_of_factors}
+use Rattle.calc_terms.specs.Numbers.{is_number}
+use Rattle.calc_terms.specs.Reduced.{is_reduced, product_tree, RisesBy, HasForm, base_of}
+use Rattle.calc_terms.specs.Trees.{Tree, mult, Trees, none, more, count, names, names_of, is_mult, is_undef, AllParts, AllPartsOf}
+use Rattle.calc_terms.proofs.MeaningRewrites.{KeepsMeanings, KeepsMeanings-refl, KeepsMeanings-trans, KeepsMeanings-product_more, Permuted, permuted_none, permuted_more, permuted_swap, permuted_trans, permuted_product, single_product, to_single_product}
+use Rattle.calc_terms.proofs.NumberLaws.{number_words}
+use Rattle.calc_terms.proofs.NumberRewrites.{product_tree_keeps}
+use Rattle.coefficients.specs.Coefficients.{with_coefficient}
+use Rattle.coefficients.proofs.Bounds.{coefficient_nest, coefficient_load}
+use Rattle.coefficients.proofs.Coefficients.{put_formed, put_reduces}
+use Rattle.coefficients.proofs.Factors.{AreFactors, factors_monic}
+use Rattle.coefficients.proofs.Forms.{reduced_parts, parts_defined}
+use Rattle.number_forms.specs.Readers.{is_zero}
+use Rattle.reduce_port.specs.Children.{has_undef, are_reduced}
+use Rattle.reduce_port.proofs.Rewritings.{keeps, reduces_after}
+use Rattle.std.proofs.lemmas.Bool.{and_parts}
+use Rattle.product_reduce.specs.Answers.{AreOthers, IsEnding}
+use Rattle.product_reduce.proofs.Bounds.{nest_number, nest_tree, nest_permuted, load_tree, load_permuted}
+use Rattle.product_reduce.proofs.Finished.{or_none, formed_reduced, formed_defined, load_of_number}
+use Rattle.product_reduce.proofs.Forms.{number_formed}
+use Rattle.product_reduce.proofs.NoNewNames.{Within, within_left, within_same, within_trans, within_both, within_beside, within_none, names_permuted, no_new_name}
+use Rattle.product_reduce.proofs.Sorted.{none_permuted}
+
+-- ---- the coefficient alone
+
+pub coefficient_alone : (c : Tree) → is_number c ≡ true → IsEnding c none c
+coefficient_alone c h =
+    let f = number_formed c h in
+    record {
+      reduces = record { reduced = formed_reduced c f; no_new_name = no_new_name (within_left (names c) []); meanings = keeps (single_product c) };
+      defined = formed_defined c f;
+      nest = omega (arith, nest_number c h);
+      load = omega (arith, load_of_number c h);
+      number = λ e. h;
+    }
+
+-- ---- the factors as one tree
+
+all_parts : (ts : Trees) → are_reduced ts ≡ true → has_undef ts ≡ false → AllPartsOf HasForm ts
+all_parts none r d = tt
+all_parts (more t ts) r d =
+    let (a, b) = and_parts (is_reduced t) (are_reduced ts) r in
+    let (x, y) = or_none (is_undef t) (has_undef ts) d in
+    (reduced_parts t a x, all_parts ts b y)
+
+parts_permuted : {ts us : Trees} → Permuted ts us → AllPartsOf HasForm ts → AllPartsOf HasForm us
+parts_permuted permuted_none h = tt
+parts_permuted (permuted_more k) h = (h.0, parts_permuted k h.1)
+parts_permuted permuted_swap h = (h.1.0, (h.0, h.1.1))
+parts_permuted (permuted_trans k l) h = parts_permuted l (parts_permuted k h)
+
+pub sorted_factors : (ts us : Trees) → AreOthers ts → Permuted ts us → RisesBy base_of us → 1 ≤ count us → AreFactors us
+sorted_factors ts us o m r l = record {
+  some = l;
+  no_product = none_permuted is_mult m o.no_product;
+  no_number = none_permuted is_number m o.no_number;
+  rising = r;
+  formed = parts_permuted m (all_parts ts o.reduced o.defined);
+}
+
+tree_names : (ts : Trees) → Within (names_of ts) (names (product_tree ts))
+tree_names none = within_none (names_of none)
+tree_names (more t none) = within_left (names t) []
+tree_names (more t (more u ts)) = within_same (names_of (more t (more u ts)))
+
+as_one : (c : Tree) {ts us : Trees} → Permuted ts us → KeepsMeanings (mult (more c ts)) (mult (more c (more (product_tree us) none)))
+as_one c {us = us} m =
+    KeepsMeanings-product_more (KeepsMeanings-refl c) (KeepsMeanings-trans (permuted_product m) (KeepsMeanings-trans (product_tree_keeps us) (to_single_product (product_tree us))))
+
+pub permuted_none_is : {ts us : Trees} → Permuted ts us → ts ≡ none → us ≡ none
+permuted_none_is permuted_none e = refl
+permuted_none_is (permuted_more h) e = cc
+permuted_none_is permuted_swap e = cc
+permuted_none_is (permuted_trans h k) e = permuted_none_is k (permuted_none_is h e)
+
+-- the coefficient in front
+pub ending : (c : Tree) (ts us : Trees) → AreOthers ts → is_number c ≡ true → Permuted ts us → RisesBy base_of us → 1 ≤ count us → IsEnding c ts (with_coefficient c (product_tree us))
+ending c ts us o h m r l =
+    let p = product_tree us in
+    let monic = factors_monic us (sorted_factors ts us o m r l) in
+    let n = number_words c h in
+    let within = within_beside (names c) (names c) (names_of ts) (names_of (more p none)) (within_same (names c))
+    (within_both (names_of ts) (names p) [] (within_trans (names_permuted m) (tree_names us)) (within_none (names_of ts))) in
+    record {
+      reduces = reduces_after (record { no_new_name = no_new_name within; meanings = keeps (as_one c m) }) (put_reduces c p n monic);
+      defined = parts_defined (with_coefficient c p) (put_formed c p n monic);
+      nest = omega (arith, coefficient_nest c p, nest_number c h, nest_tree us, nest_permuted m);
+      load = omega (arith, coefficient_load c p n monic, load_tree us, load_permuted m);
+      number = λ e. absurd (let q = ap count (permuted_none_is m e) in omega arith);
+    }

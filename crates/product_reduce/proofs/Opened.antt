@@ -1,0 +1,69 @@
+-- A product whose factors are opened and whose Numbers are one coefficient keeps its meanings.
+use Rattle.std.proofs.Common.{◌≡◌, Bool, true, false, refl, if◌then◌else◌, ap}
+use Rattle.coefficients.specs.Coefficients.{factors_of}
+use Rattle.calc_terms.specs.Fractions.{one_fraction}
+use Rattle.calc_terms.specs.Meanings.{Assignment, IsAssignment, Means}
+use Rattle.calc_terms.specs.Numbers.{is_number}
+use Rattle.calc_terms.specs.Reduced.{is_num_one}
+use Rattle.calc_terms.specs.SquareClasses.{Same}
+use Rattle.calc_terms.specs.Surds.{Surd}
+use Rattle.calc_terms.specs.Trees.{Tree, num, mult, Trees, none, more, append}
+use Rattle.calc_terms.proofs.FractionFacts.{one_is}
+use Rattle.calc_terms.proofs.MeaningRewrites.{KeepsMeanings, KeepsMeanings-refl, KeepsMeanings-eq, KeepsMeanings-trans, KeepsMeanings-product_more, KeepsMeanings-product_append, flat_product, nested_product, Permuted, permuted_none, permuted_more, permuted_trans, Permuted-sym, Permuted-to_front, permuted_product, one_factor_of_product, product_parts, none_product}
+use Rattle.calc_terms.proofs.NumberLaws.{number_words}
+use Rattle.calc_terms.proofs.NumberRewrites.{number_value, value_means}
+use Rattle.calc_terms.proofs.SquareClassLaws.{Same-trans}
+use Rattle.calc_terms.proofs.MeaningLaws.{Same-sym}
+use Rattle.calc_terms.proofs.TermLaws.{Same-surd_times}
+use Rattle.product_reduce.specs.Factors.{opened, numbers_in, others_in, product_of_values, IsCoefficient, coefficient_before}
+
+-- ---- products in a product
+
+pub first_opened : (t : Tree) (ts : Trees) → KeepsMeanings (mult (more t ts)) (mult (append (factors_of t) ts))
+first_opened (mult us) ts = flat_product us ts
+first_opened t ts = KeepsMeanings-refl _
+
+pub opened_keeps : (ts : Trees) → KeepsMeanings (mult ts) (mult (opened ts))
+opened_keeps none = KeepsMeanings-refl (mult none)
+opened_keeps (more t ts) = KeepsMeanings-trans (first_opened t ts) (KeepsMeanings-product_append (KeepsMeanings-refl (mult (factors_of t))) (opened_keeps ts))
+
+-- ---- Numbers among the factors
+
+pub numbers_first : (ts : Trees) → Permuted ts (append (numbers_in ts) (others_in ts))
+numbers_first none = permuted_none
+numbers_first (more t ts) = by (numbers_first ts) (is_number t)
+  where
+    by : Permuted ts (append (numbers_in ts) (others_in ts)) → (k : Bool) → Permuted (more t ts) (append (if k then more t (numbers_in ts) else numbers_in ts) (if k then others_in ts else more t (others_in ts)))
+    by go true = permuted_more go
+    by go false = permuted_trans (permuted_more go) (Permuted-sym (Permuted-to_front (numbers_in ts) t (others_in ts)))
+
+values_multiplied : (f : Assignment) → IsAssignment f → (ts : Trees) (v : Surd) → Means (mult (numbers_in ts)) f v → Same v (product_of_values (numbers_in ts))
+values_multiplied f once none v m = none_product f v m
+values_multiplied f once (more t ts) v m = by (values_multiplied f once ts) (is_number t) refl m
+  where
+    by : ((u : Surd) → Means (mult (numbers_in ts)) f u → Same u (product_of_values (numbers_in ts))) → (k : Bool) → is_number t ≡ k → Means (mult (if k then more t (numbers_in ts) else numbers_in ts)) f v → Same v (product_of_values (if k then more t (numbers_in ts) else numbers_in ts))
+    by go true e n =
+        let p = product_parts f t (numbers_in ts) v n in
+        Same-trans p.same (Same-surd_times (number_value f once t p.first (number_words t e) p.first_means) (go p.rest p.rest_means))
+    by go false e n = go v n
+
+numbers_multiplied : (c : Tree) (ts : Trees) → IsCoefficient c ts → KeepsMeanings (mult (numbers_in ts)) c
+numbers_multiplied c ts h = record { means = λ f once v m. value_means f c v (number_words c h.number) (Same-trans (values_multiplied f once ts v m) (Same-sym h.same)) }
+
+pub collected : (c : Tree) (ts : Trees) → IsCoefficient c ts → KeepsMeanings (mult ts) (mult (more c (others_in ts)))
+collected c ts h =
+    KeepsMeanings-trans (permuted_product (numbers_first ts))
+    (KeepsMeanings-trans (nested_product (numbers_in ts) (others_in ts)) (KeepsMeanings-product_more (numbers_multiplied c ts h) (KeepsMeanings-refl (mult (others_in ts)))))
+
+-- ---- the coefficient in front
+
+pub one_is_num : (c : Tree) → is_num_one c ≡ true → c ≡ num one_fraction
+one_is_num (num q) h = ap num (one_is q h)
+one_is_num _ h = cc
+
+pub coefficient_in_front : (c : Tree) (ts : Trees) → KeepsMeanings (mult (more c ts)) (mult (coefficient_before c ts))
+coefficient_in_front c ts = by (is_num_one c) refl
+  where
+    by : (k : Bool) → is_num_one c ≡ k → KeepsMeanings (mult (more c ts)) (mult (if k then ts else append (factors_of c) ts))
+    by true e = KeepsMeanings-trans (KeepsMeanings-eq (ap (λ (x : Tree). mult (more x ts)) (one_is_num c e))) (one_factor_of_product ts)
+    by false e = first_opened c ts

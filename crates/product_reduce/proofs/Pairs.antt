@@ -1,0 +1,95 @@
+-- Factors with identical bases, by their places.
+use Rattle.tree_handles.proofs.Outcomes.{by_test}
+use Rattle.number_forms.specs.Sums.{removed}
+use Rattle.std.proofs.lemmas.Bool.{ltb-true, ltb-false}
+use Rattle.std.proofs.Common.{◌⊎◌, inl, inr, subst, nat_lt, ◌+◌, ℕ, zero, suc, ◌<◌, ◌≡◌, Bool, true, false, refl, if◌then◌else◌, sym, ap, ◌∙◌, arith}
+use Rattle.calc_terms.specs.Trees.{Tree, Trees, none, more, count}
+use Rattle.tree_handles.specs.Expressions.{nth, inserted}
+use Rattle.product_reduce.specs.Joining.{is_partner, has_partner, first_partner, without_partner, joint, have_partners, joined, HasNoPartner, IsFirstPair}
+
+-- ---- one factor and those behind it
+
+pub no_partner : (t : Tree) (ts : Trees) → ((k : ℕ) → k < count ts → is_partner t (nth k ts) ≡ false) → has_partner t ts ≡ false
+no_partner t none h = refl
+no_partner t (more u ts) h = ap (λ (b : Bool). if b then true else has_partner t ts) (h 0 (omega arith)) ∙ no_partner t ts (λ k l. h (suc k) (omega arith))
+
+record IsAt (t : Tree) (n : ℕ) (ts : Trees) : Type 0 where
+  has : has_partner t ts ≡ true
+  is : first_partner t ts ≡ nth n ts
+  others : without_partner t ts ≡ removed n ts
+
+partner_at : (t : Tree) (n : ℕ) (ts : Trees) → n < count ts → is_partner t (nth n ts) ≡ true → ((k : ℕ) → k < n → is_partner t (nth k ts) ≡ false) → IsAt t n ts
+partner_at t n none l e h = absurd (omega arith)
+partner_at t zero (more u ts) l e h = record {
+  has = ap (λ (b : Bool). if b then true else has_partner t ts) e;
+  is = ap (λ (b : Bool). if b then u else first_partner t ts) e;
+  others = ap (λ (b : Bool). if b then ts else more u (without_partner t ts)) e;
+}
+partner_at t (suc n) (more u ts) l e h =
+    let a = partner_at t n ts (omega arith) e (λ k m. h (suc k) (omega arith)) in
+    let d = h 0 (omega arith) in
+    record {
+      has = ap (λ (b : Bool). if b then true else has_partner t ts) d ∙ a.has;
+      is = ap (λ (b : Bool). if b then u else first_partner t ts) d ∙ a.is;
+      others = ap (λ (b : Bool). if b then ts else more u (without_partner t ts)) d ∙ ap (more u) a.others;
+    }
+
+-- ---- all factors
+
+pub no_partners : (ts : Trees) → ((i : ℕ) → i < count ts → HasNoPartner i (count ts) ts) → have_partners ts ≡ false
+no_partners none h = refl
+no_partners (more t ts) h =
+    ap (λ (b : Bool). if b then true else have_partners ts) (no_partner t ts (λ k l. h 0 (omega arith) (suc k) (omega arith) (omega arith)))
+    ∙ no_partners ts (λ i l k m n. h (suc i) (omega arith) (suc k) (omega arith) (omega arith))
+
+-- behind the first one
+behind_first : (i j : ℕ) (t : Tree) (ts : Trees) → IsFirstPair (suc i) (suc j) (more t ts) → IsFirstPair i j ts
+behind_first i j t ts h = record {
+  pair = record {
+    order = omega (arith, h.pair.order);
+    within = omega (arith, h.pair.within);
+    partner = h.pair.partner;
+    nearest = λ k l m. h.pair.nearest (suc k) (omega arith) (omega arith);
+  };
+  first = λ k l n m o. h.first (suc k) (omega arith) (suc n) (omega arith) (omega arith);
+}
+
+pub some_partners : (i j : ℕ) (ts : Trees) → IsFirstPair i j ts → have_partners ts ≡ true
+some_partners i j none h = absurd (omega (arith, h.pair.within))
+some_partners zero zero (more t ts) h = absurd (omega (arith, h.pair.order))
+some_partners zero (suc j) (more t ts) h =
+    ap (λ (b : Bool). if b then true else have_partners ts) (partner_at t j ts (omega (arith, h.pair.within)) h.pair.partner (λ k l. h.pair.nearest (suc k) (omega arith) (omega arith))).has
+some_partners (suc i) zero (more t ts) h = absurd (omega (arith, h.pair.order))
+some_partners (suc i) (suc j) (more t ts) h =
+    ap (λ (b : Bool). if b then true else have_partners ts) (no_partner t ts (λ k l. h.first 0 (omega arith) (suc k) (omega arith) (omega arith))) ∙ some_partners i j ts (behind_first i j t ts h)
+
+pub joined_at : (i j : ℕ) (ts : Trees) → IsFirstPair i j ts → joined ts ≡ inserted i (more (joint (nth i ts) (nth j ts)) none) (removed i (removed j ts))
+joined_at i j none h = absurd (omega (arith, h.pair.within))
+joined_at zero zero (more t ts) h = absurd (omega (arith, h.pair.order))
+joined_at zero (suc j) (more t ts) h =
+    let a = partner_at t j ts (omega (arith, h.pair.within)) h.pair.partner (λ k l. h.pair.nearest (suc k) (omega arith) (omega arith)) in
+    ap (λ (b : Bool). if b then more (joint t (first_partner t ts)) (without_partner t ts) else more t (joined ts)) a.has
+    ∙ ap (λ (u : Tree). more (joint t u) (without_partner t ts)) a.is ∙ ap (more (joint t (nth j ts))) a.others
+joined_at (suc i) zero (more t ts) h = absurd (omega (arith, h.pair.order))
+joined_at (suc i) (suc j) (more t ts) h =
+    ap (λ (b : Bool). if b then more (joint t (first_partner t ts)) (without_partner t ts) else more t (joined ts)) (no_partner t ts (λ k l. h.first 0 (omega arith) (suc k) (omega arith) (omega arith)))
+    ∙ ap (more t) (joined_at i j ts (behind_first i j t ts h))
+
+-- ---- one place more
+
+pub no_partner_more : (i j : ℕ) (ts : Trees) → HasNoPartner i j ts → is_partner (nth i ts) (nth j ts) ≡ false → HasNoPartner i (j + 1) ts
+no_partner_more i j ts h e = λ k l m. by k (last k m) l
+  where
+    last : (k : ℕ) → k < j + 1 → (k < j) ⊎ (k ≡ j)
+    last k m = by_test (λ b. nat_lt k j ≡ b → (k < j) ⊎ (k ≡ j)) (nat_lt k j) (λ p q. inl (ltb-true k j q)) (λ p q. inr (omega (arith, ltb-false k j q))) refl
+
+    by : (k : ℕ) → (k < j) ⊎ (k ≡ j) → i < k → is_partner (nth i ts) (nth k ts) ≡ false
+    by k (inl m) l = h k l m
+    by k (inr q) l = ap (λ (n : ℕ). is_partner (nth i ts) (nth n ts)) q ∙ e
+
+pub no_pair_more : (i : ℕ) (ts : Trees) → ((k : ℕ) → k < i → HasNoPartner k (count ts) ts) → HasNoPartner i (count ts) ts → (k : ℕ) → k < i + 1 → HasNoPartner k (count ts) ts
+no_pair_more i ts h e k m = by (by_test (λ b. nat_lt k i ≡ b → (k < i) ⊎ (k ≡ i)) (nat_lt k i) (λ p q. inl (ltb-true k i q)) (λ p q. inr (omega (arith, ltb-false k i q))) refl)
+  where
+    by : (k < i) ⊎ (k ≡ i) → HasNoPartner k (count ts) ts
+    by (inl l) = h k l
+    by (inr q) = subst (λ (n : ℕ). HasNoPartner n (count ts) ts) (sym q) e

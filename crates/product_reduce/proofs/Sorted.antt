@@ -1,0 +1,83 @@
+-- Factors in the order of their bases, no two of which are identical.
+use Rattle.std.specs.declared.cmp.Ordering.{Ordering}
+use Rattle.std.specs.declared.cmp.Ordering.TheVariants.{Less, Equal, Greater}
+use Rattle.std.specs.Ordering.{is_eq, is_lt, ordering_reverse}
+use Rattle.std.specs.Prelude.{⊤, IsPermutation, IsSortedByKey}
+use Rattle.std.proofs.Common.{ℕ, zero, suc, ◌<◌, ◌≤◌, ◌+◌, arith, add-one, ◌≡◌, List, [], ◌∷◌, Bool, true, false, if◌then◌else◌, refl, sym, ap, ◌∙◌, subst}
+use Rattle.calc_terms.specs.Reduced.{base_of, NoneIs, RisesBy}
+use Rattle.calc_terms.specs.TreeOrder.{tree_cmp}
+use Rattle.calc_terms.specs.Trees.{Tree, Trees, none, more}
+use Rattle.calc_terms.proofs.MeaningRewrites.{Permuted, permuted_none, permuted_more, permuted_swap, permuted_trans, permuted_trees, trees_of}
+use Rattle.calc_terms.proofs.TreeOrderLaws.{tree_cmp_total}
+use Rattle.node_order.specs.Sorting.{list_of}
+use Rattle.product_reduce.specs.Joining.{is_partner, has_partner, have_partners}
+
+-- ---- lists of trees
+
+same_trees : (ts : Trees) → trees_of (list_of ts) ≡ ts
+same_trees none = refl
+same_trees (more t ts) = ap (more t) (same_trees ts)
+
+pub permuted_lists : (ts us : Trees) → IsPermutation (list_of ts) (list_of us) → Permuted ts us
+permuted_lists ts us h = subst (λ (x : Trees). Permuted x us) (same_trees ts) (subst (λ (x : Trees). Permuted (trees_of (list_of ts)) x) (same_trees us) (permuted_trees (list_of ts) (list_of us) h))
+
+-- ---- no two factors with one base
+
+abbrev AreApart : Trees → Type 0
+AreApart none = ⊤
+AreApart (more t ts) = NoneIs (is_partner t) ts × AreApart ts
+
+no_partner_words : (t : Tree) (ts : Trees) → has_partner t ts ≡ false → NoneIs (is_partner t) ts
+no_partner_words t none h = tt
+no_partner_words t (more u ts) h = by (no_partner_words t ts) (is_partner t u) refl h
+  where
+    by : (has_partner t ts ≡ false → NoneIs (is_partner t) ts) → (k : Bool) → is_partner t u ≡ k → (if k then true else has_partner t ts) ≡ false → NoneIs (is_partner t) (more u ts)
+    by go true e g = cc
+    by go false e g = (e, go g)
+
+apart_words : (ts : Trees) → have_partners ts ≡ false → AreApart ts
+apart_words none h = tt
+apart_words (more t ts) h = by (apart_words ts) (has_partner t ts) refl h
+  where
+    by : (have_partners ts ≡ false → AreApart ts) → (k : Bool) → has_partner t ts ≡ k → (if k then true else have_partners ts) ≡ false → AreApart (more t ts)
+    by go true e g = cc
+    by go false e g = (no_partner_words t ts e, go g)
+
+turned : (o : Ordering) → is_eq (ordering_reverse o) ≡ is_eq o
+turned Less = refl
+turned Equal = refl
+turned Greater = refl
+
+partner_turned : (t u : Tree) → is_partner t u ≡ is_partner u t
+partner_turned t u = ap is_eq (tree_cmp_total.antisymm (base_of t) (base_of u)) ∙ turned (tree_cmp (base_of u) (base_of t))
+
+pub none_permuted : (p : Tree → Bool) {ts us : Trees} → Permuted ts us → NoneIs p ts → NoneIs p us
+none_permuted p permuted_none h = tt
+none_permuted p (permuted_more k) h = (h.0, none_permuted p k h.1)
+none_permuted p permuted_swap h = (h.1.0, (h.0, h.1.1))
+none_permuted p (permuted_trans k l) h = none_permuted p l (none_permuted p k h)
+
+apart_permuted : {ts us : Trees} → Permuted ts us → AreApart ts → AreApart us
+apart_permuted permuted_none h = tt
+apart_permuted (permuted_more {t} k) h = (none_permuted (is_partner t) k h.0, apart_permuted k h.1)
+apart_permuted (permuted_swap {t} {u} {ts}) h = ((partner_turned u t ∙ h.0.0, h.1.0), (h.0.1, h.1.1))
+apart_permuted (permuted_trans k l) h = apart_permuted l (apart_permuted k h)
+
+-- ---- rising strictly
+
+less_of : (o : Ordering) → is_eq o ≡ false → is_lt (ordering_reverse o) ≡ false → o ≡ Less
+less_of Less h k = refl
+less_of Equal h k = cc
+less_of Greater h k = cc
+
+rises_strictly : (us : Trees) → AreApart us → IsSortedByKey base_of tree_cmp (list_of us) → RisesBy base_of us
+rises_strictly none h s = tt
+rises_strictly (more t none) h s = tt
+rises_strictly (more t (more u us)) h s = (
+  less_of (tree_cmp (base_of t) (base_of u)) h.0.0 (ap is_lt (sym (tree_cmp_total.antisymm (base_of u) (base_of t))) ∙ s 0 t (omega arith) (omega arith)),
+  rises_strictly (more u us) h.1 (λ k d l m. rw add-one (rw add-one at (s (suc k) d (omega arith) (omega arith)))),
+)
+
+-- sorted factors, no two with one base
+pub sorted_rising : (ts us : Trees) → have_partners ts ≡ false → IsPermutation (list_of ts) (list_of us) → IsSortedByKey base_of tree_cmp (list_of us) → RisesBy base_of us
+sorted_rising ts us h m s = rises_strictly us (apart_permuted (permuted_lists ts us m) (apart_words ts h)) s

@@ -1,0 +1,135 @@
+-- A factor is split into its base and its exponent.
+use Rattle.std.proofs.Common.{ℕ, ◌≡◌, [], ◌∷◌, Bool, true, false, if◌then◌else◌, refl, sym, ap, ◌∙◌, subst, arith}
+use Rattle.number_forms.specs.Sums.{removed}
+use Rattle.std.proofs.lemmas.Bool.{not-true, not-false}
+use Rattle.calc_terms.specs.Reduced.{is_opaque_exponent, is_transparent_power, base_of, num_one}
+use Rattle.calc_terms.specs.Trees.{Tree, num, symbol, undef, add, mult, power, root, neg, sub, div, Trees, none, more, count}
+use Rattle.tree_handles.specs.Expressions.{nth, plain, children_of}
+use Rattle.tree_handles.specs.Forest.{Forest, empty, tree, arity, kids, with_root_kids, tree_nth, without_nth}
+use Rattle.tree_handles.specs.Handed.{IsOnce, AllOnce, IsHanded, IsOwned, Represents, Ends, KeepsFront}
+use Rattle.tree_handles.specs.Roots.{has_root, root_tree, without_root, put}
+use Rattle.tree_handles.proofs.Counted.{all-without_nth}
+use Rattle.tree_handles.proofs.Forests.{arity-without_nth}
+use Rattle.tree_handles.proofs.Fronts.{behind_first, front_same, front_put, front_end, front_without}
+use Rattle.tree_handles.proofs.Given.{represents_handed}
+use Rattle.tree_handles.proofs.Plains.{count-plains, children_of-plain}
+use Rattle.tree_handles.proofs.Roots.{root-put, kids-put}
+use Rattle.product_reduce.specs.Joining.{exponent_of}
+use Rattle.product_reduce.specs.Products.{IsBeside, IsSplit}
+use Rattle.product_reduce.proofs.Beside.{beside_as, beside_root, beside_tree, beside_without, taken_beside}
+use Rattle.product_reduce.proofs.Products.{tree_put, others_put, represents_kids, represents_without}
+
+-- ---- powers that are not opaque, and other factors
+
+record IsTransparent (t : Tree) : Type 0 where
+  two : count (children_of t) ≡ 2
+  base : base_of t ≡ nth 0 (children_of t)
+  exponent : exponent_of t ≡ nth 1 (children_of t)
+
+transparent : (t : Tree) → is_transparent_power t ≡ true → IsTransparent t
+transparent (power b e) h = let o = not-true (is_opaque_exponent e) h in record { two = refl; base = ap (λ (k : Bool). if k then power b e else b) o; exponent = ap (λ (k : Bool). if k then num_one else e) o }
+transparent _ h = absurd cc
+
+record IsOpaque (t : Tree) : Type 0 where
+  base : base_of t ≡ t
+  exponent : exponent_of t ≡ num_one
+
+opaque : (t : Tree) → is_transparent_power t ≡ false → IsOpaque t
+opaque (power b e) h = let o = not-false (is_opaque_exponent e) h in record { base = ap (λ (k : Bool). if k then power b e else b) o; exponent = ap (λ (k : Bool). if k then num_one else e) o }
+opaque (num q) h = record { base = refl; exponent = refl }
+opaque (symbol x) h = record { base = refl; exponent = refl }
+opaque undef h = record { base = refl; exponent = refl }
+opaque (add ts) h = record { base = refl; exponent = refl }
+opaque (mult ts) h = record { base = refl; exponent = refl }
+opaque (root a) h = record { base = refl; exponent = refl }
+opaque (neg a) h = record { base = refl; exponent = refl }
+opaque (sub a b) h = record { base = refl; exponent = refl }
+opaque (div a b) h = record { base = refl; exponent = refl }
+
+-- ---- a root that keeps fewer children
+
+with_fewer : (n t : Forest) → AllOnce n → AllOnce t → AllOnce (with_root_kids n t)
+with_fewer n empty h k = tt
+with_fewer n (tree l b r) h k = (k.0, h, k.2)
+
+once_put : (i : ℕ) (f n : Forest) → AllOnce (root_tree i f) → AllOnce n → AllOnce (root_tree i (put i n f))
+once_put i f n h k = subst AllOnce (sym (tree_put i n f)) (with_fewer n (root_tree i f) k h)
+
+first_of_two : (ts : Trees) → count ts ≡ 2 → nth 0 (removed 1 ts) ≡ nth 0 ts
+first_of_two none h = absurd (omega arith)
+first_of_two (more t ts) h = refl
+
+-- ---- the exponent is taken, then the base, and the node goes
+
+-- while its exponent is out
+pub record IsHalved (i : ℕ) (f g : Forest) (a : ℕ) : Type 0 where
+  pub exponent : IsBeside a (exponent_of (plain (root_tree i f))) (put i (without_nth 1 (kids (root_tree i f))) f) g
+  pub root : has_root i g ≡ true
+  pub once : AllOnce (root_tree i g)
+  pub below : Represents (kids (root_tree i g)) (removed 1 (children_of (plain (root_tree i f))))
+  pub one : arity (kids (root_tree i g)) ≡ 1
+  pub first : nth 0 (removed 1 (children_of (plain (root_tree i f)))) ≡ base_of (plain (root_tree i f))
+  pub front : KeepsFront (i ∷ []) f g
+
+children_arity : (i : ℕ) (f : Forest) → IsHanded i f → arity (kids (root_tree i f)) ≡ count (children_of (plain (root_tree i f)))
+children_arity i f h = sym (count-plains (kids (root_tree i f))) ∙ ap count (sym (children_of-plain (root_tree i f) h.whole))
+
+pub two_children : (i : ℕ) (f : Forest) → IsHanded i f → is_transparent_power (plain (root_tree i f)) ≡ true → arity (kids (root_tree i f)) ≡ 2
+two_children i f h t = children_arity i f h ∙ (transparent (plain (root_tree i f)) t).two
+
+pub halved : (i : ℕ) (f g : Forest) (a : ℕ) → IsHanded i f → is_transparent_power (plain (root_tree i f)) ≡ true
+    → Ends a (tree_nth 1 (kids (root_tree i f))) (put i (without_nth 1 (kids (root_tree i f))) f) g → IsHalved i f g a
+halved i f g a h t e =
+    let x = transparent (plain (root_tree i f)) t in
+    let k = represents_kids (represents_handed h) in
+    let two : arity (kids (root_tree i f)) ≡ 2 = two_children i f h t in
+    let n = without_nth 1 (kids (root_tree i f)) in
+    let b = taken_beside i 1 f k (omega (arith, two)) e in
+    let root : has_root i (put i n f) ≡ true = root-put i i n f ∙ h.root in
+    let same = beside_tree i b root in
+    let now : kids (root_tree i g) ≡ n = ap kids same ∙ kids-put i n f h.root in
+    record {
+      exponent = beside_as b (sym x.exponent) refl refl;
+      root = beside_root i b root;
+      once = subst AllOnce (sym same) (once_put i f n h.once (all-without_nth IsOnce 1 (kids (root_tree i f)) k.once));
+      below = subst (λ (y : Forest). Represents y (removed 1 (children_of (plain (root_tree i f))))) (sym now) (represents_without 1 k);
+      one = ap arity now ∙ omega (arith, arity-without_nth 1 (kids (root_tree i f)) (omega (arith, two)), two);
+      first = first_of_two (children_of (plain (root_tree i f))) x.two ∙ sym x.base;
+      front = front_end e (front_put n behind_first front_same);
+    }
+
+-- while its base is out too
+pub record IsEmptied (i : ℕ) (f g h : Forest) (a b : ℕ) : Type 0 where
+  pub owned : IsOwned i h
+  pub split : IsSplit i f (without_root i h) b a
+  pub front : KeepsFront (i ∷ []) f (without_root i h)
+
+pub emptied : (i : ℕ) (f g h : Forest) (a b : ℕ) → has_root i f ≡ true → IsHalved i f g a → Ends b (tree_nth 0 (kids (root_tree i g))) (put i (without_nth 0 (kids (root_tree i g))) g) h → IsEmptied i f g h a b
+emptied i f g h a b top x e =
+    let one = x.one in
+    let n = without_nth 0 (kids (root_tree i g)) in
+    let d = taken_beside i 0 g x.below (omega (arith, one)) e in
+    let root : has_root i (put i n g) ≡ true = root-put i i n g ∙ x.root in
+    let first_root : has_root i (put i (without_nth 1 (kids (root_tree i f))) f) ≡ true = root-put i i (without_nth 1 (kids (root_tree i f))) f ∙ top in
+    record {
+      owned = record { root = beside_root i d root; once = subst AllOnce (sym (beside_tree i d root)) (once_put i g n x.once (all-without_nth IsOnce 0 (kids (root_tree i g)) x.below.once)) };
+      split = record {
+        left = without_root i g;
+        base = beside_as (beside_without i d root) x.first (others_put i n g) refl;
+        exponent = beside_as (beside_without i x.exponent first_root) refl (others_put i (without_nth 1 (kids (root_tree i f))) f) refl;
+      };
+      front = front_without behind_first (front_end e (front_put n behind_first x.front));
+    }
+
+-- any other factor is its own base, beside a new 1
+pub unsplit : (i : ℕ) (f g : Forest) (a : ℕ) → IsHanded i f → is_transparent_power (plain (root_tree i f)) ≡ false → IsBeside a num_one f g → IsBeside i (plain (root_tree i g)) (without_root i g) g → IsSplit i f g i a
+unsplit i f g a h t one self =
+    let x = opaque (plain (root_tree i f)) t in
+    record {
+      left = without_root i g;
+      base = beside_as self (ap plain (beside_tree i one h.root) ∙ sym x.base) refl refl;
+      exponent = beside_as (beside_without i one h.root) (sym x.exponent) refl refl;
+    }
+
+pub split_at : {i a b : ℕ} {f g h : Forest} → IsSplit i f g b a → h ≡ g → IsSplit i f h b a
+split_at s e = record { left = s.left; base = beside_as s.base refl refl e; exponent = s.exponent }

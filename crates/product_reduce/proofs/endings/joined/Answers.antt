@@ -1,0 +1,91 @@
+use Rattle.std.proofs.Common.{◌≡◌, ◌≤◌, ◌<◌, ◌+◌, ◌-◌, ◌∙◌, ap, sym, refl, false, subst, arith}
+use Rattle.calc_terms.specs.Trees.{Tree, Trees, mult, count}
+use Rattle.reduce_port.specs.Rewritings.{tree_of}
+use Rattle.tree_handles.specs.Expressions.{plain, children_of}
+use Rattle.tree_handles.specs.Forest.{Forest}
+use Rattle.tree_handles.specs.Roots.{without_root}
+use Rattle.tree_handles.specs.Standing.{forest}
+use Rattle.tree_handles.proofs.Fronts.{behind_first, behind_later, front_same, front_end, front_without, front_after_one}
+use Rattle.tree_handles.proofs.Given.{gives, represents_handed}
+use Rattle.tree_handles.proofs.Lasts.{ends_as, last_tree}
+use Rattle.tree_handles.proofs.Roots.{without-swap}
+use Rattle.tree_handles.proofs.Outcomes.{eqb-sym}
+use Rattle.product_reduce.specs.Factors.{coefficient_before}
+use Rattle.product_reduce.specs.Joining.{joined, IsJointAt}
+use Rattle.product_reduce.specs.Products.{factors_in}
+use Rattle.product_reduce.proofs.Beside.{beside_becomes, tree_becomes}
+use Rattle.product_reduce.proofs.Products.{factors_are, product_at}
+use Rattle.product_reduce.proofs.JointPlaces.{joint_at, joined_count, count_before}
+use Rattle.product_reduce.proofs.Readied.{factors_before}
+use Rattle.product_reduce.proofs.endings.joined.Goals as goal
+
+pub returns-in_err-join_pair-clause-front : goal.returns-in_err-join_pair-clause-front
+returns-in_err-join_pair-clause-front c = front_after_one behind_first front_same c.join_pair.ensures.front
+
+pub put_in_front-requires-clause-product : goal.put_in_front-requires-clause-product
+put_in_front-requires-clause-product c = let b = c.in_ok-join_pair.ensures.ok in product_at b.product refl (sym (factors_are b.product))
+
+pub put_in_front-requires-clause-handed : goal.put_in_front-requires-clause-handed
+put_in_front-requires-clause-handed c =
+    beside_becomes c.args.coefficient c.requires.stands c.in_ok-join_pair.ensures.stands c.requires.product c.in_ok-join_pair.ensures.ok c.requires.coefficient c.requires.apart
+
+pub move_last-requires-clause-root : goal.move_last-requires-clause-root
+move_last-requires-clause-root c = c.put_in_front.ensures.becomes.product.handed.root
+
+pub returns-clause-ok : goal.returns-clause-ok
+returns-clause-ok c =
+    let b = c.in_ok-join_pair.ensures.ok in
+    let d = c.put_in_front.ensures.becomes in
+    let same = ap plain (tree_becomes c.args.coefficient c.requires.stands c.in_ok-join_pair.ensures.stands c.requires.product b c.requires.coefficient c.requires.apart) in
+    let apart = eqb-sym c.args.coefficient c.args.product c.requires.apart in
+    let others = d.others ∙ without-swap c.args.product c.args.coefficient (forest c.join_pair.new.pool) apart ∙ ap (without_root c.args.coefficient) b.others ∙ sym (without-swap c.args.product c.args.coefficient (forest c.args.pool.now) apart) in
+    gives (ends_as c.move_last.ensures.last refl others) (represents_handed d.product.handed)
+    (d.product.tree ∙ ap (λ (t : Tree). mult (coefficient_before t (factors_in c.args.product (forest c.join_pair.new.pool)))) same ∙ ap (λ (ts : Trees). mult (coefficient_before (tree_of c.args.coefficient c.args.pool.now) ts)) (factors_are b.product))
+
+pub returns-clause-front : goal.returns-clause-front
+returns-clause-front c =
+    let start = front_without (behind_later behind_first) (front_after_one behind_first front_same c.join_pair.ensures.front) in
+    front_end c.move_last.ensures.last (front_without behind_first (front_after_one behind_first start c.put_in_front.ensures.becomes.front))
+
+pub factor_count-joined-requires-clause-product : goal.factor_count-joined-requires-clause-product
+factor_count-joined-requires-clause-product c = let b = c.in_ok-join_pair.ensures.ok in product_at b.product refl (sym (factors_are b.product))
+
+pub factor_count-requires-clause-product : goal.factor_count-requires-clause-product
+factor_count-requires-clause-product c = let d = c.put_in_front.ensures.becomes in product_at d.product refl (sym (factors_are d.product))
+
+pub overflow_sub-in_front : goal.overflow_sub-in_front
+overflow_sub-in_front c =
+    let us = factors_in c.args.product (forest c.args.pool.now) in
+    let k = tree_of c.args.coefficient c.args.pool.now in
+    let joints : factors_in c.args.product (forest c.join_pair.new.pool) ≡ joined us = factors_are c.in_ok-join_pair.ensures.ok.product in
+    let before = factors_before c.args.product c.args.coefficient us c.requires.stands c.in_ok-join_pair.ensures.stands c.requires.product c.in_ok-join_pair.ensures.ok c.requires.coefficient c.requires.apart c.put_in_front.ensures.becomes in
+    let n : count (factors_in c.args.product (forest c.join_pair.new.pool)) ≡ count (joined us) = ap count joints in
+    let m : count (factors_in c.args.product (forest c.put_in_front.new.pool)) ≡ count (coefficient_before k (joined us)) = ap count before in
+    let least : count (joined us) ≤ count (coefficient_before k (joined us)) = count_before k (joined us) in
+    omega (arith, c.factor_count-joined.ensures, c.factor_count.ensures, n, m, least)
+
+pub overflow_add-result : goal.overflow_add-result
+overflow_add-result c =
+    let us = factors_in c.args.product (forest c.args.pool.now) in
+    let k = tree_of c.args.coefficient c.args.pool.now in
+    let joints : factors_in c.args.product (forest c.join_pair.new.pool) ≡ joined us = factors_are c.in_ok-join_pair.ensures.ok.product in
+    let before = factors_before c.args.product c.args.coefficient us c.requires.stands c.in_ok-join_pair.ensures.stands c.requires.product c.in_ok-join_pair.ensures.ok c.requires.coefficient c.requires.apart c.put_in_front.ensures.becomes in
+    let n : count (factors_in c.args.product (forest c.join_pair.new.pool)) ≡ count (joined us) = ap count joints in
+    let m : count (factors_in c.args.product (forest c.put_in_front.new.pool)) ≡ count (coefficient_before k (joined us)) = ap count before in
+    let least : count (joined us) ≤ count (coefficient_before k (joined us)) = count_before k (joined us) in
+    let inside : c.args.first < count (joined us) = joined_count c.args.first c.args.second us c.requires.pair in
+    omega (arith, c.factor_count-joined.ensures, c.factor_count.ensures, n, m, least, inside)
+
+pub returns-clause-place : goal.returns-clause-place
+returns-clause-place c =
+    let us = factors_in c.args.product (forest c.args.pool.now) in
+    let k = tree_of c.args.coefficient c.args.pool.now in
+    let joints : factors_in c.args.product (forest c.join_pair.new.pool) ≡ joined us = factors_are c.in_ok-join_pair.ensures.ok.product in
+    let before = factors_before c.args.product c.args.coefficient us c.requires.stands c.in_ok-join_pair.ensures.stands c.requires.product c.in_ok-join_pair.ensures.ok c.requires.coefficient c.requires.apart c.put_in_front.ensures.becomes in
+    let n : count (factors_in c.args.product (forest c.join_pair.new.pool)) ≡ count (joined us) = ap count joints in
+    let m : count (factors_in c.args.product (forest c.put_in_front.new.pool)) ≡ count (coefficient_before k (joined us)) = ap count before in
+    let least : count (joined us) ≤ count (coefficient_before k (joined us)) = count_before k (joined us) in
+    let last : children_of (tree_of c.args.product c.move_last.new.pool) ≡ coefficient_before k (joined us) = ap (λ (t : Forest). children_of (plain t)) (last_tree c.move_last.ensures.last) ∙ before in
+    let at = c.factor_count.result - c.factor_count-joined.result + c.args.first in
+    let behind : at + count (joined us) ≡ count (coefficient_before k (joined us)) + c.args.first = omega (arith, c.factor_count-joined.ensures, c.factor_count.ensures, n, m, least) in
+    subst (λ (ts : Trees). IsJointAt at ts) (sym last) (joint_at c.args.first c.args.second at k us c.requires.number c.requires.reduced c.requires.pair behind)

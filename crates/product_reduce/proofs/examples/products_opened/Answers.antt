@@ -1,0 +1,15 @@
+use Rattle.std.proofs.Common.{refl}
+use Rattle.calc_terms.specs.Clean.{is_clean, left_of}
+use Rattle.calc_terms.specs.Fractions.{lowest, one_fraction, zero_fraction}
+use Rattle.calc_terms.specs.Gcd.{gcd}
+use Rattle.calc_terms.specs.Numbers.{is_number}
+use Rattle.calc_terms.specs.SquareRoots.{square_root}
+use Rattle.product_reduce.proofs.examples.products_opened.Goals as goal
+
+pub returns-clause-factors : goal.returns-clause-factors
+unfolding is_number is_clean left_of square_root gcd lowest one_fraction zero_fraction
+returns-clause-factors c = refl
+
+pub returns-clause-others : goal.returns-clause-others
+unfolding is_number is_clean left_of square_root gcd lowest one_fraction zero_fraction
+returns-clause-others c = refl

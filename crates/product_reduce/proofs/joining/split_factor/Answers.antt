@@ -1,0 +1,65 @@
+use Rattle.std.proofs.Common.{◌≡◌, ◌∙◌, ap, sym, inl, arith, refl}
+use Rattle.calc_terms.specs.Fractions.{lowest, one_fraction}
+use Rattle.tree_handles.specs.Inside.{kids_of}
+use Rattle.calc_terms.specs.Ratio.{Ratio}
+use Rattle.calc_terms.specs.Reduced.{is_reduced, is_transparent_power}
+use Rattle.calc_terms.specs.Trees.{num}
+use Rattle.tree_handles.specs.Forest.{arity}
+use Rattle.tree_handles.specs.Standing.{forest}
+use Rattle.tree_handles.proofs.Given.{gives_as}
+use Rattle.tree_handles.proofs.Fronts.{front_at}
+use Rattle.tree_handles.proofs.Lasts.{expression_root, plain_root, kids_of_root}
+use Rattle.product_reduce.proofs.Beside.{beside_gives, beside_handed, beside_other}
+use Rattle.product_reduce.proofs.Splits.{two_children, halved, emptied, split_at, unsplit}
+use Rattle.product_reduce.proofs.joining.split_factor.Goals as goal
+
+pub is_transparent_power-requires-clause-expression : goal.is_transparent_power-requires-clause-expression
+is_transparent_power-requires-clause-expression c = rw c.id.ensures (expression_root c.requires.stands c.requires.handed)
+
+pub is_transparent_power-requires-clause-reduced : goal.is_transparent_power-requires-clause-reduced
+is_transparent_power-requires-clause-reduced c = rw c.id.ensures (ap is_reduced (plain_root c.args.factor c.requires.stands c.requires.handed.root) ∙ c.requires.reduced)
+
+pub take_child-exponent-requires-clause-within : goal.take_child-exponent-requires-clause-within
+take_child-exponent-requires-clause-within c =
+    let seen = rw c.id.ensures at c.is_transparent_power.ensures in
+    let t = ap is_transparent_power (sym (plain_root c.args.factor c.requires.stands c.requires.handed.root)) ∙ sym seen ∙ c.if-is_transparent_power.true in
+    let k : arity (kids_of c.args.factor (forest c.args.pool.now)) ≡ 2 = ap arity (kids_of_root c.args.factor c.requires.stands c.requires.handed.root) ∙ two_children c.args.factor (forest c.args.pool.now) c.requires.handed t in
+    omega (arith, k)
+
+pub take_child-base-requires-clause-within : goal.take_child-base-requires-clause-within
+take_child-base-requires-clause-within c =
+    let seen = rw c.id.ensures at c.is_transparent_power.ensures in
+    let t = ap is_transparent_power (sym (plain_root c.args.factor c.requires.stands c.requires.handed.root)) ∙ sym seen ∙ c.if-is_transparent_power.true in
+    let x = halved c.args.factor _ _ _ c.requires.handed t (c.take_child-exponent.ensures.last c.requires.handed.root) in
+    let k : arity (kids_of c.args.factor (forest c.take_child-exponent.new.pool)) ≡ 1 = ap arity (kids_of_root c.args.factor c.take_child-exponent.ensures.stands x.root) ∙ x.one in
+    omega (arith, k)
+
+pub release-requires-clause-releasable : goal.release-requires-clause-releasable
+release-requires-clause-releasable c =
+    let seen = rw c.id.ensures at c.is_transparent_power.ensures in
+    let t = ap is_transparent_power (sym (plain_root c.args.factor c.requires.stands c.requires.handed.root)) ∙ sym seen ∙ c.if-is_transparent_power.true in
+    let x = halved c.args.factor _ _ _ c.requires.handed t (c.take_child-exponent.ensures.last c.requires.handed.root) in
+    inl (emptied c.args.factor _ _ _ _ _ c.requires.handed.root x (c.take_child-base.ensures.last x.root)).owned.root
+
+pub returns-then-is_transparent_power-clause-ok : goal.returns-then-is_transparent_power-clause-ok
+returns-then-is_transparent_power-clause-ok c =
+    let seen = rw c.id.ensures at c.is_transparent_power.ensures in
+    let t = ap is_transparent_power (sym (plain_root c.args.factor c.requires.stands c.requires.handed.root)) ∙ sym seen ∙ c.if-is_transparent_power.true in
+    let x = halved c.args.factor _ _ _ c.requires.handed t (c.take_child-exponent.ensures.last c.requires.handed.root) in
+    let y = emptied c.args.factor _ _ _ _ _ c.requires.handed.root x (c.take_child-base.ensures.last x.root) in
+    split_at y.split (c.release.ensures.owned y.owned)
+
+pub returns-then-is_transparent_power-clause-front : goal.returns-then-is_transparent_power-clause-front
+returns-then-is_transparent_power-clause-front c =
+    let seen = rw c.id.ensures at c.is_transparent_power.ensures in
+    let t = ap is_transparent_power (sym (plain_root c.args.factor c.requires.stands c.requires.handed.root)) ∙ sym seen ∙ c.if-is_transparent_power.true in
+    let x = halved c.args.factor _ _ _ c.requires.handed t (c.take_child-exponent.ensures.last c.requires.handed.root) in
+    let y = emptied c.args.factor _ _ _ _ _ c.requires.handed.root x (c.take_child-base.ensures.last x.root) in
+    front_at y.front (c.release.ensures.owned y.owned)
+
+pub returns-in_ok-exponent-clause-ok : goal.returns-in_ok-exponent-clause-ok
+returns-in_ok-exponent-clause-ok c =
+    let seen = rw c.id.ensures at c.is_transparent_power.ensures in
+    let t = ap is_transparent_power (sym (plain_root c.args.factor c.requires.stands c.requires.handed.root)) ∙ sym seen ∙ c.if-is_transparent_power.false in
+    let one = beside_gives c.in_ok-exponent.ensures.ok in
+    unsplit c.args.factor _ _ _ c.requires.handed t one (beside_handed c.args.factor c.one.ensures.stands (beside_other one c.requires.handed))

@@ -1,0 +1,49 @@
+use Rattle.std.proofs.Common.{◌∙◌, ap, refl}
+use Rattle.calc_terms.specs.Reduced.{is_reduced}
+use Rattle.product_reduce.specs.Joining.{exponent_of}
+use Rattle.tree_handles.specs.Standing.{forest}
+use Rattle.tree_handles.proofs.Given.{owned}
+use Rattle.tree_handles.proofs.Fronts.{front_at, front_end, front_without, front_after_one}
+use Rattle.product_reduce.specs.Products.{factors_in}
+use Rattle.product_reduce.proofs.Beside.{beside_as, beside_below, behind_beside, behind_clear, taken_factor, without_factor}
+use Rattle.product_reduce.proofs.Finished.{reduced_nth}
+use Rattle.product_reduce.proofs.Products.{product_within}
+use Rattle.product_reduce.proofs.joining.take_exponent.Goals as goal
+
+pub take_child-factor-requires-clause-within : goal.take_child-factor-requires-clause-within
+take_child-factor-requires-clause-within c = product_within c.args.at c.requires.stands c.requires.product c.requires.within
+
+pub split_factor-requires-clause-handed : goal.split_factor-requires-clause-handed
+split_factor-requires-clause-handed c = (taken_factor c.args.at c.requires.product c.requires.within (c.take_child-factor.ensures.last c.requires.product.handed.root)).handed
+
+pub split_factor-requires-clause-reduced : goal.split_factor-requires-clause-reduced
+split_factor-requires-clause-reduced c =
+    let x = taken_factor c.args.at c.requires.product c.requires.within (c.take_child-factor.ensures.last c.requires.product.handed.root) in
+    ap is_reduced x.tree ∙ reduced_nth c.args.at (factors_in c.args.product.now (forest c.args.pool.now)) c.requires.within c.requires.reduced
+
+pub returns-in_err-base-clause-front : goal.returns-in_err-base-clause-front
+returns-in_err-base-clause-front c =
+    let e = c.take_child-factor.ensures.last c.requires.product.handed.root in
+    let x = taken_factor c.args.at c.requires.product c.requires.within e in
+    let left = without_factor c.args.at c.requires.product in
+    front_after_one (behind_beside x left.front) (front_end e left.front) c.split_factor.ensures.front
+
+pub returns-clause-ok : goal.returns-clause-ok
+returns-clause-ok c =
+    let x = taken_factor c.args.at c.requires.product c.requires.within (c.take_child-factor.ensures.last c.requires.product.handed.root) in
+    let s = c.in_ok-base.ensures.ok in
+    record {
+      left = _;
+      beside = beside_as s.exponent (ap exponent_of x.tree) x.rest (c.release.ensures.owned (owned s.base.handed) ∙ s.base.rest);
+      becomes = without_factor c.args.at c.requires.product;
+    }
+
+pub returns-clause-front : goal.returns-clause-front
+returns-clause-front c =
+    let e = c.take_child-factor.ensures.last c.requires.product.handed.root in
+    let x = taken_factor c.args.at c.requires.product c.requires.within e in
+    let left = without_factor c.args.at c.requires.product in
+    let s = c.in_ok-base.ensures.ok in
+    front_at (front_without (behind_clear (beside_below s.base (beside_as s.exponent refl x.rest refl)) left.front)
+    (front_after_one (behind_beside x left.front) (front_end e left.front) c.split_factor.ensures.front))
+    (c.release.ensures.owned (owned s.base.handed))

@@ -1,0 +1,10 @@
+use Rattle.std.proofs.Common.{◌∙◌, ap, refl}
+use Rattle.calc_terms.specs.Fractions.{lowest, one_fraction}
+use Rattle.calc_terms.specs.Ratio.{Ratio}
+use Rattle.calc_terms.specs.Trees.{num}
+use Rattle.tree_handles.proofs.Given.{gives_as}
+use Rattle.product_reduce.proofs.nodes.one.Goals as goal
+
+pub returns-clause-ok : goal.returns-clause-ok
+unfolding one_fraction
+returns-clause-ok c = gives_as c.in_ok-one.ensures.given refl (λ u e. e ∙ ap (λ (x : Ratio). num (lowest x.num x.den)) c.whole.ensures)

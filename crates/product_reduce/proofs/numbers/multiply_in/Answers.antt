@@ -1,0 +1,89 @@
+use Rattle.std.proofs.Common.{◌≡◌, ◌∙◌, ap, sym, refl, false, true}
+use Rattle.calc_terms.specs.Numbers.{is_number, value}
+use Rattle.calc_terms.specs.Surds.{Surd, surd_times}
+use Rattle.calc_terms.specs.Trees.{Tree}
+use Rattle.number_forms.specs.Answers.{IsNumberOf}
+use Rattle.reduce_port.specs.Rewritings.{tree_of}
+use Rattle.tree_handles.specs.Expressions.{plain, nth}
+use Rattle.tree_handles.specs.Forest.{kids, without_nth}
+use Rattle.tree_handles.specs.Roots.{root_tree}
+use Rattle.tree_handles.specs.Standing.{forest}
+use Rattle.tree_handles.proofs.Given.{handed_by_put, given_told}
+use Rattle.tree_handles.proofs.Fronts.{behind_first, behind_later, front_same, front_end, front_put, front_after_two}
+use Rattle.tree_handles.proofs.Outcomes.{eqb-sym}
+use Rattle.tree_handles.proofs.Roots.{tree-put}
+use Rattle.product_reduce.specs.Products.{factors_in}
+use Rattle.product_reduce.proofs.Beside.{beside_other, beside_apart, beside_tree, beside_given, behind_clear, behind_beside, taken_factor, without_factor}
+use Rattle.product_reduce.proofs.Products.{product_within}
+use Rattle.product_reduce.proofs.Multiplied.{if_ok_map, multiplied_out, so_far_tree}
+use Rattle.product_reduce.proofs.numbers.multiply_in.Goals as goal
+
+pub take_child-number-requires-clause-within : goal.take_child-number-requires-clause-within
+take_child-number-requires-clause-within c =
+    product_within c.args.at c.requires.stands c.requires.product c.requires.within
+
+pub multiply_numbers-requires-clause-first : goal.multiply_numbers-requires-clause-first
+multiply_numbers-requires-clause-first c =
+    let e = c.take_child-number.ensures.last c.requires.product.handed.root in
+    let x = taken_factor c.args.at c.requires.product c.requires.within e in
+    let n = (without_nth c.args.at (kids (root_tree c.args.product.now (forest c.args.pool.now)))) in
+    let a = handed_by_put c.args.product.now n (eqb-sym c.args.so_far c.args.product.now c.requires.apart) c.requires.handed in
+    beside_other x a
+
+pub multiply_numbers-requires-clause-second : goal.multiply_numbers-requires-clause-second
+multiply_numbers-requires-clause-second c =
+    let e = c.take_child-number.ensures.last c.requires.product.handed.root in
+    let x = taken_factor c.args.at c.requires.product c.requires.within e in
+    x.handed
+
+pub multiply_numbers-requires-clause-apart : goal.multiply_numbers-requires-clause-apart
+multiply_numbers-requires-clause-apart c =
+    let e = c.take_child-number.ensures.last c.requires.product.handed.root in
+    let x = taken_factor c.args.at c.requires.product c.requires.within e in
+    let n = (without_nth c.args.at (kids (root_tree c.args.product.now (forest c.args.pool.now)))) in
+    let a = handed_by_put c.args.product.now n (eqb-sym c.args.so_far c.args.product.now c.requires.apart) c.requires.handed in
+    eqb-sym c.take_child-number.result c.args.so_far (beside_apart c.args.so_far x a.root)
+
+pub multiply_numbers-requires-clause-first_number : goal.multiply_numbers-requires-clause-first_number
+multiply_numbers-requires-clause-first_number c =
+    let e = c.take_child-number.ensures.last c.requires.product.handed.root in
+    let x = taken_factor c.args.at c.requires.product c.requires.within e in
+    let n = (without_nth c.args.at (kids (root_tree c.args.product.now (forest c.args.pool.now)))) in
+    let a = handed_by_put c.args.product.now n (eqb-sym c.args.so_far c.args.product.now c.requires.apart) c.requires.handed in
+    ap is_number (so_far_tree c.args.product.now c.args.so_far n (forest c.args.pool.now) x c.requires.apart a.root) ∙ c.requires.so_far
+
+pub multiply_numbers-requires-clause-second_number : goal.multiply_numbers-requires-clause-second_number
+multiply_numbers-requires-clause-second_number c =
+    let e = c.take_child-number.ensures.last c.requires.product.handed.root in
+    let x = taken_factor c.args.at c.requires.product c.requires.within e in
+    ap is_number x.tree ∙ c.requires.number
+
+pub returns-clause-front : goal.returns-clause-front
+returns-clause-front c =
+    let e = c.take_child-number.ensures.last c.requires.product.handed.root in
+    let x = taken_factor c.args.at c.requires.product c.requires.within e in
+    front_after_two (behind_later behind_first) (behind_clear x.clear (front_put (without_nth c.args.at (kids (root_tree c.args.product.now (forest c.args.pool.now)))) behind_first front_same)) (front_end e (front_put (without_nth c.args.at (kids (root_tree c.args.product.now (forest c.args.pool.now)))) behind_first front_same)) c.multiply_numbers.ensures.front
+
+pub returns-clause-ok : goal.returns-clause-ok
+returns-clause-ok c =
+    let e = c.take_child-number.ensures.last c.requires.product.handed.root in
+    let x = taken_factor c.args.at c.requires.product c.requires.within e in
+    let n = (without_nth c.args.at (kids (root_tree c.args.product.now (forest c.args.pool.now)))) in
+    let a = handed_by_put c.args.product.now n (eqb-sym c.args.so_far c.args.product.now c.requires.apart) c.requires.handed in
+    if_ok_map c.multiply_numbers.result c.multiply_numbers.ensures.ok (λ m k. multiplied_out c.args.product.now c.args.so_far n (forest c.args.pool.now) c.requires.apart x a.root (without_factor c.args.at c.requires.product) k)
+
+pub returns-clause-number : goal.returns-clause-number
+returns-clause-number c =
+    let e = c.take_child-number.ensures.last c.requires.product.handed.root in
+    let x = taken_factor c.args.at c.requires.product c.requires.within e in
+    let n = (without_nth c.args.at (kids (root_tree c.args.product.now (forest c.args.pool.now)))) in
+    let a = handed_by_put c.args.product.now n (eqb-sym c.args.so_far c.args.product.now c.requires.apart) c.requires.handed in
+    if_ok_map c.multiply_numbers.result c.multiply_numbers.ensures.ok (λ m k. let t = given_told k in record { number = t.number; worth = rw (so_far_tree c.args.product.now c.args.so_far n (forest c.args.pool.now) x c.requires.apart a.root, x.tree) at t.worth })
+
+pub returns-clause-rationals : goal.returns-clause-rationals
+returns-clause-rationals c =
+    let e = c.take_child-number.ensures.last c.requires.product.handed.root in
+    let x = taken_factor c.args.at c.requires.product c.requires.within e in
+    let n = (without_nth c.args.at (kids (root_tree c.args.product.now (forest c.args.pool.now)))) in
+    let a = handed_by_put c.args.product.now n (eqb-sym c.args.so_far c.args.product.now c.requires.apart) c.requires.handed in
+    λ p q h k. c.multiply_numbers.ensures.rationals p q (so_far_tree c.args.product.now c.args.so_far n (forest c.args.pool.now) x c.requires.apart a.root ∙ h) (x.tree ∙ k)

@@ -1,0 +1,80 @@
+use Rattle.std.proofs.Common.{◌≡◌, ◌<◌, ◌≤◌, ◌+◌, ◌∙◌, ap, sym, arith, ℕ}
+use Rattle.number_forms.specs.Sums.{removed}
+use Rattle.calc_terms.specs.Trees.{count}
+use Rattle.reduce_port.specs.Rewritings.{tree_of}
+use Rattle.tree_handles.specs.Standing.{forest}
+use Rattle.tree_handles.proofs.Forests.{keeps_after}
+use Rattle.tree_handles.proofs.Fronts.{behind_first, front_after_two}
+use Rattle.product_reduce.specs.Products.{factors_in}
+use Rattle.product_reduce.proofs.Beside.{beside_product, behind_beside}
+use Rattle.product_reduce.proofs.Joins.{count_removed}
+use Rattle.product_reduce.proofs.Multiplied.{seen, underway_more}
+use Rattle.product_reduce.proofs.Products.{becomes_as, factors_are}
+use Rattle.product_reduce.proofs.Progress.{multiplied, faulted, completed, some_number}
+use Rattle.product_reduce.proofs.numbers.take_coefficient.Goals as goal
+
+pub returns-in_err-coefficient-clause-rationals : goal.returns-in_err-coefficient-clause-rationals
+returns-in_err-coefficient-clause-rationals c =
+    λ q m. absurd (some_number (factors_in c.args.product.now (forest c.args.pool.now)) c.in_err-coefficient.ensures.some q m)
+
+pub first_number-requires-clause-product : goal.first_number-requires-clause-product
+first_number-requires-clause-product c =
+    let w = seen c.args.product.now c.loop-at.coefficient (factors_in c.args.product.now (forest c.args.pool.now)) (forest c.args.pool.now) (forest c.loop-at.pool) c.loop-at.invariant.underway in
+    w.product
+
+pub first_number-requires-clause-reduced : goal.first_number-requires-clause-reduced
+first_number-requires-clause-reduced c =
+    let w = seen c.args.product.now c.loop-at.coefficient (factors_in c.args.product.now (forest c.args.pool.now)) (forest c.args.pool.now) (forest c.loop-at.pool) c.loop-at.invariant.underway in
+    w.progress.reduced
+
+pub multiply_in-requires-clause-product : goal.multiply_in-requires-clause-product
+multiply_in-requires-clause-product c =
+    let w = seen c.args.product.now c.loop-at.coefficient (factors_in c.args.product.now (forest c.args.pool.now)) (forest c.args.pool.now) (forest c.loop-at.pool) c.loop-at.invariant.underway in
+    w.product
+
+pub loop-at-smaller : goal.loop-at-smaller
+loop-at-smaller c =
+    let y = c.in-Ok.ensures.ok in
+    let e : count (factors_in c.args.product.now (forest c.multiply_in.new.pool)) ≡ count (removed c.in-Some.at (factors_in c.args.product.now (forest c.loop-at.pool))) = ap count (factors_are (beside_product y.beside y.becomes.product)) in
+    let d : count (removed c.in-Some.at (factors_in c.args.product.now (forest c.loop-at.pool))) + 1 ≡ count (factors_in c.args.product.now (forest c.loop-at.pool)) = count_removed c.in-Some.at (factors_in c.args.product.now (forest c.loop-at.pool)) c.in-Some.ensures.within in
+    omega (arith, e, d)
+
+pub loop-at-preserved : goal.loop-at-preserved
+loop-at-preserved c =
+    let w = seen c.args.product.now c.loop-at.coefficient (factors_in c.args.product.now (forest c.args.pool.now)) (forest c.args.pool.now) (forest c.loop-at.pool) c.loop-at.invariant.underway in
+    let number = c.in-Ok.ensures.number in
+    record {
+      underway = underway_more c.args.product.now c.loop-at.coefficient c.in-Ok.product (factors_in c.args.product.now (forest c.args.pool.now)) (factors_in c.args.product.now (forest c.loop-at.pool)) (removed c.in-Some.at (factors_in c.args.product.now (forest c.loop-at.pool))) w.left _ _ _ w.beside w.becomes c.in-Ok.ensures.ok
+          (multiplied c.in-Some.at (factors_in c.args.product.now (forest c.args.pool.now)) (factors_in c.args.product.now (forest c.loop-at.pool)) (tree_of c.loop-at.coefficient c.loop-at.pool) (tree_of c.in-Ok.product c.multiply_in.new.pool) c.in-Some.ensures.within c.in-Some.ensures.number c.in-Some.ensures.before w.progress number.number number.worth c.in-Ok.ensures.rationals);
+      front = front_after_two behind_first (behind_beside w.beside w.becomes.front) c.loop-at.invariant.front c.multiply_in.ensures.front;
+      kept = keeps_after _ _ _ c.loop-at.invariant.kept c.in-Ok.ensures.kept;
+      stands = c.multiply_in.ensures.stands;
+    }
+
+pub returns-in-Err-clause-rationals : goal.returns-in-Err-clause-rationals
+returns-in-Err-clause-rationals c =
+    let w = seen c.args.product.now c.loop-at.coefficient (factors_in c.args.product.now (forest c.args.pool.now)) (forest c.args.pool.now) (forest c.loop-at.pool) c.loop-at.invariant.underway in
+    faulted c.in-Some.at (factors_in c.args.product.now (forest c.args.pool.now)) (factors_in c.args.product.now (forest c.loop-at.pool)) (tree_of c.loop-at.coefficient c.loop-at.pool) c.multiply_in.new.pool c.in-Err.fault c.in-Some.ensures.within c.in-Some.ensures.before w.progress c.in-Err.ensures.rationals
+
+pub returns-in-Err-clause-front : goal.returns-in-Err-clause-front
+returns-in-Err-clause-front c =
+    let w = seen c.args.product.now c.loop-at.coefficient (factors_in c.args.product.now (forest c.args.pool.now)) (forest c.args.pool.now) (forest c.loop-at.pool) c.loop-at.invariant.underway in
+    front_after_two behind_first (behind_beside w.beside w.becomes.front) c.loop-at.invariant.front c.multiply_in.ensures.front
+
+pub returns-clause-taken : goal.returns-clause-taken
+returns-clause-taken c =
+    let w = seen c.args.product.now c.loop-at.coefficient (factors_in c.args.product.now (forest c.args.pool.now)) (forest c.args.pool.now) (forest c.loop-at.pool) c.loop-at.invariant.underway in
+    let z = completed (count (factors_in c.args.product.now (forest c.loop-at.pool))) (factors_in c.args.product.now (forest c.args.pool.now)) (factors_in c.args.product.now (forest c.loop-at.pool)) (tree_of c.loop-at.coefficient c.loop-at.pool) (omega arith) c.in_default.ensures w.progress in
+    record { left = w.left; beside = w.beside; becomes = becomes_as w.becomes z.others }
+
+pub returns-clause-coefficient : goal.returns-clause-coefficient
+returns-clause-coefficient c =
+    let w = seen c.args.product.now c.loop-at.coefficient (factors_in c.args.product.now (forest c.args.pool.now)) (forest c.args.pool.now) (forest c.loop-at.pool) c.loop-at.invariant.underway in
+    let z = completed (count (factors_in c.args.product.now (forest c.loop-at.pool))) (factors_in c.args.product.now (forest c.args.pool.now)) (factors_in c.args.product.now (forest c.loop-at.pool)) (tree_of c.loop-at.coefficient c.loop-at.pool) (omega arith) c.in_default.ensures w.progress in
+    z.coefficient
+
+pub returns-clause-rationals : goal.returns-clause-rationals
+returns-clause-rationals c =
+    let w = seen c.args.product.now c.loop-at.coefficient (factors_in c.args.product.now (forest c.args.pool.now)) (forest c.args.pool.now) (forest c.loop-at.pool) c.loop-at.invariant.underway in
+    let z = completed (count (factors_in c.args.product.now (forest c.loop-at.pool))) (factors_in c.args.product.now (forest c.args.pool.now)) (factors_in c.args.product.now (forest c.loop-at.pool)) (tree_of c.loop-at.coefficient c.loop-at.pool) (omega arith) c.in_default.ensures w.progress in
+    z.plain

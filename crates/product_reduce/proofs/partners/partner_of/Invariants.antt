@@ -1,0 +1,7 @@
+use Rattle.tree_handles.specs.Standing.{forest}
+use Rattle.product_reduce.specs.Joining.{HasNoPartner}
+use Rattle.product_reduce.specs.Products.{factors_in}
+use Rattle.product_reduce.proofs.partners.partner_of.Given as goal
+
+abbrev pub invariant-loop-second : goal.invariant-loop-second
+invariant-loop-second l = HasNoPartner l.first l.second (factors_in l.product (forest l.pool))

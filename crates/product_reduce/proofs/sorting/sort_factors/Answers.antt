@@ -1,0 +1,27 @@
+use Rattle.std.proofs.Common.{ℕ, ◌<◌, ◌≤◌, ◌≡◌, ap, ◌∙◌, subst, refl}
+use Rattle.std.specs.Prelude.{IsPermutation}
+use Rattle.calc_terms.specs.Reduced.{is_reduced}
+use Rattle.calc_terms.specs.Trees.{Trees, count}
+use Rattle.node_order.specs.Sorting.{list_of}
+use Rattle.tree_handles.specs.Expressions.{nth, plains}
+use Rattle.tree_handles.specs.Standing.{forest}
+use Rattle.product_reduce.specs.Products.{factors_in}
+use Rattle.product_reduce.proofs.Finished.{reduced_nth}
+use Rattle.product_reduce.proofs.Products.{becomes_put, product_kids}
+use Rattle.product_reduce.proofs.sorting.sort_factors.Goals as goal
+
+pub sort_children-requires-clause-keyed : goal.sort_children-requires-clause-keyed
+sort_children-requires-clause-keyed c =
+    let e = (product_kids c.requires.product).plain_trees in
+    λ n z l. ap (λ (ts : Trees). is_reduced (nth n ts)) e ∙ reduced_nth n (factors_in c.args.product.now (forest c.args.pool.now)) (subst (λ (ts : Trees). n < count ts) e l) c.requires.reduced
+
+pub returns-clause-sorts : goal.returns-clause-sorts
+returns-clause-sorts c =
+    let x = c.sort_children.ensures.sorts in
+    let e = (product_kids c.requires.product).plain_trees in
+    record {
+      us = plains x.children;
+      becomes = becomes_put c.requires.product (record { once = x.once; whole = x.expressions; plain_trees = refl }) x.whole;
+      moved = subst (λ (ts : Trees). IsPermutation (list_of ts) (list_of (plains x.children))) e x.sorted.moved;
+      rising = x.sorted.rising;
+    }

@@ -1,0 +1,24 @@
+use Rattle.std.proofs.Common.{◌≡◌, ◌∙◌, ap, refl, sym, true}
+use Rattle.tree_handles.proofs.Given.{given_handed, given_other, given_apart, given_rest, given_same, given_root, given_told, given_without, gives_as}
+use Rattle.tree_handles.proofs.Outcomes.{eqb-sym}
+use Rattle.calc_terms.specs.Reduced.{is_reduced}
+use Rattle.calc_terms.specs.Trees.{num, mult, none, more}
+use Rattle.tree_handles.specs.Expressions.{plain}
+use Rattle.product_reduce.proofs.Small.{twice_reduced, two_value}
+use Rattle.product_reduce.proofs.tests.twice.Goals as goal
+
+pub node_over_two-requires-clause-first : goal.node_over_two-requires-clause-first
+node_over_two-requires-clause-first c = given_other c.in_ok-factor.ensures.given (given_handed c.in_ok-two.ensures.given)
+
+pub node_over_two-requires-clause-second : goal.node_over_two-requires-clause-second
+node_over_two-requires-clause-second c = given_handed c.in_ok-factor.ensures.given
+
+pub node_over_two-requires-clause-apart : goal.node_over_two-requires-clause-apart
+node_over_two-requires-clause-apart c = eqb-sym c.in_ok-factor.factor c.in_ok-two.two (given_apart c.in_ok-factor.ensures.given (given_handed c.in_ok-two.ensures.given))
+
+pub returns-clause-ok : goal.returns-clause-ok
+returns-clause-ok c =
+    let first = c.in_ok-two.ensures.given in
+    let second = c.in_ok-factor.ensures.given in
+    gives_as c.in_ok-tree.ensures.ok (given_without second (given_handed first) ∙ given_rest first)
+    (λ t e. ap is_reduced (e ∙ (λ i. mult (more ((ap plain (given_same c.in_ok-two.two second (given_root first)) ∙ given_told first ∙ ap num (two_value c.whole.result c.whole.ensures)) i) (more (given_told second i) none)))) ∙ twice_reduced _)

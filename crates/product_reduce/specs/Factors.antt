@@ -1,0 +1,37 @@
+-- The factors of a product: products in it opened, its Numbers as one coefficient, and the others.
+use Rattle.std.specs.Prelude.{◌≡◌, true, if◌then◌else◌}
+use Rattle.calc_terms.specs.Numbers.{is_number, value}
+use Rattle.calc_terms.specs.Reduced.{is_num_one}
+use Rattle.calc_terms.specs.SquareClasses.{Same}
+use Rattle.calc_terms.specs.Surds.{Surd, surd_one, surd_times}
+use Rattle.calc_terms.specs.Trees.{Tree, Trees, none, more, append}
+use Rattle.coefficients.specs.Coefficients.{factors_of}
+
+-- the factors of a product in a product stand in its place
+abbrev pub opened : Trees → Trees
+opened none = none
+opened (more t ts) = append (factors_of t) (opened ts)
+
+-- the factors that are Numbers
+abbrev pub numbers_in : Trees → Trees
+numbers_in none = none
+numbers_in (more t ts) = if is_number t then more t (numbers_in ts) else numbers_in ts
+
+-- the factors that are none
+abbrev pub others_in : Trees → Trees
+others_in none = none
+others_in (more t ts) = if is_number t then others_in ts else more t (others_in ts)
+
+-- the values of Numbers multiplied
+abbrev pub product_of_values : Trees → Surd
+product_of_values none = surd_one
+product_of_values (more t ts) = surd_times (value t) (product_of_values ts)
+
+-- the Numbers among the factors as one Number
+pub record IsCoefficient (c : Tree) (ts : Trees) : Type 0 where
+  pub number : is_number c ≡ true
+  pub same : Same (value c) (product_of_values (numbers_in ts))
+
+-- a coefficient before the other factors, as a product is written: 1 is left out, and one of a single class is spliced
+abbrev pub coefficient_before : Tree → Trees → Trees
+coefficient_before c ts = if is_num_one c then ts else append (factors_of c) ts

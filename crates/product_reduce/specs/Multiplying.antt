@@ -1,0 +1,54 @@
+-- The Numbers among the factors, multiplied from left to right.
+use Rattle.std.specs.Prelude.{ℕ, ◌≡◌, ◌≤◌, ◌<◌, true, false, List, [], ◌∷◌}
+use Rattle.calc_terms.specs.Fits.{mul_op}
+use Rattle.calc_terms.specs.Fractions.{Fraction, zero_fraction}
+use Rattle.calc_terms.specs.Numbers.{is_number, value}
+use Rattle.calc_terms.specs.PlainValues.{fold_values, plain_value}
+use Rattle.calc_terms.specs.SquareClasses.{Same}
+use Rattle.calc_terms.specs.Surds.{surd_times}
+use Rattle.calc_terms.specs.Trees.{Tree, num, mult, Trees, none, more, count, is_num}
+use Rattle.tree_handles.specs.Expressions.{nth, plain}
+use Rattle.tree_handles.specs.Forest.{Forest}
+use Rattle.tree_handles.specs.Roots.{root_tree}
+use Rattle.product_reduce.specs.Factors.{numbers_in, others_in, product_of_values}
+use Rattle.reduce_port.specs.Children.{are_rationals, are_reduced}
+use Rattle.product_reduce.specs.Products.{IsTakenOut}
+
+-- the rational of a Num, and 0 for any other tree
+abbrev pub rational_of : Tree → Fraction
+rational_of (num q) = q
+rational_of _ = zero_fraction
+
+abbrev pub rationals_of : Trees → List Fraction
+rationals_of none = []
+rationals_of (more t ts) = rational_of t ∷ rationals_of ts
+
+-- the product of the rationals of ts is that of d and then those of us, up to an overflow
+pub record AreFolded (ts us : Trees) (d : Tree) : Type 0 where
+  pub rational : is_num d ≡ true
+  pub rationals : are_rationals us ≡ true
+  pub plain : plain_value (mult ts) ≡ fold_values mul_op (rational_of d) (rationals_of us)
+
+-- the Numbers of ts multiplied are d times those that are still among us; the other factors are the same
+pub record IsProgress (ts us : Trees) (d : Tree) : Type 0 where
+  pub number : is_number d ≡ true
+  pub worth : Same (product_of_values (numbers_in ts)) (surd_times (value d) (product_of_values (numbers_in us)))
+  pub others : others_in us ≡ others_in ts
+  pub reduced : are_reduced us ≡ true
+  pub folded : are_rationals ts ≡ true → 1 ≤ count ts → AreFolded ts us d
+
+-- no factor before a place is a Number
+abbrev pub NoNumberBefore : ℕ → Trees → Type 0
+NoNumberBefore n ts = (k : ℕ) → k < n → is_number (nth k ts) ≡ false
+
+-- the first Number among the factors stands there
+pub record IsFirstNumber (n : ℕ) (ts : Trees) : Type 0 where
+  pub within : n < count ts
+  pub number : is_number (nth n ts) ≡ true
+  pub before : NoNumberBefore n ts
+
+-- beside what is left of a product stands the product of its Numbers so far
+pub record IsUnderway (i : ℕ) (ts : Trees) (old new : Forest) (h : ℕ) : Type 0 where
+  pub us : Trees
+  pub taken : IsTakenOut i us old new h (plain (root_tree h new))
+  pub progress : IsProgress ts us (plain (root_tree h new))

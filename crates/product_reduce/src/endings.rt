@@ -1,0 +1,104 @@
+//! The last part of a step: Undef, a product with a pair joined, or a reduced tree.
+ghost use Rattle.std.specs.Prelude.{◌≡◌, ◌==◌, true, false, IfOk, IfErr, OnOk, [], ◌∷◌};
+ghost use Rattle.calc_terms.specs.Numbers.{is_number};
+ghost use Rattle.calc_terms.specs.Trees.{undef, mult, none};
+ghost use Rattle.number_forms.specs.Readers.{is_zero};
+ghost use Rattle.product_reduce.specs.Answers.{AreOthers, IsEnding, IsAlone};
+ghost use Rattle.product_reduce.specs.Factors.{coefficient_before};
+ghost use Rattle.product_reduce.specs.Joining.{IsFirstPair, IsJointAt, have_partners, joined};
+ghost use Rattle.product_reduce.specs.Products.{IsProduct, factors_in};
+ghost use Rattle.reduce_port.specs.Causes.{IsCaused, LacksBytes};
+ghost use Rattle.reduce_port.specs.Children.{are_reduced};
+ghost use Rattle.reduce_port.specs.Rewritings.{tree_of};
+ghost use Rattle.tree_handles.specs.Expressions.{children_of};
+ghost use Rattle.tree_handles.specs.Faults.{Faults};
+ghost use Rattle.tree_handles.specs.Handed.{IsHanded, Gives, KeepsFront};
+ghost use Rattle.tree_handles.specs.Roots.{without_root};
+ghost use Rattle.tree_handles.specs.Standing.{Stands, forest, KeepsRefusals, Refuses};
+
+use crate::factors::factor_count;
+use crate::fronting::put_in_front;
+use crate::joining::join_pair;
+use crate::sorting::sort_factors;
+use calc_terms::Kind;
+use coefficients::{put_coefficient, unwrapped};
+use node_pool::{Full, Pool};
+use tree_handles::{Handle, NumberFault, move_last, node, release};
+
+/// Undef in the place of a tree.
+#[tactic(auto, using(number_forms::proofs::Refused::lacks))]
+pub fn undefined(pool: &mut Pool, tree: Handle) -> Result<Handle, Full>
+    requires stands { Stands pool.old }
+    requires handed { IsHanded tree (forest pool.old) }
+    ensures ok { IfOk result (λ h. Gives (without_root tree (forest pool.old)) (forest pool.new) h (λ t. t ≡ undef)) }
+    ensures front { KeepsFront (tree ∷ []) (forest pool.old) (forest pool.new) }
+    ensures kept { OnOk result (KeepsRefusals pool.old pool.new) }
+    ensures full { IfErr result (Refuses pool.old pool.new) }
+    ensures caused { IfErr result (LacksBytes pool.new) }
+    ensures stands { Stands pool.new }
+{
+    release(pool, tree);
+    let undef = node(pool, Kind::Undef)?;
+    Ok(undef)
+}
+
+/// The first pair joined with the coefficient in front, and the place of the joint.
+pub fn joined(
+    pool: &mut Pool,
+    product: Handle,
+    coefficient: Handle,
+    first: u16,
+    second: u16,
+) -> Result<(Handle, u16), Full>
+    requires stands { Stands pool.old }
+    requires product { IsProduct product (forest pool.old) (factors_in product (forest pool.old)) }
+    requires reduced { are_reduced (factors_in product (forest pool.old)) ≡ true }
+    requires pair { IsFirstPair first second (factors_in product (forest pool.old)) }
+    requires coefficient { IsHanded coefficient (forest pool.old) }
+    requires number { is_number (tree_of coefficient pool.old) ≡ true }
+    requires apart { (coefficient == product) ≡ false }
+    ensures ok { IfOk result (λ r. Gives (without_root product (without_root coefficient (forest pool.old))) (forest pool.new) r.0
+        (λ t. t ≡ mult (coefficient_before (tree_of coefficient pool.old) (joined (factors_in product (forest pool.old)))))) }
+    ensures place { IfOk result (λ r. IsJointAt r.1 (children_of (tree_of r.0 pool.new))) }
+    ensures front { KeepsFront (product ∷ coefficient ∷ []) (forest pool.old) (forest pool.new) }
+    ensures kept { OnOk result (KeepsRefusals pool.old pool.new) }
+    ensures full { IfErr result (Refuses pool.old pool.new) }
+    ensures caused { IfErr result (LacksBytes pool.new) }
+    ensures stands { Stands pool.new }
+{
+    join_pair(pool, &product, first, second)?;
+    let joined = factor_count(pool, &product);
+    put_in_front(pool, &product, coefficient);
+    let in_front = factor_count(pool, &product) - joined;
+    move_last(pool, &product);
+    Ok((product, in_front + first))
+}
+
+/// Factors whose bases differ, sorted behind a coefficient.
+pub fn sorted(pool: &mut Pool, product: Handle, coefficient: Handle) -> Result<Handle, NumberFault>
+    requires stands { Stands pool.old }
+    requires product { IsProduct product (forest pool.old) (factors_in product (forest pool.old)) }
+    requires others { AreOthers (factors_in product (forest pool.old)) }
+    requires differ { have_partners (factors_in product (forest pool.old)) ≡ false }
+    requires coefficient { IsHanded coefficient (forest pool.old) }
+    requires number { is_number (tree_of coefficient pool.old) ≡ true }
+    requires not_zero { is_zero (tree_of coefficient pool.old) ≡ false }
+    requires apart { (coefficient == product) ≡ false }
+    ensures ok { IfOk result (λ h. Gives (without_root product (without_root coefficient (forest pool.old))) (forest pool.new) h
+        (IsEnding (tree_of coefficient pool.old) (factors_in product (forest pool.old)))) }
+    ensures alone { factors_in product (forest pool.old) ≡ none → IsAlone (tree_of coefficient pool.old) pool.new result }
+    ensures front { KeepsFront (product ∷ coefficient ∷ []) (forest pool.old) (forest pool.new) }
+    ensures kept { OnOk result (KeepsRefusals pool.old pool.new) }
+    ensures faults { IfErr result (Faults pool.old pool.new) }
+    ensures caused { IfErr result (IsCaused pool.new) }
+    ensures stands { Stands pool.new }
+{
+    sort_factors(pool, &product);
+    if factor_count(pool, &product) == 0 {
+        release(pool, product);
+        move_last(pool, &coefficient);
+        return Ok(coefficient);
+    }
+    let part = unwrapped(pool, product);
+    put_coefficient(pool, coefficient, part)
+}

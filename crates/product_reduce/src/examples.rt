@@ -1,0 +1,33 @@
+//! Worked examples of the definitions, each the contract of a function without a body.
+ghost use Rattle.std.specs.Prelude.{◌≡◌, pos, negsuc, false};
+ghost use Rattle.calc_terms.specs.Trees.{power, none, more, whole_num};
+ghost use Rattle.calc_terms.specs.Examples.{x, y, z, ratio, root_of, two, three, sum, product};
+ghost use Rattle.product_reduce.specs.Factors.{opened, others_in, coefficient_before};
+ghost use Rattle.product_reduce.specs.Joining.{have_partners, joined};
+
+/// The first factor that has a partner is joined with the first of its partners.
+pub fn factors_joined()
+    ensures a_symbol_twice { joined (two x x) ≡ more (power x (sum (whole_num 1) (whole_num 1))) none }
+    ensures opposite_powers { joined (two (power x (whole_num 2)) (power x (ratio (negsuc 1) 1)))
+        ≡ more (power x (sum (whole_num 2) (ratio (negsuc 1) 1))) none }
+    ensures one_pair_of_two { joined (more y (three x y x)) ≡ three (power y (sum (whole_num 1) (whole_num 1))) x x }
+    ensures the_nearest_partner { joined (three x (power x y) (power x z)) ≡ two (power x (sum (whole_num 1) y)) (power x z) }
+    ensures beside_an_opaque_power { have_partners (two x (power x (ratio (pos 1) 2))) ≡ false }
+{}
+
+/// How a coefficient stands before other factors.
+pub fn coefficients_in_front()
+    ensures one { coefficient_before (whole_num 1) (two x y) ≡ two x y }
+    ensures a_rational { coefficient_before (whole_num 2) (two x y) ≡ three (whole_num 2) x y }
+    ensures one_class { coefficient_before (product (whole_num 2) (root_of 3)) (two x y)
+        ≡ more (whole_num 2) (three (root_of 3) x y) }
+    ensures two_classes { coefficient_before (sum (whole_num 1) (root_of 2)) (two x y)
+        ≡ three (sum (whole_num 1) (root_of 2)) x y }
+{}
+
+/// Products among the factors are opened, and their Numbers are none of the others.
+pub fn products_opened()
+    ensures factors { opened (two (product (whole_num 2) x) (product (whole_num 3) y))
+        ≡ more (whole_num 2) (three x (whole_num 3) y) }
+    ensures others { others_in (more (whole_num 2) (three x (whole_num 3) y)) ≡ two x y }
+{}

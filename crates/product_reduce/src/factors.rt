@@ -1,0 +1,80 @@
+//! The factors of a product by their places; products among them are opened.
+ghost use Rattle.std.specs.Prelude.{◌≡◌, ◌<◌, true};
+ghost use Rattle.reduce_port.specs.Children.{has_undef};
+ghost use Rattle.calc_terms.specs.Trees.{count, is_mult, is_undef};
+ghost use Rattle.product_reduce.specs.Factors.{opened};
+ghost use Rattle.product_reduce.specs.Products.{IsProduct, Becomes, factors_in};
+ghost use Rattle.tree_handles.specs.Expressions.{IsExpression, plain, nth};
+ghost use Rattle.tree_handles.specs.Inside.{tree_at};
+ghost use Rattle.tree_handles.specs.Standing.{Stands, forest, KeepsRefusals};
+
+use calc_terms::Kind;
+use node_pool::{Id, Pool};
+use tree_handles::{Handle, child_id, children, kind, merge_children};
+
+/// How many factors a product has.
+pub fn factor_count(pool: &Pool, product: &Handle) -> u16
+    requires stands { Stands pool.now }
+    requires product { IsProduct product.now (forest pool.now) (factors_in product.now (forest pool.now)) }
+    ensures { result ≡ count (factors_in product.now (forest pool.now)) }
+{
+    children(pool, product.id())
+}
+
+/// The factor at a place.
+pub fn factor(pool: &Pool, product: &Handle, at: u16) -> Id
+    requires stands { Stands pool.now }
+    requires product { IsProduct product.now (forest pool.now) (factors_in product.now (forest pool.now)) }
+    requires within { at < count (factors_in product.now (forest pool.now)) }
+    ensures expression { IsExpression result (forest pool.now) }
+    ensures tree { plain (tree_at result (forest pool.now)) ≡ nth at (factors_in product.now (forest pool.now)) }
+{
+    child_id(pool, product.id(), at)
+}
+
+fn is_undef(pool: &Pool, id: Id) -> bool
+    requires stands { Stands pool.now }
+    requires expression { IsExpression id (forest pool.now) }
+    ensures { result ≡ is_undef (plain (tree_at id (forest pool.now))) }
+{
+    matches!(kind(pool, id), Kind::Undef)
+}
+
+pub fn is_product(pool: &Pool, id: Id) -> bool
+    requires stands { Stands pool.now }
+    requires expression { IsExpression id (forest pool.now) }
+    ensures { result ≡ is_mult (plain (tree_at id (forest pool.now))) }
+{
+    matches!(kind(pool, id), Kind::Mult)
+}
+
+/// Whether some factor is Undef.
+pub fn has_undef_factor(pool: &Pool, product: &Handle) -> bool
+    requires stands { Stands pool.now }
+    requires product { IsProduct product.now (forest pool.now) (factors_in product.now (forest pool.now)) }
+    ensures { result ≡ has_undef (factors_in product.now (forest pool.now)) }
+{
+    for at in 0..factor_count(pool, product) {
+        if is_undef(pool, factor(pool, product, at)) {
+            return true;
+        }
+    }
+    false
+}
+
+/// The factors of each factor that is a product take its place.
+pub fn open_products(pool: &mut Pool, product: &Handle)
+    requires stands { Stands pool.old }
+    requires product { IsProduct product.now (forest pool.old) (factors_in product.now (forest pool.old)) }
+    ensures opened { Becomes product.now (forest pool.old) (forest pool.new) (opened (factors_in product.now (forest pool.old))) }
+    ensures kept { KeepsRefusals pool.old pool.new }
+    ensures stands { Stands pool.new }
+{
+    let mut at = factor_count(pool, product);
+    while at > 0 {
+        at -= 1;
+        if is_product(pool, factor(pool, product, at)) {
+            merge_children(pool, product, at);
+        }
+    }
+}

@@ -1,0 +1,104 @@
+//! Two factors with identical bases become one power.
+ghost use Rattle.std.specs.Prelude.{◌≡◌, ◌==◌, ◌<◌, true, false, IfOk, IfErr, OnOk, [], ◌∷◌};
+ghost use Rattle.number_forms.specs.Sums.{removed};
+ghost use Rattle.reduce_port.specs.Children.{are_reduced};
+ghost use Rattle.calc_terms.specs.Reduced.{is_reduced, base_of};
+ghost use Rattle.calc_terms.specs.Trees.{add, power, count, none, more};
+ghost use Rattle.product_reduce.specs.Joining.{exponent_of, joined, IsFirstPair};
+ghost use Rattle.product_reduce.specs.Products.{IsProduct, IsTakenOut, IsSplit, Becomes, factors_in};
+ghost use Rattle.reduce_port.specs.Causes.{LacksBytes};
+ghost use Rattle.reduce_port.specs.Rewritings.{tree_of};
+ghost use Rattle.tree_handles.specs.Expressions.{nth};
+ghost use Rattle.tree_handles.specs.Handed.{IsHanded, Gives, KeepsFront};
+ghost use Rattle.tree_handles.specs.Roots.{without_root};
+ghost use Rattle.tree_handles.specs.Standing.{Stands, forest, KeepsRefusals, Refuses};
+
+use crate::nodes::{one, over_two};
+use crate::partners::is_transparent_power;
+use calc_terms::Kind;
+use node_pool::{Full, Pool};
+use tree_handles::{Handle, add_child, release, take_child};
+
+/// A factor as its base and its exponent, which is 1 where none is written.
+fn split_factor(pool: &mut Pool, factor: Handle) -> Result<(Handle, Handle), Full>
+    requires stands { Stands pool.old }
+    requires handed { IsHanded factor (forest pool.old) }
+    requires reduced { is_reduced (tree_of factor pool.old) ≡ true }
+    ensures ok { IfOk result (λ pair. IsSplit factor (forest pool.old) (forest pool.new) pair.0 pair.1) }
+    ensures front { KeepsFront (factor ∷ []) (forest pool.old) (forest pool.new) }
+    ensures kept { OnOk result (KeepsRefusals pool.old pool.new) }
+    ensures full { IfErr result (Refuses pool.old pool.new) }
+    ensures caused { IfErr result (LacksBytes pool.new) }
+    ensures stands { Stands pool.new }
+{
+    if is_transparent_power(pool, factor.id()) {
+        let exponent = take_child(pool, &factor, 1);
+        let base = take_child(pool, &factor, 0);
+        release(pool, factor);
+        Ok((base, exponent))
+    } else {
+        let exponent = one(pool)?;
+        Ok((factor, exponent))
+    }
+}
+
+/// The exponent of the factor at a place, which leaves the product.
+fn take_exponent(pool: &mut Pool, product: &Handle, at: u16) -> Result<Handle, Full>
+    requires stands { Stands pool.old }
+    requires product { IsProduct product.now (forest pool.old) (factors_in product.now (forest pool.old)) }
+    requires reduced { are_reduced (factors_in product.now (forest pool.old)) ≡ true }
+    requires within { at < count (factors_in product.now (forest pool.old)) }
+    ensures ok { let ts = factors_in product.now (forest pool.old) in
+        IfOk result (λ h. IsTakenOut product.now (removed at ts) (forest pool.old) (forest pool.new) h (exponent_of (nth at ts))) }
+    ensures front { KeepsFront (product.now ∷ []) (forest pool.old) (forest pool.new) }
+    ensures kept { OnOk result (KeepsRefusals pool.old pool.new) }
+    ensures full { IfErr result (Refuses pool.old pool.new) }
+    ensures caused { IfErr result (LacksBytes pool.new) }
+    ensures stands { Stands pool.new }
+{
+    let factor = take_child(pool, product, at);
+    let (base, exponent) = split_factor(pool, factor)?;
+    release(pool, base);
+    Ok(exponent)
+}
+
+/// The base of a factor to its exponent and another one added.
+fn raise(pool: &mut Pool, factor: Handle, exponent: Handle) -> Result<Handle, Full>
+    requires stands { Stands pool.old }
+    requires first { IsHanded factor (forest pool.old) }
+    requires second { IsHanded exponent (forest pool.old) }
+    requires apart { (factor == exponent) ≡ false }
+    requires reduced { is_reduced (tree_of factor pool.old) ≡ true }
+    ensures ok { IfOk result (λ h. Gives (without_root exponent (without_root factor (forest pool.old))) (forest pool.new) h (λ t. t ≡
+        power (base_of (tree_of factor pool.old)) (add (more (exponent_of (tree_of factor pool.old)) (more (tree_of exponent pool.old) none))))) }
+    ensures front { KeepsFront (factor ∷ exponent ∷ []) (forest pool.old) (forest pool.new) }
+    ensures kept { OnOk result (KeepsRefusals pool.old pool.new) }
+    ensures full { IfErr result (Refuses pool.old pool.new) }
+    ensures caused { IfErr result (LacksBytes pool.new) }
+    ensures stands { Stands pool.new }
+{
+    let (base, own) = split_factor(pool, factor)?;
+    let sum = over_two(pool, Kind::Add, own, exponent)?;
+    let power = over_two(pool, Kind::Pow, base, sum)?;
+    Ok(power)
+}
+
+/// The first pair becomes one power, in the place of its first factor.
+pub fn join_pair(pool: &mut Pool, product: &Handle, first: u16, second: u16) -> Result<(), Full>
+    requires stands { Stands pool.old }
+    requires product { IsProduct product.now (forest pool.old) (factors_in product.now (forest pool.old)) }
+    requires reduced { are_reduced (factors_in product.now (forest pool.old)) ≡ true }
+    requires pair { IsFirstPair first second (factors_in product.now (forest pool.old)) }
+    ensures ok { OnOk result (Becomes product.now (forest pool.old) (forest pool.new) (joined (factors_in product.now (forest pool.old)))) }
+    ensures front { KeepsFront (product.now ∷ []) (forest pool.old) (forest pool.new) }
+    ensures kept { OnOk result (KeepsRefusals pool.old pool.new) }
+    ensures full { IfErr result (Refuses pool.old pool.new) }
+    ensures caused { IfErr result (LacksBytes pool.new) }
+    ensures stands { Stands pool.new }
+{
+    let exponent = take_exponent(pool, product, second)?;
+    let factor = take_child(pool, product, first);
+    let power = raise(pool, factor, exponent)?;
+    add_child(pool, product, first, power);
+    Ok(())
+}

@@ -1,0 +1,19 @@
+//! One step on a product whose factors are reduced.
+#![tactic(auto)]
+
+mod endings;
+pub mod examples;
+mod factors;
+mod fronting;
+mod joining;
+pub mod laws;
+mod nodes;
+mod numbers;
+mod partners;
+mod sorting;
+mod steps;
+
+pub use steps::{Joining, joining_step, product_step};
+
+#[cfg(test)]
+mod tests;

@@ -1,0 +1,118 @@
+//! The Numbers among the factors, multiplied from left to right.
+ghost use Rattle.std.specs.Prelude.{◌≡◌, ◌==◌, ◌<◌, ◌≤◌, true, false, MatchOption, IfOk, IfErr, OnOk, [], ◌∷◌};
+ghost use Rattle.number_forms.specs.Sums.{removed};
+ghost use Rattle.reduce_port.specs.Children.{are_reduced, are_rationals};
+ghost use Rattle.calc_terms.specs.Fits.{mul_op};
+ghost use Rattle.calc_terms.specs.Fractions.{Fraction};
+ghost use Rattle.calc_terms.specs.Numbers.{is_number, value};
+ghost use Rattle.calc_terms.specs.PlainValues.{calculated, plain_value};
+ghost use Rattle.calc_terms.specs.Surds.{surd_times};
+ghost use Rattle.calc_terms.specs.Trees.{num, mult, count};
+ghost use Rattle.product_reduce.specs.Factors.{others_in, IsCoefficient};
+ghost use Rattle.product_reduce.specs.Multiplying.{NoNumberBefore, IsFirstNumber, IsUnderway};
+ghost use Rattle.product_reduce.specs.Products.{IsProduct, IsTakenOut, factors_in};
+ghost use Rattle.number_forms.specs.Answers.{IsNumberOf, AnswersRationals};
+ghost use Rattle.reduce_port.specs.Causes.{IsCaused, LacksBytes};
+ghost use Rattle.reduce_port.specs.Rewritings.{tree_of};
+ghost use Rattle.tree_handles.specs.Expressions.{nth};
+ghost use Rattle.tree_handles.specs.Faults.{Faults};
+ghost use Rattle.tree_handles.specs.Handed.{IsHanded, KeepsFront};
+ghost use Rattle.tree_handles.specs.Roots.{without_root};
+ghost use Rattle.tree_handles.specs.Standing.{Stands, forest, KeepsRefusals, Refuses};
+
+use crate::factors::{factor, factor_count};
+use crate::nodes::one;
+use node_pool::{Full, Pool};
+use number_forms::{is_reduced_number, multiply_numbers};
+use tree_handles::{Handle, NumberFault, take_child};
+
+/// The place of the first Number among the factors.
+fn first_number(pool: &Pool, product: &Handle) -> Option<u16>
+    requires stands { Stands pool.now }
+    requires product { IsProduct product.now (forest pool.now) (factors_in product.now (forest pool.now)) }
+    requires reduced { are_reduced (factors_in product.now (forest pool.now)) ≡ true }
+    ensures { let ts = factors_in product.now (forest pool.now) in
+        MatchOption result (NoNumberBefore (count ts) ts) (λ at. IsFirstNumber at ts) }
+{
+    for at in 0..factor_count(pool, product) {
+        if is_reduced_number(pool, factor(pool, product, at)) {
+            return Some(at);
+        }
+    }
+    None
+}
+
+/// Takes the first Number among the factors out of a product; 1 where there is none.
+fn take_first_number(pool: &mut Pool, product: &Handle) -> Result<Handle, Full>
+    requires stands { Stands pool.old }
+    requires product { IsProduct product.now (forest pool.old) (factors_in product.now (forest pool.old)) }
+    requires reduced { are_reduced (factors_in product.now (forest pool.old)) ≡ true }
+    ensures ok { IfOk result (λ h. IsUnderway product.now (factors_in product.now (forest pool.old)) (forest pool.old) (forest pool.new) h) }
+    ensures front { KeepsFront (product.now ∷ []) (forest pool.old) (forest pool.new) }
+    ensures kept { OnOk result (KeepsRefusals pool.old pool.new) }
+    ensures full { IfErr result (Refuses pool.old pool.new) }
+    ensures caused { IfErr result (LacksBytes pool.new) }
+    ensures some { let ts = factors_in product.now (forest pool.old) in IfErr result (λ _. NoNumberBefore (count ts) ts) }
+    ensures stands { Stands pool.new }
+{
+    match first_number(pool, product) {
+        Some(at) => Ok(take_child(pool, product, at)),
+        None => one(pool),
+    }
+}
+
+/// The Number at a place goes into the product of those before it.
+fn multiply_in(
+    pool: &mut Pool,
+    product: &Handle,
+    at: u16,
+    so_far: Handle,
+) -> Result<Handle, NumberFault>
+    requires stands { Stands pool.old }
+    requires product { IsProduct product.now (forest pool.old) (factors_in product.now (forest pool.old)) }
+    requires within { at < count (factors_in product.now (forest pool.old)) }
+    requires number { is_number (nth at (factors_in product.now (forest pool.old))) ≡ true }
+    requires handed { IsHanded so_far (forest pool.old) }
+    requires apart { (so_far == product.now) ≡ false }
+    requires so_far { is_number (tree_of so_far pool.old) ≡ true }
+    ensures ok { let ts = factors_in product.now (forest pool.old) in
+        IfOk result (λ h. IsTakenOut product.now (removed at ts) (without_root so_far (forest pool.old)) (forest pool.new) h (tree_of h pool.new)) }
+    ensures number { let ts = factors_in product.now (forest pool.old) in
+        IfOk result (λ h. IsNumberOf (surd_times (value (tree_of so_far pool.old)) (value (nth at ts))) (tree_of h pool.new)) }
+    ensures rationals { let ts = factors_in product.now (forest pool.old) in
+        (p q : Fraction) → tree_of so_far pool.old ≡ num p → nth at ts ≡ num q → AnswersRationals (calculated mul_op p q) pool.new result }
+    ensures front { KeepsFront (product.now ∷ so_far ∷ []) (forest pool.old) (forest pool.new) }
+    ensures kept { OnOk result (KeepsRefusals pool.old pool.new) }
+    ensures faults { IfErr result (Faults pool.old pool.new) }
+    ensures caused { IfErr result (IsCaused pool.new) }
+    ensures stands { Stands pool.new }
+{
+    let number = take_child(pool, product, at);
+    multiply_numbers(pool, so_far, number)
+}
+
+/// Takes the Numbers among the factors out of a product, multiplied from left to right; 1 where there is none.
+pub fn take_coefficient(pool: &mut Pool, product: &Handle) -> Result<Handle, NumberFault>
+    requires stands { Stands pool.old }
+    requires product { IsProduct product.now (forest pool.old) (factors_in product.now (forest pool.old)) }
+    requires reduced { are_reduced (factors_in product.now (forest pool.old)) ≡ true }
+    ensures taken { let ts = factors_in product.now (forest pool.old) in
+        IfOk result (λ h. IsTakenOut product.now (others_in ts) (forest pool.old) (forest pool.new) h (tree_of h pool.new)) }
+    ensures coefficient { IfOk result (λ h. IsCoefficient (tree_of h pool.new) (factors_in product.now (forest pool.old))) }
+    ensures rationals { let ts = factors_in product.now (forest pool.old) in
+        are_rationals ts ≡ true → 1 ≤ count ts → AnswersRationals (plain_value (mult ts)) pool.new result }
+    ensures front { KeepsFront (product.now ∷ []) (forest pool.old) (forest pool.new) }
+    ensures kept { OnOk result (KeepsRefusals pool.old pool.new) }
+    ensures faults { IfErr result (Faults pool.old pool.new) }
+    ensures caused { IfErr result (IsCaused pool.new) }
+    ensures stands { Stands pool.new }
+{
+    let mut coefficient = take_first_number(pool, product)?;
+    while let Some(at) = first_number(pool, product) {
+        match multiply_in(pool, product, at, coefficient) {
+            Ok(product) => coefficient = product,
+            Err(fault) => return Err(fault),
+        }
+    }
+    Ok(coefficient)
+}

@@ -1,0 +1,128 @@
+//! One step on a product of reduced factors.
+ghost use Rattle.std.specs.Prelude.{◌≡◌, ◌==◌, ◌≤◌, true, false, IfOk, IfErr, OnOk, [], ◌∷◌};
+ghost use Rattle.calc_terms.specs.Numbers.{is_number};
+ghost use Rattle.calc_terms.specs.PlainValues.{plain_value};
+ghost use Rattle.calc_terms.specs.Trees.{count, is_mult, none};
+ghost use Rattle.product_reduce.specs.Answers.{AreOthers, IfFinished, IfJoined, IsFinished, IsJoined, IsStop, IsRejoined, IsAnswered, AnswersRationalFactors};
+ghost use Rattle.product_reduce.specs.Joining.{IsJointAt};
+ghost use Rattle.product_reduce.specs.Products.{IsProduct, factors_in};
+ghost use Rattle.reduce_port.specs.Causes.{IsCaused};
+ghost use Rattle.reduce_port.specs.Children.{are_reduced, are_rationals};
+ghost use Rattle.reduce_port.specs.Rewritings.{tree_of};
+ghost use Rattle.reduce_port.specs.Steps.{IfDone, IfAgain, AnswersRationalStep};
+ghost use Rattle.tree_handles.specs.Expressions.{children_of};
+ghost use Rattle.tree_handles.specs.Faults.{Faults};
+ghost use Rattle.tree_handles.specs.Handed.{IsHanded, Gives, KeepsFront};
+ghost use Rattle.tree_handles.specs.Roots.{without_root};
+ghost use Rattle.tree_handles.specs.Standing.{Stands, forest, KeepsRefusals};
+
+use crate::endings::{joined, sorted, undefined};
+use crate::factors::{has_undef_factor, open_products};
+use crate::numbers::take_coefficient;
+use crate::partners::first_pair;
+use node_pool::Pool;
+use number_forms::is_zero;
+use reduce_port::Step;
+use tree_handles::{Handle, NumberFault, move_last, release};
+
+/// What a step on a product made of it.
+#[derive(Drop)]
+pub enum Joining {
+    /// A reduced tree.
+    Done(Handle),
+    /// The product with two factors of one base as one power, and the place of that power among
+    /// its factors, counted from 0. It alone is not reduced yet.
+    Joined { product: Handle, at: u16 },
+}
+
+/// One step on a product of reduced factors: the reduced tree, or the product with the first factor
+/// that has a partner joined with the first of its partners.
+pub fn product_step(pool: &mut Pool, product: Handle) -> Result<Step, NumberFault>
+    requires stands { Stands pool.old }
+    requires handed { IsHanded product (forest pool.old) }
+    requires product { is_mult (tree_of product pool.old) ≡ true }
+    requires some { 1 ≤ count (children_of (tree_of product pool.old)) }
+    requires reduced { are_reduced (children_of (tree_of product pool.old)) ≡ true }
+    ensures done { IfOk result (λ s. IfDone s (λ h. Gives (without_root product (forest pool.old)) (forest pool.new) h
+        (IsFinished (children_of (tree_of product pool.old))))) }
+    ensures again { IfOk result (λ s. IfAgain s (λ h. Gives (without_root product (forest pool.old)) (forest pool.new) h
+        (IsJoined (children_of (tree_of product pool.old))))) }
+    ensures rationals { are_rationals (children_of (tree_of product pool.old)) ≡ true
+        → AnswersRationalStep (plain_value (tree_of product pool.old)) pool.new result }
+    ensures front { KeepsFront (product ∷ []) (forest pool.old) (forest pool.new) }
+    ensures kept { OnOk result (KeepsRefusals pool.old pool.new) }
+    ensures faults { IfErr result (Faults pool.old pool.new) }
+    ensures caused { IfErr result (IsCaused pool.new) }
+    ensures stands { Stands pool.new }
+{
+    match joining_step(pool, product)? {
+        Joining::Done(reduced) => Ok(Step::Done(reduced)),
+        Joining::Joined { product, .. } => Ok(Step::Again(product)),
+    }
+}
+
+/// The same step, with the place of the joint.
+pub fn joining_step(pool: &mut Pool, product: Handle) -> Result<Joining, NumberFault>
+    requires stands { Stands pool.old }
+    requires handed { IsHanded product (forest pool.old) }
+    requires product { is_mult (tree_of product pool.old) ≡ true }
+    requires some { 1 ≤ count (children_of (tree_of product pool.old)) }
+    requires reduced { are_reduced (children_of (tree_of product pool.old)) ≡ true }
+    ensures done { IfOk result (λ s. IfFinished s (λ h. Gives (without_root product (forest pool.old)) (forest pool.new) h
+        (IsFinished (children_of (tree_of product pool.old))))) }
+    ensures joined { IfOk result (λ s. IfJoined s (λ h _. Gives (without_root product (forest pool.old)) (forest pool.new) h
+        (IsJoined (children_of (tree_of product pool.old))))) }
+    ensures place { IfOk result (λ s. IfJoined s (λ h at. IsJointAt at (children_of (tree_of h pool.new)))) }
+    ensures rationals { are_rationals (children_of (tree_of product pool.old)) ≡ true
+        → AnswersRationalFactors (plain_value (tree_of product pool.old)) pool.new result }
+    ensures front { KeepsFront (product ∷ []) (forest pool.old) (forest pool.new) }
+    ensures kept { OnOk result (KeepsRefusals pool.old pool.new) }
+    ensures faults { IfErr result (Faults pool.old pool.new) }
+    ensures caused { IfErr result (IsCaused pool.new) }
+    ensures stands { Stands pool.new }
+{
+    if has_undef_factor(pool, &product) {
+        return Ok(Joining::Done(undefined(pool, product)?));
+    }
+    open_products(pool, &product);
+    let coefficient = take_coefficient(pool, &product)?;
+    join_or_end(pool, product, coefficient)
+}
+
+/// A step on a coefficient and the other factors.
+fn join_or_end(
+    pool: &mut Pool,
+    product: Handle,
+    coefficient: Handle,
+) -> Result<Joining, NumberFault>
+    requires stands { Stands pool.old }
+    requires product { IsProduct product (forest pool.old) (factors_in product (forest pool.old)) }
+    requires others { AreOthers (factors_in product (forest pool.old)) }
+    requires coefficient { IsHanded coefficient (forest pool.old) }
+    requires number { is_number (tree_of coefficient pool.old) ≡ true }
+    requires apart { (coefficient == product) ≡ false }
+    ensures done { IfOk result (λ s. IfFinished s (λ h. Gives (without_root product (without_root coefficient (forest pool.old))) (forest pool.new) h
+        (IsStop (tree_of coefficient pool.old) (factors_in product (forest pool.old))))) }
+    ensures joined { IfOk result (λ s. IfJoined s (λ h _. Gives (without_root product (without_root coefficient (forest pool.old))) (forest pool.new) h
+        (IsRejoined (tree_of coefficient pool.old) (factors_in product (forest pool.old))))) }
+    ensures place { IfOk result (λ s. IfJoined s (λ h at. IsJointAt at (children_of (tree_of h pool.new)))) }
+    ensures alone { factors_in product (forest pool.old) ≡ none → IsAnswered (tree_of coefficient pool.old) pool.new result }
+    ensures front { KeepsFront (product ∷ coefficient ∷ []) (forest pool.old) (forest pool.new) }
+    ensures kept { OnOk result (KeepsRefusals pool.old pool.new) }
+    ensures faults { IfErr result (Faults pool.old pool.new) }
+    ensures caused { IfErr result (IsCaused pool.new) }
+    ensures stands { Stands pool.new }
+{
+    if is_zero(pool, coefficient.id()) {
+        release(pool, product);
+        move_last(pool, &coefficient);
+        return Ok(Joining::Done(coefficient));
+    }
+    match first_pair(pool, &product) {
+        Some((first, second)) => {
+            let (product, at) = joined(pool, product, coefficient, first, second)?;
+            Ok(Joining::Joined { product, at })
+        }
+        None => Ok(Joining::Done(sorted(pool, product, coefficient)?)),
+    }
+}

@@ -1,0 +1,25 @@
+-- The children of a node.
+use Rattle.std.specs.Prelude.{Bool, true, false, ◌&&◌, ◌||◌}
+use Rattle.calc_terms.specs.Numbers.{is_number}
+use Rattle.calc_terms.specs.Reduced.{is_reduced}
+use Rattle.calc_terms.specs.Trees.{Trees, none, more, is_num, is_undef}
+
+-- some child is Undef
+abbrev pub has_undef : Trees → Bool
+has_undef none = false
+has_undef (more t ts) = is_undef t || has_undef ts
+
+-- each child is a Number
+abbrev pub are_numbers : Trees → Bool
+are_numbers none = true
+are_numbers (more t ts) = is_number t && are_numbers ts
+
+-- each child is a rational
+abbrev pub are_rationals : Trees → Bool
+are_rationals none = true
+are_rationals (more t ts) = is_num t && are_rationals ts
+
+-- each child is reduced
+abbrev pub are_reduced : Trees → Bool
+are_reduced none = true
+are_reduced (more t ts) = is_reduced t && are_reduced ts

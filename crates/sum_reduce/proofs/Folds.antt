@@ -1,0 +1,174 @@
+-- Numbers among the terms, and rationals added from left to right.
+use Rattle.std.proofs.Common.{◌⊎◌, inl, inr, nat_lt, ℕ, zero, suc, ◌<◌, ◌≤◌, ◌+◌, ◌≡◌, List, [], ◌∷◌, Bool, true, false, if◌then◌else◌, refl, sym, ap, ◌∙◌, subst, arith}
+use Rattle.std.proofs.lemmas.Bool.{and_parts, ltb-true, ltb-false}
+use Rattle.calc_terms.specs.Fits.{add_op, operation_fits, result_of}
+use Rattle.calc_terms.specs.Fractions.{Fraction, zero_fraction}
+use Rattle.calc_terms.specs.Numbers.{is_number}
+use Rattle.calc_terms.specs.PlainValues.{PlainValue, exactly, overflow, calculated, fold_values, gather, values, plain_of_children, plain_value, are_plain}
+use Rattle.calc_terms.specs.Reduced.{NoneIs}
+use Rattle.calc_terms.specs.Trees.{Tree, num, add, Trees, none, more, count, is_num}
+use Rattle.rational128.specs.declared.overflow.Overflow.{Overflow}
+use Rattle.reduce_port.specs.Children.{are_rationals}
+use Rattle.reduce_port.specs.PlainTrees.{IsPlainAnswer, IsPlainOverflow}
+use Rattle.tree_handles.specs.Expressions.{nth}
+use Rattle.tree_handles.proofs.Outcomes.{by_test}
+use Rattle.sum_reduce.specs.Arranging.{IsTotal}
+use Rattle.sum_reduce.specs.Terms.{removed, NoNumberBefore, IsFirstNumber, opened}
+
+-- ---- Numbers by their places
+
+pub none_before_more : (n : ℕ) (ts : Trees) → NoNumberBefore n ts → is_number (nth n ts) ≡ false → NoNumberBefore (n + 1) ts
+none_before_more n ts h e k l = by (by_place k l)
+  where
+    by_place : (k : ℕ) → k < n + 1 → (k < n) ⊎ (k ≡ n)
+    by_place k l = by_test (λ b. nat_lt k n ≡ b → (k < n) ⊎ (k ≡ n)) (nat_lt k n) (λ p q. inl (ltb-true k n q)) (λ p q. inr (omega (arith, ltb-false k n q))) refl
+
+    by : (k < n) ⊎ (k ≡ n) → is_number (nth k ts) ≡ false
+    by (inl m) = h k m
+    by (inr q) = ap (λ (i : ℕ). is_number (nth i ts)) q ∙ e
+
+pub no_numbers : (ts : Trees) → NoNumberBefore (count ts) ts → NoneIs is_number ts
+no_numbers none b = tt
+no_numbers (more t ts) b = (b 0 (omega arith), no_numbers ts (λ k l. b (suc k) (omega arith)))
+
+-- ---- rationals
+
+rational_of : Tree → Fraction
+rational_of (num q) = q
+rational_of _ = zero_fraction
+
+rationals_of : Trees → List Fraction
+rationals_of none = []
+rationals_of (more t ts) = rational_of t ∷ rationals_of ts
+
+num_is : (t : Tree) → is_num t ≡ true → t ≡ num (rational_of t)
+unfolding rational_of
+num_is (num q) h = refl
+num_is _ h = cc
+
+pub num_number : (t : Tree) → is_num t ≡ true → is_number t ≡ true
+unfolding is_number
+num_number (num q) h = refl
+num_number _ h = cc
+
+gathered : (ts : Trees) → are_rationals ts ≡ true → plain_of_children ts ≡ values (rationals_of ts)
+unfolding rational_of rationals_of
+gathered none h = refl
+gathered (more (num q) ts) h = ap (gather (exactly q)) (gathered ts h)
+gathered (more _ ts) h = cc
+
+plain_rationals : (ts : Trees) → are_rationals ts ≡ true → are_plain ts ≡ true
+plain_rationals none h = refl
+plain_rationals (more (num q) ts) h = plain_rationals ts h
+plain_rationals (more _ ts) h = cc
+
+-- the plain value of a sum of rationals
+plain_sum : (t : Tree) (ts : Trees) → is_num t ≡ true → are_rationals ts ≡ true → plain_value (add (more t ts)) ≡ fold_values add_op (rational_of t) (rationals_of ts)
+unfolding rational_of
+plain_sum (num q) ts h k = rw (plain_rationals ts k, gathered ts k) refl
+plain_sum _ ts h k = cc
+
+-- ---- the sum so far, and the rationals that are left
+
+pub record AreFolded (v : PlainValue) (d : Tree) (us : Trees) : Type 0 where
+  pub rational : is_num d ≡ true
+  pub rationals : are_rationals us ≡ true
+  plain : v ≡ fold_values add_op (rational_of d) (rationals_of us)
+
+pub fold_first : (t : Tree) (ts : Trees) → is_num t ≡ true → are_rationals ts ≡ true → AreFolded (plain_value (add (more t ts))) t ts
+fold_first t ts h k = record { rational = h; rationals = k; plain = plain_sum t ts h k }
+
+-- among rationals the first Number is the first term
+pub record IsFirst (at : ℕ) (us : Trees) : Type 0 where
+  pub rest : Trees
+  pub is : us ≡ more (nth at us) rest
+  pub left : removed at us ≡ rest
+  pub rational : is_num (nth at us) ≡ true
+  pub rationals : are_rationals rest ≡ true
+
+pub first_of : (at : ℕ) (us : Trees) → are_rationals us ≡ true → IsFirstNumber at us → IsFirst at us
+first_of at none r h = absurd (let l = h.within in omega (arith, l))
+first_of zero (more t ts) r h = let (a, b) = and_parts (is_num t) (are_rationals ts) r in record { rest = ts; is = refl; left = refl; rational = a; rationals = b }
+first_of (suc n) (more t ts) r h = absurd (clash (sym (num_number t (and_parts (is_num t) (are_rationals ts) r).0) ∙ h.before 0 (omega arith)))
+  where
+    clash : true ≡ false → ⊥
+    clash e = cc
+
+rationals_first : (at : ℕ) (us : Trees) (f : IsFirst at us) → rationals_of us ≡ rational_of (nth at us) ∷ rationals_of f.rest
+unfolding rationals_of
+rationals_first at us f = ap rationals_of f.is
+
+record IsStep (p q : Fraction) (rs : List Fraction) (e : Tree) : Type 0 where
+  rational : is_num e ≡ true
+  plain : fold_values add_op p (q ∷ rs) ≡ fold_values add_op (rational_of e) rs
+
+fold_step : (p q : Fraction) (rs : List Fraction) (e : Tree) → IsPlainAnswer (calculated add_op p q) e → IsStep p q rs e
+unfolding rational_of
+fold_step p q rs e h = by (operation_fits add_op p q) refl h
+  where
+    by : (k : Bool) → operation_fits add_op p q ≡ k → IsPlainAnswer (if k then exactly (result_of add_op p q) else overflow add_op p q) e → IsStep p q rs e
+    by true f h = record { rational = ap is_num h; plain = rw (f, fold_values) (ap (λ (t : Tree). fold_values add_op (rational_of t) rs) (sym h)) }
+    by false f h = absurd h
+
+fold_overflow : (p q : Fraction) (rs : List Fraction) (o : Overflow) → IsPlainOverflow (calculated add_op p q) o → IsPlainOverflow (fold_values add_op p (q ∷ rs)) o
+fold_overflow p q rs o h = by (operation_fits add_op p q) refl h
+  where
+    by : (k : Bool) → operation_fits add_op p q ≡ k → IsPlainOverflow (if k then exactly (result_of add_op p q) else overflow add_op p q) o → IsPlainOverflow (fold_values add_op p (q ∷ rs)) o
+    by true f h = absurd h
+    by false f h = let e : fold_values add_op p (q ∷ rs) ≡ overflow add_op p q = rw (f, fold_values) refl in subst (λ (v : PlainValue). IsPlainOverflow v o) (sym e) h
+
+pub fold_more : (v : PlainValue) (at : ℕ) (us : Trees) (d e : Tree) → AreFolded v d us → IsFirstNumber at us → ((p q : Fraction) → d ≡ num p → nth at us ≡ num q → IsPlainAnswer (calculated add_op p q) e) → AreFolded v e (removed at us)
+fold_more v at us d e a h k =
+    let f = first_of at us a.rationals h in
+    let s = fold_step (rational_of d) (rational_of (nth at us)) (rationals_of f.rest) e (k (rational_of d) (rational_of (nth at us)) (num_is d a.rational) (num_is (nth at us) f.rational)) in
+    record {
+      rational = s.rational;
+      rationals = ap are_rationals f.left ∙ f.rationals;
+      plain = a.plain ∙ ap (fold_values add_op (rational_of d)) (rationals_first at us f) ∙ s.plain ∙ ap (λ (x : Trees). fold_values add_op (rational_of e) (rationals_of x)) (sym f.left);
+    }
+
+-- what is answered where one of them does not fit
+pub fold_overflowed : (v : PlainValue) (at : ℕ) (us : Trees) (d : Tree) (o : Overflow) → AreFolded v d us → IsFirstNumber at us → ((p q : Fraction) → d ≡ num p → nth at us ≡ num q → IsPlainOverflow (calculated add_op p q) o) → IsPlainOverflow v o
+fold_overflowed v at us d o a h k =
+    let f = first_of at us a.rationals h in
+    subst (λ (x : PlainValue). IsPlainOverflow x o) (sym (a.plain ∙ ap (fold_values add_op (rational_of d)) (rationals_first at us f)))
+    (fold_overflow (rational_of d) (rational_of (nth at us)) (rationals_of f.rest) o (k (rational_of d) (rational_of (nth at us)) (num_is d a.rational) (num_is (nth at us) f.rational)))
+
+-- bytes are not lacking among rationals
+pub fold_never_full : (v : PlainValue) (at : ℕ) (us : Trees) (d : Tree) → AreFolded v d us → IsFirstNumber at us → ((p q : Fraction) → d ≡ num p → nth at us ≡ num q → ⊥) → ⊥
+fold_never_full v at us d a h k =
+    let f = first_of at us a.rationals h in
+    k (rational_of d) (rational_of (nth at us)) (num_is d a.rational) (num_is (nth at us) f.rational)
+
+-- none is left
+no_rationals : (us : Trees) → NoneIs is_number us → are_rationals us ≡ true → us ≡ none
+no_rationals none b h = refl
+no_rationals (more t us) b h = absurd (clash (sym (num_number t (and_parts (is_num t) (are_rationals us) h).0) ∙ b.0))
+  where
+    clash : true ≡ false → ⊥
+    clash e = cc
+
+pub fold_done : (v : PlainValue) (us : Trees) (d : Tree) → AreFolded v d us → NoneIs is_number us → IsTotal v d us
+unfolding rationals_of
+fold_done v us d a b =
+    let e = no_rationals us b a.rationals in
+    record {
+      q = rational_of d;
+      plain = a.plain ∙ ap (λ (x : Trees). fold_values add_op (rational_of d) (rationals_of x)) e;
+      is = num_is d a.rational;
+      none_left = e;
+    }
+
+-- rationals have a Number among them
+pub some_number : (ts : Trees) → are_rationals ts ≡ true → 1 ≤ count ts → NoNumberBefore (count ts) ts → ⊥
+some_number none q m b = absurd (omega arith)
+some_number (more t ts) q m b = clash (sym (num_number t (and_parts (is_num t) (are_rationals ts) q).0) ∙ b 0 (omega arith))
+  where
+    clash : true ≡ false → ⊥
+    clash e = cc
+
+-- and are no sums
+pub opened_rationals : (ts : Trees) → are_rationals ts ≡ true → opened ts ≡ ts
+opened_rationals none h = refl
+opened_rationals (more (num q) ts) h = ap (more (num q)) (opened_rationals ts h)
+opened_rationals (more _ ts) h = cc

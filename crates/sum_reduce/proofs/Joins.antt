@@ -1,0 +1,275 @@
+-- Terms with identical parts become one.
+use Rattle.std.specs.declared.cmp.Ordering.{Ordering}
+use Rattle.std.specs.declared.cmp.Ordering.TheVariants.{Less, Equal, Greater}
+use Rattle.std.specs.Ordering.{is_eq}
+use Rattle.std.proofs.Common.{ℕ, zero, suc, ◌+◌, ◌≤◌, ◌<◌, ◌≡◌, ◌++◌, Bool, true, false, ◌&&◌, not, refl, sym, ap, ◌∙◌, subst, arith}
+use Rattle.std.proofs.lemmas.Bool.{and_parts}
+use Rattle.calc_terms.specs.Numbers.{is_number, value}
+use Rattle.calc_terms.specs.Reduced.{part_of, NoneIs, is_reduced}
+use Rattle.calc_terms.specs.SquareClasses.{Same}
+use Rattle.calc_terms.specs.TreeOrder.{tree_cmp}
+use Rattle.calc_terms.specs.Trees.{Tree, add, mult, Trees, none, more, count, names, names_of, nodes, is_add, is_undef}
+use Rattle.calc_terms.proofs.MeaningRewrites.{KeepsMeanings, KeepsMeanings-refl, KeepsMeanings-eq, KeepsMeanings-trans, KeepsMeanings-sum_more, Permuted, Permuted-sym, permuted_more, permuted_sum, joined_in_sum, same_factor}
+use Rattle.calc_terms.proofs.NumberLaws.{number_words, number_test}
+use Rattle.calc_terms.proofs.NumberRewrites.{sum_of_numbers, coefficient_times_part, with_coefficient as coefficient_for}
+use Rattle.calc_terms.proofs.TreeOrderLaws.{tree_cmp_equal}
+use Rattle.coefficients.specs.Coefficients.{coefficient_of, with_coefficient}
+use Rattle.coefficients.proofs.Bounds.{coefficient_nest}
+use Rattle.coefficients.proofs.Coefficients.{taken, coefficient_same, put_formed, put_reduces}
+use Rattle.coefficients.proofs.Factors.{monic_part, monic_parts, monic_no_number}
+use Rattle.coefficients.proofs.Forms.{parts_reduced, parts_defined}
+use Rattle.coefficients.proofs.Keeps.{coefficient_keeps}
+use Rattle.reduce_port.specs.Children.{are_numbers}
+use Rattle.reduce_port.proofs.Rewritings.{keeps, kept}
+use Rattle.tree_handles.specs.Expressions.{nth, inserted}
+use Rattle.sum_reduce.specs.Joining.{IsJoining}
+use Rattle.sum_reduce.specs.Stages.{IsStage, widths}
+use Rattle.sum_reduce.specs.Terms.{AreFormed, removed, is_loose, is_partner, IsPair}
+use Rattle.number_forms.specs.Answers.{IsNumberOf}
+use Rattle.sum_reduce.proofs.Names.{Within, no_new_name, within_of, within_same, within_both, within_beside, within_trans, within_right, within_none, within_eq, names_permuted, number_names, names_of_part}
+use Rattle.sum_reduce.proofs.Nests.{nest_permuted, nest_number, nest_of_part}
+use Rattle.sum_reduce.proofs.Places.{taken_permuted, inserted_permuted, count_inserted, count_removed, nth_inserted, nth_behind_inserted, removed_inserted, nth_removed, nth_behind_removed, removed_two}
+use Rattle.sum_reduce.proofs.Stages.{none_permuted, formed_permuted, stage_after, stage_permuted}
+use Rattle.sum_reduce.proofs.Widths.{widths_permuted, width_other, coefficient_width}
+
+-- ---- what partners are
+
+equal_words : (o : Ordering) → is_eq o ≡ true → o ≡ Equal
+equal_words Less h = cc
+equal_words Equal h = refl
+equal_words Greater h = cc
+
+not_true : (b : Bool) → not b ≡ true → b ≡ false
+not_true true h = cc
+not_true false h = refl
+
+pub record ArePartners (t u : Tree) : Type 0 where
+  pub first : is_number t ≡ false
+  pub second : is_number u ≡ false
+  pub parts : part_of t ≡ part_of u
+
+pub partners : (t u : Tree) → is_partner t u ≡ true → ArePartners t u
+partners t u h =
+    let (b, y) = and_parts (not (is_number t) && not (is_number u)) (is_eq (tree_cmp (part_of t) (part_of u))) h in
+    let (a, x) = and_parts (not (is_number t)) (not (is_number u)) b in
+    record { first = not_true (is_number t) a; second = not_true (is_number u) x; parts = tree_cmp_equal (part_of t) (part_of u) (equal_words (tree_cmp (part_of t) (part_of u)) y) }
+
+-- neither a Number nor a sum
+tight_other : (t : Tree) → is_loose t ≡ false → is_number t ≡ false → is_add t ≡ false
+tight_other t h n = by (is_add t) (is_number t) h n
+  where
+    by : (a k : Bool) → (a && not k) ≡ false → k ≡ false → a ≡ false
+    by true true h n = cc
+    by true false h n = cc
+    by false k h n = refl
+
+-- each term is its coefficient times its part
+split_term : (t : Tree) → KeepsMeanings t (mult (more (coefficient_of t) (more (part_of t) none)))
+split_term t = KeepsMeanings-trans (coefficient_times_part t) (KeepsMeanings-eq (ap (λ (c : Tree). mult (more c (more (part_of t) none))) (sym (coefficient_same t))))
+
+none_numbers : (t : Tree) (ts : Trees) → is_number t ≡ false → are_numbers (more t ts) ≡ false
+none_numbers t ts h = ap (λ (b : Bool). b && are_numbers ts) h
+
+-- ---- a coefficient is taken off
+
+pub joining_first : (t : Tree) (ts rest : Trees) → Permuted ts (more t rest) → AreFormed ts → NoneIs is_loose ts → is_number t ≡ false → are_numbers ts ≡ false → IsJoining ts (coefficient_of t) (part_of t) rest 0
+joining_first t ts rest p f s n o =
+    let g = formed_permuted p f in
+    let l = none_permuted is_loose p s in
+    let x = taken t (parts_reduced t g.0) (parts_defined t g.0) n in
+    record {
+      number = number_test (coefficient_of t) x.number;
+      monic = x.monic;
+      formed = g.1;
+      no_sum = l.1;
+      meanings = keeps (KeepsMeanings-trans (permuted_sum p) (KeepsMeanings-sum_more (split_term t) (KeepsMeanings-refl (add rest))));
+      no_new_name = no_new_name (within_trans (names_permuted p) (within_beside (names t) (names (part_of t)) (names_of rest) (names_of rest) (names_of_part t) (within_same (names_of rest))));
+      nest = omega (arith, nest_permuted p, nest_of_part t);
+      other = o;
+      width = omega (arith, widths_permuted p, width_other t n (tight_other t l.0 n));
+    }
+
+-- ---- a partner's coefficient is added
+
+more_meanings : (c d e p u : Tree) (rest : Trees) → is_number c ≡ true → is_number d ≡ true → is_number e ≡ true → Same (value e) (value c ++ value d) → KeepsMeanings u (mult (more d (more p none)))
+    → KeepsMeanings (add (more (mult (more c (more p none))) (more u rest))) (add (more (mult (more e (more p none))) rest))
+more_meanings c d e p u rest hc hd he w k =
+    KeepsMeanings-trans (KeepsMeanings-sum_more (KeepsMeanings-refl (mult (more c (more p none)))) (KeepsMeanings-sum_more k (KeepsMeanings-refl (add rest))))
+    (joined_in_sum (mult (more c (more p none))) (mult (more d (more p none))) (mult (more e (more p none))) rest
+    (KeepsMeanings-trans (same_factor c d p) (coefficient_for (add (more c (more d none))) e p (sum_of_numbers c d e (number_words c hc) (number_words d hd) (number_words e he) w))))
+
+pub joining_more : (ts : Trees) (c p : Tree) (rest : Trees) (less at : ℕ) (e : Tree) → IsJoining ts c p rest less → at < count rest → is_partner p (nth at rest) ≡ true
+    → is_number e ≡ true → Same (value e) (value c ++ value (coefficient_of (nth at rest))) → IsJoining ts e p (removed at rest) (less + nodes p)
+joining_more ts c p rest less at e j l q he w =
+    let u = nth at rest in
+    let perm = taken_permuted at rest l in
+    let a = partners p u q in
+    let same : part_of u ≡ p = sym a.parts ∙ monic_part p j.monic in
+    let f = formed_permuted perm j.formed in
+    let s = none_permuted is_loose perm j.no_sum in
+    let x = taken u (parts_reduced u f.0) (parts_defined u f.0) a.second in
+    let split = KeepsMeanings-trans (split_term u) (KeepsMeanings-eq (ap (λ (y : Tree). mult (more (coefficient_of u) (more y none))) same)) in
+    record {
+      number = he;
+      monic = j.monic;
+      formed = f.1;
+      no_sum = s.1;
+      meanings = keeps (KeepsMeanings-trans (kept j.meanings) (KeepsMeanings-trans (permuted_sum (permuted_more perm))
+          (more_meanings c (coefficient_of u) e p u (removed at rest) j.number (number_test (coefficient_of u) x.number) he w split)));
+      no_new_name = no_new_name (within_trans (within_of j.no_new_name) (within_beside (names p) (names p) (names_of rest) (names_of (removed at rest)) (within_same (names p))
+          (within_trans (names_permuted perm) (within_right (names u) (names_of (removed at rest))))));
+      nest = omega (arith, j.nest, nest_permuted perm);
+      other = j.other;
+      width = omega (arith, j.width, widths_permuted perm, width_other u a.second (tight_other u s.0 a.second), ap nodes same);
+    }
+
+-- fewer may be told
+pub joining_less : {ts : Trees} {c p : Tree} {rest : Trees} {less : ℕ} (fewer : ℕ) → fewer ≤ less → IsJoining ts c p rest less → IsJoining ts c p rest fewer
+joining_less fewer l j = record {
+  number = j.number;
+  monic = j.monic;
+  formed = j.formed;
+  no_sum = j.no_sum;
+  meanings = j.meanings;
+  no_new_name = j.no_new_name;
+  nest = j.nest;
+  other = j.other;
+  width = omega (arith, j.width);
+}
+
+-- ---- the coefficient is put back
+
+pub record IsJoined (ts us : Trees) : Type 0 where
+  pub stage : IsStage ts us
+  pub fewer : widths us < widths ts
+
+written : (c p : Tree) (ts rest : Trees) (less : ℕ) → IsJoining ts c p rest less → 1 ≤ less → IsJoined ts (more (with_coefficient c p) rest)
+written c p ts rest less j l =
+    let t = with_coefficient c p in
+    let n = number_words c j.number in
+    let r = put_reduces c p n j.monic in
+    let w = coefficient_width c p n j.monic in
+    let fewer : widths (more t rest) < widths ts = omega (arith, j.width, w) in
+    record {
+      stage = record {
+        rewrites = record {
+          no_new_name = no_new_name (within_trans (within_of j.no_new_name)
+              (within_beside (names p) (names t) (names_of rest) (names_of rest) (within_trans part_names (within_of r.no_new_name)) (within_same (names_of rest))));
+          meanings = keeps (KeepsMeanings-trans (kept j.meanings) (KeepsMeanings-sum_more (coefficient_keeps c p) (KeepsMeanings-refl (add rest))));
+        };
+        formed = (put_formed c p n j.monic, j.formed);
+        some = omega arith;
+        nest = omega (arith, j.nest, coefficient_nest c p, nest_number c j.number);
+        numbers = λ h. absurd (clash (sym h ∙ j.other));
+        width = omega (arith, fewer);
+      };
+      fewer = fewer;
+    }
+  where
+    clash : true ≡ false → ⊥
+    clash e = cc
+
+    part_names : Within (names p) (names c ++ (names p ++ names_of none))
+    part_names =
+        within_both (names p) (names c) (names p ++ names_of none) (within_trans (within_none (names p)) (within_eq (number_names c j.number)))
+        (within_both (names p) (names p) (names_of none) (within_same (names p)) (within_none (names p)))
+
+pub joining_done : (c p : Tree) (ts rest : Trees) (less at : ℕ) → IsJoining ts c p rest less → 1 ≤ less → IsJoined ts (inserted at (more (with_coefficient c p) none) rest)
+joining_done c p ts rest less at j l =
+    let w = written c p ts rest less j l in
+    let perm = Permuted-sym (inserted_permuted at (with_coefficient c p) rest) in
+    record {
+      stage = stage_after w.stage (stage_permuted perm w.stage.formed w.stage.some);
+      fewer = omega (arith, w.fewer, widths_permuted perm);
+    }
+
+-- ---- by their places
+
+numbers_false : (n : ℕ) (ts : Trees) → n < count ts → is_number (nth n ts) ≡ false → are_numbers ts ≡ false
+numbers_false n none l h = absurd (omega arith)
+numbers_false zero (more t ts) l h = none_numbers t ts h
+numbers_false (suc n) (more t ts) l h = by (is_number t) (numbers_false n ts (omega arith) h)
+  where
+    by : (a : Bool) → are_numbers ts ≡ false → (a && are_numbers ts) ≡ false
+    by true e = e
+    by false e = refl
+
+formed_reduced : (n : ℕ) (ts : Trees) → n < count ts → AreFormed ts → is_reduced (nth n ts) ≡ true
+formed_reduced n ts l f = parts_reduced (nth n ts) (formed_permuted (taken_permuted n ts l) f).0
+
+formed_defined : (n : ℕ) (ts : Trees) → n < count ts → AreFormed ts → is_undef (nth n ts) ≡ false
+formed_defined n ts l f = parts_defined (nth n ts) (formed_permuted (taken_permuted n ts l) f).0
+
+-- all terms are in their form
+pub joining_formed : (ts : Trees) (c : Tree) (us : Trees) (at less : ℕ) → IsJoining ts c (nth at us) (removed at us) less → at < count us → AreFormed us
+joining_formed ts c us at less j l = formed_permuted (Permuted-sym (taken_permuted at us l)) (monic_parts (nth at us) j.monic, j.formed)
+
+joining_at : {ts : Trees} {c p : Tree} {rest : Trees} {less : ℕ} (us : Trees) (at : ℕ) → nth at us ≡ p → removed at us ≡ rest → IsJoining ts c p rest less → IsJoining ts c (nth at us) (removed at us) less
+joining_at {ts = ts} {c = c} {p = p} {less = less} us at e q j =
+    subst (λ (x : Tree). IsJoining ts c x (removed at us) less) (sym e) (subst (λ (x : Trees). IsJoining ts c p x less) (sym q) j)
+
+-- the coefficient of a term that has a partner
+pub joining_start : (ts us : Trees) (c : Tree) (at : ℕ) → AreFormed ts → NoneIs is_loose ts → IsPair at ts → us ≡ inserted at (more (part_of (nth at ts)) none) (removed at ts) → c ≡ coefficient_of (nth at ts)
+    → IsJoining ts c (nth at us) (removed at us) 0
+joining_start ts us c at f s h q e =
+    let l : at < count ts = let w = h.within in omega (arith, w) in
+    let few : at ≤ count (removed at ts) = omega (arith, count_removed at ts l, l) in
+    let a = partners (nth at ts) (nth (suc at) ts) h.partner in
+    let j = joining_first (nth at ts) ts (removed at ts) (taken_permuted at ts l) f s a.first (numbers_false at ts l a.first) in
+    joining_at us at (ap (nth at) q ∙ nth_inserted at (part_of (nth at ts)) (removed at ts) few) (ap (removed at) q ∙ removed_inserted at (part_of (nth at ts)) (removed at ts) few)
+    (subst (λ (x : Tree). IsJoining ts x (part_of (nth at ts)) (removed at ts) 0) (sym e) j)
+
+-- it stays a pair
+pub pair_start : (ts us : Trees) (at : ℕ) → AreFormed ts → IsPair at ts → us ≡ inserted at (more (part_of (nth at ts)) none) (removed at ts) → IsPair at us
+pair_start ts us at f h q =
+    let l : at < count ts = let w = h.within in omega (arith, w) in
+    let t = nth at ts in
+    let p = part_of t in
+    let few : at ≤ count (removed at ts) = omega (arith, count_removed at ts l, l) in
+    let a = partners t (nth (suc at) ts) h.partner in
+    let x = taken t (formed_reduced at ts l f) (formed_defined at ts l f) a.first in
+    let here : nth at us ≡ p = ap (nth at) q ∙ nth_inserted at p (removed at ts) few in
+    let next : nth (suc at) us ≡ nth (suc at) ts = ap (nth (suc at)) q ∙ nth_behind_inserted at p (removed at ts) few ∙ nth_behind_removed at at ts (omega arith) in
+    let numbers : is_number p ≡ is_number t = monic_no_number p x.monic ∙ sym a.first in
+    let parts : part_of p ≡ part_of t = monic_part p x.monic in
+    record {
+      within = omega (arith, ap count q, count_inserted at p (removed at ts), count_removed at ts l, h.within);
+      partner = (λ i. is_partner (here i) (next i)) ∙ (λ i. not (numbers i) && not (is_number (nth (suc at) ts)) && is_eq (tree_cmp (parts i) (part_of (nth (suc at) ts)))) ∙ h.partner;
+    }
+
+-- the next term
+pub record IsNextPartner (at : ℕ) (us : Trees) : Type 0 where
+  pub reduced : is_reduced (nth (suc at) us) ≡ true
+  pub defined : is_undef (nth (suc at) us) ≡ false
+  pub no_number : is_number (nth (suc at) us) ≡ false
+
+pub next_partner : (us : Trees) (at : ℕ) → AreFormed us → IsPair at us → IsNextPartner at us
+next_partner us at f h = record {
+  reduced = formed_reduced (suc at) us h.within f;
+  defined = formed_defined (suc at) us h.within f;
+  no_number = (partners (nth at us) (nth (suc at) us) h.partner).second;
+}
+
+pub first_partner : (us : Trees) (at : ℕ) → IsPair at us → is_number (nth at us) ≡ false
+first_partner us at h = (partners (nth at us) (nth (suc at) us) h.partner).first
+
+pub partner_step : (ts : Trees) (c e : Tree) (us vs : Trees) (at less : ℕ) → IsJoining ts c (nth at us) (removed at us) less → IsPair at us → vs ≡ removed (suc at) us → IsNumberOf (value c ++ value (coefficient_of (nth (suc at) us))) e
+    → IsJoining ts e (nth at vs) (removed at vs) (less + nodes (nth at us))
+partner_step ts c e us vs at less j h q w =
+    let next : nth at (removed at us) ≡ nth (suc at) us = nth_behind_removed at at us (omega arith) in
+    let l : at < count us = let w = h.within in omega (arith, w) in
+    let few : at < count (removed at us) = omega (arith, count_removed at us l, h.within) in
+    joining_at vs at (ap (nth at) q ∙ nth_removed at (suc at) us (omega arith)) (ap (removed at) q ∙ removed_two at us)
+    (joining_more ts c (nth at us) (removed at us) less at e j few (ap (is_partner (nth at us)) next ∙ h.partner) w.number (rw next w.worth))
+
+pub partner_within : (us vs : Trees) (at : ℕ) → IsPair at us → vs ≡ removed (suc at) us → at < count vs
+partner_within us vs at h q = omega (arith, ap count q, count_removed (suc at) us h.within, h.within)
+
+pub pair_here : (at : ℕ) (us : Trees) → IsPair at us → at < count us
+pair_here at us h = let w = h.within in omega (arith, w)
+
+pub here_reduced : (at : ℕ) (us : Trees) → AreFormed us → IsPair at us → is_reduced (nth at us) ≡ true
+here_reduced at us f h = formed_reduced at us (pair_here at us h) f
+
+pub here_defined : (at : ℕ) (us : Trees) → AreFormed us → IsPair at us → is_undef (nth at us) ≡ false
+here_defined at us f h = formed_defined at us (pair_here at us h) f

@@ -1,0 +1,97 @@
+-- The Numbers among the terms become one.
+use Rattle.std.specs.Prelude.{Err}
+use Rattle.std.proofs.Common.{ℕ, ◌<◌, ◌≤◌, ◌≡◌, ◌++◌, [], ◌∷◌, true, refl, sym, ap, ◌∙◌, subst, arith}
+use Rattle.calc_terms.specs.Fits.{add_op}
+use Rattle.calc_terms.specs.Fractions.{Fraction}
+use Rattle.calc_terms.specs.Numbers.{is_number, value}
+use Rattle.calc_terms.specs.PlainValues.{PlainValue, calculated, plain_value}
+use Rattle.calc_terms.specs.Reduced.{NoneIs}
+use Rattle.calc_terms.specs.Trees.{Tree, num, add, Trees, none, more, count, is_num}
+use Rattle.calc_terms.proofs.MeaningRewrites.{permuted_more}
+use Rattle.node_pool.specs.State.{State}
+use Rattle.number_forms.specs.Answers.{IsNumberOf, AnswersRationals}
+use Rattle.reduce_port.specs.Children.{are_rationals}
+use Rattle.tree_handles.specs.declared.fault.NumberFault.{NumberFault}
+use Rattle.tree_handles.specs.declared.fault.NumberFault.TheVariants as fault
+use Rattle.tree_handles.specs.Expressions.{nth}
+use Rattle.tree_handles.specs.Forest.{Forest}
+use Rattle.tree_handles.specs.Roots.{put}
+use Rattle.tree_handles.proofs.Fronts.{IsBehind, behind_first, behind_later, behind_new, front_same, front_at, front_put, front_without}
+use Rattle.tree_handles.proofs.Roots.{put-put}
+use Rattle.sum_reduce.proofs.Sums.{takes_rest}
+use Rattle.sum_reduce.specs.Arranging.{IsGathered, IsNumbered, IsTotal, IsFolded, AnswersTotal, AnswersFold}
+use Rattle.sum_reduce.specs.Stages.{IsStage}
+use Rattle.sum_reduce.specs.Sums.{Takes}
+use Rattle.sum_reduce.specs.Terms.{AreFormed, removed, IsFirstNumber, NoNumberBefore, is_loose}
+use Rattle.sum_reduce.proofs.Folds.{AreFolded, first_of, fold_overflowed, fold_never_full, no_numbers}
+use Rattle.sum_reduce.proofs.Opened.{number_tight}
+use Rattle.sum_reduce.proofs.Places.{taken_permuted}
+use Rattle.sum_reduce.proofs.Stages.{none_permuted, formed_permuted, stage_after, stage_permuted, stage_same, stage_added}
+
+-- one of them is added
+pub number_step : (d e : Tree) (us vs : Trees) (at : ℕ) → IsFirstNumber at us → is_number d ≡ true → IsNumberOf (value d ++ value (nth at us)) e → AreFormed (more d us) → vs ≡ removed at us → IsStage (more d us) (more e vs)
+number_step d e us vs at h n w f q =
+    let perm = permuted_more {t = d} (taken_permuted at us h.within) in
+    let g = formed_permuted perm f in
+    subst (λ (x : Trees). IsStage (more d us) (more e x)) (sym q)
+    (stage_after (stage_permuted perm f (omega arith)) (stage_added d (nth at us) e (removed at us) n h.number w.number w.worth g.1.1))
+
+pub flat_step : (us vs : Trees) (at : ℕ) → IsFirstNumber at us → vs ≡ removed at us → NoneIs is_loose us → NoneIs is_loose vs
+flat_step us vs at h q s = subst (NoneIs is_loose) (sym q) (none_permuted is_loose (taken_permuted at us h.within) s).1
+
+-- what is answered where one of them does not fit
+pub fold_faulted : (v : PlainValue) (at : ℕ) (us vs : Trees) (d : Tree) (new : State) (f : NumberFault) → AreFolded v d us → IsFirstNumber at us
+    → ((p q : Fraction) → d ≡ num p → nth at us ≡ num q → AnswersRationals (calculated add_op p q) new (Err f)) → AnswersTotal v new vs (Err f)
+fold_faulted v at us vs d new (fault.Full full) a h k = fold_never_full v at us d a h k
+fold_faulted v at us vs d new (fault.Overflow o) a h k = fold_overflowed v at us d o a h k
+
+pub formed_behind : (at : ℕ) (ts us : Trees) → at < count ts → AreFormed ts → us ≡ removed at ts → AreFormed us
+formed_behind at ts us l f q = subst AreFormed (sym q) (formed_permuted (taken_permuted at ts l) f).1
+
+-- ---- the first one is taken out, and their sum comes first
+
+pub numbered : (at : ℕ) (ts us vs ws : Trees) (n m : Tree) → IsFirstNumber at ts → AreFormed ts → 1 ≤ count ts → us ≡ removed at ts → n ≡ nth at ts → IsGathered n us m vs → ws ≡ more m vs → IsNumbered ts ws
+numbered at ts us vs ws n m h f l q e g w =
+    let perm = taken_permuted at ts h.within in
+    let first : IsStage ts (more n us) = subst (λ (x : Tree). IsStage ts (more x us)) (sym e) (subst (λ (x : Trees). IsStage ts (more (nth at ts) x)) (sym q) (stage_permuted perm f l)) in
+    record {
+      stage = subst (IsStage ts) (sym w) (stage_after first g.stage);
+      led = record { lead = more m none; others = vs; split = w; one = g.number; no_number = g.no_number };
+      no_sum = λ s. subst (NoneIs is_loose) (sym w) (number_tight m g.number, g.no_sum (flat_step ts us at h q s));
+    }
+
+pub unnumbered : (ts : Trees) → NoNumberBefore (count ts) ts → AreFormed ts → 1 ≤ count ts → IsNumbered ts ts
+unnumbered ts h f l = record {
+  stage = stage_same ts f l;
+  led = record { lead = none; others = ts; split = refl; one = tt; no_number = no_numbers ts h };
+  no_sum = λ s. s;
+}
+
+-- ---- rationals
+
+pub record AreRationals (n : Tree) (us : Trees) (v : PlainValue) : Type 0 where
+  pub first : is_num n ≡ true
+  pub others : are_rationals us ≡ true
+  pub plain : v ≡ plain_value (add (more n us))
+
+pub rationals_taken : (at : ℕ) (ts us : Trees) (n : Tree) → IsFirstNumber at ts → are_rationals ts ≡ true → us ≡ removed at ts → n ≡ nth at ts → AreRationals n us (plain_value (add ts))
+rationals_taken at ts us n h r q e =
+    let f = first_of at ts r h in
+    record {
+      first = ap is_num e ∙ f.rational;
+      others = ap are_rationals (q ∙ f.left) ∙ f.rationals;
+      plain = ap (λ (x : Trees). plain_value (add x)) f.is ∙ (λ i. plain_value (add (more (sym e i) (sym (q ∙ f.left) i))));
+    }
+
+pub total_folded : (v w : PlainValue) (m : Tree) (vs ws : Trees) → v ≡ w → IsTotal w m vs → ws ≡ more m vs → IsFolded v ws
+total_folded v w m vs ws e t q = record { q = t.q; plain = e ∙ t.plain; is = q ∙ (λ i. more (t.is i) (t.none_left i)) }
+
+pub total_faulted : (v w : PlainValue) (new : State) (us vs : Trees) (f : NumberFault) → v ≡ w → AnswersTotal w new us (Err f) → AnswersFold v vs (Err f)
+total_faulted v w new us vs (fault.Full full) e h = h
+total_faulted v w new us vs (fault.Overflow o) e h = subst (λ (x : PlainValue). AnswersTotal x new us (Err (fault.Overflow o))) (sym e) h
+
+-- ---- a tree beside a sum that another one left
+
+pub beside_behind : {i a h : ℕ} {f g k : Forest} → Takes i f g a → Takes i f k h → IsBehind h (i ∷ a ∷ []) g
+beside_behind {i = i} {f = f} x t =
+    behind_new t.given.ends (front_at (front_put t.kids behind_first (front_without (behind_later behind_first) front_same)) (sym (ap (put i t.kids) (takes_rest x) ∙ put-put i t.kids x.kids f)))

@@ -1,0 +1,223 @@
+-- Sums among the terms are opened.
+use Rattle.std.proofs.Common.{ℕ, zero, suc, ◌+◌, ◌≤◌, ◌<◌, ◌≡◌, inl, inr, Bool, true, false, not, ◌&&◌, if◌then◌else◌, refl, sym, ap, ◌∙◌, subst, arith}
+use Rattle.std.proofs.lemmas.Bool.{and_parts}
+use Rattle.calc_terms.specs.Loads.{nest, nest_of}
+use Rattle.calc_terms.specs.Numbers.{is_number}
+use Rattle.calc_terms.specs.Reduced.{HasForm, IsSumForm, NoneIs}
+use Rattle.calc_terms.specs.Trees.{Tree, add, Trees, none, more, append, count, names, names_of, is_add, HasTwo, AllParts}
+use Rattle.calc_terms.proofs.MeaningRewrites.{KeepsMeanings, KeepsMeanings-refl, KeepsMeanings-sum_append, flat_sum}
+use Rattle.calc_terms.proofs.NumberLaws.{number_test}
+use Rattle.coefficients.proofs.Forms.{AllPartsOf-append}
+use Rattle.reduce_port.specs.Children.{are_numbers}
+use Rattle.tree_handles.specs.Expressions.{nth, inserted, children_of}
+use Rattle.sum_reduce.specs.Stages.{width, widths}
+use Rattle.sum_reduce.specs.Terms.{AreFormed, removed, is_loose, terms_of_loose, opened}
+use Rattle.sum_reduce.proofs.Names.{Within, within_same, within_beside, within_trans, within_eq, within_both, within_none, names_of-append}
+use Rattle.sum_reduce.proofs.Nests.{nest-append}
+use Rattle.sum_reduce.proofs.Widths.{widths-append}
+
+-- ---- from the last term to the first
+
+abbrev pub opened_from : ℕ → Trees → Trees
+opened_from zero ts = opened ts
+opened_from (suc n) none = none
+opened_from (suc n) (more t ts) = more t (opened_from n ts)
+
+pub opened_from_end : (n : ℕ) (ts : Trees) → count ts ≤ n → opened_from n ts ≡ ts
+opened_from_end zero none h = refl
+opened_from_end (suc n) none h = refl
+opened_from_end zero (more t ts) h = absurd (omega arith)
+opened_from_end (suc n) (more t ts) h = ap (more t) (opened_from_end n ts (omega arith))
+
+loose_terms : (t : Tree) → is_loose t ≡ true → children_of t ≡ terms_of_loose t
+loose_terms (add ts) h = by (is_number (add ts)) h
+  where
+    by : (k : Bool) → not k ≡ true → ts ≡ (if k then more (add ts) none else ts)
+    by true h = cc
+    by false h = refl
+loose_terms _ h = cc
+
+pub tight_terms : (t : Tree) → is_loose t ≡ false → terms_of_loose t ≡ more t none
+tight_terms (add ts) h = by (is_number (add ts)) h
+  where
+    by : (k : Bool) → not k ≡ false → (if k then more (add ts) none else ts) ≡ more (add ts) none
+    by true h = refl
+    by false h = cc
+tight_terms t h = refl
+
+pub nth_opened : (n : ℕ) (ts : Trees) → n < count ts → nth n (opened_from (suc n) ts) ≡ nth n ts
+nth_opened n none h = absurd (omega arith)
+nth_opened zero (more t ts) h = refl
+nth_opened (suc n) (more t ts) h = nth_opened n ts (omega arith)
+
+-- a sum at the place before is opened
+pub opened_at : (n : ℕ) (ts : Trees) → n < count ts → is_loose (nth n ts) ≡ true → inserted n (children_of (nth n ts)) (removed n (opened_from (suc n) ts)) ≡ opened_from n ts
+opened_at n none h e = absurd (omega arith)
+opened_at zero (more t ts) h e = ap (λ (us : Trees). append us (opened ts)) (loose_terms t e)
+opened_at (suc n) (more t ts) h e = ap (more t) (opened_at n ts (omega arith) e)
+
+-- any other tree there stays
+pub opened_beside : (n : ℕ) (ts : Trees) → n < count ts → is_loose (nth n ts) ≡ false → opened_from (suc n) ts ≡ opened_from n ts
+opened_beside n none h e = absurd (omega arith)
+opened_beside zero (more t ts) h e = ap (λ (us : Trees). append us (opened ts)) (sym (tight_terms t e))
+opened_beside (suc n) (more t ts) h e = ap (more t) (opened_beside n ts (omega arith) e)
+
+pub count_opened : (n : ℕ) (ts : Trees) → n < count ts → n < count (opened_from (suc n) ts)
+count_opened n none h = absurd (omega arith)
+count_opened zero (more t ts) h = omega arith
+count_opened (suc n) (more t ts) h = omega (arith, count_opened n ts (omega arith))
+
+-- ---- what stays
+
+first_opened : (t : Tree) → KeepsMeanings (add (more t none)) (add (terms_of_loose t))
+first_opened (add us) = by (is_number (add us))
+  where
+    append_none : (ts : Trees) → append ts none ≡ ts
+    append_none none = refl
+    append_none (more t ts) = ap (more t) (append_none ts)
+
+    by : (k : Bool) → KeepsMeanings (add (more (add us) none)) (add (if k then more (add us) none else us))
+    by true = KeepsMeanings-refl _
+    by false = subst (λ (x : Trees). KeepsMeanings (add (more (add us) none)) (add x)) (append_none us) (flat_sum us none)
+first_opened t = KeepsMeanings-refl _
+
+pub opened_keeps : (ts : Trees) → KeepsMeanings (add ts) (add (opened ts))
+opened_keeps none = KeepsMeanings-refl (add none)
+opened_keeps (more t ts) = KeepsMeanings-sum_append {ts = more t none} (first_opened t) (opened_keeps ts)
+
+first_names : (t : Tree) → Within (names t) (names_of (terms_of_loose t))
+first_names (add us) = by (is_number (add us))
+  where
+    by : (k : Bool) → Within (names_of us) (names_of (if k then more (add us) none else us))
+    by true = within_both (names_of us) (names_of us) _ (within_same (names_of us)) (within_none (names_of us))
+    by false = within_same (names_of us)
+first_names t = within_both (names t) (names t) _ (within_same (names t)) (within_none (names t))
+
+pub names_opened : (ts : Trees) → Within (names_of ts) (names_of (opened ts))
+names_opened none = within_same _
+names_opened (more t ts) = within_trans (within_beside (names t) (names_of (terms_of_loose t)) (names_of ts) (names_of (opened ts)) (first_names t) (names_opened ts)) (within_eq (names_of-append (terms_of_loose t) (opened ts)))
+
+first_nest : (t : Tree) → nest_of (terms_of_loose t) ≡ nest t
+first_nest (add us) = by (is_number (add us))
+  where
+    by : (k : Bool) → nest_of (if k then more (add us) none else us) ≡ nest_of us
+    by true = omega arith
+    by false = refl
+first_nest t = omega arith
+
+pub nest_opened : (ts : Trees) → nest_of (opened ts) ≡ nest_of ts
+nest_opened none = refl
+nest_opened (more t ts) = omega (arith, nest-append (terms_of_loose t) (opened ts), first_nest t, nest_opened ts)
+
+first_width : (t : Tree) → widths (terms_of_loose t) ≡ width t
+first_width (add us) = by (is_number (add us)) refl
+  where
+    by : (k : Bool) → is_number (add us) ≡ k → widths (if k then more (add us) none else us) ≡ (if k then 1 else widths us)
+    by true e = omega (arith, ap (λ (b : Bool). if b then 1 else widths us) e)
+    by false e = refl
+first_width t = omega arith
+
+pub widths_opened : (ts : Trees) → widths (opened ts) ≡ widths ts
+widths_opened none = refl
+widths_opened (more t ts) = omega (arith, widths-append (terms_of_loose t) (opened ts), first_width t, widths_opened ts)
+
+-- ---- the terms of a reduced sum that is no Number
+
+sum_form : (ts : Trees) → HasForm (add ts) → is_number (add ts) ≡ false → IsSumForm ts
+sum_form ts (inl k) n = absurd (clash (sym (number_test (add ts) k) ∙ n))
+  where
+    clash : true ≡ false → ⊥
+    clash e = cc
+sum_form ts (inr k) n = k
+
+first_formed : (t : Tree) → AllParts HasForm t → AreFormed (terms_of_loose t)
+first_formed (add us) h = by (is_number (add us))
+  where
+    by : (k : Bool) → AreFormed (if k then more (add us) none else us)
+    by true = (h, tt)
+    by false = h.1
+first_formed t h = (h, tt)
+
+pub opened_formed : (ts : Trees) → AreFormed ts → AreFormed (opened ts)
+opened_formed none h = tt
+opened_formed (more t ts) h = AllPartsOf-append HasForm (terms_of_loose t) (opened ts) (first_formed t h.0) (opened_formed ts h.1)
+
+no_sum_tight : (t : Tree) → is_add t ≡ false → is_loose t ≡ false
+no_sum_tight t h = ap (λ (b : Bool). b && not (is_number t)) h
+
+no_sums_tight : (ts : Trees) → NoneIs is_add ts → NoneIs is_loose ts
+no_sums_tight none h = tt
+no_sums_tight (more t ts) h = (no_sum_tight t h.0, no_sums_tight ts h.1)
+
+pub NoneIs-append : (p : Tree → Bool) (ts us : Trees) → NoneIs p ts → NoneIs p us → NoneIs p (append ts us)
+NoneIs-append p none us h k = k
+NoneIs-append p (more t ts) us h k = (h.0, NoneIs-append p ts us h.1 k)
+
+first_tight : (t : Tree) → AllParts HasForm t → NoneIs is_loose (terms_of_loose t)
+first_tight (add us) h = by (is_number (add us)) refl
+  where
+    by : (k : Bool) → is_number (add us) ≡ k → NoneIs is_loose (if k then more (add us) none else us)
+    by true e = (ap not e, tt)
+    by false e = no_sums_tight us (sum_form us h.0 e).no_sum
+first_tight t h = (refl, tt)
+
+pub opened_tight : (ts : Trees) → AreFormed ts → NoneIs is_loose (opened ts)
+opened_tight none h = tt
+opened_tight (more t ts) h = NoneIs-append is_loose (terms_of_loose t) (opened ts) (first_tight t h.0) (opened_tight ts h.1)
+
+count-append : (ts us : Trees) → count (append ts us) ≡ count ts + count us
+count-append none us = omega arith
+count-append (more t ts) us = omega (arith, count-append ts us)
+
+first_some : (t : Tree) → AllParts HasForm t → 1 ≤ count (terms_of_loose t)
+first_some (add us) h = by (is_number (add us)) refl
+  where
+    two : (ts : Trees) → HasTwo ts → 1 ≤ count ts
+    two none h = absurd h
+    two (more t ts) h = omega arith
+
+    by : (k : Bool) → is_number (add us) ≡ k → 1 ≤ count (if k then more (add us) none else us)
+    by true e = omega arith
+    by false e = two us (sum_form us h.0 e).two
+first_some t h = omega arith
+
+pub opened_some : (ts : Trees) → AreFormed ts → 1 ≤ count ts → 1 ≤ count (opened ts)
+opened_some none h l = l
+opened_some (more t ts) h l = omega (arith, count-append (terms_of_loose t) (opened ts), first_some t h.0)
+
+-- ---- Numbers stay
+
+pub number_tight : (t : Tree) → is_number t ≡ true → is_loose t ≡ false
+number_tight t h = by (is_add t) (is_number t) h
+  where
+    by : (a k : Bool) → k ≡ true → (a && not k) ≡ false
+    by true true h = refl
+    by false k h = refl
+    by true false h = cc
+
+pub opened_numbers : (ts : Trees) → are_numbers ts ≡ true → opened ts ≡ ts
+opened_numbers none h = refl
+opened_numbers (more t ts) h =
+    let (a, b) = and_parts (is_number t) (are_numbers ts) h in
+    ap (λ (x : Trees). append x (opened ts)) (tight_terms t (number_tight t a)) ∙ ap (more t) (opened_numbers ts b)
+
+-- ---- the terms now, opened from a place on
+
+pub opened_place : (ts : Trees) (n at : ℕ) (us : Trees) → at ≡ suc n → at ≤ count ts → us ≡ opened_from at ts → n < count us
+opened_place ts n at us e l q =
+    let k : n < count (opened_from (suc n) ts) = count_opened n ts (omega (arith, l, e)) in
+    let w : count us ≡ count (opened_from (suc n) ts) = ap count (q ∙ ap (λ (m : ℕ). opened_from m ts) e) in
+    omega (arith, k, w)
+
+pub opened_seen : (ts : Trees) (n at : ℕ) (us : Trees) → at ≡ suc n → at ≤ count ts → us ≡ opened_from at ts → nth n us ≡ nth n ts
+opened_seen ts n at us e l q = ap (nth n) (q ∙ ap (λ (m : ℕ). opened_from m ts) e) ∙ nth_opened n ts (omega (arith, l, e))
+
+pub opened_more : (ts : Trees) (n at : ℕ) (us : Trees) → at ≡ suc n → at ≤ count ts → us ≡ opened_from at ts → is_loose (nth n us) ≡ true → inserted n (children_of (nth n us)) (removed n us) ≡ opened_from n ts
+opened_more ts n at us e l q h =
+    let same = opened_seen ts n at us e l q in
+    ap (λ (t : Tree). inserted n (children_of t) (removed n us)) same ∙ ap (λ (x : Trees). inserted n (children_of (nth n ts)) (removed n x)) (q ∙ ap (λ (m : ℕ). opened_from m ts) e)
+    ∙ opened_at n ts (omega (arith, l, e)) (ap is_loose (sym same) ∙ h)
+
+pub opened_still : (ts : Trees) (n at : ℕ) (us : Trees) → at ≡ suc n → at ≤ count ts → us ≡ opened_from at ts → is_loose (nth n us) ≡ false → us ≡ opened_from n ts
+opened_still ts n at us e l q h =
+    q ∙ ap (λ (m : ℕ). opened_from m ts) e ∙ opened_beside n ts (omega (arith, l, e)) (ap is_loose (sym (opened_seen ts n at us e l q)) ∙ h)

@@ -1,0 +1,32 @@
+-- What is answered where all terms are rationals.
+use Rattle.std.specs.Prelude.{Err}
+use Rattle.std.proofs.Common.{◌≡◌, true, refl, sym, ap, ◌∙◌, subst}
+use Rattle.calc_terms.specs.PlainValues.{PlainValue, plain_value}
+use Rattle.calc_terms.specs.Trees.{Tree, num, add, Trees, none, more, is_add}
+use Rattle.node_pool.specs.State.{State}
+use Rattle.number_forms.specs.Answers.{AnswersRationals}
+use Rattle.reduce_port.specs.Children.{are_rationals, has_undef}
+use Rattle.reduce_port.specs.PlainTrees.{IsPlainAnswer, IsPlainOverflow}
+use Rattle.tree_handles.specs.declared.fault.NumberFault.{NumberFault}
+use Rattle.tree_handles.specs.declared.fault.NumberFault.TheVariants as fault
+use Rattle.tree_handles.specs.Expressions.{children_of}
+use Rattle.sum_reduce.specs.Arranging.{IsFolded, AnswersFold}
+use Rattle.sum_reduce.specs.Terms.{written_tree}
+
+-- Undef is no rational
+pub undef_rationals : (ts : Trees) → are_rationals ts ≡ true → has_undef ts ≡ true → ⊥
+undef_rationals none q h = absurd cc
+undef_rationals (more (num r) ts) q h = undef_rationals ts q h
+undef_rationals (more _ ts) q h = absurd cc
+
+sum_is : (t : Tree) → is_add t ≡ true → t ≡ add (children_of t)
+sum_is (add ts) h = refl
+sum_is _ h = cc
+
+pub rationals_answer : (t u : Tree) (us : Trees) → is_add t ≡ true → IsFolded (plain_value (add (children_of t))) us → u ≡ written_tree us → IsPlainAnswer (plain_value t) u
+rationals_answer t u us m f e =
+    subst (λ (v : PlainValue). IsPlainAnswer v u) (sym (ap plain_value (sum_is t m) ∙ f.plain)) (e ∙ ap written_tree f.is)
+
+pub rationals_fault : (t : Tree) (us : Trees) (new : State) (f : NumberFault) → is_add t ≡ true → AnswersFold (plain_value (add (children_of t))) us (Err f) → AnswersRationals (plain_value t) new (Err f)
+rationals_fault t us new (fault.Full full) m h = h
+rationals_fault t us new (fault.Overflow o) m h = subst (λ (v : PlainValue). IsPlainOverflow v o) (sym (ap plain_value (sum_is t m))) h

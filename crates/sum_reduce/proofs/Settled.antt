@@ -1,0 +1,202 @@
+-- What is answered for settled terms.
+use Rattle.std.specs.declared.cmp.Ordering.{Ordering}
+use Rattle.std.specs.declared.cmp.Ordering.TheVariants.{Less, Equal, Greater}
+use Rattle.std.specs.Ordering.{is_eq, is_lt, ordering_reverse}
+use Rattle.std.specs.Prelude.{⊤, IsSortedByKey}
+use Rattle.std.proofs.Common.{suc, ◌≤◌, arith, add-one, ◌≡◌, Bool, true, false, ◌&&◌, ◌||◌, not, if◌then◌else◌, refl, sym, ap, ◌∙◌, subst}
+use Rattle.std.proofs.lemmas.Bool.{and_parts}
+use Rattle.calc_terms.specs.Fractions.{zero_fraction}
+use Rattle.calc_terms.specs.Loads.{nest, nest_of}
+use Rattle.calc_terms.specs.Numbers.{is_number}
+use Rattle.calc_terms.specs.Reduced.{part_of, NoneIs, RisesBy, HasForm, is_reduced}
+use Rattle.calc_terms.specs.TreeOrder.{tree_cmp}
+use Rattle.calc_terms.specs.Trees.{Tree, num, undef, add, Trees, none, more, append, count, names, names_of, is_add, is_undef, AllParts, itself, in_add, IsPartOf, first, later}
+use Rattle.calc_terms.proofs.MeaningRewrites.{KeepsMeanings, KeepsMeanings-refl, single_sum}
+use Rattle.calc_terms.proofs.NumberLaws.{number_test}
+use Rattle.calc_terms.proofs.TreeOrderLaws.{tree_cmp_total}
+use Rattle.calc_terms.proofs.UndefRewrites.{undef_part}
+use Rattle.coefficients.proofs.Forms.{parts_reduced, parts_defined, reduced_parts}
+use Rattle.node_order.specs.Sorting.{list_of}
+use Rattle.reduce_port.specs.Children.{has_undef, are_numbers, are_reduced}
+use Rattle.reduce_port.proofs.Rewritings.{keeps, reduces_after}
+use Rattle.sum_reduce.specs.Arranging.{IsLead, IsSettled}
+use Rattle.sum_reduce.specs.Stages.{IsStage}
+use Rattle.sum_reduce.specs.SumAnswers.{IsSumAnswer}
+use Rattle.sum_reduce.specs.Terms.{AreFormed, is_loose, is_partner, NoPairBefore, terms_of_number, sum_tree, written_tree}
+use Rattle.sum_reduce.proofs.Names.{Within, no_new_name, within_left, within_same, within_none}
+use Rattle.sum_reduce.proofs.WrittenSums.{AreOthers, zero_terms, written_sum, written_formed, written_keeps, written_names, written_nest}
+
+-- ---- reduced terms
+
+or_none : (a b : Bool) → (a || b) ≡ false → (a ≡ false) × (b ≡ false)
+or_none true b h = cc
+or_none false b h = (refl, h)
+
+pub reduced_formed : (ts : Trees) → are_reduced ts ≡ true → has_undef ts ≡ false → AreFormed ts
+reduced_formed none h d = tt
+reduced_formed (more t ts) h d =
+    let (a, b) = and_parts (is_reduced t) (are_reduced ts) h in
+    let (x, y) = or_none (is_undef t) (has_undef ts) d in
+    (reduced_parts t a x, reduced_formed ts b y)
+
+-- ---- Undef
+
+undef_inside : (ts : Trees) → has_undef ts ≡ true → IsPartOf undef ts
+undef_inside none h = cc
+undef_inside (more t ts) h = by (undef_inside ts) t h
+  where
+    by : (has_undef ts ≡ true → IsPartOf undef ts) → (u : Tree) → (is_undef u || has_undef ts) ≡ true → IsPartOf undef (more u ts)
+    by go undef h = first itself
+    by go u h = later (go h)
+
+-- Undef is no Number
+numbers_defined : (ts : Trees) → are_numbers ts ≡ true → has_undef ts ≡ false
+unfolding is_number
+numbers_defined none h = refl
+numbers_defined (more t ts) h = let (a, b) = and_parts (is_number t) (are_numbers ts) h in by (numbers_defined ts b) t a
+  where
+    by : has_undef ts ≡ false → (u : Tree) → is_number u ≡ true → (is_undef u || has_undef ts) ≡ false
+    by go undef e = absurd cc
+    by go u e = go
+
+pub undef_answer : (ts : Trees) → has_undef ts ≡ true → IsSumAnswer ts undef
+unfolding is_reduced
+undef_answer ts h = record {
+  reduces = record { reduced = refl; no_new_name = no_new_name (within_none (names_of ts)); meanings = keeps (undef_part (add ts) (in_add (undef_inside ts h))) };
+  undefined = sym h;
+  number = λ e. absurd (clash (sym h ∙ numbers_defined ts e));
+  nest = omega arith;
+}
+  where
+    clash : true ≡ false → ⊥
+    clash e = cc
+
+-- ---- parts that rise strictly
+
+abbrev pub AreApart : Trees → Type 0
+AreApart (more t (more u ts)) = (is_partner t u ≡ false) × AreApart (more u ts)
+AreApart _ = ⊤
+
+pub apart_words : (ts : Trees) → NoPairBefore (count ts) ts → AreApart ts
+apart_words none h = tt
+apart_words (more t none) h = tt
+apart_words (more t (more u ts)) h = (h 0 (omega arith), apart_words (more u ts) (λ k l. h (suc k) (omega arith)))
+
+pub apart_behind : (t : Tree) (ts : Trees) → AreApart (more t ts) → AreApart ts
+apart_behind t none h = tt
+apart_behind t (more u ts) h = h.1
+
+less_of : (o : Ordering) → is_eq o ≡ false → is_lt (ordering_reverse o) ≡ false → o ≡ Less
+less_of Less h k = refl
+less_of Equal h k = cc
+less_of Greater h k = cc
+
+apart_parts : (t u : Tree) → is_number t ≡ false → is_number u ≡ false → is_partner t u ≡ false → is_eq (tree_cmp (part_of t) (part_of u)) ≡ false
+apart_parts t u a b h = by (is_number t) (is_number u) a b h
+  where
+    by : (x y : Bool) → x ≡ false → y ≡ false → (not x && not y && is_eq (tree_cmp (part_of t) (part_of u))) ≡ false → is_eq (tree_cmp (part_of t) (part_of u)) ≡ false
+    by true y a b h = cc
+    by false true a b h = cc
+    by false false a b h = h
+
+rises_strictly : (us : Trees) → NoneIs is_number us → AreApart us → IsSortedByKey part_of tree_cmp (list_of us) → RisesBy part_of us
+rises_strictly none n h s = tt
+rises_strictly (more t none) n h s = tt
+rises_strictly (more t (more u us)) n h s = (
+  less_of (tree_cmp (part_of t) (part_of u)) (apart_parts t u n.0 n.1.0 h.0) (ap is_lt (sym (tree_cmp_total.antisymm (part_of u) (part_of t))) ∙ s 0 t (omega arith) (omega arith)),
+  rises_strictly (more u us) n.1 h.1 (λ k d l m. rw add-one (rw add-one at (s (suc k) d (omega arith) (omega arith)))),
+)
+
+no_sums : (ts : Trees) → NoneIs is_number ts → NoneIs is_loose ts → NoneIs is_add ts
+no_sums none n h = tt
+no_sums (more t ts) n h = (by (is_add t) (is_number t) n.0 h.0, no_sums ts n.1 h.1)
+  where
+    by : (a k : Bool) → k ≡ false → (a && not k) ≡ false → a ≡ false
+    by true true n h = cc
+    by true false n h = cc
+    by false k n h = refl
+
+-- ---- what is written
+
+-- a tree in its form, with the meanings, the names and the nest of a sum
+record IsWritten (us : Trees) (t : Tree) : Type 0 where
+  formed : AllParts HasForm t
+  keeps-meanings : KeepsMeanings (add us) t
+  no-name : Within (names_of us) (names t)
+  nest-is : nest t ≤ nest_of us
+  number-is : are_numbers us ≡ true → is_number t ≡ true
+
+alone : (t : Tree) → AllParts HasForm t → IsWritten (more t none) t
+alone t f = record {
+  formed = f;
+  keeps-meanings = single_sum t;
+  no-name = within_left (names t) _;
+  nest-is = omega arith;
+  number-is = λ h. (and_parts (is_number t) true h).0;
+}
+
+others_of : (os : Trees) → AreFormed os → NoneIs is_number os → NoneIs is_loose os → IsSortedByKey part_of tree_cmp (list_of os) → AreApart os → AreOthers os
+others_of os f n s r a = record { formed = f; no_number = n; no_sum = no_sums os n s; rising = rises_strictly os n a r }
+
+-- behind a Number
+led : (n : Tree) (o : Tree) (os : Trees) → is_number n ≡ true → AreOthers (more o os) → IsWritten (more n (more o os)) (written_sum n (more o os))
+led n o os h x = record {
+  formed = written_formed n (more o os) h x;
+  keeps-meanings = written_keeps n (more o os) h;
+  no-name = written_names n (more o os);
+  nest-is = written_nest n (more o os);
+  number-is = λ e.
+      let (a, b) = and_parts (is_number n) (is_number o && are_numbers os) e in
+      let (c, d) = and_parts (is_number o) (are_numbers os) b in
+      absurd (clash (sym c ∙ x.no_number.0));
+}
+  where
+    clash : true ≡ false → ⊥
+    clash e = cc
+
+-- without one
+unled : (t u : Tree) (os : Trees) → AreOthers (more t (more u os)) → IsWritten (more t (more u os)) (add (more t (more u os)))
+unled t u os x = record {
+  formed = subst (AllParts HasForm) zero_first (written_formed (num zero_fraction) (more t (more u os)) (number_test (num zero_fraction) tt) x);
+  keeps-meanings = KeepsMeanings-refl _;
+  no-name = within_same _;
+  nest-is = omega arith;
+  number-is = λ e. absurd (clash (sym ((and_parts (is_number t) (is_number u && are_numbers os) e).0) ∙ x.no_number.0));
+}
+  where
+    clash : true ≡ false → ⊥
+    clash e = cc
+
+    zero_first : written_sum (num zero_fraction) (more t (more u os)) ≡ add (more t (more u os))
+    zero_first = ap (λ (x : Trees). sum_tree (append x (more t (more u os)))) (zero_terms (num zero_fraction) refl)
+
+-- terms in order, however they begin
+settled : (lead os : Trees) → IsLead lead → AreFormed (append lead os) → NoneIs is_number os → NoneIs is_loose os → IsSortedByKey part_of tree_cmp (list_of os) → AreApart (append lead os) → 1 ≤ count (append lead os)
+    → IsWritten (append lead os) (written_tree (append lead os))
+settled none none l f n s r a c = absurd (omega arith)
+settled none (more t none) l f n s r a c = alone t f.0
+settled none (more t (more u os)) l f n s r a c =
+    let all = more t (more u os) in
+    subst (IsWritten all) (sym (ap (λ (b : Bool). if b then sum_tree (append (terms_of_number t) (more u os)) else add all) n.0)) (unled t u os (others_of all f n s r a))
+settled (more m none) none l f n s r a c = alone m f.0
+settled (more m none) (more o os) l f n s r a c =
+    let rest = more o os in
+    subst (IsWritten (more m rest)) (sym (ap (λ (b : Bool). if b then sum_tree (append (terms_of_number m) rest) else add (more m rest)) l)) (led m o os l (others_of rest f.1 n s r (apart_behind m rest a)))
+settled (more m (more k ks)) os l f n s r a c = absurd l
+
+written : (us : Trees) → AreFormed us → 1 ≤ count us → IsSettled us → IsWritten us (written_tree us)
+written us f c h =
+    let a = h.arranged in
+    subst (λ (x : Trees). IsWritten x (written_tree x)) (sym a.split)
+    (settled a.lead a.others a.one (subst AreFormed a.split f) a.no_number a.no_sum a.rising (subst AreApart a.split (apart_words us h.apart)) (subst (λ (x : Trees). 1 ≤ count x) a.split c))
+
+pub settled_answer : (ts us : Trees) → has_undef ts ≡ false → IsStage ts us → IsSettled us → IsSumAnswer ts (written_tree us)
+settled_answer ts us d s h =
+    let w = written us s.formed s.some h in
+    let t = written_tree us in
+    record {
+      reduces = reduces_after s.rewrites (record { reduced = parts_reduced t w.formed; no_new_name = no_new_name w.no-name; meanings = keeps w.keeps-meanings });
+      undefined = parts_defined t w.formed ∙ sym d;
+      number = λ e. w.number-is (s.numbers e);
+      nest = omega (arith, w.nest-is, s.nest);
+    }

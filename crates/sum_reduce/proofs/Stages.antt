@@ -1,0 +1,105 @@
+-- From stage to stage of a sum.
+use Rattle.std.proofs.Common.{◌≤◌, ◌≡◌, ◌++◌, Bool, true, false, ◌&&◌, refl, sym, ap, ◌∙◌, arith}
+use Rattle.std.proofs.lemmas.Bool.{and_parts, and_from}
+use Rattle.calc_terms.specs.Numbers.{is_number, value}
+use Rattle.calc_terms.specs.Reduced.{NoneIs}
+use Rattle.calc_terms.specs.SquareClasses.{Same}
+use Rattle.calc_terms.specs.Trees.{Tree, Trees, more, count, names, names_of}
+use Rattle.calc_terms.proofs.MeaningRewrites.{Permuted, Permuted-refl, permuted_none, permuted_more, permuted_swap, permuted_trans, permuted_sum, joined_in_sum}
+use Rattle.calc_terms.proofs.NumberLaws.{number_words}
+use Rattle.calc_terms.proofs.NumberRewrites.{sum_of_numbers}
+use Rattle.coefficients.proofs.Forms.{number_parts}
+use Rattle.reduce_port.specs.Children.{are_numbers}
+use Rattle.reduce_port.proofs.Rewritings.{keeps, Rewrites-trans}
+use Rattle.sum_reduce.specs.Stages.{IsStage}
+use Rattle.sum_reduce.specs.Terms.{AreFormed, opened}
+use Rattle.sum_reduce.proofs.Names.{no_new_name, within_both, within_trans, within_right, within_none, within_eq, names_permuted, number_names}
+use Rattle.sum_reduce.proofs.Nests.{nest_permuted, nest_number}
+use Rattle.sum_reduce.proofs.Opened.{opened_keeps, names_opened, nest_opened, widths_opened, opened_formed, opened_some, opened_numbers}
+use Rattle.sum_reduce.proofs.Widths.{widths_permuted, width_number}
+
+-- ---- the same terms in another order
+
+pub none_permuted : (p : Tree → Bool) {ts us : Trees} → Permuted ts us → NoneIs p ts → NoneIs p us
+none_permuted p permuted_none h = tt
+none_permuted p (permuted_more k) h = (h.0, none_permuted p k h.1)
+none_permuted p permuted_swap h = (h.1.0, (h.0, h.1.1))
+none_permuted p (permuted_trans k l) h = none_permuted p l (none_permuted p k h)
+
+pub formed_permuted : {ts us : Trees} → Permuted ts us → AreFormed ts → AreFormed us
+formed_permuted permuted_none h = tt
+formed_permuted (permuted_more k) h = (h.0, formed_permuted k h.1)
+formed_permuted permuted_swap h = (h.1.0, (h.0, h.1.1))
+formed_permuted (permuted_trans k l) h = formed_permuted l (formed_permuted k h)
+
+pub count_permuted : {ts us : Trees} → Permuted ts us → count ts ≡ count us
+count_permuted permuted_none = refl
+count_permuted (permuted_more h) = omega (arith, count_permuted h)
+count_permuted permuted_swap = refl
+count_permuted (permuted_trans h k) = count_permuted h ∙ count_permuted k
+
+swapped : (a b c : Bool) → (a && (b && c)) ≡ (b && (a && c))
+swapped true true c = refl
+swapped true false c = refl
+swapped false true c = refl
+swapped false false c = refl
+
+numbers_permuted : {ts us : Trees} → Permuted ts us → are_numbers ts ≡ are_numbers us
+numbers_permuted permuted_none = refl
+numbers_permuted (permuted_more {t} h) = ap (λ (b : Bool). is_number t && b) (numbers_permuted h)
+numbers_permuted (permuted_swap {t} {u} {ts}) = swapped (is_number t) (is_number u) (are_numbers ts)
+numbers_permuted (permuted_trans h k) = numbers_permuted h ∙ numbers_permuted k
+
+-- ---- stages
+
+pub stage_after : {ts us vs : Trees} → IsStage ts us → IsStage us vs → IsStage ts vs
+stage_after a b = record {
+  rewrites = Rewrites-trans a.rewrites b.rewrites;
+  formed = b.formed;
+  some = b.some;
+  nest = omega (arith, a.nest, b.nest);
+  numbers = λ h. b.numbers (a.numbers h);
+  width = omega (arith, a.width, b.width);
+}
+
+pub stage_permuted : {ts us : Trees} → Permuted ts us → AreFormed ts → 1 ≤ count ts → IsStage ts us
+stage_permuted h f l = record {
+  rewrites = record { no_new_name = no_new_name (names_permuted h); meanings = keeps (permuted_sum h) };
+  formed = formed_permuted h f;
+  some = omega (arith, count_permuted h);
+  nest = omega (arith, nest_permuted h);
+  numbers = λ e. sym (numbers_permuted h) ∙ e;
+  width = omega (arith, widths_permuted h);
+}
+
+pub stage_same : (ts : Trees) → AreFormed ts → 1 ≤ count ts → IsStage ts ts
+stage_same ts f l = stage_permuted (Permuted-refl ts) f l
+
+pub stage_opened : (ts : Trees) → AreFormed ts → 1 ≤ count ts → IsStage ts (opened ts)
+stage_opened ts f l = record {
+  rewrites = record { no_new_name = no_new_name (names_opened ts); meanings = keeps (opened_keeps ts) };
+  formed = opened_formed ts f;
+  some = opened_some ts f l;
+  nest = omega (arith, nest_opened ts);
+  numbers = λ e. ap are_numbers (opened_numbers ts e) ∙ e;
+  width = omega (arith, widths_opened ts);
+}
+
+-- two Numbers become one
+pub stage_added : (d n e : Tree) (ts : Trees) → is_number d ≡ true → is_number n ≡ true → is_number e ≡ true → Same (value e) (value d ++ value n) → AreFormed ts → IsStage (more d (more n ts)) (more e ts)
+stage_added d n e ts hd hn he w f = record {
+  rewrites = record {
+    no_new_name = no_new_name (within_both (names d ++ (names n ++ names_of ts)) (names e) (names_of ts)
+        (within_trans (within_none (names d ++ (names n ++ names_of ts))) (within_eq (number_names e he)))
+        (within_trans (within_right (names d) (names n ++ names_of ts)) (within_right (names n) (names_of ts))));
+    meanings = keeps (joined_in_sum d n e ts (sum_of_numbers d n e (number_words d hd) (number_words n hn) (number_words e he) w));
+  };
+  formed = (number_parts e (number_words e he), f);
+  some = omega arith;
+  nest = omega (arith, nest_number e he);
+  numbers = λ h.
+      let (a, b) = and_parts (is_number d) (is_number n && are_numbers ts) h in
+      let (x, y) = and_parts (is_number n) (are_numbers ts) b in
+      and_from _ _ he y;
+  width = omega (arith, width_number d hd, width_number n hn, width_number e he);
+}

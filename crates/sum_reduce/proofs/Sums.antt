@@ -1,0 +1,280 @@
+-- Roots that are sums, from call to call.
+use Rattle.std.proofs.Common.{ℕ, zero, suc, ◌<◌, ◌≡◌, List, [], ◌∷◌, eqb, true, false, refl, sym, ap, ◌∙◌, subst, arith}
+use Rattle.calc_terms.specs.declared.kind.Kind.TheVariants as kind
+use Rattle.calc_terms.specs.Trees.{Tree, Trees, none, more, count, is_add}
+use Rattle.node_pool.specs.State.{State}
+use Rattle.coefficients.specs.Pairs.{GivesTwo}
+use Rattle.coefficients.proofs.Places.{IsOver, over_sum, over_handed, over_plain, over_put, over_same, over_end, over_beside, without_put, represents_count, once_count}
+use Rattle.coefficients.proofs.Steps.{live, expression, seen, children_in, gives_put, gives_without}
+use Rattle.tree_handles.specs.Expressions.{nth, grown, plains, plain, inserted, children_of, IsExpression, IsWhole}
+use Rattle.tree_handles.specs.Forest.{Forest, empty, tree, arity, kids, root_count, tree_nth, without_nth, with_nth, merged_nth}
+use Rattle.tree_handles.specs.Handed.{IsOnce, IsHanded, Represents, Ends, Gives, KeepsFront}
+use Rattle.tree_handles.specs.Inside.{holds, tree_at, kids_of}
+use Rattle.tree_handles.specs.Roots.{root_tree, without_root, put}
+use Rattle.tree_handles.specs.Standing.{Stands, forest}
+use Rattle.tree_handles.proofs.Counted.{all-kids, all-tree_nth, all-without_nth}
+use Rattle.tree_handles.proofs.Forests.{arity-tree_nth}
+use Rattle.tree_handles.proofs.Fronts.{IsBehind, behind_first, behind_later, behind_new, front_same, front_at, front_end, front_put, front_without}
+use Rattle.tree_handles.proofs.Given.{gives, gives_as, given_handed, given_root, given_rest, given_same, given_told, given_other, given_without, handed_by_put, represents_handed, represents_with, represents_as}
+use Rattle.tree_handles.proofs.Lasts.{apart, other_apart, kids_of_root, last_tree}
+use Rattle.tree_handles.proofs.Nths.{with_nth-without_nth}
+use Rattle.tree_handles.proofs.Outcomes.{eqb-sym}
+use Rattle.tree_handles.proofs.Plains.{plain-tree_nth, children_of-plain, whole_kids, alone}
+use Rattle.tree_handles.proofs.Roots.{root-put, put-put, put-same, tree-put, without-put}
+use Rattle.sum_reduce.specs.Sums.{terms_in, IsSum, Changes, Takes}
+use Rattle.sum_reduce.specs.Terms.{removed}
+
+-- ---- children by their places
+
+plains-without_nth : (n : ℕ) (f : Forest) → plains (without_nth n f) ≡ removed n (plains f)
+plains-without_nth zero empty = refl
+plains-without_nth zero (tree l k r) = refl
+plains-without_nth (suc n) empty = refl
+plains-without_nth (suc n) (tree l k r) = ap (more (grown l.payload (plains k))) (plains-without_nth n r)
+
+represents_without : (n : ℕ) {k : Forest} {ts : Trees} → Represents k ts → Represents (without_nth n k) (removed n ts)
+represents_without n {k = k} h = record {
+  once = all-without_nth IsOnce n k h.once;
+  whole = all-without_nth IsWhole n k h.whole;
+  plain_trees = plains-without_nth n k ∙ ap (removed n) h.plain_trees;
+}
+
+represents_nth : (n : ℕ) {k : Forest} {ts : Trees} → n < arity k → Represents k ts → Represents (tree_nth n k) (more (nth n ts) none)
+represents_nth n {k = k} l h = record {
+  once = all-tree_nth IsOnce n k h.once;
+  whole = all-tree_nth IsWhole n k h.whole;
+  plain_trees = alone (tree_nth n k) (arity-tree_nth n k l) ∙ ap (λ (t : Tree). more t none) (plain-tree_nth n k ∙ ap (nth n) h.plain_trees);
+}
+
+represents_kids : {t : Forest} {u : Tree} → Represents t (more u none) → Represents (kids t) (children_of u)
+represents_kids {t = t} h = record {
+  once = all-kids IsOnce t h.once;
+  whole = whole_kids t h.whole;
+  plain_trees = sym (children_of-plain t h.whole) ∙ ap children_of (ap (nth 0) h.plain_trees);
+}
+
+represents_merged : (n : ℕ) {k : Forest} {ts : Trees} → n < arity k → Represents k ts → Represents (merged_nth n k) (inserted n (children_of (nth n ts)) (removed n ts))
+represents_merged n {k = k} l h =
+    represents_as (represents_with n (represents_kids (represents_nth n l h)) (represents_without n h)) (with_nth-without_nth n (kids (tree_nth n k)) k l) refl
+
+-- ---- a sum
+
+pub sum_over : {i : ℕ} {f : Forest} → IsSum i f → IsOver kind.Add i (terms_in i f) f
+sum_over h = over_sum h.handed h.sum
+
+pub over_is_sum : {i : ℕ} {ts : Trees} {f : Forest} → IsOver kind.Add i ts f → IsSum i f
+over_is_sum h = record { handed = over_handed h refl; sum = ap is_add (over_plain h refl) }
+
+pub over_terms : {i : ℕ} {ts : Trees} {f : Forest} → IsOver kind.Add i ts f → terms_in i f ≡ ts
+over_terms h = ap children_of (over_plain h refl)
+
+pub sum_live : (s : State) {i j : ℕ} → j ≡ i → IsSum i (forest s) → holds j (forest s) ≡ true
+sum_live s e h = live s e h.handed.root
+
+pub sum_expression : {s : State} {i j : ℕ} → j ≡ i → Stands s → IsSum i (forest s) → IsExpression j (forest s)
+sum_expression e st h = expression e st h.handed
+
+pub sum_seen : {s : State} {i j : ℕ} → j ≡ i → Stands s → IsSum i (forest s) → children_of (plain (tree_at j (forest s))) ≡ terms_in i (forest s)
+sum_seen e st h = ap children_of (seen e st h.handed)
+
+pub sum_arity : {s : State} {i : ℕ} → Stands s → IsSum i (forest s) → arity (kids_of i (forest s)) ≡ count (terms_in i (forest s))
+sum_arity st h = children_in st (sum_over h)
+
+pub sum_within : {s : State} {i : ℕ} (n : ℕ) → Stands s → IsSum i (forest s) → n < count (terms_in i (forest s)) → n < arity (kids_of i (forest s))
+sum_within n st h l = omega (arith, sum_arity st h)
+
+pub root_within : {i : ℕ} {f : Forest} (n : ℕ) → IsSum i f → n < count (terms_in i f) → n < arity (kids (root_tree i f))
+root_within n h l = omega (arith, represents_count (sum_over h).kids)
+
+pub sum_once : {s : State} {i : ℕ} (n : ℕ) → Stands s → IsSum i (forest s) → n < count (terms_in i (forest s)) → root_count (tree_nth n (kids_of i (forest s))) ≡ 1
+sum_once {s = s} {i = i} n st h l =
+    subst (λ (k : Forest). root_count (tree_nth n k) ≡ 1) (sym (kids_of_root i st h.handed.root))
+    (once_count (tree_nth n (kids (root_tree i (forest s)))) (arity-tree_nth n (kids (root_tree i (forest s))) (root_within n h l)) (all-tree_nth IsOnce n (kids (root_tree i (forest s))) (sum_over h).kids.once))
+
+-- ---- its terms change
+
+pub record IsChanged (i : ℕ) (us : Trees) (old new : Forest) : Type 0 where
+  pub changes : Changes i old new
+  pub terms : terms_in i new ≡ us
+
+pub changed : {i : ℕ} {f g n : Forest} {us : Trees} → IsSum i f → Represents n us → g ≡ put i n f → IsChanged i us f g
+changed {i = i} {f = f} {n = n} h r e =
+    let o = over_same (over_put n (sum_over h) r) e in
+    record { changes = record { kids = n; whole = e; sum = over_is_sum o }; terms = over_terms o }
+
+pub merged : {i : ℕ} {f g : Forest} (n : ℕ) → IsSum i f → n < count (terms_in i f) → g ≡ put i (merged_nth n (kids (root_tree i f))) f
+    → IsChanged i (inserted n (children_of (nth n (terms_in i f))) (removed n (terms_in i f))) f g
+merged n h l e = changed h (represents_merged n (root_within n h l) (sum_over h).kids) e
+
+pub changes_same : {i : ℕ} {f : Forest} → IsSum i f → Changes i f f
+changes_same {i = i} {f = f} h = record { kids = kids (root_tree i f); whole = sym (put-same i f); sum = h }
+
+pub changes_after : {i : ℕ} {f g h : Forest} → Changes i f g → Changes i g h → Changes i f h
+changes_after {i = i} {f = f} a b = record { kids = b.kids; whole = b.whole ∙ ap (put i b.kids) a.whole ∙ put-put i b.kids a.kids f; sum = b.sum }
+
+pub changes_rest : {i : ℕ} {f g : Forest} → Changes i f g → without_root i g ≡ without_root i f
+changes_rest {i = i} {f = f} c = ap (without_root i) c.whole ∙ without_put i c.kids f
+
+pub changes_front : {i : ℕ} {f g : Forest} {handed : List ℕ} → Changes i f g → KeepsFront (i ∷ handed) f g
+changes_front c = front_at (front_put c.kids behind_first front_same) c.whole
+
+-- ---- a tree stands beside it
+
+pub takes_handed : {i h : ℕ} {f g : Forest} → Takes i f g h → IsHanded h g
+takes_handed t = given_handed t.given
+
+pub takes_rest : {i h : ℕ} {f g : Forest} (t : Takes i f g h) → without_root h g ≡ put i t.kids f
+takes_rest t = given_rest t.given
+
+pub takes_apart : {i h : ℕ} {f g : Forest} → Takes i f g h → eqb h i ≡ false
+takes_apart {i = i} {f = f} t = other_apart i t.given.ends (root-put i i t.kids f ∙ t.was.handed.root)
+
+pub takes_front : {i h : ℕ} {f g : Forest} {handed : List ℕ} → Takes i f g h → KeepsFront (i ∷ handed) f g
+takes_front t = front_end t.given.ends (front_put t.kids behind_first front_same)
+
+pub takes_behind : {i h : ℕ} {f g : Forest} {handed : List ℕ} → Takes i f g h → IsBehind h (i ∷ handed) f
+takes_behind t = behind_new t.given.ends (front_put t.kids behind_first front_same)
+
+-- a term was taken out
+pub record IsOut (i n : ℕ) (old new : Forest) (h : ℕ) : Type 0 where
+  pub takes : Takes i old new h
+  pub terms : terms_in i new ≡ removed n (terms_in i old)
+  pub tree : plain (root_tree h new) ≡ nth n (terms_in i old)
+
+pub term_out : {i h : ℕ} {f g : Forest} (n : ℕ) → IsSum i f → n < count (terms_in i f) → Ends h (tree_nth n (kids (root_tree i f))) (put i (without_nth n (kids (root_tree i f))) f) g → IsOut i n f g h
+term_out {i = i} {f = f} n s l e =
+    let k = (sum_over s).kids in
+    let r = represents_nth n (root_within n s l) k in
+    let now = without_nth n (kids (root_tree i f)) in
+    let o = over_end (over_put now (sum_over s) (represents_without n k)) e in
+    let g = gives {Told = λ t. t ≡ nth n (terms_in i f)} e r refl in
+    record {
+      takes = record { was = s; kids = now; given = gives_as g refl (λ t x. tt); sum = over_is_sum o };
+      terms = over_terms o;
+      tree = given_told g;
+    }
+
+-- what is rewritten beside it
+pub record IsRewritten (i : ℕ) (old mid new : Forest) (m : ℕ) : Type 0 where
+  pub takes : Takes i old new m
+  pub terms : terms_in i new ≡ terms_in i mid
+
+pub beside_over : {i h : ℕ} {f g : Forest} → Takes i f g h → IsOver kind.Add i (terms_in i g) (without_root h g)
+beside_over {h = h} t = over_beside h (takes_apart t) (sum_over t.sum)
+
+pub rewritten : {i h m : ℕ} {f g new : Forest} {Told : Tree → Type 0} → Takes i f g h → Gives (without_root h g) new m Told → IsRewritten i f g new m
+rewritten t k =
+    let o = over_end (beside_over t) k.ends in
+    record { takes = record { was = t.was; kids = t.kids; given = gives_as k (takes_rest t) (λ u x. tt); sum = over_is_sum o }; terms = over_terms o }
+
+pub takes_after : {i h m : ℕ} {f g new : Forest} → Takes i f g h → Takes i (without_root h g) new m → Takes i f new m
+takes_after {i = i} {f = f} t u = record { was = t.was; kids = u.kids; given = gives_as u.given (ap (put i u.kids) (takes_rest t) ∙ put-put i u.kids t.kids f) (λ x y. y); sum = u.sum }
+
+-- it goes
+pub record IsReleased (i : ℕ) (old mid new : Forest) : Type 0 where
+  pub changes : Changes i old new
+  pub terms : terms_in i new ≡ terms_in i mid
+
+pub released : {i h : ℕ} {f g new : Forest} → Takes i f g h → new ≡ without_root h g → IsReleased i f g new
+released t e =
+    let o = over_same (beside_over t) e in
+    record { changes = record { kids = t.kids; whole = e ∙ takes_rest t; sum = over_is_sum o }; terms = over_terms o }
+
+-- it comes back
+pub put_in : {i h : ℕ} {f g new : Forest} (n : ℕ) → Takes i f g h → new ≡ put i (with_nth n (root_tree h g) (kids (root_tree i g))) (without_root h g)
+    → IsChanged i (inserted n (more (plain (root_tree h g)) none) (terms_in i g)) f new
+put_in {i = i} {h = h} {f = f} {g = g} n t e =
+    let r = represents_with n (represents_handed (takes_handed t)) (sum_over t.sum).kids in
+    let now = with_nth n (root_tree h g) (kids (root_tree i g)) in
+    let o = over_same (over_put now (beside_over t) r) e in
+    record {
+      changes = record { kids = now; whole = e ∙ ap (put i now) (takes_rest t) ∙ put-put i now t.kids f; sum = over_is_sum o };
+      terms = over_terms o;
+    }
+
+-- whatever `put_in` wants of the calls
+pub roots_apart : {i h : ℕ} {f : Forest} {s : State} → Stands s → Takes i f (forest s) h → holds i (root_tree h (forest s)) ≡ false
+roots_apart {i = i} {h = h} st t = apart i h st (eqb-sym h i (takes_apart t)) t.sum.handed.root (given_root t.given)
+
+-- ---- a third tree stands beside both
+
+-- it is as before
+pub other_handed : {i h a : ℕ} {f g : Forest} → eqb a i ≡ false → IsHanded a f → Takes i f g h → IsHanded a g
+other_handed {i = i} {a = a} d x t = given_other t.given (handed_by_put i t.kids (eqb-sym a i d) x)
+
+pub other_same : {i h a : ℕ} {f g : Forest} → eqb a i ≡ false → IsHanded a f → Takes i f g h → plain (root_tree a g) ≡ plain (root_tree a f)
+other_same {i = i} {a = a} {f = f} d x t = ap plain (given_same a t.given (root-put i a t.kids f ∙ x.root) ∙ tree-put i a t.kids f (eqb-sym a i d))
+
+pub other_clear : {i h a : ℕ} {f g : Forest} → eqb a i ≡ false → IsHanded a f → Takes i f g h → eqb h a ≡ false
+other_clear {i = i} {a = a} d x t = other_apart a t.given.ends (handed_by_put i t.kids (eqb-sym a i d) x).root
+
+-- it goes
+pub sum_beside : {i : ℕ} {f : Forest} (a : ℕ) → eqb a i ≡ false → IsSum i f → IsSum i (without_root a f)
+sum_beside a d s = over_is_sum (over_beside a d (sum_over s))
+
+-- both become one
+pub both_rewritten : {i h a m : ℕ} {f g new : Forest} {Told : Tree → Type 0} → eqb a i ≡ false → IsHanded a f → Takes i f g h → Gives (without_root h (without_root a g)) new m Told
+    → IsRewritten i (without_root a f) g new m
+both_rewritten {i = i} {h = h} {a = a} {f = f} {g = g} d x t k =
+    let y = handed_by_put i t.kids (eqb-sym a i d) x in
+    let o = over_end (over_beside h (takes_apart t) (over_beside a d (sum_over t.sum))) k.ends in
+    record {
+      takes = record { was = sum_beside a d t.was; kids = t.kids; given = gives_as k (given_without t.given y ∙ without-put i a t.kids f (eqb-sym a i d)) (λ u v. tt); sum = over_is_sum o };
+      terms = over_terms o;
+    }
+
+-- ---- a term as its coefficient and its part
+
+-- the part goes
+pub part_gone : {c p : ℕ} {others new end : Forest} {C P : Tree → Type 0} → GivesTwo others new c p C P → end ≡ without_root p new → Gives others end c C
+part_gone {c = c} {others = others} {C = C} k e = subst (λ (x : Forest). Gives others x c C) (sym (e ∙ given_rest k.second-given)) k.first-given
+
+-- or comes back
+pub record IsSplit (i at : ℕ) (t : Tree) (old mid new : Forest) (c : ℕ) (C : Tree → Type 0) : Type 0 where
+  pub takes : Takes i old new c
+  pub terms : terms_in i new ≡ inserted at (more t none) (terms_in i mid)
+  pub told : C (plain (root_tree c new))
+
+pub part_back : {i h c p : ℕ} {u : Tree} {f g new end : Forest} {C : Tree → Type 0} (at : ℕ) → Takes i f g h → GivesTwo (without_root h g) new c p C (λ t. t ≡ u)
+    → end ≡ put i (with_nth at (root_tree p new) (kids (root_tree i new))) (without_root p new) → IsSplit i at u f g end c C
+part_back {i = i} {c = c} {p = p} {u = u} {f = f} {g = g} {new = new} {end = end} {C = C} at t k e =
+    let o = over_end (beside_over t) k.first-given.ends in
+    let o2 = over_end o k.second-given.ends in
+    let r = represents_with at (represents_handed (given_handed k.second-given)) o2.kids in
+    let now = with_nth at (root_tree p new) (kids (root_tree i new)) in
+    let whole : end ≡ put i now k.between = e ∙ ap (put i now) (given_rest k.second-given) in
+    let given = gives_put i now k.first-given (beside_over t).root in
+    let over = over_same (over_put now o r) whole in
+    let moved = gives_as given (ap (put i now) (takes_rest t) ∙ put-put i now t.kids f) (λ x y. y) in
+    let here : Gives (put i now f) end c C = subst (λ (x : Forest). Gives (put i now f) x c C) (sym whole) moved in
+    record {
+      takes = record { was = t.was; kids = now; given = gives_as here refl (λ x y. tt); sum = over_is_sum over };
+      terms = over_terms over ∙ ap (λ (x : Tree). inserted at (more x none) (terms_in i g)) (given_told k.second-given);
+      told = given_told here;
+    }
+
+-- the sum beside both
+pub both_over : {i h c p : ℕ} {f g new : Forest} {C P : Tree → Type 0} → Takes i f g h → GivesTwo (without_root h g) new c p C P → IsOver kind.Add i (terms_in i g) new
+both_over t k = over_end (over_end (beside_over t) k.first-given.ends) k.second-given.ends
+
+pub both_apart : {i h c p : ℕ} {f g : Forest} {s : State} {C P : Tree → Type 0} → Stands s → Takes i f g h → GivesTwo (without_root h g) (forest s) c p C P → holds i (root_tree p (forest s)) ≡ false
+both_apart {i = i} {p = p} st t k =
+    apart i p st (eqb-sym p i (other_apart i k.second-given.ends (over_end (beside_over t) k.first-given.ends).root)) (both_over t k).root (given_root k.second-given)
+
+-- what stood beside the sum went into it
+pub takes_changes : {i h : ℕ} {f g new : Forest} → Takes i f g h → Changes i (without_root h g) new → Changes i f new
+takes_changes {i = i} {f = f} t c = record { kids = c.kids; whole = c.whole ∙ ap (put i c.kids) (takes_rest t) ∙ put-put i c.kids t.kids f; sum = c.sum }
+
+pub beside_front : {i a : ℕ} {f g : Forest} → Changes i (without_root a f) g → KeepsFront (i ∷ a ∷ []) f g
+beside_front c = front_at (front_put c.kids behind_first (front_without (behind_later behind_first) front_same)) c.whole
+
+pub root_arity : {i : ℕ} {f : Forest} → IsSum i f → arity (kids (root_tree i f)) ≡ count (terms_in i f)
+root_arity h = represents_count (sum_over h).kids
+
+-- what was taken out stays, and the sum goes
+pub only_left : {i h : ℕ} {u : Tree} {f g new : Forest} → Takes i f g h → new ≡ without_root i g → plain (root_tree h g) ≡ u → Gives (without_root i f) new h (λ t. t ≡ u)
+only_left {i = i} {h = h} {u = u} {f = f} {g = g} t e q =
+    let k = t.given in
+    let told : Gives (put i t.kids f) g h (λ x. x ≡ u) = record { tree = k.tree; ends = k.ends; once = k.once; whole = k.whole; told = ap plain (sym (last_tree k.ends)) ∙ q } in
+    let w = gives_without i told (root-put i i t.kids f ∙ t.was.handed.root) in
+    subst (λ (x : Forest). Gives (without_root i f) x h (λ y. y ≡ u)) (sym e) (gives_as w (without_put i t.kids f) (λ x y. y))

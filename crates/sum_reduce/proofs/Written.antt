@@ -1,0 +1,71 @@
+-- The terms of a leading Number, and a sum of one term.
+use Rattle.std.proofs.Common.{nat_lt, ℕ, ◌≤◌, ◌<◌, ◌≡◌, Bool, true, false, if◌then◌else◌, refl, sym, ap, ◌∙◌, arith}
+use Rattle.std.proofs.lemmas.Bool.{ltb-true}
+use Rattle.tree_handles.proofs.Outcomes.{by_test}
+use Rattle.calc_terms.specs.Numbers.{is_number}
+use Rattle.calc_terms.specs.Trees.{Tree, num, add, Trees, none, more, append, count, is_add}
+use Rattle.number_forms.specs.Readers.{is_zero}
+use Rattle.tree_handles.specs.Expressions.{nth, children_of}
+use Rattle.sum_reduce.specs.Terms.{removed, terms_of_number, sum_tree, leads_number, written_tree}
+
+pub spread_zero : (t : Tree) (us : Trees) → is_zero t ≡ true → us ≡ append (terms_of_number t) us
+spread_zero (num q) us h = sym (ap (λ (b : Bool). append (if b then none else more (num q) none) us) h)
+spread_zero _ us h = cc
+
+pub spread_sum : (t : Tree) → is_add t ≡ true → children_of t ≡ terms_of_number t
+spread_sum (add ts) h = refl
+spread_sum _ h = cc
+
+spread_term : (t : Tree) → is_zero t ≡ false → is_add t ≡ false → more t none ≡ terms_of_number t
+spread_term (num q) z s = sym (ap (λ (b : Bool). if b then none else more (num q) none) z)
+spread_term (add ts) z s = cc
+spread_term t z s = refl
+
+pub spread_one : (ts : Trees) → 1 ≤ count ts → is_zero (nth 0 ts) ≡ false → is_add (nth 0 ts) ≡ false → ts ≡ append (terms_of_number (nth 0 ts)) (removed 0 ts)
+spread_one none l z s = absurd (omega arith)
+spread_one (more t ts) l z s = ap (λ (x : Trees). append x ts) (spread_term t z s)
+
+-- ---- whether a Number leads
+
+pub leads_two : (ts : Trees) → 1 < count ts → leads_number ts ≡ is_number (nth 0 ts)
+leads_two none l = absurd (omega arith)
+leads_two (more t none) l = absurd (omega arith)
+leads_two (more t (more u ts)) l = refl
+
+leads_none : (ts : Trees) → (1 < count ts → ⊥) → leads_number ts ≡ false
+leads_none none l = refl
+leads_none (more t none) l = refl
+leads_none (more t (more u ts)) l = absurd (l (omega arith))
+
+not_above : (n : ℕ) → n ≤ 1 → nat_lt 1 n ≡ false
+not_above n l = by_test (λ b. nat_lt 1 n ≡ b → b ≡ false) (nat_lt 1 n) (λ p q. absurd (omega (arith, ltb-true 1 n q, l))) (λ p q. refl) refl
+
+pub leads_few : (n : ℕ) (ts : Trees) → n ≤ 1 → n ≡ count ts → nat_lt 1 n ≡ leads_number ts
+leads_few n ts l e = not_above n l ∙ sym (leads_none ts (λ k. absurd (omega (arith, l, e, k))))
+
+count_behind : (ts us : Trees) → count us ≤ count (append ts us)
+count_behind none us = omega arith
+count_behind (more t ts) us = omega (arith, count_behind ts us)
+
+pub spread_some : (ts : Trees) → leads_number ts ≡ true → 1 ≤ count (append (terms_of_number (nth 0 ts)) (removed 0 ts))
+spread_some (more t (more u ts)) h = omega (arith, count_behind (terms_of_number t) (more u ts))
+spread_some _ h = cc
+
+pub written_led : (ts : Trees) → leads_number ts ≡ true → sum_tree (append (terms_of_number (nth 0 ts)) (removed 0 ts)) ≡ written_tree ts
+written_led ts h = sym (ap (λ (b : Bool). if b then sum_tree (append (terms_of_number (nth 0 ts)) (removed 0 ts)) else sum_tree ts) h)
+
+pub written_unled : (ts : Trees) → leads_number ts ≡ false → sum_tree ts ≡ written_tree ts
+written_unled ts h = sym (ap (λ (b : Bool). if b then sum_tree (append (terms_of_number (nth 0 ts)) (removed 0 ts)) else sum_tree ts) h)
+
+-- ---- a sum of one term
+
+pub only_term : (ts : Trees) → count ts ≡ 1 → nth 0 ts ≡ sum_tree ts
+only_term none h = absurd (omega (arith, h))
+only_term (more t none) h = refl
+only_term (more t (more u ts)) h = absurd (omega (arith, h))
+
+pub other_sum : (t : Tree) → is_add t ≡ true → 1 ≤ count (children_of t) → (count (children_of t) ≡ 1 → ⊥) → t ≡ sum_tree (children_of t)
+other_sum (add none) m l h = absurd (omega arith)
+other_sum (add (more t none)) m l h = absurd (h refl)
+other_sum (add (more t (more u ts))) m l h = refl
+other_sum _ m l h = cc

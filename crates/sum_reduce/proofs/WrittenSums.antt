@@ -1,0 +1,164 @@
+-- A Number's terms and other terms whose parts rise are a reduced sum, with the meanings, the names and the nest of its parts.
+use Rattle.std.proofs.Common.{◌≡◌, inl, inr, ◌≤◌, [], Bool, true, false, not, if◌then◌else◌, refl, sym, ap, ◌∙◌, subst, arith}
+use Rattle.calc_terms.specs.Fractions.{zero_fraction, is_zero_fraction}
+use Rattle.calc_terms.specs.Loads.{nest, nest_of}
+use Rattle.calc_terms.specs.Numbers.{is_number, terms_of, IsNumber, IsTerm, AreTerms, Rises}
+use Rattle.calc_terms.specs.Reduced.{part_of, number_terms, other_terms, HasForm, NoneIs, RisesBy}
+use Rattle.calc_terms.specs.Trees.{Tree, num, add, mult, root, Trees, none, more, append, names, names_of, AllParts, AllPartsOf, HasTwo, is_add}
+use Rattle.calc_terms.proofs.MeaningRewrites.{KeepsMeanings, KeepsMeanings-refl, KeepsMeanings-eq, KeepsMeanings-trans, flat_sum, zero_goes, empty_sum, single_sum}
+use Rattle.calc_terms.proofs.FractionFacts.{zero_test, no_zero}
+use Rattle.calc_terms.proofs.NumberLaws.{number_words}
+use Rattle.calc_terms.proofs.NumberShapes.{AsNumber, as_number}
+use Rattle.coefficients.proofs.Forms.{term_test, no_term, AllPartsOf-append, terms_parts}
+use Rattle.sum_reduce.specs.Terms.{terms_of_number, sum_tree}
+use Rattle.sum_reduce.proofs.Names.{Within, within_same, within_both, within_beside, within_trans, within_left, within_none, within_eq, names_of-append}
+use Rattle.sum_reduce.proofs.Nests.{nest-append}
+
+-- a Number's terms, and then the other terms
+abbrev pub written_sum : Tree → Trees → Tree
+written_sum a us = sum_tree (append (terms_of_number a) us)
+
+-- what stands behind a sum's Number: terms in their form, none a Number or a sum, whose parts rise
+pub record AreOthers (us : Trees) : Type 0 where
+  pub formed : AllPartsOf HasForm us
+  pub no_number : NoneIs is_number us
+  pub no_sum : NoneIs is_add us
+  pub rising : RisesBy part_of us
+
+-- ---- the terms of a Number
+
+zero_is_zero : is_zero_fraction zero_fraction ≡ true
+zero_is_zero = by (is_zero_fraction zero_fraction) refl
+  where
+    by : (b : Bool) → is_zero_fraction zero_fraction ≡ b → b ≡ true
+    by true e = refl
+    by false e = absurd (no_zero zero_fraction (ap not e) refl)
+
+pub zero_terms : (a : Tree) → a ≡ num zero_fraction → terms_of_number a ≡ none
+zero_terms a e = ap terms_of_number e ∙ ap (λ b. if b then none else more (num zero_fraction) none) zero_is_zero
+
+term_in : (a : Tree) → IsTerm a → terms_of_number a ≡ more a none
+term_in (num q) h = ap (λ b. if b then none else more (num q) none) (zero_test q h)
+term_in (root a) h = refl
+term_in (mult ts) h = refl
+term_in t h = absurd h
+
+-- ---- which terms make the Number
+
+number_terms-terms : (ts us : Trees) → AreTerms ts → NoneIs is_number us → number_terms (append ts us) ≡ ts
+number_terms-terms none none h k = refl
+number_terms-terms none (more u us) h k = ap (λ b. if b then more u (number_terms us) else none) (no_term u k.0)
+number_terms-terms (more t ts) us h k = ap (λ b. if b then more t (number_terms (append ts us)) else none) (term_test t h.0) ∙ ap (more t) (number_terms-terms ts us h.1 k)
+
+other_terms-none : (us : Trees) → NoneIs is_number us → other_terms us ≡ us
+other_terms-none none k = refl
+other_terms-none (more u us) k = ap (λ b. if b then other_terms us else more u us) (no_term u k.0)
+
+other_terms-terms : (ts us : Trees) → AreTerms ts → NoneIs is_number us → other_terms (append ts us) ≡ us
+other_terms-terms none us h k = other_terms-none us k
+other_terms-terms (more t ts) us h k = ap (λ b. if b then other_terms (append ts us) else more t (append ts us)) (term_test t h.0) ∙ other_terms-terms ts us h.1 k
+
+no_sum_terms : (ts : Trees) → AreTerms ts → NoneIs is_add ts
+no_sum_terms none h = tt
+no_sum_terms (more t ts) h = (no_sum_term t h.0, no_sum_terms ts h.1)
+  where
+    no_sum_term : (t : Tree) → IsTerm t → is_add t ≡ false
+    no_sum_term (add us) k = absurd k
+    no_sum_term t k = refl
+
+NoneIs-append : (p : Tree → Bool) (ts us : Trees) → NoneIs p ts → NoneIs p us → NoneIs p (append ts us)
+NoneIs-append p none us h k = k
+NoneIs-append p (more t ts) us h k = (h.0, NoneIs-append p ts us h.1 k)
+
+-- the terms of a Number: rising, in their form, and none of them a sum
+pub record AreNumberTerms (ts : Trees) : Type 0 where
+  pub terms : AreTerms ts
+  pub rising : Rises (terms_of ts)
+
+number_terms_in : (a : Tree) → IsNumber a → AreNumberTerms (terms_of_number a)
+number_terms_in a h = by (as_number a h)
+  where
+    by : AsNumber a → AreNumberTerms (terms_of_number a)
+    by (inl z) = subst AreNumberTerms (sym (zero_terms a z.is)) (record { terms = tt; rising = tt })
+    by (inr (inl s)) = subst AreNumberTerms (sym (term_in a s.one)) (record { terms = (s.one, tt); rising = (tt, tt) })
+    by (inr (inr s)) = subst AreNumberTerms (ap terms_of_number (sym s.is)) (record { terms = s.are; rising = (subst IsNumber s.is h).2 })
+
+-- two terms or more in the form of a sum
+sum_formed : (ts us : Trees) → AreNumberTerms ts → AreOthers us → HasTwo (append ts us) → AllParts HasForm (add (append ts us))
+sum_formed ts us n o two = (
+  inr (record {
+    two = two;
+    no_sum = NoneIs-append is_add ts us (no_sum_terms ts n.terms) o.no_sum;
+    number = subst (λ (x : Trees). Rises (terms_of x)) (sym (number_terms-terms ts us n.terms o.no_number)) n.rising;
+    no_number = subst (NoneIs is_number) (sym (other_terms-terms ts us n.terms o.no_number)) o.no_number;
+    rising = subst (RisesBy part_of) (sym (other_terms-terms ts us n.terms o.no_number)) o.rising;
+  }),
+  AllPartsOf-append HasForm ts us (terms_parts ts n.terms) o.formed,
+)
+
+any_formed : (ts : Trees) → (HasTwo ts → AllParts HasForm (add ts)) → AllPartsOf HasForm ts → AllParts HasForm (sum_tree ts)
+any_formed none f h = inl tt
+any_formed (more t none) f h = h.0
+any_formed (more t (more u ts)) f h = f tt
+
+-- what is written has its form
+pub written_formed : (a : Tree) (us : Trees) → is_number a ≡ true → AreOthers us → AllParts HasForm (written_sum a us)
+written_formed a us h o =
+    let n = number_terms_in a (number_words a h) in
+    any_formed (append (terms_of_number a) us) (sum_formed (terms_of_number a) us n o) (AllPartsOf-append HasForm (terms_of_number a) us (terms_parts (terms_of_number a) n.terms) o.formed)
+
+-- ---- meanings
+
+tree_keeps : (ts : Trees) → KeepsMeanings (add ts) (sum_tree ts)
+tree_keeps none = empty_sum
+tree_keeps (more t none) = single_sum t
+tree_keeps (more t (more u ts)) = KeepsMeanings-refl (add (more t (more u ts)))
+
+number_opened : (a : Tree) (us : Trees) → IsNumber a → KeepsMeanings (add (more a us)) (add (append (terms_of_number a) us))
+number_opened a us h = by (as_number a h)
+  where
+    by : AsNumber a → KeepsMeanings (add (more a us)) (add (append (terms_of_number a) us))
+    by (inl z) = KeepsMeanings-trans (zero_goes a us (KeepsMeanings-eq z.is)) (KeepsMeanings-eq (ap (λ (x : Trees). add (append x us)) (sym (zero_terms a z.is))))
+    by (inr (inl s)) = KeepsMeanings-eq (ap (λ (x : Trees). add (append x us)) (sym (term_in a s.one)))
+    by (inr (inr s)) = KeepsMeanings-trans (KeepsMeanings-eq (ap (λ (x : Tree). add (more x us)) s.is)) (KeepsMeanings-trans (flat_sum s.ts us) (KeepsMeanings-eq (ap (λ (x : Tree). add (append (terms_of_number x) us)) (sym s.is))))
+
+-- and has each meaning of the Number and the other terms
+pub written_keeps : (a : Tree) (us : Trees) → is_number a ≡ true → KeepsMeanings (add (more a us)) (written_sum a us)
+written_keeps a us h = KeepsMeanings-trans (number_opened a us (number_words a h)) (tree_keeps (append (terms_of_number a) us))
+
+-- ---- names and nest
+
+tree_names : (ts : Trees) → Within (names_of ts) (names (sum_tree ts))
+tree_names none = within_none _
+tree_names (more t none) = within_left (names t) []
+tree_names (more t (more u ts)) = within_same _
+
+tree_nest : (ts : Trees) → nest (sum_tree ts) ≤ nest_of ts
+tree_nest none = omega arith
+tree_nest (more t none) = omega arith
+tree_nest (more t (more u ts)) = omega arith
+
+number_terms_names : (a : Tree) → Within (names a) (names_of (terms_of_number a))
+number_terms_names (num q) = by (is_zero_fraction q)
+  where
+    by : (b : Bool) → Within [] (names_of (if b then none else more (num q) none))
+    by true = within_none []
+    by false = within_none []
+number_terms_names (add ts) = within_same _
+number_terms_names t = within_both (names t) (names t) [] (within_same (names t)) (within_none (names t))
+
+number_terms_nest : (a : Tree) → nest_of (terms_of_number a) ≤ nest a
+number_terms_nest (num q) = by (is_zero_fraction q)
+  where
+    by : (b : Bool) → nest_of (if b then none else more (num q) none) ≤ 0
+    by true = omega arith
+    by false = omega arith
+number_terms_nest (add ts) = omega arith
+number_terms_nest t = omega arith
+
+pub written_names : (a : Tree) (us : Trees) → Within (names_of (more a us)) (names (written_sum a us))
+written_names a us =
+    within_trans (within_trans (within_beside (names a) (names_of (terms_of_number a)) (names_of us) (names_of us) (number_terms_names a) (within_same (names_of us))) (within_eq (names_of-append (terms_of_number a) us))) (tree_names (append (terms_of_number a) us))
+
+pub written_nest : (a : Tree) (us : Trees) → nest (written_sum a us) ≤ nest_of (more a us)
+written_nest a us = omega (arith, tree_nest (append (terms_of_number a) us), nest-append (terms_of_number a) us, number_terms_nest a)

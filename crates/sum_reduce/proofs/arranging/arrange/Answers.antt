@@ -1,0 +1,64 @@
+use Rattle.std.proofs.Common.{◌≤◌, sym, subst}
+use Rattle.calc_terms.specs.Reduced.{NoneIs}
+use Rattle.calc_terms.specs.PlainValues.{plain_value}
+use Rattle.calc_terms.specs.Trees.{Trees, add, count}
+use Rattle.sum_reduce.specs.Arranging.{AnswersFold}
+use Rattle.sum_reduce.proofs.Results.{passed_on}
+use Rattle.tree_handles.specs.Standing.{forest}
+use Rattle.tree_handles.proofs.Fronts.{behind_first, front_after_one}
+use Rattle.sum_reduce.specs.Sums.{terms_in}
+use Rattle.sum_reduce.specs.Terms.{AreFormed, is_loose}
+use Rattle.sum_reduce.proofs.Opened.{opened_formed, opened_some, opened_tight}
+use Rattle.sum_reduce.proofs.Orders.{opened_stage, rationals_faulted, rationals_ordered}
+use Rattle.sum_reduce.proofs.Stages.{stage_after}
+use Rattle.sum_reduce.proofs.Sums.{changes_after, changes_front}
+use Rattle.sum_reduce.proofs.arranging.arrange.Goals as goal
+
+pub join_numbers-requires-clause-sum : goal.join_numbers-requires-clause-sum
+join_numbers-requires-clause-sum c = c.open_sums.ensures.changes.sum
+
+pub join_numbers-requires-clause-formed : goal.join_numbers-requires-clause-formed
+join_numbers-requires-clause-formed c = subst AreFormed (sym c.open_sums.ensures.opened) (opened_formed _ c.requires.formed)
+
+pub join_numbers-requires-clause-some : goal.join_numbers-requires-clause-some
+join_numbers-requires-clause-some c = subst (λ (x : Trees). 1 ≤ count x) (sym c.open_sums.ensures.opened) (opened_some _ c.requires.formed c.requires.some)
+
+pub returns-in_err-join_numbers-clause-rationals : goal.returns-in_err-join_numbers-clause-rationals
+returns-in_err-join_numbers-clause-rationals c =
+    λ q. passed_on c.from_residual.result c.in_err-join_numbers.field-0.0 (AnswersFold (plain_value (add (terms_in c.args.sum.now (forest c.args.pool.now)))) (terms_in c.args.sum.now (forest c.join_numbers.new.pool)))
+    c.from_residual.ensures.0 c.from_residual.ensures.1
+    (rationals_faulted (terms_in c.args.sum.now (forest c.args.pool.now)) (terms_in c.args.sum.now (forest c.open_sums.new.pool)) (terms_in c.args.sum.now (forest c.join_numbers.new.pool)) (terms_in c.args.sum.now (forest c.join_numbers.new.pool)) _ q c.open_sums.ensures.opened c.in_err-join_numbers.ensures.rationals)
+
+pub returns-in_err-join_numbers-clause-front : goal.returns-in_err-join_numbers-clause-front
+returns-in_err-join_numbers-clause-front c = front_after_one behind_first (changes_front c.open_sums.ensures.changes) c.join_numbers.ensures.front
+
+pub sort_terms-requires-clause-sum : goal.sort_terms-requires-clause-sum
+sort_terms-requires-clause-sum c = c.in_ok-join_numbers.ensures.ok.sum
+
+pub sort_terms-requires-clause-formed : goal.sort_terms-requires-clause-formed
+sort_terms-requires-clause-formed c = c.in_ok-join_numbers.ensures.joined.stage.formed
+
+pub sort_terms-requires-clause-some : goal.sort_terms-requires-clause-some
+sort_terms-requires-clause-some c = c.in_ok-join_numbers.ensures.joined.stage.some
+
+pub sort_terms-requires-clause-led : goal.sort_terms-requires-clause-led
+sort_terms-requires-clause-led c = c.in_ok-join_numbers.ensures.joined.led
+
+pub sort_terms-requires-clause-flat : goal.sort_terms-requires-clause-flat
+sort_terms-requires-clause-flat c =
+    c.in_ok-join_numbers.ensures.joined.no_sum (subst (NoneIs is_loose) (sym c.open_sums.ensures.opened) (opened_tight _ c.requires.formed))
+
+pub returns-clause-ok : goal.returns-clause-ok
+returns-clause-ok c = changes_after (changes_after c.open_sums.ensures.changes c.in_ok-join_numbers.ensures.ok) c.sort_terms.ensures.changes
+
+pub returns-clause-stage : goal.returns-clause-stage
+returns-clause-stage c =
+    stage_after (stage_after (opened_stage _ _ c.requires.formed c.requires.some c.open_sums.ensures.opened) c.in_ok-join_numbers.ensures.joined.stage) c.sort_terms.ensures.stage
+
+pub returns-clause-rationals : goal.returns-clause-rationals
+returns-clause-rationals c =
+    λ q. rationals_ordered (terms_in c.args.sum.now (forest c.args.pool.now)) (terms_in c.args.sum.now (forest c.open_sums.new.pool)) (terms_in c.args.sum.now (forest c.join_numbers.new.pool)) _ q c.open_sums.ensures.opened
+    c.in_ok-join_numbers.ensures.rationals c.sort_terms.ensures.alone
+
+pub returns-clause-front : goal.returns-clause-front
+returns-clause-front c = changes_front (changes_after (changes_after c.open_sums.ensures.changes c.in_ok-join_numbers.ensures.ok) c.sort_terms.ensures.changes)

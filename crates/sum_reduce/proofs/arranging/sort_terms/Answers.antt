@@ -1,0 +1,44 @@
+use Rattle.std.proofs.Common.{◌<◌, ◌∙◌, ap, sym, subst, arith}
+use Rattle.calc_terms.specs.Numbers.{is_number}
+use Rattle.calc_terms.specs.Reduced.{is_reduced}
+use Rattle.calc_terms.specs.Trees.{Trees, count}
+use Rattle.tree_handles.specs.Expressions.{nth}
+use Rattle.tree_handles.specs.Standing.{forest}
+use Rattle.sum_reduce.specs.Arranging.{IsArranged}
+use Rattle.sum_reduce.specs.Stages.{IsStage}
+use Rattle.sum_reduce.specs.Sums.{terms_in}
+use Rattle.sum_reduce.proofs.Sorted.{formed_nth, led_behind, lead_few, children_sorted, permuted_alone}
+use Rattle.sum_reduce.proofs.Stages.{stage_permuted}
+use Rattle.sum_reduce.proofs.Sums.{sum_over, root_arity}
+use Rattle.sum_reduce.proofs.arranging.sort_terms.Goals as goal
+
+pub sort_children-requires-clause-within : goal.sort_children-requires-clause-within
+sort_children-requires-clause-within c =
+    let ts = terms_in c.args.sum.now (forest c.args.pool.now) in
+    omega (arith, c.lead_count-lead.ensures c.requires.led, lead_few ts c.requires.led, root_arity c.requires.sum)
+
+pub sort_children-requires-clause-keyed : goal.sort_children-requires-clause-keyed
+sort_children-requires-clause-keyed c =
+    let ts = terms_in c.args.sum.now (forest c.args.pool.now) in
+    let e = (sum_over c.requires.sum).kids.plain_trees in
+    λ n z l.
+    let m = subst (λ (x : Trees). n < count x) e l in
+    (ap (λ (x : Trees). is_reduced (nth n x)) e ∙ formed_nth n ts m c.requires.formed, ap (λ (x : Trees). is_number (nth n x)) e ∙ led_behind ts c.requires.led n (omega (arith, c.lead_count-lead.ensures c.requires.led, z)) m)
+
+pub returns-clause-changes : goal.returns-clause-changes
+returns-clause-changes c = (children_sorted c.requires.sum c.requires.led (c.lead_count-lead.ensures c.requires.led) c.requires.flat c.sort_children.ensures.sorts).changed.changes
+
+pub returns-clause-stage : goal.returns-clause-stage
+returns-clause-stage c =
+    let s = children_sorted c.requires.sum c.requires.led (c.lead_count-lead.ensures c.requires.led) c.requires.flat c.sort_children.ensures.sorts in
+    subst (IsStage (terms_in c.args.sum.now (forest c.args.pool.now))) (sym s.changed.terms) (stage_permuted s.ordered.permuted c.requires.formed c.requires.some)
+
+pub returns-clause-arranged : goal.returns-clause-arranged
+returns-clause-arranged c =
+    let s = children_sorted c.requires.sum c.requires.led (c.lead_count-lead.ensures c.requires.led) c.requires.flat c.sort_children.ensures.sorts in
+    subst IsArranged (sym s.changed.terms) s.ordered.arranged
+
+pub returns-clause-alone : goal.returns-clause-alone
+returns-clause-alone c =
+    let s = children_sorted c.requires.sum c.requires.led (c.lead_count-lead.ensures c.requires.led) c.requires.flat c.sort_children.ensures.sorts in
+    λ e. s.changed.terms ∙ permuted_alone s.ordered.permuted e

@@ -1,0 +1,24 @@
+use Rattle.std.proofs.Common.{◌∙◌, inl, arith}
+use Rattle.tree_handles.specs.Standing.{forest}
+use Rattle.tree_handles.proofs.Given.{owned, gives, represents_handed}
+use Rattle.sum_reduce.specs.Sums.{terms_in}
+use Rattle.sum_reduce.proofs.Sums.{sum_within, term_out, only_left}
+use Rattle.sum_reduce.proofs.Written.{only_term, other_sum}
+use Rattle.sum_reduce.proofs.endings.unwrapped.Goals as goal
+
+pub take_child-only-requires-clause-within : goal.take_child-only-requires-clause-within
+take_child-only-requires-clause-within c = sum_within 0 c.requires.stands c.requires.sum (omega (arith, c.requires.some))
+
+pub release-requires-clause-releasable : goal.release-requires-clause-releasable
+release-requires-clause-releasable c =
+    let o = term_out 0 c.requires.sum (omega (arith, c.requires.some)) (c.take_child-only.ensures.last c.requires.sum.handed.root) in
+    inl o.takes.sum.handed.root
+
+pub returns-then-term_count-eq1-clause-tree : goal.returns-then-term_count-eq1-clause-tree
+returns-then-term_count-eq1-clause-tree c =
+    let o = term_out 0 c.requires.sum (omega (arith, c.requires.some)) (c.take_child-only.ensures.last c.requires.sum.handed.root) in
+    only_left o.takes (c.release.ensures.owned (owned o.takes.sum.handed)) (o.tree ∙ only_term (terms_in c.args.sum (forest c.args.pool.now)) (omega (arith, c.if-term_count-eq1.true, c.term_count.ensures)))
+
+pub returns-else-term_count-eq1-clause-tree : goal.returns-else-term_count-eq1-clause-tree
+returns-else-term_count-eq1-clause-tree c =
+    gives c.move_last.ensures.last (represents_handed c.requires.sum.handed) (other_sum _ c.requires.sum.sum c.requires.some (λ e. absurd (omega (arith, c.if-term_count-eq1.false, c.term_count.ensures, e))))

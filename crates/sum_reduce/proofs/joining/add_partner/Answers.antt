@@ -1,0 +1,99 @@
+use Rattle.std.proofs.Common.{◌∙◌, ap}
+use Rattle.calc_terms.specs.Numbers.{is_number}
+use Rattle.calc_terms.specs.Reduced.{is_reduced}
+use Rattle.calc_terms.specs.Trees.{is_undef}
+use Rattle.calc_terms.proofs.NumberLaws.{number_test}
+use Rattle.coefficients.specs.Coefficients.{coefficient_of}
+use Rattle.coefficients.proofs.Coefficients.{taken}
+use Rattle.tree_handles.specs.Expressions.{nth}
+use Rattle.tree_handles.specs.Standing.{forest}
+use Rattle.tree_handles.proofs.Fronts.{behind_first, behind_later, front_after_one, front_after_two}
+use Rattle.tree_handles.proofs.Given.{given_told}
+use Rattle.tree_handles.proofs.Outcomes.{eqb-sym}
+use Rattle.sum_reduce.specs.Sums.{terms_in}
+use Rattle.sum_reduce.proofs.Results.{if_ok_map}
+use Rattle.sum_reduce.proofs.Sums.{sum_within, term_out, takes_handed, takes_behind, takes_front, rewritten, other_handed, other_same, other_clear, both_rewritten}
+use Rattle.sum_reduce.proofs.joining.add_partner.Goals as goal
+
+pub take_child-term-requires-clause-within : goal.take_child-term-requires-clause-within
+take_child-term-requires-clause-within c = sum_within c.args.at c.requires.stands c.requires.sum c.requires.within
+
+pub coefficient_alone-requires-clause-handed : goal.coefficient_alone-requires-clause-handed
+coefficient_alone-requires-clause-handed c =
+    let o = term_out c.args.at c.requires.sum c.requires.within (c.take_child-term.ensures.last c.requires.sum.handed.root) in
+    takes_handed o.takes
+
+pub coefficient_alone-requires-clause-reduced : goal.coefficient_alone-requires-clause-reduced
+coefficient_alone-requires-clause-reduced c =
+    let o = term_out c.args.at c.requires.sum c.requires.within (c.take_child-term.ensures.last c.requires.sum.handed.root) in
+    ap is_reduced o.tree ∙ c.requires.reduced
+
+pub coefficient_alone-requires-clause-defined : goal.coefficient_alone-requires-clause-defined
+coefficient_alone-requires-clause-defined c =
+    let o = term_out c.args.at c.requires.sum c.requires.within (c.take_child-term.ensures.last c.requires.sum.handed.root) in
+    ap is_undef o.tree ∙ c.requires.defined
+
+pub coefficient_alone-requires-clause-no_number : goal.coefficient_alone-requires-clause-no_number
+coefficient_alone-requires-clause-no_number c =
+    let o = term_out c.args.at c.requires.sum c.requires.within (c.take_child-term.ensures.last c.requires.sum.handed.root) in
+    ap is_number o.tree ∙ c.requires.no_number
+
+pub add_numbers-requires-clause-first : goal.add_numbers-requires-clause-first
+add_numbers-requires-clause-first c =
+    let o = term_out c.args.at c.requires.sum c.requires.within (c.take_child-term.ensures.last c.requires.sum.handed.root) in
+    let r = rewritten o.takes c.in_ok-coefficient.ensures.ok in
+    other_handed c.requires.apart c.requires.handed r.takes
+
+pub add_numbers-requires-clause-second : goal.add_numbers-requires-clause-second
+add_numbers-requires-clause-second c =
+    let o = term_out c.args.at c.requires.sum c.requires.within (c.take_child-term.ensures.last c.requires.sum.handed.root) in
+    let r = rewritten o.takes c.in_ok-coefficient.ensures.ok in
+    takes_handed r.takes
+
+pub add_numbers-requires-clause-apart : goal.add_numbers-requires-clause-apart
+add_numbers-requires-clause-apart c =
+    let o = term_out c.args.at c.requires.sum c.requires.within (c.take_child-term.ensures.last c.requires.sum.handed.root) in
+    let r = rewritten o.takes c.in_ok-coefficient.ensures.ok in
+    eqb-sym c.in_ok-coefficient.coefficient c.args.so_far (other_clear c.requires.apart c.requires.handed r.takes)
+
+pub add_numbers-requires-clause-first_number : goal.add_numbers-requires-clause-first_number
+add_numbers-requires-clause-first_number c =
+    let o = term_out c.args.at c.requires.sum c.requires.within (c.take_child-term.ensures.last c.requires.sum.handed.root) in
+    let r = rewritten o.takes c.in_ok-coefficient.ensures.ok in
+    ap is_number (other_same c.requires.apart c.requires.handed r.takes) ∙ c.requires.so_far
+
+pub add_numbers-requires-clause-second_number : goal.add_numbers-requires-clause-second_number
+add_numbers-requires-clause-second_number c =
+    let o = term_out c.args.at c.requires.sum c.requires.within (c.take_child-term.ensures.last c.requires.sum.handed.root) in
+    let t = nth c.args.at (terms_in c.args.sum.now (forest c.args.pool.now)) in
+    ap is_number (given_told c.in_ok-coefficient.ensures.ok ∙ ap coefficient_of o.tree) ∙ number_test (coefficient_of t) (taken t c.requires.reduced c.requires.defined c.requires.no_number).number
+
+pub returns-clause-ok : goal.returns-clause-ok
+returns-clause-ok c =
+    let o = term_out c.args.at c.requires.sum c.requires.within (c.take_child-term.ensures.last c.requires.sum.handed.root) in
+    let r = rewritten o.takes c.in_ok-coefficient.ensures.ok in
+    if_ok_map c.add_numbers.result c.add_numbers.ensures.ok (λ h k. (both_rewritten c.requires.apart c.requires.handed r.takes k).takes)
+
+pub returns-clause-terms : goal.returns-clause-terms
+returns-clause-terms c =
+    let o = term_out c.args.at c.requires.sum c.requires.within (c.take_child-term.ensures.last c.requires.sum.handed.root) in
+    let r = rewritten o.takes c.in_ok-coefficient.ensures.ok in
+    if_ok_map c.add_numbers.result c.add_numbers.ensures.ok (λ h k. (both_rewritten c.requires.apart c.requires.handed r.takes k).terms ∙ r.terms ∙ o.terms)
+
+pub returns-clause-number : goal.returns-clause-number
+returns-clause-number c =
+    let o = term_out c.args.at c.requires.sum c.requires.within (c.take_child-term.ensures.last c.requires.sum.handed.root) in
+    let r = rewritten o.takes c.in_ok-coefficient.ensures.ok in
+    let same = given_told c.in_ok-coefficient.ensures.ok ∙ ap coefficient_of o.tree in
+    if_ok_map c.add_numbers.result c.add_numbers.ensures.ok (λ h k. let t = given_told k in record { number = t.number; worth = rw (other_same c.requires.apart c.requires.handed r.takes, same) at t.worth })
+
+pub returns-clause-front : goal.returns-clause-front
+returns-clause-front c =
+    let o = term_out c.args.at c.requires.sum c.requires.within (c.take_child-term.ensures.last c.requires.sum.handed.root) in
+    let r = rewritten o.takes c.in_ok-coefficient.ensures.ok in
+    front_after_two (behind_later behind_first) (takes_behind r.takes) (takes_front r.takes) c.add_numbers.ensures.front
+
+pub returns-in_err-coefficient-clause-front : goal.returns-in_err-coefficient-clause-front
+returns-in_err-coefficient-clause-front c =
+    let o = term_out c.args.at c.requires.sum c.requires.within (c.take_child-term.ensures.last c.requires.sum.handed.root) in
+    front_after_one (takes_behind o.takes) (takes_front o.takes) c.coefficient_alone.ensures.front

@@ -1,0 +1,105 @@
+use Rattle.std.proofs.Common.{◌+◌, ap, add-one, arith}
+use Rattle.calc_terms.specs.Trees.{count}
+use Rattle.tree_handles.specs.Standing.{forest}
+use Rattle.tree_handles.proofs.Forests.{keeps_none, keeps_after}
+use Rattle.tree_handles.proofs.Fronts.{behind_first, front_same, front_after_two}
+use Rattle.sum_reduce.specs.Sums.{terms_in}
+use Rattle.sum_reduce.proofs.Joins.{joining_formed, joining_less, next_partner, partner_step, partner_within}
+use Rattle.sum_reduce.proofs.Numbered.{beside_behind}
+use Rattle.sum_reduce.proofs.Places.{count_removed}
+use Rattle.sum_reduce.proofs.Sums.{takes_handed, takes_apart, takes_after}
+use Rattle.sum_reduce.proofs.joining.add_partners.Goals as goal
+
+pub loop-pool-init : goal.loop-pool-init
+loop-pool-init c =
+    record {
+      takes = λ f t. t;
+      within = c.requires.within;
+      joining = λ ts less j. j;
+      front = front_same;
+      kept = keeps_none c.args.pool.now;
+      stands = c.requires.stands;
+    }
+
+pub leads_pair-requires-clause-sum : goal.leads_pair-requires-clause-sum
+leads_pair-requires-clause-sum c =
+    (c.loop-pool.invariant.takes _ c.requires.taken.1).sum
+
+pub leads_pair-requires-clause-formed : goal.leads_pair-requires-clause-formed
+leads_pair-requires-clause-formed c =
+    let i = c.loop-pool.invariant in
+    let us = terms_in c.args.sum.now (forest c.loop-pool.pool) in
+    let j = i.joining _ _ c.requires.joining.2 in
+    joining_formed _ _ us c.args.at _ j i.within
+
+pub add_partner-requires-clause-sum : goal.add_partner-requires-clause-sum
+add_partner-requires-clause-sum c =
+    (c.loop-pool.invariant.takes _ c.requires.taken.1).sum
+
+pub add_partner-requires-clause-within : goal.add_partner-requires-clause-within
+add_partner-requires-clause-within c =
+    rw add-one (c.leads_pair.ensures.pair c.loop-pool-test.true).within
+
+pub add_partner-requires-clause-reduced : goal.add_partner-requires-clause-reduced
+add_partner-requires-clause-reduced c =
+    let i = c.loop-pool.invariant in
+    let us = terms_in c.args.sum.now (forest c.loop-pool.pool) in
+    let j = i.joining _ _ c.requires.joining.2 in
+    let n = next_partner us c.args.at (joining_formed _ _ us c.args.at _ j i.within) (c.leads_pair.ensures.pair c.loop-pool-test.true) in
+    rw add-one n.reduced
+
+pub add_partner-requires-clause-defined : goal.add_partner-requires-clause-defined
+add_partner-requires-clause-defined c =
+    let i = c.loop-pool.invariant in
+    let us = terms_in c.args.sum.now (forest c.loop-pool.pool) in
+    let j = i.joining _ _ c.requires.joining.2 in
+    let n = next_partner us c.args.at (joining_formed _ _ us c.args.at _ j i.within) (c.leads_pair.ensures.pair c.loop-pool-test.true) in
+    rw add-one n.defined
+
+pub add_partner-requires-clause-no_number : goal.add_partner-requires-clause-no_number
+add_partner-requires-clause-no_number c =
+    let i = c.loop-pool.invariant in
+    let us = terms_in c.args.sum.now (forest c.loop-pool.pool) in
+    let j = i.joining _ _ c.requires.joining.2 in
+    let n = next_partner us c.args.at (joining_formed _ _ us c.args.at _ j i.within) (c.leads_pair.ensures.pair c.loop-pool-test.true) in
+    rw add-one n.no_number
+
+pub add_partner-requires-clause-handed : goal.add_partner-requires-clause-handed
+add_partner-requires-clause-handed c =
+    takes_handed (c.loop-pool.invariant.takes _ c.requires.taken.1)
+
+pub add_partner-requires-clause-apart : goal.add_partner-requires-clause-apart
+add_partner-requires-clause-apart c =
+    takes_apart (c.loop-pool.invariant.takes _ c.requires.taken.1)
+
+pub add_partner-requires-clause-so_far : goal.add_partner-requires-clause-so_far
+add_partner-requires-clause-so_far c =
+    let i = c.loop-pool.invariant in
+    let j = i.joining _ _ c.requires.joining.2 in
+    j.number
+
+pub loop-pool-smaller : goal.loop-pool-smaller
+loop-pool-smaller c =
+    let p = c.leads_pair.ensures.pair c.loop-pool-test.true in
+    omega (arith, ap count c.in-Ok.ensures.terms, count_removed (c.args.at + 1) (terms_in c.args.sum.now (forest c.loop-pool.pool)) (rw add-one p.within))
+
+pub loop-pool-preserved : goal.loop-pool-preserved
+loop-pool-preserved c =
+    let i = c.loop-pool.invariant in
+    let us = terms_in c.args.sum.now (forest c.loop-pool.pool) in
+    let vs = terms_in c.args.sum.now (forest c.add_partner.new.pool) in
+    let p = c.leads_pair.ensures.pair c.loop-pool-test.true in
+    let q = rw add-one at c.in-Ok.ensures.terms in
+    record {
+      takes = λ f t. takes_after (i.takes f t) c.in-Ok.ensures.ok;
+      within = partner_within us vs c.args.at p q;
+      joining = λ ts less j. joining_less less (omega arith) (partner_step ts _ _ us vs c.args.at less (i.joining ts less j) p q (rw add-one at c.in-Ok.ensures.number));
+      front = front_after_two behind_first (beside_behind c.requires.taken.1 (i.takes _ c.requires.taken.1)) i.front c.add_partner.ensures.front;
+      kept = keeps_after _ _ _ i.kept c.in-Ok.ensures.kept;
+      stands = c.add_partner.ensures.stands;
+    }
+
+pub returns-in-Err-clause-front : goal.returns-in-Err-clause-front
+returns-in-Err-clause-front c =
+    let i = c.loop-pool.invariant in
+    front_after_two behind_first (beside_behind c.requires.taken.1 (i.takes _ c.requires.taken.1)) i.front c.add_partner.ensures.front

@@ -1,0 +1,143 @@
+use Rattle.std.proofs.Common.{◌<◌, sym, subst, add-one, arith}
+use Rattle.calc_terms.specs.Trees.{Trees}
+use Rattle.tree_handles.specs.Expressions.{nth}
+use Rattle.tree_handles.specs.Standing.{forest}
+use Rattle.tree_handles.proofs.Fronts.{behind_first, front_after_two}
+use Rattle.sum_reduce.specs.Stages.{IsStage, widths}
+use Rattle.sum_reduce.specs.Sums.{terms_in}
+use Rattle.sum_reduce.proofs.Joins.{joining_start, pair_start, joining_formed, next_partner, first_partner, partner_step, partner_within, joining_done, pair_here, here_reduced, here_defined}
+use Rattle.sum_reduce.proofs.Results.{on_ok_map}
+use Rattle.sum_reduce.proofs.Sums.{takes_handed, takes_apart, takes_after, takes_behind, takes_front, takes_changes}
+use Rattle.sum_reduce.proofs.Widths.{some_node}
+use Rattle.sum_reduce.proofs.joining.join_terms.Goals as goal
+
+pub take_coefficient_at-requires-clause-within : goal.take_coefficient_at-requires-clause-within
+take_coefficient_at-requires-clause-within c = pair_here c.args.at (terms_in c.args.sum.now (forest c.args.pool.now)) c.requires.pair
+
+pub take_coefficient_at-requires-clause-reduced : goal.take_coefficient_at-requires-clause-reduced
+take_coefficient_at-requires-clause-reduced c = here_reduced c.args.at (terms_in c.args.sum.now (forest c.args.pool.now)) c.requires.formed c.requires.pair
+
+pub take_coefficient_at-requires-clause-defined : goal.take_coefficient_at-requires-clause-defined
+take_coefficient_at-requires-clause-defined c = here_defined c.args.at (terms_in c.args.sum.now (forest c.args.pool.now)) c.requires.formed c.requires.pair
+
+pub take_coefficient_at-requires-clause-no_number : goal.take_coefficient_at-requires-clause-no_number
+take_coefficient_at-requires-clause-no_number c = first_partner (terms_in c.args.sum.now (forest c.args.pool.now)) c.args.at c.requires.pair
+
+pub add_partner-requires-clause-sum : goal.add_partner-requires-clause-sum
+add_partner-requires-clause-sum c = c.in_ok-coefficient.ensures.ok.sum
+
+pub add_partner-requires-clause-within : goal.add_partner-requires-clause-within
+add_partner-requires-clause-within c =
+    let p = pair_start (terms_in c.args.sum.now (forest c.args.pool.now)) (terms_in c.args.sum.now (forest c.take_coefficient_at.new.pool)) c.args.at c.requires.formed c.requires.pair c.in_ok-coefficient.ensures.terms in
+    rw add-one p.within
+
+pub add_partner-requires-clause-reduced : goal.add_partner-requires-clause-reduced
+add_partner-requires-clause-reduced c =
+    let ts = terms_in c.args.sum.now (forest c.args.pool.now) in
+    let us = terms_in c.args.sum.now (forest c.take_coefficient_at.new.pool) in
+    let p = pair_start ts us c.args.at c.requires.formed c.requires.pair c.in_ok-coefficient.ensures.terms in
+    let j = joining_start ts us _ c.args.at c.requires.formed c.requires.flat c.requires.pair c.in_ok-coefficient.ensures.terms c.in_ok-coefficient.ensures.coefficient in
+    rw add-one (next_partner us c.args.at (joining_formed ts _ us c.args.at _ j (pair_here c.args.at us p)) p).reduced
+
+pub add_partner-requires-clause-defined : goal.add_partner-requires-clause-defined
+add_partner-requires-clause-defined c =
+    let ts = terms_in c.args.sum.now (forest c.args.pool.now) in
+    let us = terms_in c.args.sum.now (forest c.take_coefficient_at.new.pool) in
+    let p = pair_start ts us c.args.at c.requires.formed c.requires.pair c.in_ok-coefficient.ensures.terms in
+    let j = joining_start ts us _ c.args.at c.requires.formed c.requires.flat c.requires.pair c.in_ok-coefficient.ensures.terms c.in_ok-coefficient.ensures.coefficient in
+    rw add-one (next_partner us c.args.at (joining_formed ts _ us c.args.at _ j (pair_here c.args.at us p)) p).defined
+
+pub add_partner-requires-clause-no_number : goal.add_partner-requires-clause-no_number
+add_partner-requires-clause-no_number c =
+    let ts = terms_in c.args.sum.now (forest c.args.pool.now) in
+    let us = terms_in c.args.sum.now (forest c.take_coefficient_at.new.pool) in
+    let p = pair_start ts us c.args.at c.requires.formed c.requires.pair c.in_ok-coefficient.ensures.terms in
+    let j = joining_start ts us _ c.args.at c.requires.formed c.requires.flat c.requires.pair c.in_ok-coefficient.ensures.terms c.in_ok-coefficient.ensures.coefficient in
+    rw add-one (next_partner us c.args.at (joining_formed ts _ us c.args.at _ j (pair_here c.args.at us p)) p).no_number
+
+pub add_partner-requires-clause-handed : goal.add_partner-requires-clause-handed
+add_partner-requires-clause-handed c = takes_handed c.in_ok-coefficient.ensures.ok
+
+pub add_partner-requires-clause-apart : goal.add_partner-requires-clause-apart
+add_partner-requires-clause-apart c = takes_apart c.in_ok-coefficient.ensures.ok
+
+pub add_partner-requires-clause-so_far : goal.add_partner-requires-clause-so_far
+add_partner-requires-clause-so_far c =
+    let j = joining_start (terms_in c.args.sum.now (forest c.args.pool.now)) (terms_in c.args.sum.now (forest c.take_coefficient_at.new.pool)) _ c.args.at c.requires.formed c.requires.flat c.requires.pair c.in_ok-coefficient.ensures.terms c.in_ok-coefficient.ensures.coefficient in
+    j.number
+
+pub add_partners-requires-clause-sum : goal.add_partners-requires-clause-sum
+add_partners-requires-clause-sum c = c.in_ok-both.ensures.ok.sum
+
+pub add_partners-requires-clause-taken : goal.add_partners-requires-clause-taken
+add_partners-requires-clause-taken c = (_, takes_after c.in_ok-coefficient.ensures.ok c.in_ok-both.ensures.ok)
+
+pub add_partners-requires-clause-within : goal.add_partners-requires-clause-within
+add_partners-requires-clause-within c =
+    let us = terms_in c.args.sum.now (forest c.take_coefficient_at.new.pool) in
+    let p = pair_start (terms_in c.args.sum.now (forest c.args.pool.now)) us c.args.at c.requires.formed c.requires.pair c.in_ok-coefficient.ensures.terms in
+    partner_within us (terms_in c.args.sum.now (forest c.add_partner.new.pool)) c.args.at p (rw add-one at c.in_ok-both.ensures.terms)
+
+pub add_partners-requires-clause-joining : goal.add_partners-requires-clause-joining
+add_partners-requires-clause-joining c =
+    let ts = terms_in c.args.sum.now (forest c.args.pool.now) in
+    let us = terms_in c.args.sum.now (forest c.take_coefficient_at.new.pool) in
+    let p = pair_start ts us c.args.at c.requires.formed c.requires.pair c.in_ok-coefficient.ensures.terms in
+    let j = joining_start ts us _ c.args.at c.requires.formed c.requires.flat c.requires.pair c.in_ok-coefficient.ensures.terms c.in_ok-coefficient.ensures.coefficient in
+    (ts, _, partner_step ts _ _ us (terms_in c.args.sum.now (forest c.add_partner.new.pool)) c.args.at 0 j p (rw add-one at c.in_ok-both.ensures.terms) (rw add-one at c.in_ok-both.ensures.number))
+
+pub put_back-requires-clause-sum : goal.put_back-requires-clause-sum
+put_back-requires-clause-sum c = (c.in_ok-total.ensures.ok _ (takes_after c.in_ok-coefficient.ensures.ok c.in_ok-both.ensures.ok)).sum
+
+pub put_back-requires-clause-handed : goal.put_back-requires-clause-handed
+put_back-requires-clause-handed c = takes_handed (c.in_ok-total.ensures.ok _ (takes_after c.in_ok-coefficient.ensures.ok c.in_ok-both.ensures.ok))
+
+pub put_back-requires-clause-apart : goal.put_back-requires-clause-apart
+put_back-requires-clause-apart c = takes_apart (c.in_ok-total.ensures.ok _ (takes_after c.in_ok-coefficient.ensures.ok c.in_ok-both.ensures.ok))
+
+pub put_back-requires-clause-reduced : goal.put_back-requires-clause-reduced
+put_back-requires-clause-reduced c =
+    let ts = terms_in c.args.sum.now (forest c.args.pool.now) in
+    let us = terms_in c.args.sum.now (forest c.take_coefficient_at.new.pool) in
+    let p = pair_start ts us c.args.at c.requires.formed c.requires.pair c.in_ok-coefficient.ensures.terms in
+    let j = joining_start ts us _ c.args.at c.requires.formed c.requires.flat c.requires.pair c.in_ok-coefficient.ensures.terms c.in_ok-coefficient.ensures.coefficient in
+    let k = partner_step ts _ _ us (terms_in c.args.sum.now (forest c.add_partner.new.pool)) c.args.at 0 j p (rw add-one at c.in_ok-both.ensures.terms) (rw add-one at c.in_ok-both.ensures.number) in
+    (c.in_ok-total.ensures.joining ts _ k).monic.reduced
+
+pub returns-clause-ok : goal.returns-clause-ok
+returns-clause-ok c = on_ok_map c.put_back.result c.put_back.ensures.ok (takes_changes (c.in_ok-total.ensures.ok _ (takes_after c.in_ok-coefficient.ensures.ok c.in_ok-both.ensures.ok)))
+
+pub returns-clause-stage : goal.returns-clause-stage
+returns-clause-stage c =
+    let ts = terms_in c.args.sum.now (forest c.args.pool.now) in
+    let us = terms_in c.args.sum.now (forest c.take_coefficient_at.new.pool) in
+    let p = pair_start ts us c.args.at c.requires.formed c.requires.pair c.in_ok-coefficient.ensures.terms in
+    let j = joining_start ts us _ c.args.at c.requires.formed c.requires.flat c.requires.pair c.in_ok-coefficient.ensures.terms c.in_ok-coefficient.ensures.coefficient in
+    let k = partner_step ts _ _ us (terms_in c.args.sum.now (forest c.add_partner.new.pool)) c.args.at 0 j p (rw add-one at c.in_ok-both.ensures.terms) (rw add-one at c.in_ok-both.ensures.number) in
+    let d = joining_done _ _ ts _ _ c.args.at (c.in_ok-total.ensures.joining ts _ k) (omega (arith, some_node (nth c.args.at us))) in
+    on_ok_map c.put_back.result c.put_back.ensures.terms (λ e. subst (IsStage ts) (sym e) d.stage)
+
+pub returns-clause-fewer : goal.returns-clause-fewer
+returns-clause-fewer c =
+    let ts = terms_in c.args.sum.now (forest c.args.pool.now) in
+    let us = terms_in c.args.sum.now (forest c.take_coefficient_at.new.pool) in
+    let p = pair_start ts us c.args.at c.requires.formed c.requires.pair c.in_ok-coefficient.ensures.terms in
+    let j = joining_start ts us _ c.args.at c.requires.formed c.requires.flat c.requires.pair c.in_ok-coefficient.ensures.terms c.in_ok-coefficient.ensures.coefficient in
+    let k = partner_step ts _ _ us (terms_in c.args.sum.now (forest c.add_partner.new.pool)) c.args.at 0 j p (rw add-one at c.in_ok-both.ensures.terms) (rw add-one at c.in_ok-both.ensures.number) in
+    let d = joining_done _ _ ts _ _ c.args.at (c.in_ok-total.ensures.joining ts _ k) (omega (arith, some_node (nth c.args.at us))) in
+    on_ok_map c.put_back.result c.put_back.ensures.terms (λ e. subst (λ (x : Trees). widths x < widths ts) (sym e) d.fewer)
+
+pub returns-clause-front : goal.returns-clause-front
+returns-clause-front c =
+    let t = c.in_ok-total.ensures.ok _ (takes_after c.in_ok-coefficient.ensures.ok c.in_ok-both.ensures.ok) in
+    front_after_two behind_first (takes_behind t) (takes_front t) c.put_back.ensures.front
+
+pub returns-in_err-both-clause-front : goal.returns-in_err-both-clause-front
+returns-in_err-both-clause-front c =
+    let t = c.in_ok-coefficient.ensures.ok in
+    front_after_two behind_first (takes_behind t) (takes_front t) c.add_partner.ensures.front
+
+pub returns-in_err-total-clause-front : goal.returns-in_err-total-clause-front
+returns-in_err-total-clause-front c =
+    let t = takes_after c.in_ok-coefficient.ensures.ok c.in_ok-both.ensures.ok in
+    front_after_two behind_first (takes_behind t) (takes_front t) c.add_partners.ensures.front

@@ -1,0 +1,85 @@
+use Rattle.std.proofs.Common.{◌∙◌, ap, arith}
+use Rattle.calc_terms.specs.Numbers.{is_number}
+use Rattle.calc_terms.specs.Reduced.{is_reduced, part_of}
+use Rattle.calc_terms.specs.Trees.{more, none, count, is_undef}
+use Rattle.coefficients.specs.Coefficients.{coefficient_of}
+use Rattle.coefficients.proofs.Steps.{children_in}
+use Rattle.tree_handles.specs.Expressions.{inserted}
+use Rattle.tree_handles.specs.Standing.{forest}
+use Rattle.tree_handles.proofs.Fronts.{front_after_one}
+use Rattle.tree_handles.proofs.Given.{given_root}
+use Rattle.tree_handles.proofs.Roots.{root_held}
+use Rattle.sum_reduce.specs.Sums.{terms_in}
+use Rattle.sum_reduce.proofs.Places.{count_removed}
+use Rattle.sum_reduce.proofs.Sums.{sum_within, term_out, takes_handed, takes_behind, takes_front, part_back, both_over, both_apart}
+use Rattle.sum_reduce.proofs.joining.take_coefficient_at.Goals as goal
+
+pub take_child-term-requires-clause-within : goal.take_child-term-requires-clause-within
+take_child-term-requires-clause-within c = sum_within c.args.at c.requires.stands c.requires.sum c.requires.within
+
+pub take_coefficient-requires-clause-handed : goal.take_coefficient-requires-clause-handed
+take_coefficient-requires-clause-handed c =
+    let o = term_out c.args.at c.requires.sum c.requires.within (c.take_child-term.ensures.last c.requires.sum.handed.root) in
+    takes_handed o.takes
+
+pub take_coefficient-requires-clause-reduced : goal.take_coefficient-requires-clause-reduced
+take_coefficient-requires-clause-reduced c =
+    let o = term_out c.args.at c.requires.sum c.requires.within (c.take_child-term.ensures.last c.requires.sum.handed.root) in
+    ap is_reduced o.tree ∙ c.requires.reduced
+
+pub take_coefficient-requires-clause-defined : goal.take_coefficient-requires-clause-defined
+take_coefficient-requires-clause-defined c =
+    let o = term_out c.args.at c.requires.sum c.requires.within (c.take_child-term.ensures.last c.requires.sum.handed.root) in
+    ap is_undef o.tree ∙ c.requires.defined
+
+pub take_coefficient-requires-clause-no_number : goal.take_coefficient-requires-clause-no_number
+take_coefficient-requires-clause-no_number c =
+    let o = term_out c.args.at c.requires.sum c.requires.within (c.take_child-term.ensures.last c.requires.sum.handed.root) in
+    ap is_number o.tree ∙ c.requires.no_number
+
+pub add_child-requires-clause-live : goal.add_child-requires-clause-live
+add_child-requires-clause-live c =
+    let o = term_out c.args.at c.requires.sum c.requires.within (c.take_child-term.ensures.last c.requires.sum.handed.root) in
+    root_held c.args.sum.now _ (both_over o.takes c.in_ok-coefficient.ensures.ok).root
+
+pub add_child-requires-clause-within : goal.add_child-requires-clause-within
+add_child-requires-clause-within c =
+    let o = term_out c.args.at c.requires.sum c.requires.within (c.take_child-term.ensures.last c.requires.sum.handed.root) in
+    omega (arith, children_in c.in_ok-coefficient.ensures.stands (both_over o.takes c.in_ok-coefficient.ensures.ok), ap count o.terms, count_removed c.args.at (terms_in c.args.sum.now (forest c.args.pool.now)) c.requires.within, c.requires.within)
+
+pub add_child-requires-clause-root : goal.add_child-requires-clause-root
+add_child-requires-clause-root c = given_root c.in_ok-coefficient.ensures.ok.second-given
+
+pub add_child-requires-clause-apart : goal.add_child-requires-clause-apart
+add_child-requires-clause-apart c =
+    let o = term_out c.args.at c.requires.sum c.requires.within (c.take_child-term.ensures.last c.requires.sum.handed.root) in
+    both_apart c.in_ok-coefficient.ensures.stands o.takes c.in_ok-coefficient.ensures.ok
+
+pub returns-clause-ok : goal.returns-clause-ok
+returns-clause-ok c =
+    let o = term_out c.args.at c.requires.sum c.requires.within (c.take_child-term.ensures.last c.requires.sum.handed.root) in
+    let k = c.in_ok-coefficient.ensures.ok in
+    (part_back c.args.at o.takes k (c.add_child.ensures.root (both_over o.takes k).root)).takes
+
+pub returns-clause-terms : goal.returns-clause-terms
+returns-clause-terms c =
+    let o = term_out c.args.at c.requires.sum c.requires.within (c.take_child-term.ensures.last c.requires.sum.handed.root) in
+    let k = c.in_ok-coefficient.ensures.ok in
+    (part_back c.args.at o.takes k (c.add_child.ensures.root (both_over o.takes k).root)).terms ∙ (λ i. inserted c.args.at (more (part_of (o.tree i)) none) (o.terms i))
+
+pub returns-clause-coefficient : goal.returns-clause-coefficient
+returns-clause-coefficient c =
+    let o = term_out c.args.at c.requires.sum c.requires.within (c.take_child-term.ensures.last c.requires.sum.handed.root) in
+    let k = c.in_ok-coefficient.ensures.ok in
+    (part_back c.args.at o.takes k (c.add_child.ensures.root (both_over o.takes k).root)).told ∙ ap coefficient_of o.tree
+
+pub returns-clause-front : goal.returns-clause-front
+returns-clause-front c =
+    let o = term_out c.args.at c.requires.sum c.requires.within (c.take_child-term.ensures.last c.requires.sum.handed.root) in
+    let k = c.in_ok-coefficient.ensures.ok in
+    takes_front (part_back c.args.at o.takes k (c.add_child.ensures.root (both_over o.takes k).root)).takes
+
+pub returns-in_err-coefficient-clause-front : goal.returns-in_err-coefficient-clause-front
+returns-in_err-coefficient-clause-front c =
+    let o = term_out c.args.at c.requires.sum c.requires.within (c.take_child-term.ensures.last c.requires.sum.handed.root) in
+    front_after_one (takes_behind o.takes) (takes_front o.takes) c.take_coefficient.ensures.front

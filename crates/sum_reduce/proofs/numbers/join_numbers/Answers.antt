@@ -1,0 +1,114 @@
+use Rattle.std.proofs.Common.{◌∙◌, ap}
+use Rattle.calc_terms.specs.Numbers.{is_number}
+use Rattle.calc_terms.specs.PlainValues.{plain_value}
+use Rattle.calc_terms.specs.Trees.{add}
+use Rattle.sum_reduce.specs.Arranging.{AnswersFold}
+use Rattle.sum_reduce.proofs.Results.{passed_on}
+use Rattle.tree_handles.specs.Standing.{forest}
+use Rattle.tree_handles.proofs.Forests.{keeps_none}
+use Rattle.tree_handles.proofs.Fronts.{behind_first, front_same, front_after_two}
+use Rattle.tree_handles.proofs.Given.{given_root}
+use Rattle.tree_handles.proofs.Roots.{root_held}
+use Rattle.sum_reduce.specs.Sums.{terms_in}
+use Rattle.sum_reduce.proofs.Folds.{some_number}
+use Rattle.sum_reduce.proofs.Numbered.{numbered, unnumbered, formed_behind, rationals_taken, total_folded, total_faulted}
+use Rattle.sum_reduce.proofs.Sums.{changes_same, changes_front, sum_within, term_out, takes_front, takes_behind, put_in, roots_apart}
+use Rattle.sum_reduce.proofs.numbers.join_numbers.Goals as goal
+
+pub take_child-number-requires-clause-within : goal.take_child-number-requires-clause-within
+take_child-number-requires-clause-within c =
+    sum_within c.in-Some.at c.requires.stands c.requires.sum c.in-Some.ensures.within
+
+pub add_all_numbers-requires-clause-sum : goal.add_all_numbers-requires-clause-sum
+add_all_numbers-requires-clause-sum c =
+    let o = term_out c.in-Some.at c.requires.sum c.in-Some.ensures.within (c.take_child-number.ensures.last c.requires.sum.handed.root) in
+    o.takes.sum
+
+pub add_all_numbers-requires-clause-formed : goal.add_all_numbers-requires-clause-formed
+add_all_numbers-requires-clause-formed c =
+    let o = term_out c.in-Some.at c.requires.sum c.in-Some.ensures.within (c.take_child-number.ensures.last c.requires.sum.handed.root) in
+    formed_behind c.in-Some.at (terms_in c.args.sum.now (forest c.args.pool.now)) _ c.in-Some.ensures.within c.requires.formed o.terms
+
+pub add_all_numbers-requires-clause-taken : goal.add_all_numbers-requires-clause-taken
+add_all_numbers-requires-clause-taken c =
+    let o = term_out c.in-Some.at c.requires.sum c.in-Some.ensures.within (c.take_child-number.ensures.last c.requires.sum.handed.root) in
+    (_, o.takes)
+
+pub add_all_numbers-requires-clause-number : goal.add_all_numbers-requires-clause-number
+add_all_numbers-requires-clause-number c =
+    let o = term_out c.in-Some.at c.requires.sum c.in-Some.ensures.within (c.take_child-number.ensures.last c.requires.sum.handed.root) in
+    ap is_number o.tree ∙ c.in-Some.ensures.number
+
+pub add_child-requires-clause-live : goal.add_child-requires-clause-live
+add_child-requires-clause-live c =
+    let o = term_out c.in-Some.at c.requires.sum c.in-Some.ensures.within (c.take_child-number.ensures.last c.requires.sum.handed.root) in
+    let t = c.in_ok-total-in-Some.ensures.ok _ o.takes in
+    root_held c.args.sum.now _ t.sum.handed.root
+
+pub add_child-requires-clause-root : goal.add_child-requires-clause-root
+add_child-requires-clause-root c =
+    let o = term_out c.in-Some.at c.requires.sum c.in-Some.ensures.within (c.take_child-number.ensures.last c.requires.sum.handed.root) in
+    let t = c.in_ok-total-in-Some.ensures.ok _ o.takes in
+    given_root t.given
+
+pub add_child-requires-clause-apart : goal.add_child-requires-clause-apart
+add_child-requires-clause-apart c =
+    let o = term_out c.in-Some.at c.requires.sum c.in-Some.ensures.within (c.take_child-number.ensures.last c.requires.sum.handed.root) in
+    let t = c.in_ok-total-in-Some.ensures.ok _ o.takes in
+    roots_apart c.in_ok-total-in-Some.ensures.stands t
+
+pub returns-in_ok-total-in-Some-clause-ok : goal.returns-in_ok-total-in-Some-clause-ok
+returns-in_ok-total-in-Some-clause-ok c =
+    let o = term_out c.in-Some.at c.requires.sum c.in-Some.ensures.within (c.take_child-number.ensures.last c.requires.sum.handed.root) in
+    let t = c.in_ok-total-in-Some.ensures.ok _ o.takes in
+    let x = put_in 0 t (c.add_child.ensures.root t.sum.handed.root) in
+    x.changes
+
+pub returns-in_ok-total-in-Some-clause-joined : goal.returns-in_ok-total-in-Some-clause-joined
+returns-in_ok-total-in-Some-clause-joined c =
+    let o = term_out c.in-Some.at c.requires.sum c.in-Some.ensures.within (c.take_child-number.ensures.last c.requires.sum.handed.root) in
+    let t = c.in_ok-total-in-Some.ensures.ok _ o.takes in
+    let x = put_in 0 t (c.add_child.ensures.root t.sum.handed.root) in
+    numbered c.in-Some.at (terms_in c.args.sum.now (forest c.args.pool.now)) _ _ _ _ _ c.in-Some.ensures c.requires.formed c.requires.some o.terms o.tree c.in_ok-total-in-Some.ensures.gathered x.terms
+
+pub returns-in_ok-total-in-Some-clause-rationals : goal.returns-in_ok-total-in-Some-clause-rationals
+returns-in_ok-total-in-Some-clause-rationals c =
+    λ q.
+    let o = term_out c.in-Some.at c.requires.sum c.in-Some.ensures.within (c.take_child-number.ensures.last c.requires.sum.handed.root) in
+    let t = c.in_ok-total-in-Some.ensures.ok _ o.takes in
+    let x = put_in 0 t (c.add_child.ensures.root t.sum.handed.root) in
+    let r = rationals_taken c.in-Some.at (terms_in c.args.sum.now (forest c.args.pool.now)) _ _ c.in-Some.ensures q o.terms o.tree in
+    total_folded _ _ _ _ _ r.plain (c.in_ok-total-in-Some.ensures.rationals r.first r.others) x.terms
+
+pub returns-in_ok-total-in-Some-clause-front : goal.returns-in_ok-total-in-Some-clause-front
+returns-in_ok-total-in-Some-clause-front c =
+    let o = term_out c.in-Some.at c.requires.sum c.in-Some.ensures.within (c.take_child-number.ensures.last c.requires.sum.handed.root) in
+    let t = c.in_ok-total-in-Some.ensures.ok _ o.takes in
+    let x = put_in 0 t (c.add_child.ensures.root t.sum.handed.root) in
+    changes_front x.changes
+
+pub returns-in_err-total-in-Some-clause-rationals : goal.returns-in_err-total-in-Some-clause-rationals
+returns-in_err-total-in-Some-clause-rationals c =
+    λ q.
+    let o = term_out c.in-Some.at c.requires.sum c.in-Some.ensures.within (c.take_child-number.ensures.last c.requires.sum.handed.root) in
+    let r = rationals_taken c.in-Some.at (terms_in c.args.sum.now (forest c.args.pool.now)) _ _ c.in-Some.ensures q o.terms o.tree in
+    passed_on c.from_residual.result c.in_err-total-in-Some.field-0.0 (AnswersFold (plain_value (add (terms_in c.args.sum.now (forest c.args.pool.now)))) (terms_in c.args.sum.now (forest c.add_all_numbers.new.pool)))
+    c.from_residual.ensures.0 c.from_residual.ensures.1 (total_faulted _ _ c.add_all_numbers.new.pool (terms_in c.args.sum.now (forest c.add_all_numbers.new.pool)) (terms_in c.args.sum.now (forest c.add_all_numbers.new.pool)) _ r.plain (c.in_err-total-in-Some.ensures.rationals r.first r.others))
+
+pub returns-in_err-total-in-Some-clause-front : goal.returns-in_err-total-in-Some-clause-front
+returns-in_err-total-in-Some-clause-front c =
+    let o = term_out c.in-Some.at c.requires.sum c.in-Some.ensures.within (c.take_child-number.ensures.last c.requires.sum.handed.root) in
+    front_after_two behind_first (takes_behind o.takes) (takes_front o.takes) c.add_all_numbers.ensures.front
+
+pub returns-in-None : goal.returns-in-None
+returns-in-None c =
+    record {
+      ok = changes_same c.requires.sum;
+      joined = unnumbered (terms_in c.args.sum.now (forest c.args.pool.now)) c.in-None.ensures c.requires.formed c.requires.some;
+      rationals = λ q. absurd (some_number (terms_in c.args.sum.now (forest c.args.pool.now)) q c.requires.some c.in-None.ensures);
+      front = front_same;
+      kept = keeps_none c.args.pool.now;
+      faults = tt;
+      caused = tt;
+      stands = c.requires.stands;
+    }

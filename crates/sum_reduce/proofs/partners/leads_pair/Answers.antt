@@ -1,0 +1,8 @@
+use Rattle.std.proofs.Common.{◌∙◌, sym, add-one, arith}
+use Rattle.sum_reduce.proofs.partners.leads_pair.Goals as goal
+
+pub returns-then-at-term_count-clause-pair : goal.returns-then-at-term_count-clause-pair
+returns-then-at-term_count-clause-pair c = λ h. record {
+  within = omega (arith, c.if-at-term_count.true, c.term_count.ensures);
+  partner = rw add-one at (sym c.are_partners.ensures ∙ h);
+}

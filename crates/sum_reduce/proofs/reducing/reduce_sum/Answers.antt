@@ -1,0 +1,51 @@
+use Rattle.std.proofs.Common.{◌∙◌, sym, subst, refl}
+use Rattle.calc_terms.specs.PlainValues.{plain_value}
+use Rattle.number_forms.specs.Answers.{AnswersRationals}
+use Rattle.reduce_port.specs.Rewritings.{tree_of}
+use Rattle.tree_handles.specs.Standing.{forest}
+use Rattle.tree_handles.proofs.Fronts.{behind_first, front_end, front_without}
+use Rattle.tree_handles.proofs.Given.{gives_as, given_told}
+use Rattle.sum_reduce.specs.SumAnswers.{IsSumAnswer}
+use Rattle.sum_reduce.specs.Sums.{terms_in}
+use Rattle.sum_reduce.proofs.Rationals.{undef_rationals, rationals_answer, rationals_fault}
+use Rattle.sum_reduce.proofs.Results.{passed_on}
+use Rattle.sum_reduce.proofs.Settled.{reduced_formed, undef_answer, settled_answer}
+use Rattle.sum_reduce.proofs.Sums.{changes_rest}
+use Rattle.sum_reduce.proofs.reducing.reduce_sum.Goals as goal
+
+pub returns-in_err-undefined-clause-rationals : goal.returns-in_err-undefined-clause-rationals
+returns-in_err-undefined-clause-rationals c =
+    λ q. absurd (undef_rationals (terms_in c.args.sum (forest c.args.pool.now)) q (sym c.has_undef_term.ensures ∙ c.if-has_undef_term.true))
+
+pub returns-then-has_undef_term-clause-ok : goal.returns-then-has_undef_term-clause-ok
+returns-then-has_undef_term-clause-ok c =
+    let ts = terms_in c.args.sum (forest c.args.pool.now) in
+    gives_as c.in_ok-undefined.ensures.ok refl (λ t e. subst (IsSumAnswer ts) (sym e) (undef_answer ts (sym c.has_undef_term.ensures ∙ c.if-has_undef_term.true)))
+
+pub returns-then-has_undef_term-clause-rationals : goal.returns-then-has_undef_term-clause-rationals
+returns-then-has_undef_term-clause-rationals c =
+    λ q. absurd (undef_rationals (terms_in c.args.sum (forest c.args.pool.now)) q (sym c.has_undef_term.ensures ∙ c.if-has_undef_term.true))
+
+pub settle-requires-clause-formed : goal.settle-requires-clause-formed
+settle-requires-clause-formed c =
+    reduced_formed (terms_in c.args.sum (forest c.args.pool.now)) c.requires.reduced (sym c.has_undef_term.ensures ∙ c.if-has_undef_term.false)
+
+pub returns-clause-ok : goal.returns-clause-ok
+returns-clause-ok c =
+    let ts = terms_in c.args.sum (forest c.args.pool.now) in
+    let us = terms_in c.args.sum (forest c.settle.new.pool) in
+    let s = c.in_ok-settle.ensures in
+    gives_as c.written.ensures.tree (changes_rest s.ok) (λ t e. subst (IsSumAnswer ts) (sym e) (settled_answer ts us (sym c.has_undef_term.ensures ∙ c.if-has_undef_term.false) s.stage s.settled))
+
+pub returns-clause-rationals : goal.returns-clause-rationals
+returns-clause-rationals c =
+    λ q. rationals_answer (tree_of c.args.sum c.args.pool.now) (tree_of c.written.result c.written.new.pool) (terms_in c.args.sum (forest c.settle.new.pool)) c.requires.sum (c.in_ok-settle.ensures.rationals q) (given_told c.written.ensures.tree)
+
+pub returns-in_err-settle-clause-rationals : goal.returns-in_err-settle-clause-rationals
+returns-in_err-settle-clause-rationals c =
+    λ q. passed_on c.from_residual-in_err-settle.result c.in_err-settle.field-0.0 (AnswersRationals (plain_value (tree_of c.args.sum c.args.pool.now)) c.settle.new.pool)
+    c.from_residual-in_err-settle.ensures.0 c.from_residual-in_err-settle.ensures.1
+    (rationals_fault (tree_of c.args.sum c.args.pool.now) (terms_in c.args.sum (forest c.settle.new.pool)) c.settle.new.pool _ c.requires.sum (c.in_err-settle.ensures.rationals q))
+
+pub returns-clause-front : goal.returns-clause-front
+returns-clause-front c = front_end c.written.ensures.tree.ends (front_without behind_first c.settle.ensures.front)

@@ -1,0 +1,83 @@
+-- Terms in order.
+use Rattle.std.specs.Prelude.{ℕ, ◌≡◌, ⊤, true, IsSortedByKey, Result, Ok, Err}
+use Rattle.calc_terms.specs.Fractions.{Fraction}
+use Rattle.calc_terms.specs.Numbers.{is_number}
+use Rattle.calc_terms.specs.PlainValues.{PlainValue, exactly}
+use Rattle.calc_terms.specs.Reduced.{part_of, NoneIs}
+use Rattle.calc_terms.specs.TreeOrder.{tree_cmp}
+use Rattle.calc_terms.specs.Trees.{Tree, num, Trees, none, more, append, count}
+use Rattle.node_order.specs.Sorting.{list_of}
+use Rattle.node_pool.specs.State.{State}
+use Rattle.reduce_port.specs.PlainTrees.{IsPlainOverflow}
+use Rattle.reduce_port.specs.Rewritings.{tree_of}
+use Rattle.tree_handles.specs.declared.fault.NumberFault.{NumberFault}
+use Rattle.tree_handles.specs.declared.fault.NumberFault.TheVariants as fault
+use Rattle.sum_reduce.specs.Stages.{IsStage}
+use Rattle.sum_reduce.specs.Terms.{is_loose, NoPairBefore}
+
+-- no tree, or one Number
+abbrev pub IsLead : Trees → Type 0
+IsLead none = ⊤
+IsLead (more t none) = is_number t ≡ true
+IsLead _ = ⊥
+
+-- Numbers among the terms were added to another: it is a Number, and none of the terms is
+pub record IsGathered (n : Tree) (ts : Trees) (m : Tree) (us : Trees) : Type 0 where
+  pub number : is_number m ≡ true
+  pub no_number : NoneIs is_number us
+  pub no_sum : NoneIs is_loose ts → NoneIs is_loose us
+  pub stage : IsStage (more n ts) (more m us)
+
+-- a Number or none, and then terms that are no Numbers
+pub record IsLed (ts : Trees) : Type 0 where
+  pub lead : Trees
+  pub others : Trees
+  pub split : ts ≡ append lead others
+  pub one : IsLead lead
+  pub no_number : NoneIs is_number others
+
+-- the Numbers became one
+pub record IsNumbered (ts us : Trees) : Type 0 where
+  pub stage : IsStage ts us
+  pub led : IsLed us
+  pub no_sum : NoneIs is_loose ts → NoneIs is_loose us
+
+-- a Number or none, and then terms that are no Numbers and no sums, whose parts do not fall
+pub record IsArranged (ts : Trees) : Type 0 where
+  pub lead : Trees
+  pub others : Trees
+  pub split : ts ≡ append lead others
+  pub one : IsLead lead
+  pub no_number : NoneIs is_number others
+  pub no_sum : NoneIs is_loose others
+  pub rising : IsSortedByKey part_of tree_cmp (list_of others)
+
+-- terms in order, no two with identical parts
+pub record IsSettled (ts : Trees) : Type 0 where
+  pub arranged : IsArranged ts
+  pub apart : NoPairBefore (count ts) ts
+
+-- one rational, which is that plain value
+pub record IsFolded (v : PlainValue) (ts : Trees) : Type 0 where
+  pub q : Fraction
+  pub plain : v ≡ exactly q
+  pub is : ts ≡ more (num q) none
+
+-- a total that is that plain value, with no term left
+pub record IsTotal (v : PlainValue) (t : Tree) (us : Trees) : Type 0 where
+  pub q : Fraction
+  pub plain : v ≡ exactly q
+  pub is : t ≡ num q
+  pub none_left : us ≡ none
+
+-- a total is answered where rationals have one, and else the first overflow
+abbrev pub AnswersTotal : PlainValue → State → Trees → Result ℕ NumberFault → Type 0
+AnswersTotal v new us (Ok h) = IsTotal v (tree_of h new) us
+AnswersTotal v new us (Err (fault.Full full)) = ⊥
+AnswersTotal v new us (Err (fault.Overflow o)) = IsPlainOverflow v o
+
+-- terms are answered where rationals fold to one, and else the first overflow
+abbrev pub AnswersFold : PlainValue → Trees → Result Unit NumberFault → Type 0
+AnswersFold v ts (Ok u) = IsFolded v ts
+AnswersFold v ts (Err (fault.Full full)) = ⊥
+AnswersFold v ts (Err (fault.Overflow o)) = IsPlainOverflow v o

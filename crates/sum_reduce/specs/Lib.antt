@@ -1,0 +1,6 @@
+pub mod SumAnswers
+pub mod Sums
+pub mod Terms
+pub mod Stages
+pub mod Arranging
+pub mod Joining

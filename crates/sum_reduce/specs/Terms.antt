@@ -1,0 +1,77 @@
+-- The terms of a sum: sums in it opened, and terms with identical parts.
+use Rattle.std.specs.Prelude.{ℕ, zero, suc, ◌≡◌, ◌<◌, Bool, true, false, ◌&&◌, not, if◌then◌else◌}
+use Rattle.std.specs.Ordering.{is_eq}
+use Rattle.calc_terms.specs.Fractions.{zero_fraction, is_zero_fraction}
+use Rattle.calc_terms.specs.Numbers.{is_number}
+use Rattle.calc_terms.specs.Reduced.{part_of, HasForm}
+use Rattle.calc_terms.specs.TreeOrder.{tree_cmp}
+use Rattle.calc_terms.specs.Trees.{Tree, num, add, Trees, none, more, append, count, is_add, AllPartsOf}
+use Rattle.tree_handles.specs.Expressions.{nth}
+
+-- reduced terms, none of them Undef
+abbrev pub AreFormed : Trees → Type 0
+AreFormed ts = AllPartsOf HasForm ts
+
+-- trees without the one at a place, counted from 0
+abbrev pub removed : ℕ → Trees → Trees
+removed n none = none
+removed zero (more t ts) = ts
+removed (suc n) (more t ts) = more t (removed n ts)
+
+-- a sum that is no Number
+abbrev pub is_loose : Tree → Bool
+is_loose t = is_add t && not (is_number t)
+
+-- the terms of a sum that is no Number, and any other tree as its own term
+abbrev pub terms_of_loose : Tree → Trees
+terms_of_loose (add ts) = if is_number (add ts) then more (add ts) none else ts
+terms_of_loose t = more t none
+
+-- the terms of a sum in a sum stand in its place
+abbrev pub opened : Trees → Trees
+opened none = none
+opened (more t ts) = append (terms_of_loose t) (opened ts)
+
+-- two terms have identical parts
+abbrev pub is_partner : Tree → Tree → Bool
+is_partner t u = not (is_number t) && not (is_number u) && is_eq (tree_cmp (part_of t) (part_of u))
+
+-- no term before a place is a Number
+abbrev pub NoNumberBefore : ℕ → Trees → Type 0
+NoNumberBefore n ts = (k : ℕ) → k < n → is_number (nth k ts) ≡ false
+
+-- the first Number among the terms stands there
+pub record IsFirstNumber (n : ℕ) (ts : Trees) : Type 0 where
+  pub within : n < count ts
+  pub number : is_number (nth n ts) ≡ true
+  pub before : NoNumberBefore n ts
+
+-- no term up to a place is a partner of the one before it
+abbrev pub NoPairBefore : ℕ → Trees → Type 0
+NoPairBefore n ts = (k : ℕ) → suc k < n → is_partner (nth k ts) (nth (suc k) ts) ≡ false
+
+-- the term at a place and the next one are partners
+pub record IsPair (n : ℕ) (ts : Trees) : Type 0 where
+  pub within : suc n < count ts
+  pub partner : is_partner (nth n ts) (nth (suc n) ts) ≡ true
+
+-- the terms of a Number as terms of a sum: none for 0
+abbrev pub terms_of_number : Tree → Trees
+terms_of_number (num q) = if is_zero_fraction q then none else more (num q) none
+terms_of_number (add ts) = ts
+terms_of_number t = more t none
+
+-- 0, the only term, or a sum
+abbrev pub sum_tree : Trees → Tree
+sum_tree none = num zero_fraction
+sum_tree (more t none) = t
+sum_tree ts = add ts
+
+-- a Number stands before other terms
+abbrev pub leads_number : Trees → Bool
+leads_number (more t (more u ts)) = is_number t
+leads_number _ = false
+
+-- a leading Number's terms and then the other terms
+abbrev pub written_tree : Trees → Tree
+written_tree ts = if leads_number ts then sum_tree (append (terms_of_number (nth 0 ts)) (removed 0 ts)) else sum_tree ts

@@ -1,0 +1,105 @@
+//! The terms of a sum are opened, joined and put in order.
+ghost use Rattle.std.specs.Prelude.{◌≡◌, ◌≤◌, true, false, IfErr, OnOk, [], ◌∷◌};
+ghost use Rattle.calc_terms.specs.PlainValues.{plain_value};
+ghost use Rattle.calc_terms.specs.Trees.{add, count};
+ghost use Rattle.reduce_port.specs.Causes.{IsCaused};
+ghost use Rattle.reduce_port.specs.Children.{are_rationals};
+ghost use Rattle.sum_reduce.specs.Arranging.{IsLed, IsArranged, IsSettled, AnswersFold};
+ghost use Rattle.sum_reduce.specs.Stages.{IsStage};
+ghost use Rattle.sum_reduce.specs.Sums.{IsSum, Changes, terms_in};
+ghost use Rattle.sum_reduce.specs.Terms.{AreFormed, is_loose};
+ghost use Rattle.calc_terms.specs.Reduced.{NoneIs};
+ghost use Rattle.tree_handles.specs.Faults.{Faults};
+ghost use Rattle.tree_handles.specs.Handed.{KeepsFront};
+ghost use Rattle.tree_handles.specs.Standing.{Stands, forest, KeepsRefusals};
+
+use crate::joining::join_terms;
+use crate::numbers::join_numbers;
+use crate::partners::{Parts, first_pair};
+use crate::terms::{open_sums, term};
+use node_order::sort_children;
+use node_pool::Pool;
+use number_forms::is_reduced_number;
+use tree_handles::{Handle, NumberFault};
+
+/// How many Numbers stand first: one or none.
+fn lead_count(pool: &Pool, sum: &Handle) -> u16
+    requires stands { Stands pool.now }
+    requires sum { IsSum sum.now (forest pool.now) }
+    requires formed { AreFormed (terms_in sum.now (forest pool.now)) }
+    requires some { 1 ≤ count (terms_in sum.now (forest pool.now)) }
+    ensures { (h : IsLed (terms_in sum.now (forest pool.now))) → result ≡ count h.lead }
+{
+    if is_reduced_number(pool, term(pool, sum, 0)) {
+        1
+    } else {
+        0
+    }
+}
+
+/// The terms behind a leading Number are put in the order of their parts.
+fn sort_terms(pool: &mut Pool, sum: &Handle)
+    requires stands { Stands pool.old }
+    requires sum { IsSum sum.now (forest pool.old) }
+    requires formed { AreFormed (terms_in sum.now (forest pool.old)) }
+    requires some { 1 ≤ count (terms_in sum.now (forest pool.old)) }
+    requires led { IsLed (terms_in sum.now (forest pool.old)) }
+    requires flat { NoneIs is_loose (terms_in sum.now (forest pool.old)) }
+    ensures changes { Changes sum.now (forest pool.old) (forest pool.new) }
+    ensures stage { IsStage (terms_in sum.now (forest pool.old)) (terms_in sum.now (forest pool.new)) }
+    ensures arranged { IsArranged (terms_in sum.now (forest pool.new)) }
+    ensures alone { count (terms_in sum.now (forest pool.old)) ≡ 1 → terms_in sum.now (forest pool.new) ≡ terms_in sum.now (forest pool.old) }
+    ensures kept { KeepsRefusals pool.old pool.new }
+    ensures stands { Stands pool.new }
+{
+    let lead = lead_count(pool, sum);
+    sort_children(pool, sum, lead, &Parts);
+}
+
+/// Sums among the terms are opened, the Numbers become one, and the other terms are put in order.
+fn arrange(pool: &mut Pool, sum: &Handle) -> Result<(), NumberFault>
+    requires stands { Stands pool.old }
+    requires sum { IsSum sum.now (forest pool.old) }
+    requires formed { AreFormed (terms_in sum.now (forest pool.old)) }
+    requires some { 1 ≤ count (terms_in sum.now (forest pool.old)) }
+    ensures ok { OnOk result (Changes sum.now (forest pool.old) (forest pool.new)) }
+    ensures stage { OnOk result (IsStage (terms_in sum.now (forest pool.old)) (terms_in sum.now (forest pool.new))) }
+    ensures arranged { OnOk result (IsArranged (terms_in sum.now (forest pool.new))) }
+    ensures rationals { let ts = terms_in sum.now (forest pool.old) in
+        are_rationals ts ≡ true → AnswersFold (plain_value (add ts)) (terms_in sum.now (forest pool.new)) result }
+    ensures front { KeepsFront (sum.now ∷ []) (forest pool.old) (forest pool.new) }
+    ensures kept { OnOk result (KeepsRefusals pool.old pool.new) }
+    ensures faults { IfErr result (Faults pool.old pool.new) }
+    ensures caused { IfErr result (IsCaused pool.new) }
+    ensures stands { Stands pool.new }
+{
+    open_sums(pool, sum);
+    join_numbers(pool, sum)?;
+    sort_terms(pool, sum);
+    Ok(())
+}
+
+/// Terms with identical parts are joined until there are none. A joined term that is a sum is opened again.
+pub fn settle(pool: &mut Pool, sum: &Handle) -> Result<(), NumberFault>
+    requires stands { Stands pool.old }
+    requires sum { IsSum sum.now (forest pool.old) }
+    requires formed { AreFormed (terms_in sum.now (forest pool.old)) }
+    requires some { 1 ≤ count (terms_in sum.now (forest pool.old)) }
+    ensures ok { OnOk result (Changes sum.now (forest pool.old) (forest pool.new)) }
+    ensures stage { OnOk result (IsStage (terms_in sum.now (forest pool.old)) (terms_in sum.now (forest pool.new))) }
+    ensures settled { OnOk result (IsSettled (terms_in sum.now (forest pool.new))) }
+    ensures rationals { let ts = terms_in sum.now (forest pool.old) in
+        are_rationals ts ≡ true → AnswersFold (plain_value (add ts)) (terms_in sum.now (forest pool.new)) result }
+    ensures front { KeepsFront (sum.now ∷ []) (forest pool.old) (forest pool.new) }
+    ensures kept { OnOk result (KeepsRefusals pool.old pool.new) }
+    ensures faults { IfErr result (Faults pool.old pool.new) }
+    ensures caused { IfErr result (IsCaused pool.new) }
+    ensures stands { Stands pool.new }
+{
+    arrange(pool, sum)?;
+    while let Some(at) = first_pair(pool, sum) {
+        join_terms(pool, sum, at)?;
+        arrange(pool, sum)?;
+    }
+    Ok(())
+}

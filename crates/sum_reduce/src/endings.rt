@@ -1,0 +1,122 @@
+//! What is answered for a settled sum, or for one with Undef in it.
+ghost use Rattle.std.specs.Prelude.{◌≡◌, ◌≤◌, ◌<◌, true, false, IfOk, IfErr, OnOk, [], ◌∷◌};
+ghost use Rattle.calc_terms.specs.Trees.{undef, count, append, is_add};
+ghost use Rattle.reduce_port.specs.Causes.{LacksBytes};
+ghost use Rattle.sum_reduce.specs.Sums.{IsSum, Changes, terms_in};
+ghost use Rattle.sum_reduce.specs.Terms.{AreFormed, removed, terms_of_number, sum_tree, leads_number, written_tree};
+ghost use Rattle.tree_handles.specs.Expressions.{IsExpression, plain, nth};
+ghost use Rattle.tree_handles.specs.Handed.{IsHanded, Gives, KeepsFront};
+ghost use Rattle.tree_handles.specs.Inside.{tree_at};
+ghost use Rattle.tree_handles.specs.Roots.{without_root};
+ghost use Rattle.tree_handles.specs.Standing.{Stands, forest, KeepsRefusals, Refuses};
+
+use crate::terms::{term, term_count};
+use calc_terms::Kind;
+use node_pool::{Full, Id, Pool};
+use number_forms::{is_reduced_number, is_zero};
+use tree_handles::{Handle, kind, merge_children, move_last, node, release, take_child};
+
+/// Undef in the place of a tree.
+#[tactic(auto, using(number_forms::proofs::Refused::lacks))]
+pub fn undefined(pool: &mut Pool, tree: Handle) -> Result<Handle, Full>
+    requires stands { Stands pool.old }
+    requires handed { IsHanded tree (forest pool.old) }
+    ensures ok { IfOk result (λ h. Gives (without_root tree (forest pool.old)) (forest pool.new) h (λ t. t ≡ undef)) }
+    ensures front { KeepsFront (tree ∷ []) (forest pool.old) (forest pool.new) }
+    ensures kept { OnOk result (KeepsRefusals pool.old pool.new) }
+    ensures full { IfErr result (Refuses pool.old pool.new) }
+    ensures caused { IfErr result (LacksBytes pool.new) }
+    ensures stands { Stands pool.new }
+{
+    release(pool, tree);
+    let undef = node(pool, Kind::Undef)?;
+    Ok(undef)
+}
+
+fn is_sum(pool: &Pool, id: Id) -> bool
+    requires stands { Stands pool.now }
+    requires expression { IsExpression id (forest pool.now) }
+    ensures { result ≡ is_add (plain (tree_at id (forest pool.now))) }
+{
+    matches!(kind(pool, id), Kind::Add)
+}
+
+/// A Number that stands first goes where it is 0, and stands as its terms where it has two or more.
+fn spread_number(pool: &mut Pool, sum: &Handle)
+    requires stands { Stands pool.old }
+    requires sum { IsSum sum.now (forest pool.old) }
+    requires some { 1 ≤ count (terms_in sum.now (forest pool.old)) }
+    ensures changes { Changes sum.now (forest pool.old) (forest pool.new) }
+    ensures terms { let ts = terms_in sum.now (forest pool.old) in
+        terms_in sum.now (forest pool.new) ≡ append (terms_of_number (nth 0 ts)) (removed 0 ts) }
+    ensures kept { KeepsRefusals pool.old pool.new }
+    ensures stands { Stands pool.new }
+{
+    let first = term(pool, sum, 0);
+    if is_zero(pool, first) {
+        let zero = take_child(pool, sum, 0);
+        release(pool, zero);
+    } else if is_sum(pool, first) {
+        merge_children(pool, sum, 0);
+    }
+}
+
+/// Whether a Number stands before other terms.
+fn leads_number(pool: &Pool, sum: &Handle) -> bool
+    requires stands { Stands pool.now }
+    requires sum { IsSum sum.now (forest pool.now) }
+    requires formed { AreFormed (terms_in sum.now (forest pool.now)) }
+    ensures { result ≡ leads_number (terms_in sum.now (forest pool.now)) }
+{
+    term_count(pool, sum) > 1 && is_reduced_number(pool, term(pool, sum, 0))
+}
+
+/// A Number before other terms stands as its terms.
+fn spread(pool: &mut Pool, sum: &Handle)
+    requires stands { Stands pool.old }
+    requires sum { IsSum sum.now (forest pool.old) }
+    requires formed { AreFormed (terms_in sum.now (forest pool.old)) }
+    requires some { 1 ≤ count (terms_in sum.now (forest pool.old)) }
+    ensures changes { Changes sum.now (forest pool.old) (forest pool.new) }
+    ensures some { 1 ≤ count (terms_in sum.now (forest pool.new)) }
+    ensures tree { sum_tree (terms_in sum.now (forest pool.new)) ≡ written_tree (terms_in sum.now (forest pool.old)) }
+    ensures kept { KeepsRefusals pool.old pool.new }
+    ensures stands { Stands pool.new }
+{
+    if leads_number(pool, sum) {
+        spread_number(pool, sum);
+    }
+}
+
+/// The only term of a sum of one, and any other sum itself.
+fn unwrapped(pool: &mut Pool, sum: Handle) -> Handle
+    requires stands { Stands pool.old }
+    requires sum { IsSum sum (forest pool.old) }
+    requires some { 1 ≤ count (terms_in sum (forest pool.old)) }
+    ensures tree { Gives (without_root sum (forest pool.old)) (forest pool.new) result (λ t. t ≡ sum_tree (terms_in sum (forest pool.old))) }
+    ensures kept { KeepsRefusals pool.old pool.new }
+    ensures stands { Stands pool.new }
+{
+    if term_count(pool, &sum) == 1 {
+        let only = take_child(pool, &sum, 0);
+        release(pool, sum);
+        only
+    } else {
+        move_last(pool, &sum);
+        sum
+    }
+}
+
+/// The tree of settled terms: a Number alone, or the terms of a Number before the others.
+pub fn written(pool: &mut Pool, sum: Handle) -> Handle
+    requires stands { Stands pool.old }
+    requires sum { IsSum sum (forest pool.old) }
+    requires formed { AreFormed (terms_in sum (forest pool.old)) }
+    requires some { 1 ≤ count (terms_in sum (forest pool.old)) }
+    ensures tree { Gives (without_root sum (forest pool.old)) (forest pool.new) result (λ t. t ≡ written_tree (terms_in sum (forest pool.old))) }
+    ensures kept { KeepsRefusals pool.old pool.new }
+    ensures stands { Stands pool.new }
+{
+    spread(pool, &sum);
+    unwrapped(pool, sum)
+}

@@ -1,0 +1,177 @@
+//! Terms with identical parts become one.
+ghost use Rattle.std.specs.Prelude.{◌≡◌, ◌==◌, ◌<◌, ◌+◌, ◌^◌, ◌++◌, ℕ, true, false, IfOk, IfErr, OnOk, [], ◌∷◌};
+ghost use Rattle.calc_terms.specs.Numbers.{is_number, value};
+ghost use Rattle.calc_terms.specs.Reduced.{is_reduced, part_of, NoneIs};
+ghost use Rattle.calc_terms.specs.Trees.{Trees, count, is_undef, none, more};
+ghost use Rattle.coefficients.specs.Coefficients.{coefficient_of, with_coefficient};
+ghost use Rattle.number_forms.specs.Answers.{IsNumberOf};
+ghost use Rattle.reduce_port.specs.Causes.{IsCaused, LacksBytes};
+ghost use Rattle.reduce_port.specs.Rewritings.{tree_of};
+ghost use Rattle.sum_reduce.specs.Joining.{IsJoining};
+ghost use Rattle.sum_reduce.specs.Stages.{IsStage, widths};
+ghost use Rattle.sum_reduce.specs.Sums.{IsSum, Changes, Takes, terms_in};
+ghost use Rattle.sum_reduce.specs.Terms.{AreFormed, IsPair, is_loose, removed};
+ghost use Rattle.tree_handles.specs.Expressions.{nth, inserted};
+ghost use Rattle.tree_handles.specs.Faults.{Faults};
+ghost use Rattle.tree_handles.specs.Forest.{Forest};
+ghost use Rattle.tree_handles.specs.Handed.{IsHanded, Gives, KeepsFront};
+ghost use Rattle.tree_handles.specs.Roots.{without_root};
+ghost use Rattle.tree_handles.specs.Standing.{Stands, forest, KeepsRefusals, Refuses};
+
+use crate::partners::leads_pair;
+use coefficients::{put_coefficient, take_coefficient};
+use node_pool::{Full, Pool};
+use number_forms::add_numbers;
+use tree_handles::{Handle, NumberFault, add_child, release, take_child};
+
+/// The coefficient of the term at a place; the part of the term stays there.
+fn take_coefficient_at(pool: &mut Pool, sum: &Handle, at: u16) -> Result<Handle, Full>
+    requires stands { Stands pool.old }
+    requires sum { IsSum sum.now (forest pool.old) }
+    requires within { at < count (terms_in sum.now (forest pool.old)) }
+    requires reduced { is_reduced (nth at (terms_in sum.now (forest pool.old))) ≡ true }
+    requires defined { is_undef (nth at (terms_in sum.now (forest pool.old))) ≡ false }
+    requires no_number { is_number (nth at (terms_in sum.now (forest pool.old))) ≡ false }
+    ensures ok { IfOk result (λ h. Takes sum.now (forest pool.old) (forest pool.new) h) }
+    ensures terms { let ts = terms_in sum.now (forest pool.old) in
+        IfOk result (λ _. terms_in sum.now (forest pool.new) ≡ inserted at (more (part_of (nth at ts)) none) (removed at ts)) }
+    ensures coefficient { IfOk result (λ h. tree_of h pool.new ≡ coefficient_of (nth at (terms_in sum.now (forest pool.old)))) }
+    ensures front { KeepsFront (sum.now ∷ []) (forest pool.old) (forest pool.new) }
+    ensures kept { OnOk result (KeepsRefusals pool.old pool.new) }
+    ensures full { IfErr result (Refuses pool.old pool.new) }
+    ensures caused { IfErr result (LacksBytes pool.new) }
+    ensures stands { Stands pool.new }
+{
+    let term = take_child(pool, sum, at);
+    let (coefficient, part) = take_coefficient(pool, term)?;
+    add_child(pool, sum, at, part);
+    Ok(coefficient)
+}
+
+/// The coefficient of a term, which goes.
+fn coefficient_alone(pool: &mut Pool, term: Handle) -> Result<Handle, Full>
+    requires stands { Stands pool.old }
+    requires handed { IsHanded term (forest pool.old) }
+    requires reduced { is_reduced (tree_of term pool.old) ≡ true }
+    requires defined { is_undef (tree_of term pool.old) ≡ false }
+    requires no_number { is_number (tree_of term pool.old) ≡ false }
+    ensures ok { IfOk result (λ h. Gives (without_root term (forest pool.old)) (forest pool.new) h (λ t. t ≡ coefficient_of (tree_of term pool.old))) }
+    ensures front { KeepsFront (term ∷ []) (forest pool.old) (forest pool.new) }
+    ensures kept { OnOk result (KeepsRefusals pool.old pool.new) }
+    ensures full { IfErr result (Refuses pool.old pool.new) }
+    ensures caused { IfErr result (LacksBytes pool.new) }
+    ensures stands { Stands pool.new }
+{
+    let (coefficient, part) = take_coefficient(pool, term)?;
+    release(pool, part);
+    Ok(coefficient)
+}
+
+/// The coefficient of the term at a place, which goes, is added to those before it.
+fn add_partner(
+    pool: &mut Pool,
+    sum: &Handle,
+    at: u16,
+    so_far: Handle,
+) -> Result<Handle, NumberFault>
+    requires stands { Stands pool.old }
+    requires sum { IsSum sum.now (forest pool.old) }
+    requires within { at < count (terms_in sum.now (forest pool.old)) }
+    requires reduced { is_reduced (nth at (terms_in sum.now (forest pool.old))) ≡ true }
+    requires defined { is_undef (nth at (terms_in sum.now (forest pool.old))) ≡ false }
+    requires no_number { is_number (nth at (terms_in sum.now (forest pool.old))) ≡ false }
+    requires handed { IsHanded so_far (forest pool.old) }
+    requires apart { (so_far == sum.now) ≡ false }
+    requires so_far { is_number (tree_of so_far pool.old) ≡ true }
+    ensures ok { IfOk result (λ h. Takes sum.now (without_root so_far (forest pool.old)) (forest pool.new) h) }
+    ensures terms { IfOk result (λ _. terms_in sum.now (forest pool.new) ≡ removed at (terms_in sum.now (forest pool.old))) }
+    ensures number { let ts = terms_in sum.now (forest pool.old) in
+        IfOk result (λ h. IsNumberOf (value (tree_of so_far pool.old) ++ value (coefficient_of (nth at ts))) (tree_of h pool.new)) }
+    ensures front { KeepsFront (sum.now ∷ so_far ∷ []) (forest pool.old) (forest pool.new) }
+    ensures kept { OnOk result (KeepsRefusals pool.old pool.new) }
+    ensures faults { IfErr result (Faults pool.old pool.new) }
+    ensures caused { IfErr result (IsCaused pool.new) }
+    ensures stands { Stands pool.new }
+{
+    let term = take_child(pool, sum, at);
+    let coefficient = coefficient_alone(pool, term)?;
+    add_numbers(pool, so_far, coefficient)
+}
+
+/// The coefficients of the partners behind a part are added to a coefficient, and they go.
+fn add_partners(
+    pool: &mut Pool,
+    sum: &Handle,
+    at: u16,
+    coefficient: Handle,
+) -> Result<Handle, NumberFault>
+    requires stands { Stands pool.old }
+    requires sum { IsSum sum.now (forest pool.old) }
+    requires taken { (f : Forest) × Takes sum.now f (forest pool.old) coefficient }
+    requires within { at < count (terms_in sum.now (forest pool.old)) }
+    requires joining { let us = terms_in sum.now (forest pool.old) in (ts : Trees) × (less : ℕ) × IsJoining ts (tree_of coefficient pool.old) (nth at us) (removed at us) less }
+    ensures ok { (f : Forest) → Takes sum.now f (forest pool.old) coefficient → IfOk result (λ h. Takes sum.now f (forest pool.new) h) }
+    ensures within { IfOk result (λ _. at < count (terms_in sum.now (forest pool.new))) }
+    ensures joining { let us = terms_in sum.now (forest pool.old) in (ts : Trees) (less : ℕ) → IsJoining ts (tree_of coefficient pool.old) (nth at us) (removed at us) less
+        → IfOk result (λ h. IsJoining ts (tree_of h pool.new) (nth at (terms_in sum.now (forest pool.new))) (removed at (terms_in sum.now (forest pool.new))) less) }
+    ensures front { KeepsFront (sum.now ∷ coefficient ∷ []) (forest pool.old) (forest pool.new) }
+    ensures kept { OnOk result (KeepsRefusals pool.old pool.new) }
+    ensures faults { IfErr result (Faults pool.old pool.new) }
+    ensures caused { IfErr result (IsCaused pool.new) }
+    ensures stands { Stands pool.new }
+{
+    let mut total = coefficient;
+    while leads_pair(pool, sum, at) {
+        match add_partner(pool, sum, at + 1, total) {
+            Ok(sum) => total = sum,
+            Err(fault) => return Err(fault),
+        }
+    }
+    Ok(total)
+}
+
+/// A coefficient is put back before the part at a place.
+fn put_back(pool: &mut Pool, sum: &Handle, at: u16, coefficient: Handle) -> Result<(), NumberFault>
+    requires stands { Stands pool.old }
+    requires sum { IsSum sum.now (forest pool.old) }
+    requires within { at < count (terms_in sum.now (forest pool.old)) }
+    requires reduced { is_reduced (nth at (terms_in sum.now (forest pool.old))) ≡ true }
+    requires handed { IsHanded coefficient (forest pool.old) }
+    requires apart { (coefficient == sum.now) ≡ false }
+    ensures ok { OnOk result (Changes sum.now (without_root coefficient (forest pool.old)) (forest pool.new)) }
+    ensures terms { let ts = terms_in sum.now (forest pool.old) in
+        OnOk result (terms_in sum.now (forest pool.new) ≡ inserted at (more (with_coefficient (tree_of coefficient pool.old) (nth at ts)) none) (removed at ts)) }
+    ensures front { KeepsFront (sum.now ∷ coefficient ∷ []) (forest pool.old) (forest pool.new) }
+    ensures kept { OnOk result (KeepsRefusals pool.old pool.new) }
+    ensures faults { IfErr result (Faults pool.old pool.new) }
+    ensures caused { IfErr result (IsCaused pool.new) }
+    ensures stands { Stands pool.new }
+{
+    let part = take_child(pool, sum, at);
+    let term = put_coefficient(pool, coefficient, part)?;
+    add_child(pool, sum, at, term);
+    Ok(())
+}
+
+/// A term and its partners become one: all coefficients are added before their sum is put back.
+pub fn join_terms(pool: &mut Pool, sum: &Handle, at: u16) -> Result<(), NumberFault>
+    requires stands { Stands pool.old }
+    requires sum { IsSum sum.now (forest pool.old) }
+    requires formed { AreFormed (terms_in sum.now (forest pool.old)) }
+    requires flat { NoneIs is_loose (terms_in sum.now (forest pool.old)) }
+    requires pair { IsPair at (terms_in sum.now (forest pool.old)) }
+    requires fits { at + 1 < 2 ^ 16 }
+    ensures ok { OnOk result (Changes sum.now (forest pool.old) (forest pool.new)) }
+    ensures stage { OnOk result (IsStage (terms_in sum.now (forest pool.old)) (terms_in sum.now (forest pool.new))) }
+    ensures fewer { OnOk result (widths (terms_in sum.now (forest pool.new)) < widths (terms_in sum.now (forest pool.old))) }
+    ensures front { KeepsFront (sum.now ∷ []) (forest pool.old) (forest pool.new) }
+    ensures kept { OnOk result (KeepsRefusals pool.old pool.new) }
+    ensures faults { IfErr result (Faults pool.old pool.new) }
+    ensures caused { IfErr result (IsCaused pool.new) }
+    ensures stands { Stands pool.new }
+{
+    let coefficient = take_coefficient_at(pool, sum, at)?;
+    let both = add_partner(pool, sum, at + 1, coefficient)?;
+    let total = add_partners(pool, sum, at, both)?;
+    put_back(pool, sum, at, total)
+}

@@ -1,0 +1,15 @@
+//! Sums of reduced trees, in a pool.
+#![tactic(auto)]
+
+mod arranging;
+mod endings;
+mod joining;
+mod numbers;
+mod partners;
+mod reducing;
+mod terms;
+
+pub use reducing::reduce_sum;
+
+#[cfg(test)]
+mod tests;

@@ -1,0 +1,45 @@
+//! A sum becomes one reduced tree.
+ghost use Rattle.std.specs.Prelude.{◌≡◌, ◌≤◌, true, IfOk, IfErr, OnOk, [], ◌∷◌};
+ghost use Rattle.calc_terms.specs.PlainValues.{plain_value};
+ghost use Rattle.calc_terms.specs.Trees.{count, is_add};
+ghost use Rattle.number_forms.specs.Answers.{AnswersRationals};
+ghost use Rattle.reduce_port.specs.Causes.{IsCaused};
+ghost use Rattle.reduce_port.specs.Children.{are_rationals, are_reduced};
+ghost use Rattle.reduce_port.specs.Rewritings.{tree_of};
+ghost use Rattle.sum_reduce.specs.SumAnswers.{IsSumAnswer};
+ghost use Rattle.tree_handles.specs.Expressions.{children_of};
+ghost use Rattle.tree_handles.specs.Faults.{Faults};
+ghost use Rattle.tree_handles.specs.Handed.{IsHanded, Gives, KeepsFront};
+ghost use Rattle.tree_handles.specs.Roots.{without_root};
+ghost use Rattle.tree_handles.specs.Standing.{Stands, forest, KeepsRefusals};
+
+use crate::arranging::settle;
+use crate::endings::{undefined, written};
+use crate::terms::has_undef_term;
+use node_pool::Pool;
+use tree_handles::{Handle, NumberFault};
+
+/// A sum of reduced terms, at least one, becomes one reduced tree. Sums in it are opened, Numbers are
+/// added from left to right, and the coefficients of terms with identical parts, all before their sum
+/// is put back; a term whose coefficient is 0 goes. The Number's terms come first, then the others in
+/// the order of their parts. A sum with Undef in it is Undef.
+pub fn reduce_sum(pool: &mut Pool, sum: Handle) -> Result<Handle, NumberFault>
+    requires stands { Stands pool.old }
+    requires handed { IsHanded sum (forest pool.old) }
+    requires sum { is_add (tree_of sum pool.old) ≡ true }
+    requires some { 1 ≤ count (children_of (tree_of sum pool.old)) }
+    requires reduced { are_reduced (children_of (tree_of sum pool.old)) ≡ true }
+    ensures ok { IfOk result (λ h. Gives (without_root sum (forest pool.old)) (forest pool.new) h (IsSumAnswer (children_of (tree_of sum pool.old)))) }
+    ensures rationals { are_rationals (children_of (tree_of sum pool.old)) ≡ true → AnswersRationals (plain_value (tree_of sum pool.old)) pool.new result }
+    ensures front { KeepsFront (sum ∷ []) (forest pool.old) (forest pool.new) }
+    ensures kept { OnOk result (KeepsRefusals pool.old pool.new) }
+    ensures faults { IfErr result (Faults pool.old pool.new) }
+    ensures caused { IfErr result (IsCaused pool.new) }
+    ensures stands { Stands pool.new }
+{
+    if has_undef_term(pool, &sum) {
+        return Ok(undefined(pool, sum)?);
+    }
+    settle(pool, &sum)?;
+    Ok(written(pool, sum))
+}

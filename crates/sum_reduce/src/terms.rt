@@ -1,0 +1,89 @@
+//! The terms of a sum by their places; sums among them are opened.
+ghost use Rattle.std.specs.Prelude.{◌≡◌, ◌<◌, true};
+ghost use Rattle.calc_terms.specs.Trees.{count, is_undef};
+ghost use Rattle.reduce_port.specs.Children.{has_undef};
+ghost use Rattle.sum_reduce.specs.Sums.{IsSum, Changes, terms_in};
+ghost use Rattle.sum_reduce.specs.Terms.{AreFormed, is_loose, opened};
+ghost use Rattle.calc_terms.specs.Reduced.{is_reduced};
+ghost use Rattle.tree_handles.specs.Expressions.{IsExpression, plain, nth};
+ghost use Rattle.tree_handles.specs.Inside.{tree_at};
+ghost use Rattle.tree_handles.specs.Standing.{Stands, forest, KeepsRefusals};
+
+use calc_terms::Kind;
+use node_pool::{Id, Pool};
+use number_forms::is_reduced_number;
+use tree_handles::{Handle, child_id, children, kind, merge_children};
+
+/// How many terms a sum has.
+pub fn term_count(pool: &Pool, sum: &Handle) -> u16
+    requires stands { Stands pool.now }
+    requires sum { IsSum sum.now (forest pool.now) }
+    ensures { result ≡ count (terms_in sum.now (forest pool.now)) }
+{
+    children(pool, sum.id())
+}
+
+/// The term at a place.
+pub fn term(pool: &Pool, sum: &Handle, at: u16) -> Id
+    requires stands { Stands pool.now }
+    requires sum { IsSum sum.now (forest pool.now) }
+    requires within { at < count (terms_in sum.now (forest pool.now)) }
+    ensures expression { IsExpression result (forest pool.now) }
+    ensures tree { plain (tree_at result (forest pool.now)) ≡ nth at (terms_in sum.now (forest pool.now)) }
+{
+    child_id(pool, sum.id(), at)
+}
+
+fn is_undef(pool: &Pool, id: Id) -> bool
+    requires stands { Stands pool.now }
+    requires expression { IsExpression id (forest pool.now) }
+    ensures { result ≡ is_undef (plain (tree_at id (forest pool.now))) }
+{
+    matches!(kind(pool, id), Kind::Undef)
+}
+
+/// Whether some term is Undef.
+pub fn has_undef_term(pool: &Pool, sum: &Handle) -> bool
+    requires stands { Stands pool.now }
+    requires sum { IsSum sum.now (forest pool.now) }
+    ensures { result ≡ has_undef (terms_in sum.now (forest pool.now)) }
+{
+    for at in 0..term_count(pool, sum) {
+        if is_undef(pool, term(pool, sum, at)) {
+            return true;
+        }
+    }
+    false
+}
+
+/// Whether a reduced tree is a sum, and no Number.
+fn is_loose(pool: &Pool, id: Id) -> bool
+    requires stands { Stands pool.now }
+    requires expression { IsExpression id (forest pool.now) }
+    requires reduced { is_reduced (plain (tree_at id (forest pool.now))) ≡ true }
+    ensures { result ≡ is_loose (plain (tree_at id (forest pool.now))) }
+{
+    match kind(pool, id) {
+        Kind::Add => !is_reduced_number(pool, id),
+        _ => false,
+    }
+}
+
+/// The terms of each sum in a sum take its place. A Number stays as it is.
+pub fn open_sums(pool: &mut Pool, sum: &Handle)
+    requires stands { Stands pool.old }
+    requires sum { IsSum sum.now (forest pool.old) }
+    requires formed { AreFormed (terms_in sum.now (forest pool.old)) }
+    ensures changes { Changes sum.now (forest pool.old) (forest pool.new) }
+    ensures opened { terms_in sum.now (forest pool.new) ≡ opened (terms_in sum.now (forest pool.old)) }
+    ensures kept { KeepsRefusals pool.old pool.new }
+    ensures stands { Stands pool.new }
+{
+    let mut at = term_count(pool, sum);
+    while at > 0 {
+        at -= 1;
+        if is_loose(pool, term(pool, sum, at)) {
+            merge_children(pool, sum, at);
+        }
+    }
+}
