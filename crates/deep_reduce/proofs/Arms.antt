@@ -1,0 +1,37 @@
+-- What a step is known to have made, in the arm for it.
+use Rattle.std.proofs.Common.{◌≡◌, ℕ, subst}
+use Rattle.std.specs.Prelude.{Some}
+use Rattle.calc_terms.specs.Trees.{Tree, Trees}
+use Rattle.node_pool.specs.State.{State}
+use Rattle.power_reduce.specs.PowerAnswers.{base_in, exponent_in, IsStep}
+use Rattle.power_reduce.specs.PowerSteps.{rewritten}
+use Rattle.product_reduce.specs.Answers.{IfFinished, IfJoined, IsFinished, IsJoined}
+use Rattle.product_reduce.specs.Joining.{IsJointAt}
+use Rattle.product_reduce.specs.declared.steps.Joining.{Joining}
+use Rattle.product_reduce.specs.declared.steps.Joining.TheVariants as joining
+use Rattle.reduce_port.specs.Rewritings.{Rewrites, tree_of}
+use Rattle.reduce_port.specs.declared.step.Step.{Step}
+use Rattle.reduce_port.specs.declared.step.Step.TheVariants as step
+use Rattle.tree_handles.specs.Expressions.{children_of}
+use Rattle.tree_handles.specs.Forest.{Forest}
+use Rattle.tree_handles.specs.Handed.{Gives}
+use Rattle.tree_handles.specs.Roots.{without_root}
+use Rattle.tree_handles.specs.Standing.{forest}
+
+-- a product's step, from the state before to that after
+module _ (i : ℕ) (old new : State) where
+  pub is_finished : {s : Joining} {h : ℕ} → s ≡ joining.Done h → IfFinished s (λ k. Gives (without_root i (forest old)) (forest new) k (IsFinished (children_of (tree_of i old))))
+      → Gives (without_root i (forest old)) (forest new) h (IsFinished (children_of (tree_of i old)))
+  is_finished e h = subst (λ (x : Joining). IfFinished x (λ k. Gives (without_root i (forest old)) (forest new) k (IsFinished (children_of (tree_of i old))))) e h
+
+  pub is_joined : {s : Joining} {h at : ℕ} → s ≡ joining.Joined h at → IfJoined s (λ k n. Gives (without_root i (forest old)) (forest new) k (IsJoined (children_of (tree_of i old))))
+      → Gives (without_root i (forest old)) (forest new) h (IsJoined (children_of (tree_of i old)))
+  is_joined e h = subst (λ (x : Joining). IfJoined x (λ k n. Gives (without_root i (forest old)) (forest new) k (IsJoined (children_of (tree_of i old))))) e h
+
+  pub is_at : {s : Joining} {h at : ℕ} → s ≡ joining.Joined h at → IfJoined s (λ k n. IsJointAt n (children_of (tree_of k new))) → IsJointAt at (children_of (tree_of h new))
+  is_at e h = subst (λ (x : Joining). IfJoined x (λ k n. IsJointAt n (children_of (tree_of k new)))) e h
+
+  -- a power's step
+  pub is_again : {s : Step} {h : ℕ} → s ≡ step.Again h → IsStep (tree_of i old) (without_root i (forest old)) new s
+      → Gives (without_root i (forest old)) (forest new) h (λ u. (rewritten (base_in (tree_of i old)) (exponent_in (tree_of i old)) ≡ Some u) × Rewrites (tree_of i old) u)
+  is_again e h = subst (IsStep (tree_of i old) (without_root i (forest old)) new) e h

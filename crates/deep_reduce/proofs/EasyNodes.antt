@@ -1,0 +1,293 @@
+-- The answer of an Easy node, from its children's answers.
+use Rattle.std.proofs.Common.{◌≡◌, ◌≢◌, ℕ, zero, suc, ◌≤◌, ◌⊎◌, inl, inr, ℤ, pos, negsuc, Bool, true, false, ◌&&◌, refl, sym, ap, ◌∙◌, arith}
+use Rattle.std.specs.Prelude.{◌||◌, ◌==◌, ◌≤ℤ◌, not, nat_le}
+use Rattle.std.proofs.lemmas.Bool.{le-leb}
+use Rattle.std.proofs.lemmas.Int.{ints}
+use Rattle.calc_terms.proofs.BadLaws.{bad_has_no_value, easy_decided}
+use Rattle.calc_terms.proofs.EasyLaws.{HasBad, easy_part, bad_part, bad_sum, bad_product, bad_neg, bad_sub, bad_div, bad_power, bad_root, undef_is_bad, num_is_not_bad, sum_of_bad, product_of_bad, reduced_value, zero_reduced, whole_reduced, negative_reduced, easy_divisor, easy_power, easy_root}
+use Rattle.calc_terms.proofs.FractionFacts.{zero_is, whole_numerator, whole_denominator}
+use Rattle.calc_terms.proofs.NumberLaws.{number_words}
+use Rattle.calc_terms.specs.BadAndEasy.{IsBad, IsBadNode, IsEasy, IsZero, IsNegative, HasValue}
+use Rattle.calc_terms.specs.Fractions.{Fraction, whole_fraction, minus_one_fraction, zero_fraction}
+use Rattle.calc_terms.specs.Integers.{int_is_negative, int_is_zero}
+use Rattle.calc_terms.specs.Numbers.{is_number, classes}
+use Rattle.calc_terms.specs.Surds.{Surd}
+use Rattle.calc_terms.specs.Trees.{Tree, num, undef, add, mult, power, root, neg, sub, div, Trees, none, more, is_undef, is_num, IsPartOf, itself, in_add, in_mult, in_base, in_exponent, in_root, in_neg, in_left, in_right, in_dividend, in_divisor, first, later}
+use Rattle.deep_reduce.specs.Nodes.{IsNodeAnswer, has_no_value, has_number}
+use Rattle.deep_reduce.specs.Reductions.{IsReducedFrom}
+use Rattle.deep_reduce.proofs.NodeRewrites.{AreReducedFrom, IsOver, over_number, over_symbol, over_undef, over_sum, over_product, over_power, over_root, over_neg, over_sub, over_div}
+use Rattle.number_forms.specs.Readers.{is_zero}
+use Rattle.power_reduce.specs.PowerAnswers.{has_no_power, has_number_power, is_at_most_zero}
+use Rattle.radical_forms.specs.RootAnswers.{has_no_root}
+use Rattle.reduce_port.proofs.Rewritings.{kept}
+use Rattle.reduce_port.specs.Children.{has_undef, are_numbers}
+use Rattle.reduce_port.specs.EasyTrees.{Evaluates}
+use Rattle.reduce_port.specs.Rewritings.{KeepsMeanings}
+
+-- ---- tests
+
+pub and_true : (a b : Bool) → a ≡ true → b ≡ true → a && b ≡ true
+and_true a b h k = cc
+
+pub and_first : (a b : Bool) → a && b ≡ true → a ≡ true
+and_first true b e = refl
+and_first false b e = e
+
+pub and_second : (a b : Bool) → a && b ≡ true → b ≡ true
+and_second true b e = e
+and_second false b e = cc
+
+and_false : (a b : Bool) → (a ≡ true → b ≡ true → ⊥) → a && b ≡ false
+and_false true true h = absurd (h refl refl)
+and_false true false h = refl
+and_false false b h = refl
+
+pub or_true : (a b : Bool) → (a ≡ true) ⊎ (b ≡ true) → a || b ≡ true
+or_true true b h = refl
+or_true false b (inl e) = cc
+or_true false b (inr e) = e
+
+pub or_none : (a b : Bool) → a ≡ false → b ≡ false → a || b ≡ false
+or_none true b h k = h
+or_none false b h k = k
+
+pub undef_words : (t : Tree) → is_undef t ≡ true → t ≡ undef
+undef_words undef e = refl
+undef_words t e = cc
+
+pub undef_test : (t : Tree) → t ≡ undef → is_undef t ≡ true
+undef_test t e = ap is_undef e
+
+undef_is_no_number : is_number undef ≡ true → ⊥
+unfolding is_number
+undef_is_no_number e = cc
+
+-- a Number is not Undef
+pub number_defined : (t : Tree) → is_number t ≡ true → is_undef t ≡ false
+number_defined undef e = absurd (undef_is_no_number e)
+number_defined t e = refl
+
+zero_words : (t : Tree) → is_zero t ≡ true → t ≡ num zero_fraction
+zero_words (num q) e = ap num (zero_is q e)
+zero_words t e = cc
+
+zero_test : is_zero (num zero_fraction) ≡ true
+unfolding zero_fraction
+zero_test = ap int_is_zero (whole_numerator (pos 0))
+
+-- ---- exponents
+
+low_integer : (n : ℤ) → n ≤ℤ pos 0 → int_is_zero n || int_is_negative n ≡ true
+low_integer (pos zero) l = refl
+low_integer (pos (suc k)) l = absurd (omega (arith, ints))
+low_integer (negsuc k) l = refl
+
+integer_low : (n : ℤ) → int_is_zero n || int_is_negative n ≡ true → n ≤ℤ pos 0
+integer_low (pos zero) e = omega (arith, ints)
+integer_low (pos (suc k)) e = cc
+integer_low (negsuc k) e = omega (arith, ints)
+
+whole_exponent : (n : ℤ) → is_at_most_zero (num (whole_fraction n)) ≡ int_is_zero n || int_is_negative n
+whole_exponent n = (λ i. (whole_denominator n i == 1) && (int_is_zero (whole_numerator n i) || int_is_negative (whole_numerator n i)))
+
+negative_short : (n : ℤ) (c : ℕ) → ((k : ℕ) → n ≡ negsuc k → c ≤ 2) → not (int_is_negative n) || nat_le c 2 ≡ true
+negative_short (pos k) c h = refl
+negative_short (negsuc k) c h = le-leb c 2 (h k refl)
+
+whole_power_number : (r : Tree) (n : ℤ) → is_number r ≡ true → ((k : ℕ) → n ≡ negsuc k → classes r ≤ 2) → has_number_power r (num (whole_fraction n)) ≡ true
+whole_power_number r n h s =
+    (λ i. is_number r && (whole_denominator n i == 1) && (not (int_is_negative (whole_numerator n i)) || nat_le (classes r) 2))
+    ∙ and_true (is_number r && true) (not (int_is_negative n) || nat_le (classes r) 2) (and_true (is_number r) true h refl) (negative_short n (classes r) s)
+
+whole_power_defined : (r : Tree) (n : ℤ) → is_number r ≡ true → (n ≤ℤ pos 0 → r ≢ num zero_fraction) → has_no_power r (num (whole_fraction n)) ≡ false
+whole_power_defined r n h z = or_none (is_undef r || false) (is_zero r && is_at_most_zero (num (whole_fraction n))) (or_none (is_undef r) false (number_defined r h) refl)
+    (and_false (is_zero r) (is_at_most_zero (num (whole_fraction n))) (λ a b. z (integer_low n (sym (whole_exponent n) ∙ b)) (zero_words r a)))
+
+zero_power : (n : ℤ) (c : Tree) → n ≤ℤ pos 0 → c ≡ num zero_fraction → has_no_power c (num (whole_fraction n)) ≡ true
+zero_power n c l e = or_true (is_undef c || false) (is_zero c && is_at_most_zero (num (whole_fraction n)))
+    (inr (and_true (is_zero c) (is_at_most_zero (num (whole_fraction n))) (ap is_zero e ∙ zero_test) (whole_exponent n ∙ low_integer n l)))
+
+-- ---- one child
+
+module _ (t r : Tree) (h : IsReducedFrom t r) (e : IsEasy t) where
+  child_bad : IsBad t → is_undef r ≡ true
+  child_bad b = undef_test r ((h.easy e).undefined.1 b)
+
+  child_number : ¬ (IsBad t) → is_number r ≡ true
+  child_number n = (h.easy e).number (by (is_undef r) refl)
+    where
+      by : (b : Bool) → is_undef r ≡ b → is_undef r ≡ false
+      by true u = absurd (n ((h.easy e).undefined.0 (undef_words r u)))
+      by false u = u
+
+-- each tree of the list is Easy
+AreEasy : Trees → Type 0
+AreEasy ts = (p : Tree) → IsPartOf p ts → IsEasy p
+
+children_bad : (ts us : Trees) → AreReducedFrom ts us → ((p : Tree) → IsPartOf p ts → IsEasy p) → HasBad ts → has_undef us ≡ true
+children_bad none us h e b = absurd b
+children_bad (more t ts) none h e b = absurd h
+children_bad (more t ts) (more u us) h e (inl b) = or_true (is_undef u) (has_undef us) (inl (child_bad t u h.0 (e t (first itself)) b))
+children_bad (more t ts) (more u us) h e (inr b) = or_true (is_undef u) (has_undef us) (inr (children_bad ts us h.1 (λ p k. e p (later k)) b))
+
+children_numbers : (ts us : Trees) → AreReducedFrom ts us → ((p : Tree) → IsPartOf p ts → IsEasy p) → ¬ (HasBad ts) → are_numbers us ≡ true
+children_numbers none none h e n = refl
+children_numbers none (more u us) h e n = absurd h
+children_numbers (more t ts) none h e n = absurd h
+children_numbers (more t ts) (more u us) h e n =
+    and_true (is_number u) (are_numbers us) (child_number t u h.0 (e t (first itself)) (λ b. n (inl b))) (children_numbers ts us h.1 (λ p k. e p (later k)) (λ b. n (inr b)))
+
+numbers_defined : (us : Trees) → are_numbers us ≡ true → has_undef us ≡ false
+numbers_defined none e = refl
+numbers_defined (more u us) e = or_none (is_undef u) (has_undef us) (number_defined u (and_first (is_number u) (are_numbers us) e)) (numbers_defined us (and_second (is_number u) (are_numbers us) e))
+
+-- ---- whether the node has a value
+
+-- the children's answers show whether an Easy node is Bad
+pub record Decides (t u : Tree) : Type 0 where
+  pub bad : IsBad t → has_no_value u ≡ true
+  pub defined : ¬ (IsBad t) → has_no_value u ≡ false
+  pub number : ¬ (IsBad t) → has_number u ≡ true
+
+number_decides : (q : Fraction) → Decides (num q) (num q)
+number_decides q = record { bad = λ b. absurd (num_is_not_bad q b); defined = λ n. refl; number = λ n. refl }
+
+undef_decides : Decides undef undef
+undef_decides = record { bad = λ b. refl; defined = λ n. absurd (n undef_is_bad); number = λ n. absurd (n undef_is_bad) }
+
+sum_decides : (ts us : Trees) → AreReducedFrom ts us → IsEasy (add ts) → Decides (add ts) (add us)
+sum_decides ts us h e =
+    let parts = λ (p : Tree) (k : IsPartOf p ts). easy_part p (add ts) (in_add k) e in
+    let numbers : ¬ (IsBad (add ts)) → are_numbers us ≡ true = λ n. children_numbers ts us h parts (λ b. n (sum_of_bad ts b)) in
+    record { bad = λ b. children_bad ts us h parts (bad_sum ts b); defined = λ n. numbers_defined us (numbers n); number = numbers }
+
+product_decides : (ts us : Trees) → AreReducedFrom ts us → IsEasy (mult ts) → Decides (mult ts) (mult us)
+product_decides ts us h e =
+    let parts = λ (p : Tree) (k : IsPartOf p ts). easy_part p (mult ts) (in_mult k) e in
+    let numbers : ¬ (IsBad (mult ts)) → are_numbers us ≡ true = λ n. children_numbers ts us h parts (λ b. n (product_of_bad ts b)) in
+    record { bad = λ b. children_bad ts us h parts (bad_product ts b); defined = λ n. numbers_defined us (numbers n); number = numbers }
+
+neg_decides : (a c : Tree) → IsReducedFrom a c → IsEasy (neg a) → Decides (neg a) (neg c)
+neg_decides a c h e =
+    let part = easy_part a (neg a) (in_neg itself) e in
+    let number : ¬ (IsBad (neg a)) → is_number c ≡ true = λ n. child_number a c h part (λ b. n (bad_part a (neg a) (in_neg itself) b)) in
+    record { bad = λ b. child_bad a c h part (bad_neg a b); defined = λ n. number_defined c (number n); number = number }
+
+sub_decides : (a c b d : Tree) → IsReducedFrom a c → IsReducedFrom b d → IsEasy (sub a b) → Decides (sub a b) (sub c d)
+sub_decides a c b d h k e =
+    let left = easy_part a (sub a b) (in_left itself) e in
+    let right = easy_part b (sub a b) (in_right itself) e in
+    let l : ¬ (IsBad (sub a b)) → is_number c ≡ true = λ n. child_number a c h left (λ x. n (bad_part a (sub a b) (in_left itself) x)) in
+    let r : ¬ (IsBad (sub a b)) → is_number d ≡ true = λ n. child_number b d k right (λ x. n (bad_part b (sub a b) (in_right itself) x)) in
+    record {
+      bad = λ x. or_true (is_undef c) (is_undef d) (by (bad_sub a b x));
+      defined = λ n. or_none (is_undef c) (is_undef d) (number_defined c (l n)) (number_defined d (r n));
+      number = λ n. and_true (is_number c) (is_number d) (l n) (r n);
+    }
+  where
+    by : IsBad a ⊎ IsBad b → (is_undef c ≡ true) ⊎ (is_undef d ≡ true)
+    by (inl x) = inl (child_bad a c h (easy_part a (sub a b) (in_left itself) e) x)
+    by (inr x) = inr (child_bad b d k (easy_part b (sub a b) (in_right itself) e) x)
+
+-- a tree with a value is not Bad
+valued : (t : Tree) (v : Surd) → HasValue t v → ¬ (IsBad t)
+valued t v m b = bad_has_no_value t v b m
+
+-- a zero is answered for what means zero
+zero_answer : (t r : Tree) → IsReducedFrom t r → IsEasy t → IsZero t → r ≡ num zero_fraction
+zero_answer t r h e z = zero_reduced t r (kept h.reduces.meanings) (number_words r (child_number t r h e (valued t _ z))) z
+
+div_decides : (a c b d : Tree) → IsReducedFrom a c → IsReducedFrom b d → IsEasy (div a b) → Decides (div a b) (div c d)
+div_decides a c b d h k e =
+    let left = easy_part a (div a b) (in_dividend itself) e in
+    let right = easy_part b (div a b) (in_divisor itself) e in
+    let l : ¬ (IsBad (div a b)) → is_number c ≡ true = λ n. child_number a c h left (λ x. n (bad_part a (div a b) (in_dividend itself) x)) in
+    let r : ¬ (IsBad (div a b)) → is_number d ≡ true = λ n. child_number b d k right (λ x. n (bad_part b (div a b) (in_divisor itself) x)) in
+    let divisor = λ (n : ¬ (IsBad (div a b))). easy_divisor a b d e n (kept k.reduces.meanings) (number_words d (r n)) in
+    record {
+      bad = λ x. or_true (is_undef c) (has_no_power d (num minus_one_fraction)) (by (bad_div a b x));
+      defined = λ n. or_none (is_undef c) (has_no_power d (num minus_one_fraction)) (number_defined c (l n)) (whole_power_defined d (negsuc 0) (r n) (λ z. (divisor n).0));
+      number = λ n. and_true (is_number c) (has_number_power d (num minus_one_fraction)) (l n) (whole_power_number d (negsuc 0) (r n) (λ i z. (divisor n).1));
+    }
+  where
+    by : IsBad a ⊎ (IsBad b ⊎ IsZero b) → (is_undef c ≡ true) ⊎ (has_no_power d (num minus_one_fraction) ≡ true)
+    by (inl x) = inl (child_bad a c h (easy_part a (div a b) (in_dividend itself) e) x)
+    by (inr (inl x)) = inr (or_true (is_undef d || false) (is_zero d && is_at_most_zero (num minus_one_fraction)) (inl (or_true (is_undef d) false (inl (child_bad b d k (easy_part b (div a b) (in_divisor itself) e) x)))))
+    by (inr (inr z)) = inr (zero_power (negsuc 0) d (omega (arith, ints)) (zero_answer b d k (easy_part b (div a b) (in_divisor itself) e) z))
+
+power_decides : (b c g x : Tree) → IsReducedFrom b c → IsReducedFrom g x → IsEasy (power b g) → Decides (power b g) (power c x)
+power_decides b c g x h k e =
+    let l : ¬ (IsBad (power b g)) → is_number c ≡ true = λ n. child_number b c h base (λ y. n (bad_part b (power b g) (in_base itself) y)) in
+    let r : ¬ (IsBad (power b g)) → is_number x ≡ true = λ n. child_number g x k exponent (λ y. n (bad_part g (power b g) (in_exponent itself) y)) in
+    let known = λ (n : ¬ (IsBad (power b g))). easy_power b g c x e n (kept h.reduces.meanings) (kept k.reduces.meanings) (number_words c (l n)) (number_words x (r n)) in
+    record {
+      bad = λ y. by (bad_power b g y);
+      defined = λ n. ap (has_no_power c) (known n).exponent_is ∙ whole_power_defined c (known n).exponent (l n) (known n).not_zero;
+      number = λ n. ap (has_number_power c) (known n).exponent_is ∙ whole_power_number c (known n).exponent (l n) (known n).short;
+    }
+  where
+    base : IsEasy b
+    base = easy_part b (power b g) (in_base itself) e
+
+    exponent : IsEasy g
+    exponent = easy_part g (power b g) (in_exponent itself) e
+
+    by : IsBad b ⊎ (IsBad g ⊎ IsBadNode (power b g)) → has_no_power c x ≡ true
+    by (inl y) = or_true (is_undef c || is_undef x) (is_zero c && is_at_most_zero x) (inl (or_true (is_undef c) (is_undef x) (inl (child_bad b c h base y))))
+    by (inr (inl y)) = or_true (is_undef c || is_undef x) (is_zero c && is_at_most_zero x) (inl (or_true (is_undef c) (is_undef x) (inr (child_bad g x k exponent y))))
+    by (inr (inr (z, n, low, w))) = ap (has_no_power c) (whole_reduced g x n (kept k.reduces.meanings) (number_words x (child_number g x k exponent (valued g _ w))) w) ∙ zero_power n c low (zero_answer b c h base z)
+
+root_decides : (a c : Tree) → IsReducedFrom a c → IsEasy (root a) → Decides (root a) (root c)
+root_decides a c h e = record {
+  bad = λ x. by (bad_root a x);
+  defined = λ n. let (q, is, s) = known n in ap has_no_root is ∙ s;
+  number = λ n. let (q, is, s) = known n in ap is_num is;
+}
+  where
+    part : IsEasy a
+    part = easy_part a (root a) (in_root itself) e
+
+    known : ¬ (IsBad (root a)) → (q : Fraction) × (c ≡ num q) × (int_is_negative q.num ≡ false)
+    known n = easy_root a c e n (kept h.reduces.meanings) (number_words c (child_number a c h part (λ b. n (bad_part a (root a) (in_root itself) b))))
+
+    by : IsBad a ⊎ IsNegative a → has_no_root c ≡ true
+    by (inl b) = ap has_no_root (undef_words c (child_bad a c h part b))
+    by (inr m) = let (q, s, is) = negative_reduced a c (kept h.reduces.meanings) (number_words c (child_number a c h part (valued a _ m.2))) m in ap has_no_root is ∙ s
+
+decides : (t u : Tree) → IsOver t u → IsEasy t → Decides t u
+decides t u (over_number q) e = number_decides q
+decides t u (over_symbol x) e = absurd (let h = e.no_symbols in cc)
+decides t u over_undef e = undef_decides
+decides t u (over_sum ts us h) e = sum_decides ts us h e
+decides t u (over_product ts us h) e = product_decides ts us h e
+decides t u (over_power b c g x h k) e = power_decides b c g x h k e
+decides t u (over_root a c h) e = root_decides a c h e
+decides t u (over_neg a c h) e = neg_decides a c h e
+decides t u (over_sub a c b d h k) e = sub_decides a c b d h k e
+decides t u (over_div a c b d h k) e = div_decides a c b d h k e
+
+-- ---- the answer
+
+evaluated : (t u r : Tree) → Decides t u → IsEasy t → IsNodeAnswer u r → KeepsMeanings t r → Evaluates t r
+evaluated t u r d e a k = record {
+  undefined = (λ x. answered (easy_decided t e) x, λ b. a.undefined (d.bad b));
+  number = λ n. number (not_bad n);
+  value = λ n. let (v, m) = worth n (easy_decided t e) in reduced_value t r (kept k) (number_words r (number (not_bad n))) v m;
+}
+  where
+    number : ¬ (IsBad t) → is_number r ≡ true
+    number n = a.number (d.number n) (d.defined n)
+
+    not_bad : is_undef r ≡ false → ¬ (IsBad t)
+    not_bad n b = absurd (let u : is_undef r ≡ true = undef_test r (a.undefined (d.bad b)) in cc)
+
+    answered : IsBad t ⊎ ((v : Surd) × HasValue t v) → r ≡ undef → IsBad t
+    answered (inl b) x = b
+    answered (inr (v, m)) x = absurd (undef_is_no_number (ap is_number (sym x) ∙ number (valued t v m)))
+
+    worth : is_undef r ≡ false → IsBad t ⊎ ((v : Surd) × HasValue t v) → (v : Surd) × HasValue t v
+    worth n (inl b) = absurd (not_bad n b)
+    worth n (inr v) = v
+
+pub answered_easy : (t u r : Tree) → IsOver t u → IsNodeAnswer u r → KeepsMeanings t r → IsEasy t → Evaluates t r
+answered_easy t u r h a k e = evaluated t u r (decides t u h e) e a k

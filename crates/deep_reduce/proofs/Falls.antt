@@ -1,0 +1,52 @@
+-- The measure falls at each call.
+use Rattle.std.proofs.Common.{◌≡◌, ℕ, ◌+◌, ◌*◌, ◌≤◌, ◌<◌, true, refl, sym, ap, ◌∙◌, subst, arith}
+use Rattle.calc_terms.specs.Loads.{nest, nest_of, weight, load_of_factors}
+use Rattle.calc_terms.specs.Trees.{Tree, add, mult, power, Trees, is_mult}
+use Rattle.deep_reduce.specs.Unfinished.{nest_over, nest_of_joint, nest_of_rewritten, weight_of_bases, weight_below, IsSummed}
+use Rattle.deep_reduce.proofs.Finished.{IsReadyProduct, IsReadyPower}
+use Rattle.deep_reduce.proofs.Measures.{of_product, of_power, of_joint, of_powers, of_exponent, of_rewritten}
+use Rattle.deep_reduce.proofs.Nests.{over_power}
+use Rattle.deep_reduce.proofs.Opened.{IsOpened}
+use Rattle.deep_reduce.proofs.Ranks.{rank_second}
+use Rattle.deep_reduce.proofs.Rows.{IsPowerOf}
+use Rattle.deep_reduce.proofs.Settled.{IsLess, IsJointLess}
+use Rattle.power_reduce.specs.PowerAnswers.{base_in, exponent_in}
+use Rattle.tree_handles.specs.Expressions.{nth, children_of}
+
+pub joint_falls : (t u : Tree) (at : ℕ) → IsJointLess (children_of t) (nth at (children_of u)) → of_joint at u < of_product t
+joint_falls t u at h = rank_second _ _ _ _ h.nests (omega (arith, h.weighs))
+
+pub product_falls : (t v : Tree) → IsLess (children_of t) v → of_product v < of_product t
+product_falls t v h = rank_second _ _ _ _ h.nests (omega (arith, h.loads))
+
+summed_falls : (b : Tree) (ts : Trees) (p : Tree) → IsSummed b ts p → (nest p ≤ nest_over b ts) × (weight (base_in p) ≡ weight b)
+summed_falls b ts p h = (omega (arith, over_power b ts h.exponent h.sum.number h.sum.nest, ap nest h.is), ap (λ (x : Tree). weight (base_in x)) h.is)
+
+joint_power : (t p : Tree) → t ≡ power (base_in t) (add (children_of (exponent_in t))) → IsSummed (base_in t) (children_of (exponent_in t)) p → (nest p ≤ nest_of_joint t) × (weight (base_in p) ≡ weight (base_in t))
+joint_power t p e h =
+    let f = summed_falls (base_in t) (children_of (exponent_in t)) p h in
+    let n : nest_of_joint t ≡ nest_over (base_in t) (children_of (exponent_in t)) = ap nest_of_joint e in
+    (omega (arith, f.0, n), f.1)
+
+pub power_falls : (u p : Tree) (at : ℕ) → (let t = nth at (children_of u) in t ≡ power (base_in t) (add (children_of (exponent_in t))))
+    → IsSummed (base_in (nth at (children_of u))) (children_of (exponent_in (nth at (children_of u)))) p → of_power p < of_joint at u
+power_falls u p at e h = let f = joint_power (nth at (children_of u)) p e h in rank_second _ _ _ _ f.0 (omega (arith, f.1))
+
+pub rewritten_falls : (t u : Tree) → t ≡ power (base_in t) (exponent_in t) → IsOpened (base_in t) (exponent_in t) u → of_rewritten u < of_power t
+rewritten_falls t u e o = rank_second _ _ _ _ (omega (arith, o.nests, ap nest e)) (omega (arith, o.weighs))
+
+pub powers_fall : (u : Tree) → is_mult u ≡ true → of_powers u < of_rewritten u
+powers_fall (mult ts) m = rank_second _ _ _ _ (omega arith) (omega arith)
+powers_fall u m = cc
+
+pub ready_product_falls : (u v : Tree) → IsReadyProduct u v → of_product v < of_rewritten u
+ready_product_falls u v r = rank_second _ _ _ _ r.nests (omega (arith, r.loads))
+
+pub exponent_falls : (u : Tree) → of_exponent u < of_rewritten u
+exponent_falls u = rank_second _ _ _ _ (omega arith) (omega arith)
+
+pub ready_power_falls : (u v : Tree) → IsReadyPower u v → of_power v < of_rewritten u
+ready_power_falls u v r = rank_second _ _ _ _ r.nests (omega (arith, r.weighs))
+
+pub one_power_falls : (u t : Tree) → IsPowerOf (children_of u) t → of_power t < of_powers u
+one_power_falls u t p = rank_second _ _ _ _ p.nests (omega (arith, p.weighs))

@@ -1,0 +1,139 @@
+-- A tree after a rewriting, whose powers or whose exponent were reduced.
+use Rattle.std.proofs.Common.{◌≡◌, ℕ, suc, ◌+◌, ◌≤◌, ◌<◌, Bool, true, false, ◌&&◌, refl, sym, ap, ◌∙◌, subst, arith}
+use Rattle.std.specs.Prelude.{max}
+use Rattle.calc_terms.specs.Loads.{nest, nest_of, load, weight, load_of_factors}
+use Rattle.calc_terms.specs.Reduced.{is_reduced}
+use Rattle.calc_terms.specs.Trees.{Tree, num, symbol, undef, add, mult, power, root, neg, sub, div, Trees, none, more, count, is_mult}
+use Rattle.deep_reduce.specs.Answers.{IsReducedProduct, IsReducedPower}
+use Rattle.deep_reduce.specs.Unfinished.{nest_over, nest_of_rewritten, weight_of_bases, weight_below, IsTransparent, AreTransparent, IsUnfinished, Finishes, IsMultiplied, IsLifted, AreReducedPowers, IsProductOfPowers}
+use Rattle.deep_reduce.proofs.Heavy.{heavy, factor_load}
+use Rattle.deep_reduce.proofs.Nests.{over_power, product_load}
+use Rattle.deep_reduce.proofs.Settled.{exponent_rewritten, factors_rewritten}
+use Rattle.power_reduce.specs.PowerAnswers.{base_in, exponent_in}
+use Rattle.reduce_port.specs.Children.{are_reduced}
+use Rattle.reduce_port.specs.Rewritings.{Rewrites}
+use Rattle.reduce_port.proofs.Rewritings.{Rewrites-refl, rewrites_of, reduces_after}
+use Rattle.tree_handles.specs.Expressions.{children_of}
+
+-- ---- products of powers
+
+-- what the reduced powers of a product are
+pub record AreLess (ts us : Trees) : Type 0 where
+  pub count-is : count us ≡ count ts
+  pub reduced : are_reduced us ≡ true
+  pub rewrites : Rewrites (mult ts) (mult us)
+  pub nests : nest_of us ≤ nest_of ts
+  pub loads : load_of_factors us ≤ weight_of_bases ts
+
+pub powers_less : (ts us : Trees) → AreTransparent ts → AreReducedPowers ts us → AreLess ts us
+powers_less none none t r = record { count-is = refl; reduced = refl; rewrites = Rewrites-refl (mult none); nests = omega arith; loads = omega arith }
+powers_less none (more u us) t r = absurd r
+powers_less (more t ts) none h r = absurd r
+powers_less (more t ts) (more u us) h r =
+    let rest = powers_less ts us h.1 r.1 in
+    let nest-is : nest t ≡ nest (power (base_in t) (exponent_in t)) = ap nest h.0.is in
+    record {
+      count-is = ap suc rest.count-is;
+      reduced = rw (r.0.reduces.reduced, rest.reduced) refl;
+      rewrites = factors_rewritten (subst (λ (x : Tree). Rewrites x u) (sym h.0.is) (rewrites_of r.0.reduces)) rest.rewrites;
+      nests = omega (arith, r.0.nest, nest-is, rest.nests);
+      loads = omega (arith, factor_load u (weight (base_in t)) (heavy (base_in t) h.0.base_reduced) (r.0.load h.0.transparent), rest.loads);
+    }
+
+pub product_of_powers : (t v r : Tree) → is_mult t ≡ true → IsUnfinished t → IsProductOfPowers (children_of t) v → IsReducedProduct (children_of v) r → Finishes t r
+product_of_powers (mult ts) v r m w p a =
+    let l = powers_less ts p.factors w.0 p.are in
+    let b : IsReducedProduct p.factors r = subst (λ (x : Tree). IsReducedProduct (children_of x) r) p.is a in
+    record {
+      reduces = reduces_after l.rewrites b.reduces;
+      nest = omega (arith, b.nest, l.nests);
+      load = omega (arith, b.load, product_load p.factors, l.loads);
+    }
+product_of_powers t v r m w p a = cc
+
+-- what is handed on for such a product
+pub record IsReadyProduct (t v : Tree) : Type 0 where
+  pub is : is_mult v ≡ true
+  pub some : 1 ≤ count (children_of v)
+  pub reduced : are_reduced (children_of v) ≡ true
+  pub nests : nest_of (children_of v) ≤ nest_of_rewritten t
+  pub loads : load_of_factors (children_of v) ≤ weight_below t
+
+pub ready_product : (t v : Tree) → is_mult t ≡ true → IsUnfinished t → IsProductOfPowers (children_of t) v → IsReadyProduct t v
+ready_product (mult ts) v m w p =
+    let l = powers_less ts p.factors w.0 p.are in
+    subst (IsReadyProduct (mult ts)) (sym p.is) (record { is = refl; some = omega (arith, l.count-is, w.1); reduced = l.reduced; nests = l.nests; loads = l.loads })
+ready_product t v m w p = cc
+
+pub transparent_children : (t : Tree) → is_mult t ≡ true → IsUnfinished t → AreTransparent (children_of t)
+transparent_children (mult ts) m w = w.0
+transparent_children t m w = cc
+
+-- ---- powers
+
+-- a power whose exponent is reduced
+pub record IsReadyPower (t v : Tree) : Type 0 where
+  pub is : v ≡ power (base_in v) (exponent_in v)
+  pub base_reduced : is_reduced (base_in v) ≡ true
+  pub exponent_reduced : is_reduced (exponent_in v) ≡ true
+  pub rewrites : Rewrites t v
+  pub nests : nest v ≤ nest_of_rewritten t
+  pub weighs : weight (base_in v) ≤ weight_below t
+
+multiplied_ready : (b : Tree) (ts : Trees) (v : Tree) → IsUnfinished (power b (mult ts)) → IsMultiplied b ts v → IsReadyPower (power b (mult ts)) v
+multiplied_ready b ts v w m = subst (IsReadyPower (power b (mult ts))) (sym m.is) (record {
+  is = refl;
+  base_reduced = w.base_reduced;
+  exponent_reduced = m.product.reduces.reduced;
+  rewrites = exponent_rewritten b (rewrites_of m.product.reduces);
+  nests = over_power b ts m.exponent m.product.number m.product.nest;
+  weighs = omega arith;
+})
+
+same_ready : (b e v : Tree) → nest (power b e) ≤ nest_of_rewritten (power b e) → IsTransparent (power b e) → v ≡ power b e → IsReadyPower (power b e) v
+same_ready b e v n w m = subst (IsReadyPower (power b e)) (sym m) (record {
+  is = refl;
+  base_reduced = w.base_reduced;
+  exponent_reduced = w.exponent_reduced;
+  rewrites = Rewrites-refl (power b e);
+  nests = n;
+  weighs = omega arith;
+})
+
+ready_of : (b e v : Tree) → IsUnfinished (power b e) → IsLifted (power b e) v → IsReadyPower (power b e) v
+ready_of b (mult ts) v w l = multiplied_ready b ts v w l
+ready_of b (num q) v w l = same_ready b (num q) v (omega arith) w l
+ready_of b (symbol x) v w l = same_ready b (symbol x) v (omega arith) w l
+ready_of b undef v w l = same_ready b undef v (omega arith) w l
+ready_of b (add ts) v w l = same_ready b (add ts) v (omega arith) w l
+ready_of b (power c f) v w l = same_ready b (power c f) v (omega arith) w l
+ready_of b (root a) v w l = same_ready b (root a) v (omega arith) w l
+ready_of b (neg a) v w l = same_ready b (neg a) v (omega arith) w l
+ready_of b (sub a c) v w l = same_ready b (sub a c) v (omega arith) w l
+ready_of b (div a c) v w l = same_ready b (div a c) v (omega arith) w l
+
+pub ready_power : (t v : Tree) → t ≡ power (base_in t) (exponent_in t) → IsUnfinished t → IsLifted t v → IsReadyPower t v
+ready_power (power b e) v m w l = ready_of b e v w l
+ready_power t v m w l = cc
+
+pub power_lifted : (t v r : Tree) → IsReadyPower t v → IsReducedPower (base_in v) (exponent_in v) r → Finishes t r
+power_lifted t v r p a =
+    let nest-is : nest v ≡ nest (power (base_in v) (exponent_in v)) = ap nest p.is in
+    record {
+      reduces = reduces_after (subst (Rewrites t) p.is p.rewrites) a.reduces;
+      nest = omega (arith, a.nest, nest-is, p.nests);
+      load = omega (arith, a.opaque_load, p.weighs);
+    }
+
+-- a tree that is no product is a power
+pub power_of_kind : (t : Tree) → is_mult t ≡ false → IsUnfinished t → t ≡ power (base_in t) (exponent_in t)
+power_of_kind (power b e) m w = refl
+power_of_kind (mult ts) m w = cc
+power_of_kind (num q) m w = w.is
+power_of_kind (symbol x) m w = w.is
+power_of_kind undef m w = w.is
+power_of_kind (add ts) m w = w.is
+power_of_kind (root a) m w = w.is
+power_of_kind (neg a) m w = w.is
+power_of_kind (sub a b) m w = w.is
+power_of_kind (div a b) m w = w.is

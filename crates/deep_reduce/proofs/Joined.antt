@@ -1,0 +1,284 @@
+-- Factors of reduced trees before and after a joining: their loads and nests.
+use Rattle.std.proofs.Common.{◌≡◌, ℕ, suc, ◌+◌, ◌≤◌, ◌<◌, inl, inr, Bool, true, false, ◌&&◌, ◌||◌, if◌then◌else◌, refl, sym, ap, ◌∙◌, subst, arith}
+use Rattle.std.specs.Prelude.{max}
+use Rattle.std.proofs.lemmas.Bool.{and_parts}
+use Rattle.calc_terms.specs.Loads.{nest, nest_of, weight, load_of_factor, load_of_factors}
+use Rattle.calc_terms.specs.Numbers.{is_number, IsNumber}
+use Rattle.calc_terms.specs.Reduced.{is_reduced, is_num_one, base_of, HasForm, NoneIs, IsNodeForm, IsProductForm}
+use Rattle.calc_terms.specs.Trees.{Tree, num, symbol, undef, add, mult, power, root, neg, sub, div, Trees, none, more, append, count, is_mult, AllPartsOf}
+use Rattle.calc_terms.proofs.NumberLaws.{number_test, number_words}
+use Rattle.coefficients.specs.Coefficients.{factors_of}
+use Rattle.coefficients.proofs.Forms.{reduced_parts, parts_reduced}
+use Rattle.deep_reduce.specs.Unfinished.{nest_of_joint}
+use Rattle.deep_reduce.proofs.Heavy.{heavy_base}
+use Rattle.deep_reduce.proofs.Joints.{same_base, transparent_exponent, joint_load, joint_nest, joint_below}
+use Rattle.deep_reduce.proofs.Nests.{number_load, number_nest}
+use Rattle.product_reduce.specs.Factors.{opened, others_in, coefficient_before}
+use Rattle.product_reduce.specs.Joining.{exponent_of, is_partner, has_partner, first_partner, without_partner, joint, have_partners, joined}
+use Rattle.reduce_port.specs.Children.{are_numbers, are_reduced}
+
+-- ---- lists
+
+loads_append : (ts us : Trees) → load_of_factors (append ts us) ≡ load_of_factors ts + load_of_factors us
+loads_append none us = omega arith
+loads_append (more t ts) us = omega (arith, loads_append ts us)
+
+nests_append : (ts us : Trees) → nest_of (append ts us) ≡ max (nest_of ts) (nest_of us)
+nests_append none us = omega arith
+nests_append (more t ts) us = omega (arith, nests_append ts us)
+
+factors_load : (t : Tree) → load_of_factors (factors_of t) ≡ load_of_factor t
+factors_load (mult ts) = refl
+factors_load (num q) = omega arith
+factors_load (symbol x) = omega arith
+factors_load undef = omega arith
+factors_load (add ts) = omega arith
+factors_load (power b e) = omega arith
+factors_load (root a) = omega arith
+factors_load (neg a) = omega arith
+factors_load (sub a b) = omega arith
+factors_load (div a b) = omega arith
+
+factors_nest : (t : Tree) → nest_of (factors_of t) ≡ nest t
+factors_nest (mult ts) = refl
+factors_nest (num q) = omega arith
+factors_nest (symbol x) = omega arith
+factors_nest undef = omega arith
+factors_nest (add ts) = omega arith
+factors_nest (power b e) = omega arith
+factors_nest (root a) = omega arith
+factors_nest (neg a) = omega arith
+factors_nest (sub a b) = omega arith
+factors_nest (div a b) = omega arith
+
+-- ---- factors opened, without their Numbers
+
+opened_load : (ts : Trees) → load_of_factors (opened ts) ≡ load_of_factors ts
+opened_load none = refl
+opened_load (more t ts) = omega (arith, loads_append (factors_of t) (opened ts), factors_load t, opened_load ts)
+
+opened_nest : (ts : Trees) → nest_of (opened ts) ≡ nest_of ts
+opened_nest none = refl
+opened_nest (more t ts) = omega (arith, nests_append (factors_of t) (opened ts), factors_nest t, opened_nest ts)
+
+others_load : (ts : Trees) → load_of_factors (others_in ts) ≡ load_of_factors ts
+others_load none = refl
+others_load (more t ts) = by (is_number t) refl (others_load ts)
+  where
+    by : (x : Bool) → is_number t ≡ x → load_of_factors (others_in ts) ≡ load_of_factors ts → load_of_factors (if x then others_in ts else more t (others_in ts)) ≡ load_of_factor t + load_of_factors ts
+    by true e rest = omega (arith, number_load t e)
+    by false e rest = omega arith
+
+others_nest : (ts : Trees) → nest_of (others_in ts) ≤ nest_of ts
+others_nest none = omega arith
+others_nest (more t ts) = by (is_number t) (others_nest ts)
+  where
+    by : (x : Bool) → nest_of (others_in ts) ≤ nest_of ts → nest_of (if x then others_in ts else more t (others_in ts)) ≤ max (nest t) (nest_of ts)
+    by true rest = omega arith
+    by false rest = omega arith
+
+pub open_load : (ts : Trees) → load_of_factors (others_in (opened ts)) ≡ load_of_factors ts
+open_load ts = others_load (opened ts) ∙ opened_load ts
+
+pub open_nest : (ts : Trees) → nest_of (others_in (opened ts)) ≤ nest_of ts
+open_nest ts = omega (arith, others_nest (opened ts), opened_nest ts)
+
+-- where all are Numbers no factor is left
+number_opened : (t : Tree) (us : Trees) → is_number t ≡ true → others_in (append (factors_of t) us) ≡ others_in us
+number_opened (mult ts) us h = two ts (number_words (mult ts) h)
+  where
+    two : (ts : Trees) → IsNumber (mult ts) → others_in (append ts us) ≡ others_in us
+    two (more (num q) (more (root (num r)) none)) k = rw (number_test (num q) tt, number_test (root (num r)) k.2) refl
+    two ts k = absurd k
+number_opened (num q) us h = rw h refl
+number_opened (symbol x) us h = rw h refl
+number_opened undef us h = rw h refl
+number_opened (add ts) us h = rw h refl
+number_opened (power b e) us h = rw h refl
+number_opened (root a) us h = rw h refl
+number_opened (neg a) us h = rw h refl
+number_opened (sub a b) us h = rw h refl
+number_opened (div a b) us h = rw h refl
+
+pub numbers_opened : (ts : Trees) → are_numbers ts ≡ true → others_in (opened ts) ≡ none
+numbers_opened none h = refl
+numbers_opened (more t ts) h = let (p, q) = and_parts _ _ h in number_opened t (opened ts) p ∙ numbers_opened ts q
+
+-- ---- reduced factors are no products
+
+-- a reduced factor
+pub record IsFactor (t : Tree) : Type 0 where
+  pub reduced : is_reduced t ≡ true
+  pub no_number : is_number t ≡ false
+  pub no_product : is_mult t ≡ false
+
+abbrev pub AreFactors : Trees → Type 0
+AreFactors none = Unit {0}
+AreFactors (more t ts) = IsFactor t × AreFactors ts
+
+others_append : (ts us : Trees) → others_in (append ts us) ≡ append (others_in ts) (others_in us)
+others_append none us = refl
+others_append (more t ts) us = by (is_number t) (others_append ts us)
+  where
+    by : (x : Bool) → others_in (append ts us) ≡ append (others_in ts) (others_in us)
+        → (if x then others_in (append ts us) else more t (others_in (append ts us))) ≡ append (if x then others_in ts else more t (others_in ts)) (others_in us)
+    by true rest = rest
+    by false rest = ap (more t) rest
+
+factors_append : (ts us : Trees) → AreFactors ts → AreFactors us → AreFactors (append ts us)
+factors_append none us h k = k
+factors_append (more t ts) us h k = (h.0, factors_append ts us h.1 k)
+
+parts_factors : (ts : Trees) → AllPartsOf HasForm ts → NoneIs is_mult ts → AreFactors (others_in ts)
+parts_factors none p n = tt
+parts_factors (more t ts) p n = by (is_number t) refl (parts_factors ts p.1 n.1)
+  where
+    by : (x : Bool) → is_number t ≡ x → AreFactors (others_in ts) → AreFactors (if x then others_in ts else more t (others_in ts))
+    by true e rest = rest
+    by false e rest = (record { reduced = parts_reduced t p.0; no_number = e; no_product = n.0 }, rest)
+
+-- a tree that is no product
+alone_factors : (t : Tree) → is_reduced t ≡ true → is_mult t ≡ false → AreFactors (others_in (more t none))
+alone_factors t r m = by (is_number t) refl
+  where
+    by : (x : Bool) → is_number t ≡ x → AreFactors (if x then none else more t none)
+    by true e = tt
+    by false e = (record { reduced = r; no_number = e; no_product = m }, tt)
+
+number_no_products : (ts : Trees) → IsNumber (mult ts) → NoneIs is_mult ts
+number_no_products (more (num q) (more (root (num r)) none)) h = (refl, (refl, tt))
+number_no_products ts h = absurd h
+
+tree_factors : (t : Tree) → is_reduced t ≡ true → AreFactors (others_in (factors_of t))
+tree_factors (mult ts) r =
+    let p = reduced_parts (mult ts) r refl in
+    parts_factors ts p.1 (elim p.0 [ inl n ↦ number_no_products ts n | inr f ↦ f.no_product ])
+tree_factors (num q) r = alone_factors (num q) r refl
+tree_factors (symbol x) r = alone_factors (symbol x) r refl
+tree_factors undef r = alone_factors undef r refl
+tree_factors (add ts) r = alone_factors (add ts) r refl
+tree_factors (power b e) r = alone_factors (power b e) r refl
+tree_factors (root a) r = alone_factors (root a) r refl
+tree_factors (neg a) r = alone_factors (neg a) r refl
+tree_factors (sub a b) r = alone_factors (sub a b) r refl
+tree_factors (div a b) r = alone_factors (div a b) r refl
+
+pub open_factors : (ts : Trees) → are_reduced ts ≡ true → AreFactors (others_in (opened ts))
+open_factors none h = tt
+open_factors (more t ts) h =
+    let (p, q) = and_parts _ _ h in
+    subst AreFactors (sym (others_append (factors_of t) (opened ts))) (factors_append (others_in (factors_of t)) (others_in (opened ts)) (tree_factors t p) (open_factors ts q))
+
+-- ---- a joining
+
+factor_load_is : (t : Tree) → is_number t ≡ false → is_mult t ≡ false → load_of_factor t ≡ weight (base_of t)
+factor_load_is (mult ts) n m = cc
+factor_load_is (num q) n m = rw n refl
+factor_load_is (symbol x) n m = rw n refl
+factor_load_is undef n m = rw n refl
+factor_load_is (add ts) n m = rw n refl
+factor_load_is (power b e) n m = rw n refl
+factor_load_is (root a) n m = rw n refl
+factor_load_is (neg a) n m = rw n refl
+factor_load_is (sub a b) n m = rw n refl
+factor_load_is (div a b) n m = rw n refl
+
+-- the partner among the factors, and the others
+record IsPaired (t : Tree) (ts : Trees) : Type 0 where
+  partner : is_partner t (first_partner t ts) ≡ true
+  factor : IsFactor (first_partner t ts)
+  loads : load_of_factors (without_partner t ts) + load_of_factor (first_partner t ts) ≡ load_of_factors ts
+  nests : max (nest_of (without_partner t ts)) (nest (first_partner t ts)) ≤ nest_of ts
+
+paired : (t : Tree) (ts : Trees) → AreFactors ts → has_partner t ts ≡ true → IsPaired t ts
+paired t none f h = cc
+paired t (more u ts) f h = by (is_partner t u) refl h (paired t ts f.1)
+  where
+    by : (x : Bool) → is_partner t u ≡ x → (if x then true else has_partner t ts) ≡ true → (has_partner t ts ≡ true → IsPaired t ts) → IsPaired t (more u ts)
+    by true e k next =
+        let first : first_partner t (more u ts) ≡ u = ap (λ (x : Bool). if x then u else first_partner t ts) e in
+        let rest : without_partner t (more u ts) ≡ ts = ap (λ (x : Bool). if x then ts else more u (without_partner t ts)) e in
+        record {
+          partner = ap (is_partner t) first ∙ e;
+          factor = subst IsFactor (sym first) f.0;
+          loads = omega (arith, ap load_of_factors rest, ap load_of_factor first);
+          nests = omega (arith, ap nest_of rest, ap nest first);
+        }
+    by false e k next =
+        let p = next k in
+        let first : first_partner t (more u ts) ≡ first_partner t ts = ap (λ (x : Bool). if x then u else first_partner t ts) e in
+        let rest : without_partner t (more u ts) ≡ more u (without_partner t ts) = ap (λ (x : Bool). if x then ts else more u (without_partner t ts)) e in
+        record {
+          partner = ap (is_partner t) first ∙ p.partner;
+          factor = subst IsFactor (sym first) p.factor;
+          loads = omega (arith, ap load_of_factors rest, ap load_of_factor first, p.loads);
+          nests = omega (arith, ap nest_of rest, ap nest first, p.nests);
+        }
+
+-- each tree with a sum as its exponent nests no more than n once that sum is reduced
+abbrev pub JointsBelow : ℕ → Trees → Type 0
+JointsBelow n none = Unit {0}
+JointsBelow n (more t ts) = (nest_of_joint t ≤ n) × JointsBelow n ts
+
+pub all_below : (n : ℕ) (ts : Trees) → nest_of ts ≤ n → JointsBelow n ts
+all_below n none h = tt
+all_below n (more t ts) h = (omega (arith, joint_below t), all_below n ts (omega arith))
+
+below_append : (n : ℕ) (ts us : Trees) → JointsBelow n ts → JointsBelow n us → JointsBelow n (append ts us)
+below_append n none us h k = k
+below_append n (more t ts) us h k = (h.0, below_append n ts us h.1 k)
+
+pub record IsLessLoaded (ts us : Trees) : Type 0 where
+  pub load : load_of_factors us + 2 ≤ load_of_factors ts
+  pub nests : JointsBelow (nest_of ts) us
+
+below_more : (n m : ℕ) (ts : Trees) → n ≤ m → JointsBelow n ts → JointsBelow m ts
+below_more n m none l h = tt
+below_more n m (more t ts) l h = (omega (arith, h.0), below_more n m ts l h.1)
+
+joined_less : (ts : Trees) → AreFactors ts → have_partners ts ≡ true → IsLessLoaded ts (joined ts)
+joined_less none f h = cc
+joined_less (more t ts) f h = by (has_partner t ts) refl h (joined_less ts f.1)
+  where
+    by : (x : Bool) → has_partner t ts ≡ x → (if x then true else have_partners ts) ≡ true → (have_partners ts ≡ true → IsLessLoaded ts (joined ts))
+        → IsLessLoaded (more t ts) (if x then more (joint t (first_partner t ts)) (without_partner t ts) else more t (joined ts))
+    by true e k next =
+        let p = paired t ts f.1 e in
+        let u = first_partner t ts in
+        let same = same_base t u p.partner in
+        let one = joint_load (base_of t) (exponent_of t) (exponent_of u) (transparent_exponent t) (transparent_exponent u) in
+        let first = factor_load_is t f.0.no_number f.0.no_product in
+        let second = factor_load_is u p.factor.no_number p.factor.no_product in
+        record {
+          load = omega (arith, p.loads, one, first, second, ap weight same, heavy_base t f.0.reduced);
+          nests = (omega (arith, joint_nest t u same, p.nests), all_below _ (without_partner t ts) (omega (arith, p.nests)));
+        }
+    by false e k next =
+        let r = next k in
+        record { load = omega (arith, r.load); nests = (omega (arith, joint_below t), below_more _ _ (joined ts) (omega arith) r.nests) }
+
+-- a Number before them
+before_load : (c : Tree) (ts : Trees) → is_number c ≡ true → load_of_factors (coefficient_before c ts) ≡ load_of_factors ts
+before_load c ts h = by (is_num_one c)
+  where
+    by : (x : Bool) → load_of_factors (if x then ts else append (factors_of c) ts) ≡ load_of_factors ts
+    by true = refl
+    by false = omega (arith, loads_append (factors_of c) ts, factors_load c, number_load c h)
+
+before_below : (n : ℕ) (c : Tree) (ts : Trees) → is_number c ≡ true → JointsBelow n ts → JointsBelow n (coefficient_before c ts)
+before_below n c ts h k = by (is_num_one c)
+  where
+    by : (x : Bool) → JointsBelow n (if x then ts else append (factors_of c) ts)
+    by true = k
+    by false = below_append n (factors_of c) ts (all_below n (factors_of c) (omega (arith, factors_nest c, number_nest c h))) k
+
+-- the factors of a joined product
+pub product_less : (ts : Trees) (c : Tree) → are_reduced ts ≡ true → is_number c ≡ true → have_partners (others_in (opened ts)) ≡ true
+    → IsLessLoaded ts (coefficient_before c (joined (others_in (opened ts))))
+product_less ts c r n h =
+    let os = others_in (opened ts) in
+    let l = joined_less os (open_factors ts r) h in
+    record {
+      load = omega (arith, before_load c (joined os) n, l.load, open_load ts);
+      nests = before_below (nest_of ts) c (joined os) n (below_more _ _ (joined os) (open_nest ts) l.nests);
+    }

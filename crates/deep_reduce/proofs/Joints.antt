@@ -1,0 +1,194 @@
+-- The joint of two factors: how it nests, and that it is never opaque.
+use Rattle.std.proofs.Common.{◌≡◌, ℕ, suc, ◌+◌, ◌≤◌, ◌<◌, inl, inr, Bool, true, false, ◌&&◌, not, if◌then◌else◌, length, pos, refl, sym, ap, ◌∙◌, subst, arith}
+use Rattle.std.specs.Prelude.{max}
+use Rattle.std.specs.Ordering.{is_eq}
+use Rattle.std.specs.declared.cmp.Ordering.{Ordering}
+use Rattle.std.specs.declared.cmp.Ordering.TheVariants.{Less, Equal, Greater}
+use Rattle.std.proofs.lemmas.Bool.{and_parts, eqb-true}
+use Rattle.calc_terms.specs.Fractions.{one_fraction}
+use Rattle.calc_terms.specs.Loads.{nest, nest_of, weight, load_of_factor}
+use Rattle.calc_terms.specs.Numbers.{is_number, IsNumber, IsTerm, AreTerms, is_term, terms_of, term_of, Rises}
+use Rattle.calc_terms.specs.Reduced.{is_reduced, is_opaque_exponent, is_whole_num, num_one, base_of, HasForm, IsSumForm, NoneIs, number_terms, other_terms}
+use Rattle.calc_terms.specs.TreeOrder.{tree_cmp}
+use Rattle.calc_terms.specs.Trees.{Tree, num, symbol, undef, add, mult, power, root, neg, sub, div, Trees, none, more, is_add, HasTwo}
+use Rattle.calc_terms.proofs.FractionFacts.{whole_denominator}
+use Rattle.calc_terms.proofs.NumberLaws.{number_test, number_words, term_words}
+use Rattle.calc_terms.proofs.TreeOrderLaws.{tree_cmp_equal}
+use Rattle.coefficients.proofs.Forms.{reduced_parts, number_of_term, no_term}
+use Rattle.deep_reduce.specs.Unfinished.{nest_over, nest_of_joint}
+use Rattle.deep_reduce.proofs.Heavy.{exponent_reduced}
+use Rattle.deep_reduce.proofs.Nests.{to_number, to_other, base_nest, over_base, over_exponents}
+use Rattle.product_reduce.specs.Joining.{exponent_of, is_partner, joint}
+use Rattle.reduce_port.specs.Children.{are_numbers}
+
+pub same_base : (t u : Tree) → is_partner t u ≡ true → base_of t ≡ base_of u
+same_base t u h = tree_cmp_equal (base_of t) (base_of u) (equal (tree_cmp (base_of t) (base_of u)) h)
+  where
+    equal : (o : Ordering) → is_eq o ≡ true → o ≡ Equal
+    equal Less e = cc
+    equal Equal e = refl
+    equal Greater e = cc
+
+-- ---- exponents
+
+one_whole : is_whole_num num_one ≡ true
+unfolding one_fraction
+one_whole = rw (whole_denominator (pos 1)) refl
+
+one_number : is_number num_one ≡ true
+one_number = number_test num_one tt
+
+one_transparent : is_opaque_exponent num_one ≡ false
+one_transparent = rw (one_whole, one_number) refl
+
+-- the exponent of a factor makes no opaque power
+pub transparent_exponent : (t : Tree) → is_opaque_exponent (exponent_of t) ≡ false
+transparent_exponent (power b e) = by (is_opaque_exponent e) refl
+  where
+    by : (x : Bool) → is_opaque_exponent e ≡ x → is_opaque_exponent (if x then num_one else e) ≡ false
+    by true h = one_transparent
+    by false h = h
+transparent_exponent (num q) = one_transparent
+transparent_exponent (symbol x) = one_transparent
+transparent_exponent undef = one_transparent
+transparent_exponent (add ts) = one_transparent
+transparent_exponent (mult ts) = one_transparent
+transparent_exponent (root a) = one_transparent
+transparent_exponent (neg a) = one_transparent
+transparent_exponent (sub a b) = one_transparent
+transparent_exponent (div a b) = one_transparent
+
+whole_radicand : (e : Tree) → is_whole_num e ≡ true → (term_of e).radicand ≡ 1
+whole_radicand (num q) h = refl
+whole_radicand (symbol x) h = cc
+whole_radicand undef h = cc
+whole_radicand (add ts) h = cc
+whole_radicand (mult ts) h = cc
+whole_radicand (power b e) h = cc
+whole_radicand (root a) h = cc
+whole_radicand (neg a) h = cc
+whole_radicand (sub a b) h = cc
+whole_radicand (div a b) h = cc
+
+-- a term that makes no opaque power is a rational
+rational_term : (e : Tree) → IsTerm e → is_opaque_exponent e ≡ false → (term_of e).radicand ≡ 1
+rational_term e h o = whole_radicand e (by (is_whole_num e) (ap (λ (x : Bool). x && not (is_whole_num e)) (sym (number_test e (number_of_term e h))) ∙ o))
+  where
+    by : (x : Bool) → not x ≡ false → x ≡ true
+    by true k = refl
+    by false k = cc
+
+two_rationals : (e f : Tree) → is_opaque_exponent e ≡ false → is_opaque_exponent f ≡ false → IsNumber (add (more e (more f none))) → ⊥
+two_rationals e f o p h = absurd (omega (arith, h.2.0.0, rational_term e h.1.0 o, rational_term f h.1.1.0 p))
+
+-- the sum of two such exponents is no Number as it stands
+pub no_number_sum : (e f : Tree) → is_opaque_exponent e ≡ false → is_opaque_exponent f ≡ false → is_number (add (more e (more f none))) ≡ false
+no_number_sum e f o p = by (is_number (add (more e (more f none)))) refl
+  where
+    by : (x : Bool) → is_number (add (more e (more f none))) ≡ x → x ≡ false
+    by true h = absurd (two_rationals e f o p (number_words (add (more e (more f none))) h))
+    by false h = refl
+
+power_no_number : (b e : Tree) → is_number (power b e) ≡ false
+unfolding is_number
+power_no_number b e = refl
+
+-- the load of a joint is the weight of its base
+pub joint_load : (b e f : Tree) → is_opaque_exponent e ≡ false → is_opaque_exponent f ≡ false → load_of_factor (power b (add (more e (more f none)))) ≡ weight b
+joint_load b e f o p = rw (power_no_number b (add (more e (more f none))), no_number_sum e f o p) refl
+
+-- ---- nests
+
+pub own_power : (t : Tree) → nest (power (base_of t) (exponent_of t)) ≡ nest t
+own_power (power b e) = by (is_opaque_exponent e)
+  where
+    by : (x : Bool) → nest (power (if x then power b e else b) (if x then num_one else e)) ≡ nest (power b e)
+    by true = to_number (power b e) num_one one_number
+    by false = refl
+own_power (num q) = to_number (num q) num_one one_number
+own_power (symbol x) = to_number (symbol x) num_one one_number
+own_power undef = to_number undef num_one one_number
+own_power (add ts) = to_number (add ts) num_one one_number
+own_power (mult ts) = to_number (mult ts) num_one one_number
+own_power (root a) = to_number (root a) num_one one_number
+own_power (neg a) = to_number (neg a) num_one one_number
+own_power (sub a b) = to_number (sub a b) num_one one_number
+own_power (div a b) = to_number (div a b) num_one one_number
+
+pub base_of_nest : (t : Tree) → nest (base_of t) ≤ nest t
+base_of_nest t = omega (arith, base_nest (base_of t) (exponent_of t), own_power t)
+
+pub joint_nest : (t u : Tree) → base_of t ≡ base_of u → nest_of_joint (joint t u) ≤ max (nest t) (nest u)
+joint_nest t u h =
+    let other : nest (power (base_of t) (exponent_of u)) ≡ nest u = ap (λ (b : Tree). nest (power b (exponent_of u))) h ∙ own_power u in
+    omega (arith, own_power t, other, base_of_nest t)
+
+each_over : (b : Tree) (ts : Trees) → nest_over b ts ≤ max (nest b) (suc (nest_of ts))
+each_over b none = omega arith
+each_over b (more t ts) = by (is_number t) refl (each_over b ts)
+  where
+    by : (x : Bool) → is_number t ≡ x → nest_over b ts ≤ max (nest b) (suc (nest_of ts)) → max (nest (power b t)) (nest_over b ts) ≤ max (nest b) (suc (max (nest t) (nest_of ts)))
+    by true h rest = omega (arith, to_number b t h)
+    by false h rest = omega (arith, to_other b t h)
+
+numbers_over : (b : Tree) (ts : Trees) → are_numbers ts ≡ true → nest_over b ts ≡ nest b
+numbers_over b none h = refl
+numbers_over b (more t ts) h = let k = and_parts _ _ h in omega (arith, to_number b t k.0, numbers_over b ts k.1, over_base b ts)
+
+terms_numbers : (ts : Trees) → AreTerms ts → are_numbers ts ≡ true
+terms_numbers none h = refl
+terms_numbers (more t ts) h = rw (number_test t (number_of_term t h.0), terms_numbers ts h.1) refl
+
+over_sum : (b : Tree) (ts : Trees) → nest_over b ts ≤ nest (power b (add ts))
+over_sum b ts = by (is_number (add ts)) refl
+  where
+    by : (x : Bool) → is_number (add ts) ≡ x → nest_over b ts ≤ nest (power b (add ts))
+    by true h = omega (arith, to_number b (add ts) h, numbers_over b ts (terms_numbers ts (number_words (add ts) h).1))
+    by false h = omega (arith, to_other b (add ts) h, each_over b ts)
+
+-- a tree whose exponent is a sum nests no less with that sum
+pub joint_below : (t : Tree) → nest_of_joint t ≤ nest t
+joint_below (power b (add ts)) = over_sum b ts
+joint_below t = omega arith
+
+-- ---- sums of Numbers that are reduced
+
+number_terms_all : (ts : Trees) → are_numbers ts ≡ true → NoneIs is_add ts → NoneIs is_number (other_terms ts) → (number_terms ts ≡ ts) × AreTerms ts
+number_terms_all none n a o = (refl, tt)
+number_terms_all (more t ts) n a o = let k = and_parts _ _ n in by k.0 (is_term t) refl (λ p. number_terms_all ts k.1 a.1 p)
+  where
+    clash : {x : Bool} → x ≡ true → x ≡ false → ⊥
+    clash e f = cc
+
+    by : is_number t ≡ true → (x : Bool) → is_term t ≡ x → (NoneIs is_number (other_terms ts) → (number_terms ts ≡ ts) × AreTerms ts) → (number_terms (more t ts) ≡ more t ts) × AreTerms (more t ts)
+    by p true h next =
+        let rest = next (subst (λ (x : Bool). NoneIs is_number (if x then other_terms ts else more t ts)) h o) in
+        (ap (λ (x : Bool). if x then more t (number_terms ts) else none) h ∙ ap (more t) rest.0, (term_words t h, rest.1))
+    by p false h next = absurd (clash p (subst (λ (x : Bool). NoneIs is_number (if x then other_terms ts else more t ts)) h o).0)
+
+two_terms : (ts : Trees) → HasTwo ts → 2 ≤ length (terms_of ts)
+two_terms (more t (more u ts)) h = omega arith
+two_terms none h = absurd h
+two_terms (more t none) h = absurd h
+
+-- a reduced sum of Numbers is a Number
+form_number : (ts : Trees) → IsSumForm ts → are_numbers ts ≡ true → is_number (add ts) ≡ true
+form_number ts f n =
+    let all = number_terms_all ts n f.no_sum f.no_number in
+    number_test (add ts) (two_terms ts f.two, all.1, subst (λ (x : Trees). Rises (terms_of x)) all.0 f.number)
+
+sum_numbers : (ts : Trees) → is_reduced (add ts) ≡ true → are_numbers ts ≡ true → is_number (add ts) ≡ true
+sum_numbers ts r n = elim (reduced_parts (add ts) r refl).0 [ inl h ↦ number_test (add ts) h | inr f ↦ form_number ts f n ]
+
+joint_above : (b : Tree) (ts : Trees) → is_reduced (add ts) ≡ true → nest (power b (add ts)) ≤ nest_over b ts
+joint_above b ts r = by (is_number (add ts)) (are_numbers ts) refl refl
+  where
+    by : (x y : Bool) → is_number (add ts) ≡ x → are_numbers ts ≡ y → nest (power b (add ts)) ≤ nest_over b ts
+    by true y h k = omega (arith, to_number b (add ts) h, over_base b ts)
+    by false true h k = absurd (cc (sum_numbers ts r k))
+    by false false h k = omega (arith, to_other b (add ts) h, over_base b ts, over_exponents b ts k)
+
+-- and where it is reduced it nests no more
+pub reduced_joint : (t : Tree) → is_reduced t ≡ true → nest t ≤ nest_of_joint t
+reduced_joint (power b (add ts)) r = joint_above b ts (exponent_reduced b (add ts) r)
+reduced_joint t r = omega arith

@@ -1,0 +1,32 @@
+mod Ranks
+mod Nests
+mod Counts
+mod Heavy
+mod Joints
+mod Joined
+mod Settled
+mod Opened
+mod Finished
+mod Measures
+mod Children
+mod Rows
+mod Chains
+mod Nested
+mod Falls
+mod Arms
+pub mod NodeRewrites
+pub mod PlainNodes
+pub mod EasyNodes
+pub mod NodeAnswers
+pub mod Rationals
+pub mod Fitting
+pub mod Steps
+pub mod Quotients
+pub mod Parents
+pub mod Walks
+pub mod Ready
+pub mod Undefs
+pub mod Results
+pub mod Sides
+pub mod Told
+pub mod Port

@@ -1,0 +1,61 @@
+-- What falls from call to call.
+use Rattle.std.proofs.Common.{◌≡◌, ℕ, suc, ◌+◌, ◌*◌, ◌≤◌, ◌<◌, Bool, true, false, refl, sym, ap, ◌∙◌, subst, arith}
+use Rattle.calc_terms.specs.Loads.{nest, nest_of, weight, load_of_factors}
+use Rattle.calc_terms.specs.Trees.{Tree, mult, Trees, nodes, nodes_of, is_mult}
+use Rattle.deep_reduce.specs.Unfinished.{nest_over, nest_of_joint, nest_of_rewritten, weight_of_bases, weight_below}
+use Rattle.deep_reduce.proofs.Counts.{loads_few}
+use Rattle.deep_reduce.proofs.Nests.{over_exponents, numbers_nest, numbers_load}
+use Rattle.deep_reduce.proofs.Ranks.{rank, rank_first, rank_second}
+use Rattle.node_pool.specs.State.{State}
+use Rattle.power_reduce.specs.PowerAnswers.{base_in}
+use Rattle.reduce_port.specs.Children.{are_numbers}
+use Rattle.reduce_port.specs.Rewritings.{tree_of}
+use Rattle.tree_handles.specs.Expressions.{plain, children_of, nth}
+use Rattle.tree_handles.specs.Forest.{nodes_in}
+use Rattle.tree_handles.specs.Handed.{IsHanded}
+use Rattle.tree_handles.specs.Roots.{root_tree}
+use Rattle.tree_handles.specs.Standing.{Stands, forest}
+use Rattle.tree_handles.proofs.Lasts.{tree_of_root}
+use Rattle.tree_handles.proofs.Measures.{few_in}
+use Rattle.tree_handles.proofs.Plains.{nodes-plain}
+use Rattle.tree_handles.proofs.Roots.{root_arity}
+
+-- Nest first, and then the load of a product, the weight of a power's base, and what is above these
+abbrev pub of_product : Tree → ℕ
+of_product t = rank (nest_of (children_of t)) (3 * load_of_factors (children_of t))
+
+abbrev pub of_power : Tree → ℕ
+of_power t = rank (nest t) (3 * weight (base_in t))
+
+abbrev pub of_joint : ℕ → Tree → ℕ
+of_joint at t = rank (nest_of_joint (nth at (children_of t))) (3 * weight (base_in (nth at (children_of t))) + 1)
+
+abbrev pub of_powers : Tree → ℕ
+of_powers t = rank (nest_of (children_of t)) (3 * weight_of_bases (children_of t) + 1)
+
+abbrev pub of_exponent : Tree → ℕ
+of_exponent t = rank (nest_of_rewritten t) (3 * weight_below t + 1)
+
+abbrev pub of_rewritten : Tree → ℕ
+of_rewritten t = rank (nest_of_rewritten t) (3 * weight_below t + 2)
+
+-- a tree in a pool has few nodes
+pub few_nodes : (i : ℕ) (s : State) → Stands s → IsHanded i (forest s) → nodes (tree_of i s) ≤ 65535
+few_nodes i s st h =
+    let here = nodes-plain (root_tree i (forest s)) (root_arity i (forest s) h.root) h.whole in
+    omega (arith, here, few_in i s st, ap nodes_in (tree_of_root i st h.root))
+
+few_loads : (t : Tree) → is_mult t ≡ true → nodes t ≤ 65535 → 3 * load_of_factors (children_of t) < 1048576
+few_loads (mult ts) m h = omega (arith, loads_few ts)
+few_loads t m h = cc
+
+pub few_factors : (i : ℕ) (s : State) → Stands s → IsHanded i (forest s) → is_mult (tree_of i s) ≡ true → 3 * load_of_factors (children_of (tree_of i s)) < 1048576
+few_factors i s st h m = few_loads (tree_of i s) m (few_nodes i s st h)
+
+-- the product of the exponents falls
+pub exponents_fall : (b : Tree) (ts : Trees) (w : ℕ) → 3 * load_of_factors ts < 1048576 → rank (nest_of ts) (3 * load_of_factors ts) < rank (nest_over b ts) (3 * w + 1)
+exponents_fall b ts w h = by (are_numbers ts) refl
+  where
+    by : (x : Bool) → are_numbers ts ≡ x → rank (nest_of ts) (3 * load_of_factors ts) < rank (nest_over b ts) (3 * w + 1)
+    by true e = rank_second (nest_of ts) (nest_over b ts) (3 * load_of_factors ts) (3 * w + 1) (omega (arith, numbers_nest ts e)) (omega (arith, numbers_load ts e))
+    by false e = rank_first (nest_of ts) (nest_over b ts) (3 * load_of_factors ts) (3 * w + 1) (over_exponents b ts e) h

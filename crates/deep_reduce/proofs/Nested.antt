@@ -1,0 +1,63 @@
+-- A power whose exponent may be a product.
+use Rattle.std.proofs.Common.{◌≡◌, ℕ, ◌<◌, ◌+◌, ◌*◌, true, false, refl, sym, ap, ◌∙◌, subst}
+use Rattle.calc_terms.specs.declared.kind.Kind.{Kind}
+use Rattle.calc_terms.specs.Loads.{nest_of, weight, load_of_factors}
+use Rattle.calc_terms.specs.Trees.{Tree, num, symbol, undef, add, mult, power, root, neg, sub, div, Trees, root_kind, is_mult}
+use Rattle.coefficients.proofs.Steps.{expression, seen}
+use Rattle.deep_reduce.specs.Unfinished.{nest_of_rewritten, weight_below, IsNested, IsUnfinished, IsMultiplied, IsLifted}
+use Rattle.deep_reduce.proofs.Measures.{of_product, of_exponent, exponents_fall}
+use Rattle.deep_reduce.proofs.Ranks.{rank}
+use Rattle.node_pool.specs.State.{State}
+use Rattle.power_reduce.specs.PowerAnswers.{base_in, exponent_in}
+use Rattle.reduce_port.specs.Rewritings.{tree_of}
+use Rattle.tree_handles.specs.Expressions.{nth, plain, children_of, IsExpression}
+use Rattle.tree_handles.specs.Handed.{IsHanded}
+use Rattle.tree_handles.specs.Inside.{tree_at}
+use Rattle.tree_handles.specs.Standing.{Stands, forest}
+
+-- what is read of the exponent
+pub exponent_seen : {s : State} {i j k : ℕ} {x : Kind} → j ≡ i → Stands s → IsHanded i (forest s) → tree_of i s ≡ power (base_in (tree_of i s)) (exponent_in (tree_of i s))
+    → (IsExpression j (forest s) → IsExpression k (forest s)) → (IsExpression j (forest s) → plain (tree_at k (forest s)) ≡ nth 1 (children_of (plain (tree_at j (forest s)))))
+    → (IsExpression k (forest s) → x ≡ root_kind (plain (tree_at k (forest s)))) → x ≡ root_kind (exponent_in (tree_of i s))
+exponent_seen {s} {i} {j} e st h p whole child told =
+    let here = expression e st h in
+    told (whole here) ∙ ap root_kind (child here ∙ ap (λ (t : Tree). nth 1 (children_of t)) (seen e st h ∙ p))
+
+product_is : (t : Tree) → is_mult t ≡ true → t ≡ mult (children_of t)
+product_is (mult ts) h = refl
+product_is t h = cc
+
+-- a power with a product as its exponent
+pub record HasProduct (t : Tree) : Type 0 where
+  pub exponent-is : exponent_in t ≡ mult (children_of (exponent_in t))
+  pub nested : IsNested (base_in t) (children_of (exponent_in t))
+  pub lifted : (u : Tree) → IsMultiplied (base_in t) (children_of (exponent_in t)) u → IsLifted t u
+  pub falls : 3 * load_of_factors (children_of (exponent_in t)) < 1048576
+      → rank (nest_of (children_of (exponent_in t))) (3 * load_of_factors (children_of (exponent_in t))) < rank (nest_of_rewritten t) (3 * weight_below t + 1)
+
+-- the product of the exponents is less than the power
+pub taken_falls : (t x : Tree) → HasProduct t → x ≡ exponent_in t → 3 * load_of_factors (children_of x) < 1048576 → of_product x < of_exponent t
+taken_falls t x p e h = subst (λ (y : Tree). 3 * load_of_factors (children_of y) < 1048576 → of_product y < of_exponent t) (sym e) p.falls h
+
+has_product : (b x : Tree) → is_mult x ≡ true → IsUnfinished (power b x) → HasProduct (power b x)
+has_product b (mult ts) m w = record { exponent-is = refl; nested = w; lifted = λ u h. h; falls = exponents_fall b ts (weight b) }
+has_product b x m w = cc
+
+pub with_product : (t : Tree) → t ≡ power (base_in t) (exponent_in t) → is_mult (exponent_in t) ≡ true → IsUnfinished t → HasProduct t
+with_product t e m w = subst HasProduct (sym e) (has_product (base_in t) (exponent_in t) m (subst IsUnfinished e w))
+
+no_product : (b x : Tree) → is_mult x ≡ false → IsLifted (power b x) (power b x)
+no_product b (mult ts) m = cc
+no_product b (num q) m = refl
+no_product b (symbol y) m = refl
+no_product b undef m = refl
+no_product b (add ts) m = refl
+no_product b (power c f) m = refl
+no_product b (root a) m = refl
+no_product b (neg a) m = refl
+no_product b (sub a c) m = refl
+no_product b (div a c) m = refl
+
+-- one with another exponent stays
+pub without_product : (t : Tree) → t ≡ power (base_in t) (exponent_in t) → is_mult (exponent_in t) ≡ false → IsLifted t t
+without_product t e m = subst (λ (x : Tree). IsLifted x x) (sym e) (no_product (base_in t) (exponent_in t) m)

@@ -1,0 +1,172 @@
+-- What a rewriting of a power leaves to be reduced: it nests no more, and weighs less.
+use Rattle.std.proofs.Common.{◌≡◌, ℕ, ℤ, suc, ◌+◌, ◌≤◌, ◌<◌, ◌⊎◌, inl, inr, Bool, true, false, ◌&&◌, ◌==◌, not, if◌then◌else◌, Some, refl, sym, ap, ◌∙◌, subst, arith}
+use Rattle.std.specs.Prelude.{max}
+use Rattle.std.proofs.lemmas.Bool.{and_parts}
+use Rattle.calc_terms.specs.Fractions.{whole_fraction, is_one_fraction}
+use Rattle.calc_terms.specs.Loads.{nest, nest_of, weight, has_coefficient}
+use Rattle.calc_terms.specs.Numbers.{is_number}
+use Rattle.calc_terms.specs.Reduced.{Split, is_reduced, is_opaque_exponent, is_num_one, num_one, split_product, HasForm, IsProductForm}
+use Rattle.calc_terms.specs.Trees.{Tree, num, symbol, undef, add, mult, power, root, neg, sub, div, Trees, none, more, append, count, is_undef, AllPartsOf, HasTwo}
+use Rattle.calc_terms.proofs.FractionFacts.{whole_denominator}
+use Rattle.calc_terms.proofs.NumberLaws.{number_test}
+use Rattle.coefficients.specs.Coefficients.{factors_of}
+use Rattle.coefficients.proofs.Coefficients.{product_form_of}
+use Rattle.coefficients.proofs.Factors.{no_split}
+use Rattle.coefficients.proofs.Forms.{reduced_parts, parts_reduced, one_is_one}
+use Rattle.coefficients.proofs.Splits.{Leads, in_front}
+use Rattle.deep_reduce.specs.Answers.{IsReducedPower}
+use Rattle.deep_reduce.specs.Unfinished.{nest_over, nest_of_rewritten, weight_of_bases, weight_below, IsTransparent, AreTransparent, IsNested, IsUnfinished, Finishes}
+use Rattle.deep_reduce.proofs.Heavy.{base_reduced, exponent_reduced}
+use Rattle.deep_reduce.proofs.Nests.{to_number, base_nest}
+use Rattle.power_reduce.specs.PowerAnswers.{has_no_power, has_number_power, IsPowerAnswer}
+use Rattle.power_reduce.specs.PowerSteps.{goes_inside, half, is_even_whole, parts_of, raised, rewritten}
+use Rattle.power_reduce.proofs.ByRule.{is_rewritable}
+use Rattle.power_reduce.proofs.Rules.{chosen, nothing}
+use Rattle.power_reduce.proofs.Weights.{weights, weights_none, weights_more, power_nest, product_parts}
+use Rattle.reduce_port.specs.Rewritings.{Rewrites}
+use Rattle.reduce_port.proofs.Rewritings.{reduces_after}
+
+-- ---- products to a power
+
+raised_transparent : (gs : Trees) (e : Tree) → AllPartsOf HasForm gs → is_reduced e ≡ true → is_opaque_exponent e ≡ false → AreTransparent (raised gs e)
+raised_transparent none e p r o = tt
+raised_transparent (more g gs) e p r o = (record { is = refl; base_reduced = parts_reduced g p.0; exponent_reduced = r; transparent = o }, raised_transparent gs e p.1 r o)
+
+raised_weights : (gs : Trees) (e : Tree) → weight_of_bases (raised gs e) ≡ weights gs
+raised_weights none e = sym weights_none
+raised_weights (more g gs) e = omega (arith, raised_weights gs e, weights_more g gs)
+
+raised_nest : (gs : Trees) (b e : Tree) → nest_of gs ≤ nest b → nest_of (raised gs e) ≤ nest (power b e)
+raised_nest none b e h = omega arith
+raised_nest (more g gs) b e h = omega (arith, power_nest g b e (omega arith), raised_nest gs b e (omega arith))
+
+raised_count : (gs : Trees) (e : Tree) → count (raised gs e) ≡ count gs
+raised_count none e = refl
+raised_count (more g gs) e = ap suc (raised_count gs e)
+
+two_long : (ts : Trees) → HasTwo ts → 2 ≤ count ts
+two_long (more t (more u ts)) h = omega arith
+two_long none h = absurd h
+two_long (more t none) h = absurd h
+
+led_some : (c : Tree) (fs : Trees) → 2 ≤ count (append (factors_of c) fs) → 1 ≤ count (if is_num_one c then fs else more c fs)
+led_some (num q) fs h = by (is_one_fraction q)
+  where
+    by : (x : Bool) → 1 ≤ count (if x then fs else more (num q) fs)
+    by true = omega arith
+    by false = omega arith
+led_some (symbol x) fs h = omega arith
+led_some undef fs h = omega arith
+led_some (add ts) fs h = omega arith
+led_some (mult ts) fs h = omega arith
+led_some (power b e) fs h = omega arith
+led_some (root a) fs h = omega arith
+led_some (neg a) fs h = omega arith
+led_some (sub a b) fs h = omega arith
+led_some (div a b) fs h = omega arith
+
+-- a reduced product has parts
+parts_some : (ts : Trees) → HasTwo ts → (has_coefficient ts ≡ false) ⊎ Leads ts → 1 ≤ count (parts_of ts)
+parts_some ts two (inl h) =
+    let are : parts_of ts ≡ ts = ap (λ (x : Split). if is_num_one x.coefficient then x.factors else more x.coefficient x.factors) (no_split ts h) ∙ ap (λ (b : Bool). if b then ts else more num_one ts) one_is_one in
+    omega (arith, ap count are, two_long ts two)
+parts_some ts two (inr l) =
+    let are : parts_of ts ≡ (if is_num_one l.c then l.factors else more l.c l.factors) = ap (λ (x : Split). if is_num_one x.coefficient then x.factors else more x.coefficient x.factors) l.is in
+    omega (arith, ap count are, led_some l.c l.factors (omega (arith, ap count l.whole, two_long ts two)))
+
+-- ---- what is left to reduce
+
+pub record IsOpened (b e t : Tree) : Type 0 where
+  pub unfinished : IsUnfinished t
+  pub nests : nest_of_rewritten t ≤ nest (power b e)
+  pub weighs : weight_below t < weight b
+
+whole_transparent : (z : ℤ) → is_opaque_exponent (num (whole_fraction z)) ≡ false
+whole_transparent z = by (is_number (num (whole_fraction z))) (whole_fraction z).den (whole_denominator z)
+  where
+    by : (x : Bool) (n : ℕ) → n ≡ 1 → (x && not (n == 1)) ≡ false
+    by x n e = rw e (last x)
+      where
+        last : (x : Bool) → (x && false) ≡ false
+        last true = refl
+        last false = refl
+
+opened_root : (a : Tree) (z : ℤ) (e : Tree) → is_number e ≡ true → is_reduced (root a) ≡ true → is_number (root a) ≡ false → IsOpened (root a) e (power a (num (whole_fraction z)))
+opened_root a z e w r n = record {
+  unfinished = record {
+    is = refl;
+    base_reduced = parts_reduced a (reduced_parts (root a) r refl).1;
+    exponent_reduced = parts_reduced (num (whole_fraction z)) (inl tt);
+    transparent = whole_transparent z;
+  };
+  nests = omega (arith, to_number a (num (whole_fraction z)) (number_test (num (whole_fraction z)) tt), to_number (root a) e w);
+  weighs = rw n (omega arith);
+}
+
+opened_power : (c f e : Tree) → is_reduced (power c f) ≡ true → is_reduced e ≡ true → IsOpened (power c f) e (power c (mult (more f (more e none))))
+opened_power c f e r s = record {
+  unfinished = record { base_reduced = base_reduced c f r; reduced = rw (exponent_reduced c f r, s) refl; some = omega arith };
+  nests = omega (arith, base_nest (power c f) e, base_nest c f, power_nest c (power c f) e (base_nest c f));
+  weighs = omega arith;
+}
+
+opened_product : (ts : Trees) (e : Tree) → is_reduced (mult ts) ≡ true → is_number (mult ts) ≡ false → is_reduced e ≡ true → is_opaque_exponent e ≡ false
+    → IsOpened (mult ts) e (mult (raised (parts_of ts) e))
+opened_product ts e r n s o =
+    let p = product_parts ts r n in
+    let parts = reduced_parts (mult ts) r refl in
+    let f = product_form_of ts parts n in
+    let are = p.are.are in
+    record {
+      unfinished = (
+        subst (λ (gs : Trees). AreTransparent (raised gs e)) (sym are) (raised_transparent p.parts e p.are.formed s o),
+        omega (arith, raised_count (parts_of ts) e, parts_some ts f.two (in_front ts f.no_product f.front)),
+      );
+      nests = subst (λ (gs : Trees). nest_of (raised gs e) ≤ nest (power (mult ts) e)) (sym are) (raised_nest p.parts (mult ts) e p.are.nests);
+      weighs = omega (arith, raised_weights (parts_of ts) e, ap weights are, p.are.weights-are);
+    }
+
+is_false : (b : Bool) → not b ≡ true → b ≡ false
+is_false true h = cc
+is_false false h = refl
+
+inside_transparent : (e : Tree) → goes_inside e ≡ true → is_opaque_exponent e ≡ false
+inside_transparent e h = is_false _ (and_parts _ _ h).1
+
+pub opened : (b e t : Tree) → is_reduced b ≡ true → is_reduced e ≡ true → rewritten b e ≡ Some t → IsOpened b e t
+opened (root a) (num q) t r s h = chosen _ _ t (IsOpened (root a) (num q)) h (λ k. opened_root a (half q.num) (num q) (number_test (num q) tt) r (is_false _ (and_parts _ _ k).1))
+opened (power c f) e t r s h = chosen _ _ t (IsOpened (power c f) e) h (λ k. opened_power c f e r s)
+opened (mult ts) e t r s h = chosen _ _ t (IsOpened (mult ts) e) h (λ k. let (p, n) = and_parts _ _ k in opened_product ts e r (is_false _ n) s (inside_transparent e p))
+opened b e t r s h = nothing t (IsOpened b e) h
+
+-- ---- the answers
+
+clash : {x : Bool} {A : Type 0} → x ≡ true → x ≡ false → A
+clash e f = absurd cc
+
+pub power_after : (b e t r : Tree) → is_reduced b ≡ true → is_reduced e ≡ true → (rewritten b e ≡ Some t) × Rewrites (power b e) t → Finishes t r → IsReducedPower b e r
+power_after b e t r h k s f =
+    let o = opened b e t h k s.0 in
+    let w = is_rewritable b e t s.0 in
+    record {
+      reduces = reduces_after s.1 f.reduces;
+      undefined = λ x. clash x w.has_power;
+      number = λ x y. clash x w.no_number;
+      nest = omega (arith, f.nest, o.nests);
+      load = λ x. omega (arith, f.load, o.weighs);
+      opaque_load = omega (arith, f.load, o.weighs);
+    }
+
+undef_is : (t : Tree) → is_undef t ≡ true → t ≡ undef
+undef_is undef h = refl
+undef_is t h = cc
+
+pub power_finished : (b e t : Tree) → IsPowerAnswer b e t → IsReducedPower b e t
+power_finished b e t a = record {
+  reduces = a.reduces;
+  undefined = λ h. undef_is t (a.undefined ∙ h);
+  number = a.number;
+  nest = a.nest_bound;
+  opaque_load = a.opaque_bound;
+  load = a.load_bound;
+}

@@ -1,0 +1,226 @@
+-- A root with its children, whatever it holds: a child is taken out, and put back rewritten.
+use Rattle.std.proofs.Common.{◌≡◌, ℕ, [], ◌∷◌, eqb, cond, Bool, true, false, refl, sym, ap, ◌∙◌, subst, arith}
+use Rattle.calc_terms.specs.Payload.{Payload}
+use Rattle.calc_terms.specs.Trees.{Tree, Trees, none, more, append, count}
+use Rattle.coefficients.proofs.Places.{cut_at, represents_count, inserted_behind, once_count, without_put}
+use Rattle.coefficients.proofs.Steps.{gives_without}
+use Rattle.deep_reduce.specs.Pairs.{GivesSides}
+use Rattle.node_pool.specs.State.{State}
+use Rattle.tree_handles.proofs.Counted.{all-kids}
+use Rattle.tree_handles.proofs.Fronts.{behind_first, front_same, front_put, front_end}
+use Rattle.tree_handles.proofs.Given.{gives, given_handed, given_rest, given_root, given_told, gives_as, represents_handed, represents_with}
+use Rattle.tree_handles.proofs.Lasts.{apart, ends_at, kids_of_root, other_apart, other_root, other_tree}
+use Rattle.tree_handles.proofs.Outcomes.{by_test, eqb-sym}
+use Rattle.tree_handles.proofs.Plains.{children_of-plain, count-plains, whole_kids, grown_whole}
+use Rattle.tree_handles.proofs.Roots.{root_arity, root-put, kids-put, put-put}
+use Rattle.tree_handles.specs.Expressions.{nth, grown, plain, plains, inserted, takes, children_of, AllExpressions}
+use Rattle.tree_handles.specs.Forest.{Forest, empty, tree, arity, kids, root_payload, root_count, with_root_kids, with_nth, tree_nth, without_nth}
+use Rattle.tree_handles.specs.Handed.{IsOnce, AllOnce, IsOwned, IsHanded, Represents, Ends, Gives, KeepsFront}
+use Rattle.tree_handles.specs.Inside.{holds, kids_of}
+use Rattle.tree_handles.specs.Roots.{has_root, root_tree, without_root, put}
+use Rattle.tree_handles.specs.Standing.{Stands, forest}
+
+-- a root that holds x over these trees, each node held once
+pub record IsParent (x : Payload) (i : ℕ) (ts : Trees) (f : Forest) : Type 0 where
+  pub root : has_root i f ≡ true
+  pub payload : root_payload (root_tree i f) ≡ x
+  pub count : root_count (root_tree i f) ≡ 1
+  pub kids : Represents (kids (root_tree i f)) ts
+
+-- what a handed root holds
+abbrev pub held_at : ℕ → Forest → Payload
+held_at i f = root_payload (root_tree i f)
+
+pub parent_handed : {i : ℕ} {f : Forest} → IsHanded i f → IsParent (held_at i f) i (children_of (plain (root_tree i f))) f
+parent_handed {i = i} {f = f} h = record {
+  root = h.root;
+  payload = refl;
+  count = once_count (root_tree i f) (root_arity i f h.root) h.once;
+  kids = record { once = all-kids IsOnce (root_tree i f) h.once; whole = whole_kids (root_tree i f) h.whole; plain_trees = sym (children_of-plain (root_tree i f) h.whole) };
+}
+
+no_tree : arity empty ≡ 1 → ⊥
+no_tree e = absurd (omega arith)
+
+-- it takes that many children, and is the node over them
+pub record IsNodeOf (x : Payload) (ts : Trees) (t : Tree) : Type 0 where
+  pub takes : takes x (count ts) ≡ true
+  pub grown : t ≡ grown x ts
+
+node_of_tree : (t : Forest) → arity t ≡ 1 → AllExpressions t → IsNodeOf (root_payload t) (children_of (plain t)) (plain t)
+node_of_tree empty e h = absurd (no_tree e)
+node_of_tree (tree l k r) e h =
+    let are : children_of (grown l.payload (plains k)) ≡ plains k = (grown_whole l k r h).children-are in
+    record {
+      takes = ap (λ (ts : Trees). takes l.payload (count ts)) are ∙ ap (takes l.payload) (count-plains k) ∙ h.0;
+      grown = ap (grown l.payload) (sym are);
+    }
+
+pub handed_node : {i : ℕ} {f : Forest} → IsHanded i f → IsNodeOf (held_at i f) (children_of (plain (root_tree i f))) (plain (root_tree i f))
+handed_node {i = i} {f = f} h = node_of_tree (root_tree i f) (root_arity i f h.root) h.whole
+
+parent_one : (x : Payload) (ts : Trees) (t : Forest) → arity t ≡ 1 → root_payload t ≡ x → root_count t ≡ 1 → Represents (kids t) ts → takes x (count ts) ≡ true → Represents t (more (grown x ts) none)
+parent_one x ts empty e p c h w = absurd (no_tree e)
+parent_one x ts (tree l b empty) e p c h w = record {
+  once = (c, h.once, tt);
+  whole = (ap (λ (y : Payload). takes y (arity b)) p ∙ ap (takes x) (represents_count h) ∙ w, h.whole, tt);
+  plain_trees = λ i. more (grown (p i) (h.plain_trees i)) none;
+}
+parent_one x ts (tree l b (tree m d s)) e p c h w = absurd (omega arith)
+
+parent_tree : {x : Payload} {i : ℕ} {ts : Trees} {f : Forest} → IsParent x i ts f → takes x (count ts) ≡ true → Represents (root_tree i f) (more (grown x ts) none)
+parent_tree {x = x} {i = i} {ts = ts} {f = f} h w = parent_one x ts (root_tree i f) (root_arity i f h.root) h.payload h.count h.kids w
+
+pub parent_is_handed : {x : Payload} {i : ℕ} {ts : Trees} {f : Forest} → IsParent x i ts f → takes x (count ts) ≡ true → IsHanded i f
+parent_is_handed h w = let t = parent_tree h w in record { root = h.root; once = t.once; whole = t.whole }
+
+pub parent_plain : {x : Payload} {i : ℕ} {ts : Trees} {f : Forest} → IsParent x i ts f → takes x (count ts) ≡ true → plain (root_tree i f) ≡ grown x ts
+parent_plain h w = ap (nth 0) (parent_tree h w).plain_trees
+
+-- how many children a reader finds
+pub parent_children : {s : State} {x : Payload} {i : ℕ} {ts : Trees} → Stands s → IsParent x i ts (forest s) → arity (kids_of i (forest s)) ≡ count ts
+parent_children {i = i} st h = ap arity (kids_of_root i st h.root) ∙ represents_count h.kids
+
+-- ---- from call to call
+
+tree_put : (i : ℕ) (n f : Forest) → root_tree i (put i n f) ≡ with_root_kids n (root_tree i f)
+tree_put i n empty = refl
+tree_put i n (tree l k r) =
+    by_test (λ t. eqb l.id i ≡ t → root_tree i (cond t (tree l n r) (tree l k (put i n r))) ≡ with_root_kids n (cond t (tree l k empty) (root_tree i r))) (eqb l.id i)
+    (λ e q. ap (λ (t : Bool). cond t (tree l n empty) (root_tree i r)) q) (λ e q. ap (λ (t : Bool). cond t (tree l k empty) (root_tree i (put i n r))) q ∙ tree_put i n r) refl
+
+payload_with : (n t : Forest) → root_payload (with_root_kids n t) ≡ root_payload t
+payload_with n empty = refl
+payload_with n (tree l k r) = refl
+
+count_with : (n t : Forest) → root_count (with_root_kids n t) ≡ root_count t
+count_with n empty = refl
+count_with n (tree l k r) = refl
+
+-- it has other children
+pub parent_put : {x : Payload} {i : ℕ} {ts us : Trees} {f : Forest} (n : Forest) → IsParent x i ts f → Represents n us → IsParent x i us (put i n f)
+parent_put {i = i} {us = us} {f = f} n h r = record {
+  root = root-put i i n f ∙ h.root;
+  payload = ap root_payload (tree_put i n f) ∙ payload_with n (root_tree i f) ∙ h.payload;
+  count = ap root_count (tree_put i n f) ∙ count_with n (root_tree i f) ∙ h.count;
+  kids = subst (λ (x : Forest). Represents x us) (sym (kids-put i n f h.root)) r;
+}
+
+-- another tree comes
+pub parent_end : {x : Payload} {i j : ℕ} {ts : Trees} {t f g : Forest} → IsParent x i ts g → Ends j t g f → IsParent x i ts f
+parent_end {i = i} {ts = ts} h e =
+    let same = other_tree i e h.root in
+    record {
+      root = other_root i e h.root;
+      payload = ap root_payload same ∙ h.payload;
+      count = ap root_count same ∙ h.count;
+      kids = subst (λ (x : Forest). Represents (kids x) ts) (sym same) h.kids;
+    }
+
+pub parent_same : {x : Payload} {i : ℕ} {ts : Trees} {f g : Forest} → IsParent x i ts f → g ≡ f → IsParent x i ts g
+parent_same {x = x} {i = i} {ts = ts} h e = subst (IsParent x i ts) (sym e) h
+
+-- ---- a child is taken out, and stands last
+
+pub record IsTakenOut (x : Payload) (i : ℕ) (t : Tree) (others : Trees) (f new : Forest) (h : ℕ) : Type 0 where
+  pub now : Forest
+  pub kids : Represents now others
+  pub gives : Gives (put i now f) new h (λ u. u ≡ t)
+  pub parent : IsParent x i others (put i now f)
+
+pub taken_out : {x : Payload} {i : ℕ} {f new : Forest} {h : ℕ} (n : ℕ) (ts : Trees) (t : Tree) (us : Trees) → IsParent x i (append ts (more t us)) f → n ≡ count ts
+    → Ends h (tree_nth n (kids (root_tree i f))) (put i (without_nth n (kids (root_tree i f))) f) new → IsTakenOut x i t (append ts us) f new h
+taken_out {i = i} {f = f} n ts t us o e d =
+    let c = cut_at n ts t us (kids (root_tree i f)) e o.kids in
+    let now = without_nth n (kids (root_tree i f)) in
+    record { now = now; kids = c.rest; gives = gives d c.one refl; parent = parent_put now o c.rest }
+
+-- ---- it is rewritten, and put back
+
+-- what is given in its place stands behind the parent without the child
+pub given_back : {x : Payload} {i h j : ℕ} {t : Tree} {others : Trees} {f new g : Forest} {Told : Tree → Type 0} (a : IsTakenOut x i t others f new h) → Gives (without_root h new) g j Told → Gives (put i a.now f) g j Told
+given_back a g = gives_as g (given_rest a.gives) (λ u k. k)
+
+pub parent_back : {x : Payload} {i h j : ℕ} {t : Tree} {others : Trees} {f new g : Forest} {Told : Tree → Type 0} (a : IsTakenOut x i t others f new h) → Gives (without_root h new) g j Told → IsParent x i others g
+parent_back a g = parent_end a.parent (given_back a g).ends
+
+pub apart_back : {x : Payload} {i h j : ℕ} {t : Tree} {others : Trees} {f new : Forest} {s : State} {Told : Tree → Type 0} → Stands s → (a : IsTakenOut x i t others f new h) → Gives (without_root h new) (forest s) j Told
+    → holds i (root_tree j (forest s)) ≡ false
+apart_back {i = i} {j = j} st a g = apart i j st (eqb-sym j i (other_apart i (given_back a g).ends a.parent.root)) (parent_back a g).root (given_root g)
+
+-- the parent over these trees, where it stood
+pub record IsPutBack (x : Payload) (i : ℕ) (ts : Trees) (old new : Forest) : Type 0 where
+  pub now : Forest
+  pub kids : Represents now ts
+  pub whole : new ≡ put i now old
+  pub parent : IsParent x i ts new
+
+pub put_back : {x : Payload} {i h j : ℕ} {t v : Tree} {f new g end : Forest} (n : ℕ) (done rest : Trees) (a : IsTakenOut x i t (append done rest) f new h) → Gives (without_root h new) g j (λ u. u ≡ v) → n ≡ count done
+    → end ≡ put i (with_nth n (root_tree j g) (kids (root_tree i g))) (without_root j g) → IsPutBack x i (append done (more v rest)) f end
+put_back {x = x} {i = i} {j = j} {v = v} {f = f} {g = g} {end = end} n done rest a k e w =
+    let given = given_back a k in
+    let now = with_nth n (root_tree j g) (kids (root_tree i (put i a.now f))) in
+    let rep = represents_with n (represents_handed (given_handed given)) a.parent.kids in
+    let same : inserted n (more (plain (root_tree j g)) none) (append done rest) ≡ append done (more v rest) =
+    (λ z. inserted (e z) (more (given_told given z) none) (append done rest)) ∙ inserted_behind done (more v none) rest in
+    let all : Represents now (append done (more v rest)) = subst (Represents now) same rep in
+    let whole : end ≡ put i now f =
+    w ∙ (λ z. put i (with_nth n (root_tree j g) (kids (other_tree i given.ends a.parent.root z))) (given_rest given z)) ∙ put-put i now a.now f in
+    record { now = now; kids = all; whole = whole; parent = parent_same (parent_put now a.parent all) (w ∙ (λ z. put i (with_nth n (root_tree j g) (kids (other_tree i given.ends a.parent.root z))) (given_rest given z))) }
+
+-- ---- a parent that goes
+
+once_of : (t : Forest) → arity t ≡ 1 → root_count t ≡ 1 → AllOnce (kids t) → AllOnce t
+once_of empty e c h = absurd (no_tree e)
+once_of (tree l b empty) e c h = (c, h, tt)
+once_of (tree l b (tree m d s)) e c h = absurd (omega arith)
+
+pub parent_owned : {x : Payload} {i : ℕ} {ts : Trees} {f : Forest} → IsParent x i ts f → IsOwned i f
+parent_owned {i = i} {f = f} h = record { root = h.root; once = once_of (root_tree i f) (root_arity i f h.root) h.count h.kids.once }
+
+-- the first child of two, and then the other, before the parent goes
+pub record AreTakenOut (i : ℕ) (ts : Trees) (old new : Forest) (left right : ℕ) : Type 0 where
+  pub owned : IsOwned i new
+  pub sides : GivesSides ts (without_root i old) (without_root i new) left right
+  pub front : KeepsFront (i ∷ []) old new
+
+two_of : (ts : Trees) → count ts ≡ 2 → ts ≡ more (nth 0 ts) (more (nth 1 ts) none)
+two_of none e = absurd (omega arith)
+two_of (more t none) e = absurd (omega arith)
+two_of (more t (more u none)) e = refl
+two_of (more t (more u (more v ts))) e = absurd (omega arith)
+
+pub first_out : {i h : ℕ} {old mid : Forest} → IsHanded i old → count (children_of (plain (root_tree i old))) ≡ 2 → Ends h (tree_nth 0 (kids (root_tree i old))) (put i (without_nth 0 (kids (root_tree i old))) old) mid
+    → IsTakenOut (held_at i old) i (nth 0 (children_of (plain (root_tree i old)))) (more (nth 1 (children_of (plain (root_tree i old)))) none) old mid h
+first_out {i = i} {old = old} h e d =
+    let ts = children_of (plain (root_tree i old)) in
+    taken_out 0 none (nth 0 ts) (more (nth 1 ts) none) (subst (λ (us : Trees). IsParent (held_at i old) i us old) (two_of ts e) (parent_handed h)) refl d
+
+pub both_out : {i h k : ℕ} {t u : Tree} {x : Payload} {old mid new : Forest} (a : IsTakenOut x i t (more u none) old mid h) → Ends k (tree_nth 0 (kids (root_tree i mid))) (put i (without_nth 0 (kids (root_tree i mid))) mid) new
+    → (ts : Trees) → t ≡ nth 0 ts → u ≡ nth 1 ts → AreTakenOut i ts old new h k
+both_out {i = i} {u = u} {old = old} {mid = mid} a d ts p q =
+    let b = taken_out 0 none u none (parent_end a.parent a.gives.ends) refl d in
+    record {
+      owned = parent_owned (parent_end b.parent b.gives.ends);
+      sides = record {
+        between = without_root i mid;
+        left-given = gives_as (gives_without i a.gives a.parent.root) (without_put i a.now old) (λ v e. e ∙ p);
+        right-given = gives_as (gives_without i b.gives b.parent.root) (without_put i b.now mid) (λ v e. e ∙ q);
+      };
+      front = front_end b.gives.ends (front_put b.now behind_first (front_end a.gives.ends (front_put a.now behind_first front_same)));
+    }
+
+-- the only child is taken out before the parent goes
+pub record IsTakenAlone (i : ℕ) (t : Tree) (old new : Forest) (h : ℕ) : Type 0 where
+  pub owned : IsOwned i new
+  pub given : {end : Forest} → end ≡ without_root i new → Gives (without_root i old) end h (λ u. u ≡ t)
+
+pub alone_out : {i h : ℕ} {old new : Forest} (t : Tree) → IsHanded i old → children_of (plain (root_tree i old)) ≡ more t none → Ends h (tree_nth 0 (kids (root_tree i old))) (put i (without_nth 0 (kids (root_tree i old))) old) new
+    → IsTakenAlone i t old new h
+alone_out {i = i} {h = h} {old = old} {new = new} t hand e d =
+    let a = taken_out 0 none t none (subst (λ (us : Trees). IsParent (held_at i old) i us old) e (parent_handed hand)) refl d in
+    let given : Gives (without_root i old) (without_root i new) h (λ u. u ≡ t) = gives_as (gives_without i a.gives a.parent.root) (without_put i a.now old) (λ v k. k) in
+    record {
+      owned = parent_owned (parent_end a.parent a.gives.ends);
+      given = λ {end} q. record { tree = given.tree; ends = ends_at given.ends q; once = given.once; whole = given.whole; told = given.told };
+    }

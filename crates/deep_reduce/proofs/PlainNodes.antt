@@ -1,0 +1,287 @@
+-- The plain value of a node, from its children's answers.
+use Rattle.std.proofs.Common.{◌≡◌, Bool, true, false, ◌&&◌, List, [], ◌∷◌, refl, sym, ap, ◌∙◌, subst, if◌then◌else◌}
+use Rattle.std.specs.Prelude.{◌||◌}
+use Rattle.calc_terms.specs.Fits.{add_op, mul_op}
+use Rattle.calc_terms.specs.Fractions.{Fraction, negative, minus_one_fraction}
+use Rattle.calc_terms.specs.PlainValues.{PlainValue, exactly, undefined, overflow, nothing, Gathered, decided, values, gather, folded, on_one, on_two, divided, calculated, powered, plain_of, plain_of_children, is_plain, are_plain, plain_value}
+use Rattle.calc_terms.specs.Trees.{Tree, num, symbol, undef, add, mult, power, root, neg, sub, div, Trees, none, more, append, is_undef, is_num}
+use Rattle.deep_reduce.specs.Nodes.{IsNodeAnswer, IsNodeOverflow, has_no_value}
+use Rattle.deep_reduce.specs.Reductions.{IsReducedFrom}
+use Rattle.deep_reduce.proofs.NodeRewrites.{AreReducedFrom, IsOver, over_number, over_symbol, over_undef, over_sum, over_product, over_power, over_root, over_neg, over_sub, over_div}
+use Rattle.number_forms.specs.Readers.{is_zero}
+use Rattle.power_reduce.specs.PowerAnswers.{is_at_most_zero}
+use Rattle.radical_forms.specs.RootAnswers.{has_no_root}
+use Rattle.rational128.specs.declared.overflow.Overflow.{Overflow}
+use Rattle.reduce_port.specs.Children.{has_undef, are_rationals}
+use Rattle.reduce_port.specs.PlainTrees.{IsPlainAnswer, IsPlainOverflow}
+use Rattle.tree_handles.specs.Expressions.{children_of}
+
+-- a fact of a plain value holds where there is none, and where it is computed
+pub as_plain : (P : PlainValue → Type 0) (t : Tree) → P nothing → (is_plain t ≡ true → P (plain_of t)) → P (plain_value t)
+as_plain P t n h = by (is_plain t) refl
+  where
+    by : (b : Bool) → is_plain t ≡ b → P (if b then plain_of t else nothing)
+    by true e = h e
+    by false e = n
+
+is_plain_value : (t : Tree) → is_plain t ≡ true → plain_value t ≡ plain_of t
+is_plain_value t e = ap (λ (b : Bool). if b then plain_of t else nothing) e
+
+and_left : (a b : Bool) → a && b ≡ true → a ≡ true
+and_left true b e = refl
+and_left false b e = e
+
+and_right : (a b : Bool) → a && b ≡ true → b ≡ true
+and_right true b e = e
+and_right false b e = cc
+
+or_right : (a b : Bool) → b ≡ true → a || b ≡ true
+or_right true b e = refl
+or_right false b e = e
+
+-- ---- answered children
+
+abbrev nums : List Fraction → Trees
+nums [] = none
+nums (q ∷ qs) = more (num q) (nums qs)
+
+-- what the children's answers tell of the values that are gathered
+abbrev Told : Gathered → Trees → Type 0
+Told (decided (exactly q)) us = ⊥
+Told (decided undefined) us = has_undef us ≡ true
+Told (decided (overflow op a b)) us = ⊥
+Told (decided nothing) us = Unit {0}
+Told (values qs) us = us ≡ nums qs
+
+more_told : (v : PlainValue) (u : Tree) (g : Gathered) (us : Trees) → IsPlainAnswer v u → Told g us → Told (gather v g) (more u us)
+more_told (exactly q) u (values qs) us a h = λ i. more (a i) (h i)
+more_told (exactly q) u (decided (exactly r)) us a h = absurd h
+more_told (exactly q) u (decided undefined) us a h = or_right (is_undef u) (has_undef us) h
+more_told (exactly q) u (decided (overflow op x y)) us a h = absurd h
+more_told (exactly q) u (decided nothing) us a h = tt
+more_told undefined u (values qs) us a h = ap (λ (t : Tree). is_undef t || has_undef us) a
+more_told undefined u (decided (exactly r)) us a h = absurd h
+more_told undefined u (decided undefined) us a h = or_right (is_undef u) (has_undef us) h
+more_told undefined u (decided (overflow op x y)) us a h = absurd h
+more_told undefined u (decided nothing) us a h = tt
+more_told (overflow op x y) u g us a h = absurd a
+more_told nothing u g us a h = tt
+
+one_told : (t u : Tree) (g : Gathered) (us : Trees) → is_plain t ≡ true → IsReducedFrom t u → Told g us → Told (gather (plain_of t) g) (more u us)
+one_told t u g us e h k = more_told (plain_of t) u g us (subst (λ (v : PlainValue). IsPlainAnswer v u) (is_plain_value t e) h.plain) k
+
+none_told : Told (values []) none
+none_told = refl
+
+children_told : (ts us : Trees) → are_plain ts ≡ true → AreReducedFrom ts us → Told (plain_of_children ts) us
+children_told none none e h = none_told
+children_told none (more u us) e h = absurd h
+children_told (more t ts) none e h = absurd h
+children_told (more t ts) (more u us) e h = one_told t u (plain_of_children ts) us (and_left (is_plain t) (are_plain ts) e) h.0 (children_told ts us (and_right (is_plain t) (are_plain ts) e) h.1)
+
+-- a fact of the node's value, by what its children tell
+by_told : (P : PlainValue → Type 0) (F : Gathered → PlainValue) (g : Gathered) (us : Trees) → ((v : PlainValue) → F (decided v) ≡ v) → P nothing → (has_undef us ≡ true → P undefined)
+    → ((qs : List Fraction) → us ≡ nums qs → P (F (values qs))) → Told g us → P (F g)
+by_told P F (decided (exactly q)) us d n u v h = absurd h
+by_told P F (decided undefined) us d n u v h = subst P (sym (d undefined)) (u h)
+by_told P F (decided (overflow op a b)) us d n u v h = absurd h
+by_told P F (decided nothing) us d n u v h = subst P (sym (d nothing)) n
+by_told P F (values qs) us d n u v h = v qs h
+
+-- ---- rationals
+
+nums_rational : (qs : List Fraction) → are_rationals (nums qs) ≡ true
+nums_rational [] = refl
+nums_rational (q ∷ qs) = nums_rational qs
+
+nums_plain : (qs : List Fraction) → are_plain (nums qs) ≡ true
+nums_plain [] = refl
+nums_plain (q ∷ qs) = nums_plain qs
+
+nums_values : (qs : List Fraction) → plain_of_children (nums qs) ≡ values qs
+nums_values [] = refl
+nums_values (q ∷ qs) = ap (gather (exactly q)) (nums_values qs)
+
+sum_value : (qs : List Fraction) → plain_value (add (nums qs)) ≡ folded add_op (values qs)
+sum_value qs = is_plain_value (add (nums qs)) (nums_plain qs) ∙ ap (folded add_op) (nums_values qs)
+
+product_value : (qs : List Fraction) → plain_value (mult (nums qs)) ≡ folded mul_op (values qs)
+product_value qs = is_plain_value (mult (nums qs)) (nums_plain qs) ∙ ap (folded mul_op) (nums_values qs)
+
+-- ---- the value of a node
+
+-- a fact of the value of a node over rationals holds of the node over those children
+abbrev IsKept : (PlainValue → Type 0) → Tree → Type 0
+IsKept P u = are_rationals (children_of u) ≡ true → P (plain_value u)
+
+module _ (P : PlainValue → Type 0) (n : P nothing) where
+  sum_kept : (ts us : Trees) → AreReducedFrom ts us → (has_undef us ≡ true → P undefined) → IsKept P (add us) → P (plain_value (add ts))
+  sum_kept ts us h d k = as_plain P (add ts) n (λ e. by_told P (folded add_op) (plain_of_children ts) us (λ v. refl) n d
+      (λ qs s. subst P (sum_value qs) (subst (λ (x : Trees). P (plain_value (add x))) s (k (ap are_rationals s ∙ nums_rational qs)))) (children_told ts us e h))
+
+  product_kept : (ts us : Trees) → AreReducedFrom ts us → (has_undef us ≡ true → P undefined) → IsKept P (mult us) → P (plain_value (mult ts))
+  product_kept ts us h d k = as_plain P (mult ts) n (λ e. by_told P (folded mul_op) (plain_of_children ts) us (λ v. refl) n d
+      (λ qs s. subst P (product_value qs) (subst (λ (x : Trees). P (plain_value (mult x))) s (k (ap are_rationals s ∙ nums_rational qs)))) (children_told ts us e h))
+
+  -- two children
+  by_pair : (f : Fraction → Fraction → PlainValue) (c d : Tree) (qs : List Fraction) → more c (more d none) ≡ nums qs → ((p q : Fraction) → c ≡ num p → d ≡ num q → P (f p q)) → P (on_two f (values qs))
+  by_pair f c d [] s k = cc
+  by_pair f c d (p ∷ []) s k = cc
+  by_pair f c d (p ∷ q ∷ []) s k = let x : c ≡ num p = cc in let y : d ≡ num q = cc in k p q x y
+  by_pair f c d (p ∷ q ∷ r ∷ qs) s k = cc
+
+  pair_kept : (f : Fraction → Fraction → PlainValue) (a b c d : Tree) → is_plain a && is_plain b ≡ true → IsReducedFrom a c → IsReducedFrom b d → (has_undef (more c (more d none)) ≡ true → P undefined)
+      → ((p q : Fraction) → c ≡ num p → d ≡ num q → P (f p q)) → P (on_two f (gather (plain_of a) (gather (plain_of b) (values []))))
+  pair_kept f a b c d e h k u v = by_told P (on_two f) (gather (plain_of a) (gather (plain_of b) (values []))) (more c (more d none)) (λ x. refl) n u (λ qs s. by_pair f c d qs s v)
+      (one_told a c (gather (plain_of b) (values [])) (more d none) (and_left (is_plain a) (is_plain b) e) h (one_told b d (values []) none (and_right (is_plain a) (is_plain b) e) k none_told))
+
+  pair_rational : (c d : Tree) (p q : Fraction) → c ≡ num p → d ≡ num q → are_rationals (more c (more d none)) ≡ true
+  pair_rational c d p q x y = λ i. is_num (x i) && (is_num (y i) && true)
+
+  pair_at : (N : Tree → Tree → Tree) (c d : Tree) (p q : Fraction) → c ≡ num p → d ≡ num q → P (plain_value (N c d)) → P (plain_value (N (num p) (num q)))
+  pair_at N c d p q x y h = subst P (λ i. plain_value (N (x i) (y i))) h
+
+  sub_kept : (a b c d : Tree) → IsReducedFrom a c → IsReducedFrom b d → (has_undef (more c (more d none)) ≡ true → P undefined) → IsKept P (sub c d) → P (plain_value (sub a b))
+  sub_kept a b c d h k u v = as_plain P (sub a b) n (λ e. pair_kept (λ p q. calculated add_op p (negative q)) a b c d e h k u (λ p q x y. pair_at sub c d p q x y (v (pair_rational c d p q x y))))
+
+  div_kept : (a b c d : Tree) → IsReducedFrom a c → IsReducedFrom b d → (has_undef (more c (more d none)) ≡ true → P undefined) → IsKept P (div c d) → P (plain_value (div a b))
+  div_kept a b c d h k u v = as_plain P (div a b) n (λ e. pair_kept divided a b c d e h k u (λ p q x y. pair_at div c d p q x y (v (pair_rational c d p q x y))))
+
+  power_kept : (a b c d : Tree) → IsReducedFrom a c → IsReducedFrom b d → (has_undef (more c (more d none)) ≡ true → P undefined) → IsKept P (power c d) → P (plain_value (power a b))
+  power_kept a b c d h k u v = as_plain P (power a b) n (λ e. pair_kept (λ p q. powered p q.num q.den) a b c d e h k u (λ p q x y. pair_at power c d p q x y (v (pair_rational c d p q x y))))
+
+  -- one child
+  by_one : (f : Fraction → PlainValue) (c : Tree) (qs : List Fraction) → more c none ≡ nums qs → ((p : Fraction) → c ≡ num p → P (f p)) → P (on_one f (values qs))
+  by_one f c [] s k = cc
+  by_one f c (p ∷ []) s k = let x : c ≡ num p = cc in k p x
+  by_one f c (p ∷ q ∷ qs) s k = cc
+
+  neg_kept : (a c : Tree) → IsReducedFrom a c → (has_undef (more c none) ≡ true → P undefined) → IsKept P (neg c) → P (plain_value (neg a))
+  neg_kept a c h u v = as_plain P (neg a) n (λ e. by_told P (on_one (λ q. exactly (negative q))) (gather (plain_of a) (values [])) (more c none) (λ x. refl) n u
+      (λ qs s. by_one (λ q. exactly (negative q)) c qs s (λ p x. subst P (λ i. plain_value (neg (x i))) (v (λ i. is_num (x i) && true))))
+      (one_told a c (values []) none e h none_told))
+
+  node_kept : (t u : Tree) → IsOver t u → (has_undef (children_of u) ≡ true → P undefined) → IsKept P u → P (plain_value t)
+  node_kept t u (over_number q) d k = k refl
+  node_kept t u (over_symbol x) d k = n
+  node_kept t u over_undef d k = k refl
+  node_kept t u (over_sum ts us h) d k = sum_kept ts us h d k
+  node_kept t u (over_product ts us h) d k = product_kept ts us h d k
+  node_kept t u (over_power b c e f h l) d k = power_kept b e c f h l d k
+  node_kept t u (over_root a c h) d k = n
+  node_kept t u (over_neg a c h) d k = neg_kept a c h d k
+  node_kept t u (over_sub a c b e h l) d k = sub_kept a b c e h l d k
+  node_kept t u (over_div a c b e h l) d k = div_kept a b c e h l d k
+
+-- a node with a child that is Undef has no value
+or_false : (a : Bool) → a || false ≡ true → a ≡ true
+or_false true e = refl
+or_false false e = e
+
+two_undefined : (a b c : Bool) → a || (b || false) ≡ true → a || b || c ≡ true
+two_undefined true b c e = refl
+two_undefined false true c e = refl
+two_undefined false false c e = cc
+
+divisor_undefined : (a b c : Bool) → a || (b || false) ≡ true → a || (b || false || c) ≡ true
+divisor_undefined true b c e = refl
+divisor_undefined false true c e = refl
+divisor_undefined false false c e = cc
+
+one_undefined : (a b : Bool) → a || (b || false) ≡ true → a || b ≡ true
+one_undefined true b e = refl
+one_undefined false b e = or_false b e
+
+root_undefined : (a : Tree) → is_undef a ≡ true → has_no_root a ≡ true
+root_undefined undef e = refl
+root_undefined a e = cc
+
+pub undef_has_no_value : (u : Tree) → has_undef (children_of u) ≡ true → has_no_value u ≡ true
+undef_has_no_value (num q) e = cc
+undef_has_no_value (symbol x) e = cc
+undef_has_no_value undef e = refl
+undef_has_no_value (add ts) e = e
+undef_has_no_value (mult ts) e = e
+undef_has_no_value (power b g) e = two_undefined (is_undef b) (is_undef g) (is_zero b && is_at_most_zero g) e
+undef_has_no_value (root a) e = root_undefined a (or_false (is_undef a) e)
+undef_has_no_value (neg a) e = or_false (is_undef a) e
+undef_has_no_value (sub a b) e = one_undefined (is_undef a) (is_undef b) e
+undef_has_no_value (div a b) e = divisor_undefined (is_undef a) (is_undef b) (is_zero b && is_at_most_zero (num minus_one_fraction)) e
+
+-- the answer of a node over reduced children is that of the plain value
+pub answered_plain : (t u r : Tree) → IsOver t u → IsNodeAnswer u r → IsPlainAnswer (plain_value t) r
+answered_plain t u r h a = node_kept (λ v. IsPlainAnswer v r) tt t u h (λ e. a.undefined (undef_has_no_value u e)) a.rational
+
+-- and so is its overflow
+pub overflowed_plain : (t u : Tree) (o : Overflow) → IsOver t u → IsNodeOverflow u o → IsPlainOverflow (plain_value t) o
+overflowed_plain t u o h a = node_kept (λ v. IsPlainOverflow v o) tt t u h (λ e. let no : has_undef (children_of u) ≡ false = a.defined in absurd (cc)) a.rational
+
+-- ---- an overflow in a child
+
+abbrev Decides : Gathered → Overflow → Type 0
+Decides (decided v) o = IsPlainOverflow v o
+Decides (values qs) o = ⊥
+
+this_decides : (v : PlainValue) (g : Gathered) (o : Overflow) → IsPlainOverflow v o → Decides (gather v g) o
+this_decides (exactly q) g o h = absurd h
+this_decides undefined g o h = absurd h
+this_decides (overflow op a b) g o h = h
+this_decides nothing g o h = tt
+
+later_decides : (v : PlainValue) (u : Tree) (g : Gathered) (o : Overflow) → IsPlainAnswer v u → Decides g o → Decides (gather v g) o
+later_decides (exactly q) u (decided v) o a h = h
+later_decides (exactly q) u (values qs) o a h = absurd h
+later_decides undefined u (decided v) o a h = h
+later_decides undefined u (values qs) o a h = absurd h
+later_decides (overflow op x y) u g o a h = absurd a
+later_decides nothing u g o a h = tt
+
+child_decides : (done answers : Trees) (t : Tree) (rest : Trees) (o : Overflow) → AreReducedFrom done answers → are_plain (append done (more t rest)) ≡ true → IsPlainOverflow (plain_value t) o
+    → Decides (plain_of_children (append done (more t rest))) o
+child_decides none none t rest o h e k = this_decides (plain_of t) (plain_of_children rest) o (subst (λ (v : PlainValue). IsPlainOverflow v o) (is_plain_value t (and_left (is_plain t) (are_plain rest) e)) k)
+child_decides none (more u us) t rest o h e k = absurd h
+child_decides (more x xs) none t rest o h e k = absurd h
+child_decides (more x xs) (more u us) t rest o h e k =
+    let all = append xs (more t rest) in
+    later_decides (plain_of x) u (plain_of_children all) o (subst (λ (v : PlainValue). IsPlainAnswer v u) (is_plain_value x (and_left (is_plain x) (are_plain all) e)) h.0.plain)
+    (child_decides xs us t rest o h.1 (and_right (is_plain x) (are_plain all) e) k)
+
+decides_value : (F : Gathered → PlainValue) (g : Gathered) (o : Overflow) → ((v : PlainValue) → F (decided v) ≡ v) → Decides g o → IsPlainOverflow (F g) o
+decides_value F (decided v) o d h = subst (λ (x : PlainValue). IsPlainOverflow x o) (sym (d v)) h
+decides_value F (values qs) o d h = absurd h
+
+module _ (done answers : Trees) (t : Tree) (rest : Trees) (o : Overflow) (reduced : AreReducedFrom done answers) (told : IsPlainOverflow (plain_value t) o) where
+  by_child : (F : Gathered → PlainValue) (ts : Trees) → ((v : PlainValue) → F (decided v) ≡ v) → ts ≡ append done (more t rest) → are_plain ts ≡ true → IsPlainOverflow (F (plain_of_children ts)) o
+  by_child F ts d e p = decides_value F (plain_of_children ts) o d
+      (subst (λ (x : Trees). Decides (plain_of_children x) o) (sym e) (child_decides done answers t rest o reduced (subst (λ (x : Trees). are_plain x ≡ true) e p) told))
+
+  no_child : none ≡ append done (more t rest) → ⊥
+  no_child e = by done e
+    where
+      by : (ts : Trees) → none ≡ append ts (more t rest) → ⊥
+      by none e = cc
+      by (more x xs) e = cc
+
+  pair_plain : (a b : Tree) → is_plain a && is_plain b ≡ true → are_plain (more a (more b none)) ≡ true
+  pair_plain a b e = by (is_plain a) (is_plain b) e
+    where
+      by : (x y : Bool) → x && y ≡ true → x && (y && true) ≡ true
+      by true true e = refl
+      by true false e = e
+      by false y e = e
+
+  one_plain : (a : Tree) → is_plain a ≡ true → are_plain (more a none) ≡ true
+  one_plain a e = ap (λ (x : Bool). x && true) e
+
+  -- a child's overflow, where those before it were answered, is the node's
+  pub child_overflow : (n : Tree) → children_of n ≡ append done (more t rest) → IsPlainOverflow (plain_value n) o
+  child_overflow (num q) e = absurd (no_child e)
+  child_overflow (symbol x) e = absurd (no_child e)
+  child_overflow undef e = absurd (no_child e)
+  child_overflow (add ts) e = as_plain (λ v. IsPlainOverflow v o) (add ts) tt (λ p. by_child (folded add_op) ts (λ v. refl) e p)
+  child_overflow (mult ts) e = as_plain (λ v. IsPlainOverflow v o) (mult ts) tt (λ p. by_child (folded mul_op) ts (λ v. refl) e p)
+  child_overflow (power a b) e = as_plain (λ v. IsPlainOverflow v o) (power a b) tt (λ p. by_child (on_two (λ p q. powered p q.num q.den)) (more a (more b none)) (λ v. refl) e (pair_plain a b p))
+  child_overflow (root a) e = tt
+  child_overflow (neg a) e = as_plain (λ v. IsPlainOverflow v o) (neg a) tt (λ p. by_child (on_one (λ q. exactly (negative q))) (more a none) (λ v. refl) e (one_plain a p))
+  child_overflow (sub a b) e = as_plain (λ v. IsPlainOverflow v o) (sub a b) tt (λ p. by_child (on_two (λ p q. calculated add_op p (negative q))) (more a (more b none)) (λ v. refl) e (pair_plain a b p))
+  child_overflow (div a b) e = as_plain (λ v. IsPlainOverflow v o) (div a b) tt (λ p. by_child (on_two divided) (more a (more b none)) (λ v. refl) e (pair_plain a b p))

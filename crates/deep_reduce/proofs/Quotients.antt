@@ -1,0 +1,127 @@
+-- What a quotient answers, from the answers for the inverse and for the product.
+use Rattle.std.proofs.Common.{◌≡◌, ◌⊎◌, inl, inr, Bool, true, false, ◌&&◌, refl, sym, ap, ◌∙◌, subst, append-nil}
+use Rattle.std.specs.Prelude.{◌||◌, Contains, if◌then◌else◌, [], ◌++◌}
+use Rattle.calc_terms.proofs.MeaningRewrites as rewrites
+use Rattle.calc_terms.proofs.PowerRewrites.{div_as_product}
+use Rattle.calc_terms.proofs.UndefRewrites.{undefined_part}
+use Rattle.calc_terms.specs.Fits.{fraction_fits, mul_op}
+use Rattle.calc_terms.specs.Fractions.{Fraction, minus_one_fraction, inverse, is_zero_fraction}
+use Rattle.calc_terms.specs.Numbers.{is_number}
+use Rattle.calc_terms.specs.PlainValues.{PlainValue, undefined, calculated, plain_value}
+use Rattle.calc_terms.specs.Trees.{Tree, num, undef, mult, power, div, none, names, is_undef, is_num, itself, in_mult, first, later}
+use Rattle.deep_reduce.specs.Nodes.{IsNodeAnswer, IsNodeOverflow}
+use Rattle.deep_reduce.proofs.EasyNodes.{and_true, and_first, and_second, or_none, number_defined}
+use Rattle.deep_reduce.proofs.NodeRewrites.{both}
+use Rattle.deep_reduce.proofs.Rationals.{inverse_value, zero_inverse}
+use Rattle.deep_reduce.proofs.Steps.{two, or_split, or_first, or_second, left_undefined, right_undefined, undef_test, two_rationals, product_value, AreTwo, are_two, undef_number, undef_reduced, no_names}
+use Rattle.power_reduce.specs.PowerAnswers.{has_no_power, has_number_power}
+use Rattle.rational128.specs.declared.overflow.Overflow.{Overflow}
+use Rattle.reduce_port.proofs.Rewritings.{keeps, kept, reduces_after}
+use Rattle.reduce_port.specs.Children.{has_undef, are_rationals}
+use Rattle.reduce_port.specs.PlainTrees.{IsPlainAnswer, IsPlainOverflow}
+use Rattle.reduce_port.specs.Rewritings.{Rewrites, Reduces, KeepsMeanings}
+
+abbrev inverse_tree : Tree → Tree
+inverse_tree b = power b (num minus_one_fraction)
+
+div_rewrites : (a b c : Tree) → Reduces (inverse_tree b) c → Rewrites (div a b) (mult (two a c))
+div_rewrites a b c h = record {
+  no_new_name = record {
+    name = λ x m. both (names a) (names b) (names a) (names c ++ []) (λ y k. k)
+        (λ y k. subst (λ ys. Contains ys y) (append-nil (names b)) (h.no_new_name.name y (subst (λ ys. Contains ys y) (append-nil (names c)) k))) x m;
+  };
+  meanings = keeps (rewrites.KeepsMeanings-trans (div_as_product a b) (rewrites.KeepsMeanings-product_more (rewrites.KeepsMeanings-refl a) (rewrites.KeepsMeanings-product_more (kept h.meanings) (rewrites.KeepsMeanings-refl (mult none)))));
+}
+
+-- a division of rationals
+module _ (p q : Fraction) (c : Tree) (fit : fraction_fits q ≡ true) (told : IsPlainAnswer (plain_value (inverse_tree (num q))) c) where
+  -- by zero
+  zero_quotient : is_zero_fraction q ≡ true → (plain_value (div (num p) (num q)) ≡ undefined) × (c ≡ undef)
+  zero_quotient z = (ap (λ (b : Bool). if b then undefined else calculated mul_op p (inverse q)) z, subst (λ (v : PlainValue). IsPlainAnswer v c) (zero_inverse q z) told)
+
+  -- by another
+  other_quotient : is_zero_fraction q ≡ false → (plain_value (div (num p) (num q)) ≡ calculated mul_op p (inverse q)) × (c ≡ num (inverse q))
+  other_quotient z = (ap (λ (b : Bool). if b then undefined else calculated mul_op p (inverse q)) z, subst (λ (v : PlainValue). IsPlainAnswer v c) (inverse_value q z fit) told)
+
+  not_zero : is_undef c ≡ false → is_zero_fraction q ≡ false
+  not_zero d = by (is_zero_fraction q) refl
+    where
+      by : (b : Bool) → is_zero_fraction q ≡ b → is_zero_fraction q ≡ false
+      by true z = absurd (let e : is_undef c ≡ true = ap is_undef (zero_quotient z).1 in cc)
+      by false z = z
+
+  zero_divisor : c ≡ undef → plain_value (div (num p) (num q)) ≡ undefined
+  zero_divisor e = by (is_zero_fraction q) refl
+    where
+      by : (b : Bool) → is_zero_fraction q ≡ b → plain_value (div (num p) (num q)) ≡ undefined
+      by true z = (zero_quotient z).0
+      by false z = absurd (let n : num (inverse q) ≡ undef = sym (other_quotient z).1 ∙ e in cc)
+
+module _ (a b c : Tree) (fit : (q : Fraction) → b ≡ num q → fraction_fits q ≡ true) (known : IsNodeAnswer (inverse_tree b) c) where
+  told : (d : AreTwo a b) → IsPlainAnswer (plain_value (inverse_tree (num d.right))) c
+  told d = subst (λ (t : Tree). IsPlainAnswer (plain_value (inverse_tree t)) c) d.right-is (known.rational (λ i. is_num (d.right-is i) && true))
+
+  -- where the inverse is defined
+  module _ (defined : is_undef c ≡ false) where
+    quotient_factor : (d : AreTwo a b) → c ≡ num (inverse d.right)
+    quotient_factor d = let f = fit d.right d.right-is in (other_quotient d.left d.right c f (told d) (not_zero d.left d.right c f (told d) defined)).1
+
+    quotient_value : (d : AreTwo a b) → plain_value (mult (two a c)) ≡ plain_value (div a b)
+    quotient_value d =
+        let f = fit d.right d.right-is in
+        (λ i. plain_value (mult (two (d.left-is i) (quotient_factor d i)))) ∙ product_value d.left (inverse d.right)
+        ∙ sym (other_quotient d.left d.right c f (told d) (not_zero d.left d.right c f (told d) defined)).0 ∙ sym (λ i. plain_value (div (d.left-is i) (d.right-is i)))
+
+    factors_rational : are_rationals (two a b) ≡ true → are_rationals (two a c) ≡ true
+    factors_rational e = let d = are_two a b e in two_rationals d.left (inverse d.right) a c d.left-is (quotient_factor d)
+
+    pub div_answer : (r : Tree) → IsNodeAnswer (mult (two a c)) r → IsNodeAnswer (div a b) r
+    div_answer r h = record {
+      reduces = reduces_after (div_rewrites a b c known.reduces) h.reduces;
+      undefined = λ e. by (or_split (is_undef a) (has_no_power b (num minus_one_fraction)) e);
+      number = λ n d.
+          let number : is_number c ≡ true = known.number (and_second (is_number a) (has_number_power b (num minus_one_fraction)) n) (or_second (is_undef a) (has_no_power b (num minus_one_fraction)) d) in
+          h.number (and_true (is_number a) (is_number c && true) (and_first (is_number a) (has_number_power b (num minus_one_fraction)) n) (and_true (is_number c) true number refl))
+          (or_none (is_undef a) (is_undef c || false) (or_first (is_undef a) (has_no_power b (num minus_one_fraction)) d) (or_none (is_undef c) false (number_defined c number) refl));
+      rational = λ e. subst (λ (v : PlainValue). IsPlainAnswer v r) (quotient_value (are_two a b e)) (h.rational (factors_rational e));
+    }
+      where
+        by : (is_undef a ≡ true) ⊎ (has_no_power b (num minus_one_fraction) ≡ true) → r ≡ undef
+        by (inl e) = h.undefined (left_undefined a c e)
+        by (inr e) = h.undefined (right_undefined a c (undef_test c (known.undefined e)))
+
+    -- the product does not fit
+    pub div_overflow : (o : Overflow) → IsNodeOverflow (mult (two a c)) o → has_undef (two a b) ≡ false → IsNodeOverflow (div a b) o
+    div_overflow o h d = record {
+      defined = d;
+      rational = λ e. subst (λ (v : PlainValue). IsPlainOverflow v o) (quotient_value (are_two a b e)) (h.rational (factors_rational e));
+    }
+
+  -- where it is Undef
+  pub zero_division_answer : c ≡ undef → IsNodeAnswer (div a b) undef
+  zero_division_answer e = record {
+    reduces = record {
+      reduced = undef_reduced;
+      no_new_name = no_names (div a b) undef refl;
+      meanings = keeps (rewrites.KeepsMeanings-trans (div_as_product a b) (undefined_part (inverse_tree b) (mult (two a (inverse_tree b))) (in_mult (later (first itself))) (kept (subst (λ (t : Tree). KeepsMeanings (inverse_tree b) t) e known.reduces.meanings))));
+    };
+    undefined = λ h. refl;
+    number = λ n d. absurd (undef_number (ap is_number (sym e) ∙ known.number (and_second (is_number a) (has_number_power b (num minus_one_fraction)) n) (or_second (is_undef a) (has_no_power b (num minus_one_fraction)) d)));
+    rational = λ h.
+        let d = are_two a b h in
+        subst (λ (v : PlainValue). IsPlainAnswer v undef) (sym ((λ i. plain_value (div (d.left-is i) (d.right-is i))) ∙ zero_divisor d.left d.right c (fit d.right d.right-is) (told d) e)) refl;
+  }
+
+-- the inverse of a rational fits
+pub inverse_overflow : (a b : Tree) (o : Overflow) → ((q : Fraction) → b ≡ num q → fraction_fits q ≡ true) → IsNodeOverflow (inverse_tree b) o → has_undef (two a b) ≡ false → IsNodeOverflow (div a b) o
+inverse_overflow a b o fit h d = record {
+  defined = d;
+  rational = λ e.
+      let t = are_two a b e in
+      let w : IsPlainOverflow (plain_value (inverse_tree (num t.right))) o = subst (λ (u : Tree). IsPlainOverflow (plain_value (inverse_tree u)) o) t.right-is (h.rational (λ i. is_num (t.right-is i) && true)) in
+      absurd (by t.right (fit t.right t.right-is) w (is_zero_fraction t.right) refl);
+}
+  where
+    by : (q : Fraction) → fraction_fits q ≡ true → IsPlainOverflow (plain_value (inverse_tree (num q))) o → (z : Bool) → is_zero_fraction q ≡ z → ⊥
+    by q f w true z = subst (λ (v : PlainValue). IsPlainOverflow v o) (zero_inverse q z) w
+    by q f w false z = subst (λ (v : PlainValue). IsPlainOverflow v o) (inverse_value q z f) w

@@ -1,0 +1,97 @@
+-- Opposites and inverses of rationals that fit.
+use Rattle.std.proofs.Common.{◌≡◌, ◌≢◌, ℕ, zero, suc, ◌*◌, ◌^◌, ℤ, pos, negsuc, ◌*ℤ◌, neg_ℤ, ◌<ℤ◌, ◌≤ℤ◌, Bool, true, false, ◌&&◌, refl, ap, ◌∙◌, arith}
+use Rattle.std.specs.Prelude.{nat_abs, nat_lt, if◌then◌else◌}
+use Rattle.std.proofs.lemmas.Int.{ints}
+use Rattle.calc_terms.proofs.FractionFacts.{whole_numerator, whole_denominator}
+use Rattle.calc_terms.specs.Fits.{fits, fraction_fits, fraction_power, mul_op, pow_op}
+use Rattle.calc_terms.specs.FractionLaws.{times_comm, one_times}
+use Rattle.calc_terms.specs.Fractions.{Fraction, lowest, times, negative, inverse, one_fraction, minus_one_fraction, whole_fraction, is_zero_fraction, lowest_parts, times_lowest, den_pos}
+use Rattle.calc_terms.specs.Integers.{int_is_zero}
+use Rattle.calc_terms.specs.PlainValues.{exactly, undefined, overflow, calculated, powered}
+use Rattle.rational128.proofs.Reciprocals.{negative_parts, inverts}
+
+-- ---- opposites
+
+minus_one_times : (z : ℤ) → negsuc 0 *ℤ z ≡ neg_ℤ z
+minus_one_times (pos zero) = refl
+minus_one_times (pos (suc n)) = omega (arith, ints)
+minus_one_times (negsuc n) = omega (arith, ints)
+
+-- -1 times q is its negative
+pub times_minus_one : (q : Fraction) → times minus_one_fraction q ≡ negative q
+unfolding negative
+times_minus_one q =
+    ap (times minus_one_fraction) (lowest_parts q) ∙ times_lowest (negsuc 0) q.num 1 q.den (omega arith) (den_pos q)
+    ∙ (λ i. lowest (minus_one_times q.num i) (one_mul q.den i))
+  where
+    one_mul : (n : ℕ) → 1 * n ≡ n
+    one_mul n = omega arith
+
+abs_negative : (z : ℤ) → nat_abs (neg_ℤ z) ≡ nat_abs z
+abs_negative (pos zero) = refl
+abs_negative (pos (suc n)) = refl
+abs_negative (negsuc n) = refl
+
+negative_fits : (q : Fraction) → fraction_fits q ≡ true → fraction_fits (negative q) ≡ true
+negative_fits q h =
+    let p = negative_parts q q.num q.den refl refl in
+    (λ i. fits (p.num i) && fits (pos (p.den i))) ∙ ap (λ (n : ℕ). nat_lt n (2 ^ 127) && fits (pos q.den)) (abs_negative q.num) ∙ h
+
+-- the product of -1 and q fits
+pub opposite_value : (q : Fraction) → fraction_fits q ≡ true → calculated mul_op minus_one_fraction q ≡ exactly (negative q)
+opposite_value q h =
+    ap (λ (x : Fraction). if fraction_fits x then exactly x else overflow mul_op minus_one_fraction q) (times_minus_one q)
+    ∙ ap (λ (b : Bool). if b then exactly (negative q) else overflow mul_op minus_one_fraction q) (negative_fits q h)
+
+-- ---- inverses
+
+signed : ℤ → ℕ → ℤ
+signed (pos n) d = pos d
+signed (negsuc n) d = neg_ℤ (pos d)
+
+signed_below : (z : ℤ) (d : ℕ) → z <ℤ pos 0 → signed z d ≡ neg_ℤ (pos d)
+unfolding signed
+signed_below (pos n) d h = absurd (omega (arith, ints))
+signed_below (negsuc n) d h = refl
+
+signed_above : (z : ℤ) (d : ℕ) → pos 0 ≤ℤ z → signed z d ≡ pos d
+unfolding signed
+signed_above (pos n) d h = refl
+signed_above (negsuc n) d h = absurd (omega (arith, ints))
+
+signed_abs : (z : ℤ) (d : ℕ) → nat_abs (signed z d) ≡ d
+unfolding signed
+signed_abs (pos n) d = refl
+signed_abs (negsuc n) d = abs_negative (pos d)
+
+swapped : (a b : Bool) → a && b ≡ true → b && a ≡ true
+swapped true true h = refl
+swapped true false h = h
+swapped false b h = cc
+
+inverse_fits : (q : Fraction) → q.num ≢ pos 0 → fraction_fits q ≡ true → fraction_fits (inverse q) ≡ true
+inverse_fits q z h =
+    let i = inverts q q.num (signed q.num q.den) q.den (nat_abs q.num) z refl refl refl (signed_below q.num q.den) (signed_above q.num q.den) in
+    (λ j. fits (i.parts.num j) && fits (pos (i.parts.den j))) ∙ ap (λ (n : ℕ). nat_lt n (2 ^ 127) && fits q.num) (signed_abs q.num q.den) ∙ swapped (fits q.num) (fits (pos q.den)) h
+
+first_power : (x : Fraction) → fraction_power x (nat_abs (whole_fraction (pos 1)).num) ≡ x
+first_power x = ap (λ (z : ℤ). fraction_power x (nat_abs z)) (whole_numerator (pos 1)) ∙ times_comm x one_fraction ∙ one_times x
+
+zero_num : (q : Fraction) → is_zero_fraction q ≡ false → q.num ≢ pos 0
+zero_num q h e = let z : is_zero_fraction q ≡ true = ap int_is_zero e in cc
+
+-- what q to the power -1 is
+pub inverse_power : (q : Fraction) → powered q (whole_fraction (negsuc 0)).num (whole_fraction (negsuc 0)).den ≡ (if is_zero_fraction q then undefined else calculated pow_op (inverse q) (whole_fraction (pos 1)))
+inverse_power q = λ i. powered q (whole_numerator (negsuc 0) i) (whole_denominator (negsuc 0) i)
+
+inverse_calculated : (q : Fraction) → q.num ≢ pos 0 → fraction_fits q ≡ true → calculated pow_op (inverse q) (whole_fraction (pos 1)) ≡ exactly (inverse q)
+inverse_calculated q z h =
+    ap (λ (x : Fraction). if fraction_fits x then exactly x else overflow pow_op (inverse q) (whole_fraction (pos 1))) (first_power (inverse q))
+    ∙ ap (λ (b : Bool). if b then exactly (inverse q) else overflow pow_op (inverse q) (whole_fraction (pos 1))) (inverse_fits q z h)
+
+-- it fits
+pub inverse_value : (q : Fraction) → is_zero_fraction q ≡ false → fraction_fits q ≡ true → powered q (whole_fraction (negsuc 0)).num (whole_fraction (negsuc 0)).den ≡ exactly (inverse q)
+inverse_value q z h = inverse_power q ∙ ap (λ (b : Bool). if b then undefined else calculated pow_op (inverse q) (whole_fraction (pos 1))) z ∙ inverse_calculated q (zero_num q z) h
+
+pub zero_inverse : (q : Fraction) → is_zero_fraction q ≡ true → powered q (whole_fraction (negsuc 0)).num (whole_fraction (negsuc 0)).den ≡ undefined
+zero_inverse q z = inverse_power q ∙ ap (λ (b : Bool). if b then undefined else calculated pow_op (inverse q) (whole_fraction (pos 1))) z

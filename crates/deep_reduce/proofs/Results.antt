@@ -1,0 +1,60 @@
+-- What calls on numbers return, in other words.
+use Rattle.std.proofs.Common.{◌≡◌, ℕ, Result, Ok, Err, true, false, sym, subst}
+use Rattle.std.specs.Prelude.{IfOk, IsErr, IsErrAnd}
+use Rattle.calc_terms.specs.PlainValues.{PlainValue}
+use Rattle.calc_terms.specs.Trees.{Tree}
+use Rattle.node_pool.specs.State.{State}
+use Rattle.number_forms.specs.Answers.{AnswersRationals}
+use Rattle.radical_forms.specs.Refusals.{IfOverflow}
+use Rattle.rational128.specs.declared.overflow.Overflow.{Overflow}
+use Rattle.reduce_port.specs.PlainTrees.{IsPlainAnswer, IsPlainOverflow}
+use Rattle.tree_handles.proofs.Given.{gives_as}
+use Rattle.tree_handles.proofs.Lasts.{last_tree}
+use Rattle.tree_handles.specs.Expressions.{plain}
+use Rattle.tree_handles.specs.Forest.{Forest}
+use Rattle.tree_handles.specs.Handed.{Gives}
+use Rattle.tree_handles.specs.Standing.{forest}
+use Rattle.tree_handles.specs.declared.fault.NumberFault.{NumberFault}
+use Rattle.tree_handles.specs.declared.fault.NumberFault.TheVariants as fault
+
+-- an answer, with what is said of it where the operands are rationals
+pub answered : {C : Type 0} (others : Forest) (v : PlainValue) (s : State) (r : Result ℕ NumberFault) (P Q : Tree → Type 0) → IfOk r (λ h. Gives others (forest s) h P) → (C → AnswersRationals v s r)
+    → ((t : Tree) → P t → (C → IsPlainAnswer v t) → Q t) → IfOk r (λ h. Gives others (forest s) h Q)
+answered others v s (Ok h) P Q g a k = record {
+  tree = g.tree;
+  ends = g.ends;
+  once = g.once;
+  whole = g.whole;
+  told = k (plain g.tree) g.told (λ c. subst (λ (f : Forest). IsPlainAnswer v (plain f)) (last_tree g.ends) (a c));
+}
+answered others v s (Err e) P Q g a k = tt
+
+pub answer_as : (others rest : Forest) (s : State) (r : Result ℕ NumberFault) (P Q : Tree → Type 0) → IfOk r (λ h. Gives others (forest s) h P) → others ≡ rest → ((t : Tree) → P t → Q t) → IfOk r (λ h. Gives rest (forest s) h Q)
+answer_as others rest s (Ok h) P Q g e k = gives_as g e k
+answer_as others rest s (Err x) P Q g e k = tt
+
+-- an overflow, with what is said of it where the operands are rationals
+pub overflowed : {C : Type 0} (v : PlainValue) (s : State) (r : Result ℕ NumberFault) (Q : Overflow → Type 0) → (C → AnswersRationals v s r) → ((o : Overflow) → (C → IsPlainOverflow v o) → Q o) → IfOverflow r Q
+overflowed v s (Ok h) Q a k = tt
+overflowed v s (Err (fault.Full full)) Q a k = tt
+overflowed v s (Err (fault.Overflow o)) Q a k = k o a
+
+pub overflow_as : (r : Result ℕ NumberFault) (P Q : Overflow → Type 0) → IfOverflow r P → ((o : Overflow) → P o → Q o) → IfOverflow r Q
+overflow_as (Ok h) P Q p k = tt
+overflow_as (Err (fault.Full full)) P Q p k = tt
+overflow_as (Err (fault.Overflow o)) P Q p k = k o p
+
+-- an error that a `?` hands on
+pub overflow_on : {A B : Type 0} (q : Result A NumberFault) (r : Result B NumberFault) (e : NumberFault) (P Q : Overflow → Type 0) → q ≡ Err e → IfOverflow q P → IsErr r → IsErrAnd r (λ x. x ≡ e) → ((o : Overflow) → P o → Q o) → IfOverflow r Q
+overflow_on {A} {B} q (Ok h) e P Q is p n a k = let no : false ≡ true = n in cc
+overflow_on {A} {B} q (Err f) e P Q is p n a k = by f (subst (λ (x : NumberFault). IfOverflow {A = A} (Err x) P) (sym a) (subst (λ (x : Result A NumberFault). IfOverflow x P) is p))
+  where
+    by : (f : NumberFault) → IfOverflow {A = A} (Err f) P → IfOverflow {A = B} (Err f) Q
+    by (fault.Full full) p = tt
+    by (fault.Overflow o) p = k o p
+
+-- a fact of any overflow
+pub any_overflow : (r : Result ℕ NumberFault) (Q : Overflow → Type 0) → ((o : Overflow) → Q o) → IfOverflow r Q
+any_overflow (Ok h) Q k = tt
+any_overflow (Err (fault.Full full)) Q k = tt
+any_overflow (Err (fault.Overflow o)) Q k = k o

@@ -1,0 +1,260 @@
+-- A product whose joint is reduced in its place.
+use Rattle.std.proofs.Common.{◌≡◌, ℕ, zero, suc, ◌+◌, ◌≤◌, ◌<◌, inl, inr, List, ◌++◌, Bool, true, false, ◌&&◌, if◌then◌else◌, refl, sym, ap, ◌∙◌, subst, arith}
+use Rattle.std.specs.Prelude.{max, Contains}
+use Rattle.std.proofs.lemmas.Bool.{and_parts}
+use Rattle.std.proofs.lemmas.List.Elements.{Contains-append_left, Contains-append_right, Contains-append_cases}
+use Rattle.calc_terms.specs.Loads.{nest, nest_of, load, weight, load_of_factor, load_of_factors}
+use Rattle.calc_terms.specs.Numbers.{is_number}
+use Rattle.calc_terms.specs.Reduced.{is_reduced, is_opaque_exponent, num_one, base_of}
+use Rattle.calc_terms.specs.Trees.{Tree, num, symbol, undef, add, mult, power, root, neg, sub, div, Trees, none, more, count, is_undef, names, names_of}
+use Rattle.calc_terms.proofs.MeaningRewrites.{KeepsMeanings-refl, KeepsMeanings-power, KeepsMeanings-product_more}
+use Rattle.deep_reduce.specs.Answers.{IsReducedProduct, IsReducedPower}
+use Rattle.deep_reduce.specs.Unfinished.{nest_over, nest_of_joint, replaced, IsSummed, IsSettled}
+use Rattle.coefficients.proofs.Forms.{parts_reduced}
+use Rattle.deep_reduce.proofs.Heavy.{base_reduced, exponent_reduced, some_weight, factor_load}
+use Rattle.deep_reduce.proofs.Joined.{JointsBelow, IsLessLoaded, product_less, numbers_opened}
+use Rattle.deep_reduce.proofs.Joints.{transparent_exponent, joint_load, reduced_joint}
+use Rattle.deep_reduce.proofs.Nests.{over_power, product_load}
+use Rattle.number_forms.specs.Sums.{removed}
+use Rattle.power_reduce.specs.PowerAnswers.{base_in, exponent_in}
+use Rattle.product_reduce.specs.Answers.{IsJoined, IsFinished}
+use Rattle.product_reduce.specs.Factors.{opened, others_in}
+use Rattle.product_reduce.specs.Joining.{exponent_of, joint, have_partners, IsJointAt}
+use Rattle.reduce_port.specs.Children.{has_undef, are_numbers, are_reduced}
+use Rattle.reduce_port.specs.Rewritings.{Rewrites, Reduces, HasNoNewName}
+use Rattle.reduce_port.proofs.Rewritings.{keeps, kept, Rewrites-refl, Rewrites-trans, rewrites_of, reduces_after}
+use Rattle.sum_reduce.specs.SumAnswers.{IsSumAnswer}
+use Rattle.tree_handles.specs.Expressions.{nth, children_of}
+
+-- ---- rewritings inside a tree
+
+pub exponent_rewritten : (b : Tree) {e g : Tree} → Rewrites e g → Rewrites (power b e) (power b g)
+exponent_rewritten b {e} {g} h = record {
+  no_new_name = record { name = λ x c. elim (Contains-append_cases (names b) (names g) x c) [ inl l ↦ Contains-append_left (names b) (names e) x l | inr r ↦ Contains-append_right (names b) (names e) x (h.no_new_name.name x r) ] };
+  meanings = keeps (KeepsMeanings-power (KeepsMeanings-refl b) (kept h.meanings));
+}
+
+pub factors_rewritten : {t u : Tree} {ts us : Trees} → Rewrites t u → Rewrites (mult ts) (mult us) → Rewrites (mult (more t ts)) (mult (more u us))
+factors_rewritten {t} {u} {ts} {us} h k = record {
+  no_new_name = record {
+    name = λ x c. elim (Contains-append_cases (names u) (names_of us) x c)
+        [ inl l ↦ Contains-append_left (names t) (names_of ts) x (h.no_new_name.name x l) | inr r ↦ Contains-append_right (names t) (names_of ts) x (k.no_new_name.name x r) ];
+  };
+  meanings = keeps (KeepsMeanings-product_more (kept h.meanings) (kept k.meanings));
+}
+
+replaced_rewritten : (n : ℕ) (u : Tree) (ts : Trees) → Rewrites (nth n ts) u → Rewrites (mult ts) (mult (replaced n u ts))
+replaced_rewritten n u none h = Rewrites-refl (mult none)
+replaced_rewritten zero u (more t ts) h = factors_rewritten h (Rewrites-refl (mult ts))
+replaced_rewritten (suc n) u (more t ts) h = factors_rewritten (Rewrites-refl t) (replaced_rewritten n u ts h)
+
+-- ---- another tree at a place
+
+replaced_count : (n : ℕ) (u : Tree) (ts : Trees) → count (replaced n u ts) ≡ count ts
+replaced_count n u none = refl
+replaced_count zero u (more t ts) = refl
+replaced_count (suc n) u (more t ts) = ap suc (replaced_count n u ts)
+
+replaced_reduced : (n : ℕ) (u : Tree) (ts : Trees) → is_reduced u ≡ true → are_reduced (removed n ts) ≡ true → are_reduced (replaced n u ts) ≡ true
+replaced_reduced n u none h k = refl
+replaced_reduced zero u (more t ts) h k = rw (h, k) refl
+replaced_reduced (suc n) u (more t ts) h k =
+    let b = and_parts (is_reduced t) (are_reduced (removed n ts)) k in
+    let first : is_reduced t ≡ true = b.0 in
+    let rest : are_reduced (replaced n u ts) ≡ true = replaced_reduced n u ts h b.1 in
+    rw (first, rest) refl
+
+replaced_load : (n : ℕ) (u : Tree) (ts : Trees) → n < count ts → load_of_factors (replaced n u ts) + load_of_factor (nth n ts) ≡ load_of_factors ts + load_of_factor u
+replaced_load n u none h = absurd (omega arith)
+replaced_load zero u (more t ts) h = omega arith
+replaced_load (suc n) u (more t ts) h = omega (arith, replaced_load n u ts (omega arith))
+
+below_reduced : (n : ℕ) (ts : Trees) → JointsBelow n ts → are_reduced ts ≡ true → nest_of ts ≤ n
+below_reduced n none h k = omega arith
+below_reduced n (more t ts) h k = let b = and_parts _ _ k in omega (arith, reduced_joint t b.0, h.0, below_reduced n ts h.1 b.1)
+
+replaced_nest : (n m : ℕ) (u : Tree) (ts : Trees) → n < count ts → JointsBelow m ts → are_reduced (removed n ts) ≡ true → nest u ≤ nest_of_joint (nth n ts) → nest_of (replaced n u ts) ≤ m
+replaced_nest n m u none l h k w = absurd (omega arith)
+replaced_nest zero m u (more t ts) l h k w = omega (arith, h.0, below_reduced m ts h.1 k)
+replaced_nest (suc n) m u (more t ts) l h k w = let b = and_parts _ _ k in omega (arith, reduced_joint t b.0, h.0, replaced_nest n m u ts (omega arith) h.1 b.1 w)
+
+pub joint_within : (n m : ℕ) (ts : Trees) → n < count ts → JointsBelow m ts → nest_of_joint (nth n ts) ≤ m
+joint_within n m none l h = absurd (omega arith)
+joint_within zero m (more t ts) l h = h.0
+joint_within (suc n) m (more t ts) l h = joint_within n m ts (omega arith) h.1
+
+nth_load : (n : ℕ) (ts : Trees) → n < count ts → load_of_factor (nth n ts) ≤ load_of_factors ts
+nth_load n none h = absurd (omega arith)
+nth_load zero (more t ts) h = omega arith
+nth_load (suc n) (more t ts) h = omega (arith, nth_load n ts (omega arith))
+
+-- ---- the joint
+
+-- the joint at a place by its base and the two exponents
+pub record IsJoint (t : Tree) : Type 0 where
+  pub base : Tree
+  pub first : Tree
+  pub second : Tree
+  pub is : t ≡ power base (add (more first (more second none)))
+  pub base_reduced : is_reduced base ≡ true
+  pub first_reduced : is_reduced first ≡ true
+  pub second_reduced : is_reduced second ≡ true
+  pub first_transparent : is_opaque_exponent first ≡ false
+  pub second_transparent : is_opaque_exponent second ≡ false
+
+-- what is handed on for it
+pub record IsReadyJoint (t : Tree) : Type 0 where
+  pub is : t ≡ power (base_in t) (add (children_of (exponent_in t)))
+  pub some : 1 ≤ count (children_of (exponent_in t))
+  pub reduced : are_reduced (children_of (exponent_in t)) ≡ true
+  pub base_reduced : is_reduced (base_in t) ≡ true
+
+pub ready_joint : (t : Tree) → IsJoint t → IsReadyJoint t
+ready_joint t j = subst IsReadyJoint (sym j.is) (record { is = refl; some = omega arith; reduced = rw (j.first_reduced, j.second_reduced) refl; base_reduced = j.base_reduced })
+
+-- a power whose exponent, such a sum, is reduced
+pub record IsReadySummed (t : Tree) : Type 0 where
+  pub is : t ≡ power (base_in t) (exponent_in t)
+  pub base_reduced : is_reduced (base_in t) ≡ true
+  pub exponent_reduced : is_reduced (exponent_in t) ≡ true
+
+pub ready_summed : (b : Tree) (ts : Trees) (t : Tree) → is_reduced b ≡ true → IsSummed b ts t → IsReadySummed t
+ready_summed b ts t r s = subst IsReadySummed (sym s.is) (record { is = refl; base_reduced = r; exponent_reduced = s.sum.reduces.reduced })
+
+-- what is put in its place
+record IsAnswered (t r : Tree) : Type 0 where
+  rewrites : Rewrites t r
+  reduced : is_reduced r ≡ true
+  nests : nest r ≤ nest_of_joint t
+  loads : load_of_factor r ≤ load_of_factor t + 1
+
+answered_sum : (b e f s r : Tree) → is_opaque_exponent e ≡ false → is_opaque_exponent f ≡ false → IsSumAnswer (more e (more f none)) s → IsReducedPower b s r
+    → IsAnswered (power b (add (more e (more f none)))) r
+answered_sum b e f s r o p sum answer = record {
+  rewrites = Rewrites-trans (exponent_rewritten b (rewrites_of sum.reduces)) (rewrites_of answer.reduces);
+  reduced = answer.reduces.reduced;
+  nests = omega (arith, answer.nest, over_power b (more e (more f none)) s sum.number sum.nest);
+  loads = omega (arith, joint_load b e f o p, factor_load r (1 + weight b) (omega (arith, some_weight b)) answer.opaque_load);
+}
+
+answered : (t s r : Tree) → IsJoint t → IsSumAnswer (children_of (exponent_in t)) s → IsReducedPower (base_in t) s r → IsAnswered t r
+answered t s r j sum answer =
+    let j-is = j.is in
+    subst (λ (x : Tree). IsAnswered x r) (sym j-is) (answered_sum j.base j.first j.second s r j.first_transparent j.second_transparent
+    (subst (λ (x : Tree). IsSumAnswer (children_of (exponent_in x)) s) j-is sum) (subst (λ (x : Tree). IsReducedPower (base_in x) s r) j-is answer))
+
+one_reduced : is_reduced num_one ≡ true
+one_reduced = parts_reduced num_one (inl tt)
+
+exponent_is_reduced : (t : Tree) → is_reduced t ≡ true → is_reduced (exponent_of t) ≡ true
+exponent_is_reduced (power b e) h = by (is_opaque_exponent e)
+  where
+    by : (x : Bool) → is_reduced (if x then num_one else e) ≡ true
+    by true = one_reduced
+    by false = exponent_reduced b e h
+exponent_is_reduced (num q) h = one_reduced
+exponent_is_reduced (symbol x) h = one_reduced
+exponent_is_reduced undef h = one_reduced
+exponent_is_reduced (add ts) h = one_reduced
+exponent_is_reduced (mult ts) h = one_reduced
+exponent_is_reduced (root a) h = one_reduced
+exponent_is_reduced (neg a) h = one_reduced
+exponent_is_reduced (sub a b) h = one_reduced
+exponent_is_reduced (div a b) h = one_reduced
+
+base_is_reduced : (t : Tree) → is_reduced t ≡ true → is_reduced (base_of t) ≡ true
+base_is_reduced (power b e) h = by (is_opaque_exponent e)
+  where
+    by : (x : Bool) → is_reduced (if x then power b e else b) ≡ true
+    by true = h
+    by false = base_reduced b e h
+base_is_reduced (num q) h = h
+base_is_reduced (symbol x) h = h
+base_is_reduced undef h = h
+base_is_reduced (add ts) h = h
+base_is_reduced (mult ts) h = h
+base_is_reduced (root a) h = h
+base_is_reduced (neg a) h = h
+base_is_reduced (sub a b) h = h
+base_is_reduced (div a b) h = h
+
+pub joint_at : {at : ℕ} {ts : Trees} → IsJointAt at ts → IsJoint (nth at ts)
+joint_at j = record {
+  base = base_of j.first;
+  first = exponent_of j.first;
+  second = exponent_of j.second;
+  is = j.is;
+  base_reduced = base_is_reduced j.first j.first_reduced;
+  first_reduced = exponent_is_reduced j.first j.first_reduced;
+  second_reduced = exponent_is_reduced j.second j.second_reduced;
+  first_transparent = transparent_exponent j.first;
+  second_transparent = transparent_exponent j.second;
+}
+
+-- ---- the product is reduced on
+
+pub record IsLess (ts : Trees) (u : Tree) : Type 0 where
+  pub is : u ≡ mult (children_of u)
+  pub some : 1 ≤ count (children_of u)
+  pub reduced : are_reduced (children_of u) ≡ true
+  pub rewrites : Rewrites (mult ts) u
+  pub nests : nest_of (children_of u) ≤ nest_of ts
+  pub loads : load_of_factors (children_of u) < load_of_factors ts
+
+pub settled_less : (ts : Trees) (u v : Tree) (at : ℕ) → are_reduced ts ≡ true → IsJoined ts u → IsJointAt at (children_of u) → IsSettled at (children_of u) v → IsLess ts v
+settled_less ts u v at r j p s =
+    let us = children_of u in
+    let l : IsLessLoaded ts us = subst (λ (x : Tree). IsLessLoaded ts (children_of x)) (sym j.is) (product_less ts j.coefficient r j.joinable.coefficient.number j.joinable.partners) in
+    let a = answered (nth at us) s.exponent s.factor (joint_at p) s.sum s.answer in
+    let product : u ≡ mult us = subst (λ (x : Tree). x ≡ mult (children_of x)) (sym j.is) refl in
+    let here : Rewrites (mult us) (mult (replaced at s.factor us)) = replaced_rewritten at s.factor us a.rewrites in
+    subst (IsLess ts) (sym s.is) (record {
+      is = refl;
+      some = omega (arith, replaced_count at s.factor us, p.within);
+      reduced = replaced_reduced at s.factor us a.reduced p.others;
+      rewrites = Rewrites-trans (subst (Rewrites (mult ts)) product j.rewrites) here;
+      nests = replaced_nest at (nest_of ts) s.factor us p.within l.nests p.others a.nests;
+      loads = omega (arith, replaced_load at s.factor us p.within, a.loads, l.load);
+    })
+
+-- the joint is less than the product
+pub record IsJointLess (ts : Trees) (t : Tree) : Type 0 where
+  pub nests : nest_of_joint t ≤ nest_of ts
+  pub weighs : weight (base_in t) < load_of_factors ts
+
+pub joint_less : (ts : Trees) (u : Tree) (at : ℕ) → are_reduced ts ≡ true → IsJoined ts u → IsJointAt at (children_of u) → IsJointLess ts (nth at (children_of u))
+joint_less ts u at r j p =
+    let us = children_of u in
+    let l : IsLessLoaded ts us = subst (λ (x : Tree). IsLessLoaded ts (children_of x)) (sym j.is) (product_less ts j.coefficient r j.joinable.coefficient.number j.joinable.partners) in
+    let k = joint_at p in
+    let weight-is : weight (base_in (nth at us)) ≡ weight k.base = ap (λ (x : Tree). weight (base_in x)) k.is in
+    let load-is : load_of_factor (nth at us) ≡ weight k.base = ap load_of_factor k.is ∙ joint_load k.base k.first k.second k.first_transparent k.second_transparent in
+    record {
+      nests = joint_within at (nest_of ts) us p.within l.nests;
+      weighs = omega (arith, weight-is, load-is, nth_load at us p.within, l.load);
+    }
+
+clash : {x : Bool} {A : Type 0} → x ≡ true → x ≡ false → A
+clash e f = absurd cc
+
+pub product_after : (ts : Trees) (u v t : Tree) → IsJoined ts u → IsLess ts v → IsReducedProduct (children_of v) t → IsReducedProduct ts t
+product_after ts u v t j l a = record {
+  reduces = reduces_after (subst (Rewrites (mult ts)) l.is l.rewrites) a.reduces;
+  undefined = λ e. clash e j.joinable.defined;
+  number = λ e. clash (j.joinable.partners) (ap have_partners (numbers_opened ts e));
+  nest = omega (arith, a.nest, l.nests);
+  load = omega (arith, a.load, product_load ts, product_load (children_of v), l.loads);
+}
+
+undef_is : (t : Tree) → is_undef t ≡ true → t ≡ undef
+undef_is undef h = refl
+undef_is t h = cc
+
+pub product_finished : (ts : Trees) (t : Tree) → IsFinished ts t → IsReducedProduct ts t
+product_finished ts t f = record {
+  reduces = f.reduces;
+  undefined = λ e. undef_is t (f.undefined ∙ e);
+  number = f.number;
+  nest = f.nest;
+  load = f.load;
+}

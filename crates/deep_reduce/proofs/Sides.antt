@@ -1,0 +1,116 @@
+-- Two trees taken from a node, or made, and put under a new one.
+use Rattle.std.proofs.Common.{◌≡◌, ℕ, eqb, false, [], ◌∷◌, refl, sym, ap, ◌∙◌}
+use Rattle.calc_terms.specs.Trees.{Tree, Trees}
+use Rattle.calc_terms.specs.declared.kind.Kind.{Kind}
+use Rattle.deep_reduce.specs.Pairs.{GivesSides}
+use Rattle.deep_reduce.proofs.Steps.{two}
+use Rattle.tree_handles.proofs.Fronts.{behind_first, behind_new, front_same, front_at, front_end, front_without, front_after_one, front_after_two}
+use Rattle.tree_handles.proofs.Given.{given_handed, given_told, given_rest, given_other, given_same, given_apart, given_without, handed_at}
+use Rattle.tree_handles.proofs.Lasts.{ends_as, ends_at, ends_without, last_tree}
+use Rattle.tree_handles.proofs.Outcomes.{eqb-sym}
+use Rattle.tree_handles.specs.Expressions.{nth, plain, compound}
+use Rattle.tree_handles.specs.Forest.{Forest}
+use Rattle.tree_handles.specs.Handed.{IsHanded, Gives, KeepsFront}
+use Rattle.tree_handles.specs.Roots.{root_tree, without_root}
+
+-- ---- a new tree and one that was handed
+
+-- beside the new tree the other is as it was
+pub beside_new : {i : ℕ} {f g : Forest} {Told : Tree → Type 0} (j : ℕ) → Gives f g i Told → IsHanded j f → plain (root_tree j g) ≡ plain (root_tree j f)
+beside_new j g h = ap plain (given_same j g h.root)
+
+pub record IsPaired (k : Kind) (p : ℕ) (t u : Tree) (others new : Forest) : Type 0 where
+  pub handed : IsHanded p new
+  pub tree : plain (root_tree p new) ≡ compound k (two t u)
+  pub rest : without_root p new ≡ others
+
+-- the new tree comes first
+pub new_first : {f g h : Forest} {i j p : ℕ} {t : Tree} {k : Kind} → Gives f g i (λ u. u ≡ t) → IsHanded j f → Gives (without_root j (without_root i g)) h p (λ u. u ≡ compound k (two (plain (root_tree i g)) (plain (root_tree j g))))
+    → IsPaired k p t (plain (root_tree j f)) (without_root j f) h
+new_first {j = j} {k = k} n o g = record {
+  handed = given_handed g;
+  tree = given_told g ∙ (λ x. compound k (two (given_told n x) (beside_new j n o x)));
+  rest = given_rest g ∙ ap (without_root j) (given_rest n);
+}
+
+-- the new tree comes second
+pub new_second : {f g h : Forest} {i j p : ℕ} {t : Tree} {k : Kind} → Gives f g i (λ u. u ≡ t) → IsHanded j f → Gives (without_root i (without_root j g)) h p (λ u. u ≡ compound k (two (plain (root_tree j g)) (plain (root_tree i g))))
+    → IsPaired k p (plain (root_tree j f)) t (without_root j f) h
+new_second {j = j} {k = k} n o g = record {
+  handed = given_handed g;
+  tree = given_told g ∙ (λ x. compound k (two (beside_new j n o x) (given_told n x)));
+  rest = given_rest g ∙ given_without n o;
+}
+
+pub apart_first : {f g : Forest} {i j : ℕ} {Told : Tree → Type 0} → Gives f g i Told → IsHanded j f → eqb i j ≡ false
+apart_first n o = given_apart n o
+
+pub apart_second : {f g : Forest} {i j : ℕ} {Told : Tree → Type 0} → Gives f g i Told → IsHanded j f → eqb j i ≡ false
+apart_second {i = i} {j = j} n o = eqb-sym i j (given_apart n o)
+
+-- ---- two sides, the right of which was rewritten
+
+-- the left beside what is made of the right
+pub record IsBeside (ts : Trees) (left made : ℕ) (others new : Forest) : Type 0 where
+  pub handed : IsHanded left new
+  pub tree : plain (root_tree left new) ≡ nth 0 ts
+  pub apart : eqb left made ≡ false
+  pub rest : without_root made (without_root left new) ≡ others
+
+pub left_beside : {ts : Trees} {others f g : Forest} {left right made : ℕ} {Told : Tree → Type 0} → GivesSides ts others f left right → Gives (without_root right f) g made Told → IsBeside ts left made others g
+left_beside {left = left} s m =
+    let rest = given_rest s.right-given in
+    let there = handed_at (given_handed s.left-given) rest in
+    record {
+      handed = given_other m there;
+      tree = beside_new left m there ∙ ap (λ (x : Forest). plain (root_tree left x)) rest ∙ given_told s.left-given;
+      apart = apart_second m there;
+      rest = given_without m there ∙ ap (without_root left) rest ∙ given_rest s.left-given;
+    }
+
+-- both under a new node
+pub beside_paired : {ts : Trees} {others g h : Forest} {left made p : ℕ} {k : Kind} → IsBeside ts left made others g → Gives (without_root made (without_root left g)) h p (λ u. u ≡ compound k (two (plain (root_tree left g)) (plain (root_tree made g))))
+    → IsPaired k p (nth 0 ts) (plain (root_tree made g)) others h
+beside_paired {g = f} {made = made} {k = k} b g = record {
+  handed = given_handed g;
+  tree = given_told g ∙ ap (λ (t : Tree). compound k (two t (plain (root_tree made f)))) b.tree;
+  rest = given_rest g ∙ b.rest;
+}
+
+-- ---- what stood first
+
+-- once the right was rewritten
+pub rewritten_front : {ts : Trees} {old f g : Forest} {i left right : ℕ} → GivesSides ts (without_root i old) f left right → KeepsFront (right ∷ []) f g → KeepsFront (i ∷ []) old g
+rewritten_front s k =
+    let between = front_end s.left-given.ends (front_without behind_first front_same) in
+    front_after_one (behind_new s.right-given.ends between) (front_end s.right-given.ends between) k
+
+-- and both were put under a new node
+pub paired_front : {ts : Trees} {old f g h : Forest} {i left right made : ℕ} {Told : Tree → Type 0} → GivesSides ts (without_root i old) f left right → KeepsFront (right ∷ []) f g → Gives (without_root right f) g made Told
+    → KeepsFront (left ∷ made ∷ []) g h → KeepsFront (i ∷ []) old h
+paired_front s k m l =
+    let without = front_without behind_first front_same in
+    let between = front_end s.left-given.ends without in
+    front_after_two (behind_new s.left-given.ends without) (behind_new m.ends (front_at between (given_rest s.right-given))) (rewritten_front s k) l
+
+-- and the new node was reduced
+pub reduced_front : {old h end : Forest} {i p : ℕ} {Told : Tree → Type 0} {others : Forest} → KeepsFront (i ∷ []) old h → Gives others h p Told → others ≡ without_root i old → KeepsFront (p ∷ []) h end → KeepsFront (i ∷ []) old end
+reduced_front k g e l = front_after_one (behind_new g.ends (front_at (front_without behind_first front_same) e)) k l
+
+-- ---- the left goes, and what was made of the right stays
+
+pub left_gone : {ts : Trees} {others f g end : Forest} {left right made : ℕ} {Told : Tree → Type 0} → GivesSides ts others f left right → Gives (without_root right f) g made Told → end ≡ without_root left g
+    → Gives others end made (λ t. t ≡ plain (root_tree made g))
+left_gone {left = left} s m e =
+    let rest = given_rest s.right-given in
+    let there = handed_at (given_handed s.left-given) rest in
+    record {
+      tree = m.tree;
+      ends = ends_as (ends_at (ends_without left m.ends there.root) e) refl (ap (without_root left) rest ∙ given_rest s.left-given);
+      once = m.once;
+      whole = m.whole;
+      told = ap plain (sym (last_tree m.ends));
+    }
+
+pub gone_front : {ts : Trees} {old f g end : Forest} {i left right made : ℕ} {Told : Tree → Type 0} → GivesSides ts (without_root i old) f left right → Gives (without_root right f) g made Told → end ≡ without_root left g → KeepsFront (i ∷ []) old end
+gone_front s m e = front_end (left_gone s m e).ends (front_without behind_first front_same)

@@ -1,0 +1,316 @@
+-- What the calls on sums, products, powers and roots answer, as answers of a node.
+use Rattle.std.proofs.Common.{◌≡◌, ℕ, ◌<◌, ◌⊎◌, inl, inr, Bool, true, false, ◌&&◌, List, length, refl, sym, ap, ◌∙◌, subst, arith, append-nil}
+use Rattle.std.specs.Prelude.{◌||◌, Contains, [], ◌++◌}
+use Rattle.calc_terms.proofs.MeaningRewrites as rewrites
+use Rattle.calc_terms.proofs.UndefRewrites.{undef_part, undefined_part}
+use Rattle.calc_terms.specs.Fits.{fraction_fits, add_op, mul_op}
+use Rattle.calc_terms.specs.Fractions.{Fraction, minus_one_fraction, negative, zero_fraction, one_fraction}
+use Rattle.calc_terms.specs.Numbers.{is_number}
+use Rattle.calc_terms.specs.PlainValues.{PlainValue, exactly, undefined, overflow, nothing, calculated, plain_value}
+use Rattle.calc_terms.specs.Reduced.{is_reduced}
+use Rattle.calc_terms.specs.Trees.{Tree, num, symbol, undef, add, mult, power, root, neg, sub, div, Trees, none, more, names, is_undef, is_num, IsPart, IsPartOf, itself, in_add, in_mult, in_base, in_exponent, in_root, in_neg, in_left, in_right, in_dividend, in_divisor, first, later}
+use Rattle.deep_reduce.specs.Answers.{IsReducedProduct, IsReducedPower}
+use Rattle.deep_reduce.specs.Nodes.{IsNodeAnswer, IsNodeOverflow, has_no_value}
+use Rattle.deep_reduce.proofs.EasyNodes.{and_true, and_first, and_second, or_true, or_none, undef_words, number_defined}
+use Rattle.deep_reduce.proofs.NodeRewrites.{both}
+use Rattle.deep_reduce.proofs.PlainNodes.{undef_has_no_value}
+use Rattle.deep_reduce.proofs.Rationals.{opposite_value}
+use Rattle.radical_forms.specs.RootAnswers.{IsRootAnswer}
+use Rattle.rational128.specs.declared.overflow.Overflow.{Overflow}
+use Rattle.reduce_port.proofs.Rewritings.{keeps, kept, Rewrites-refl, reduces, reduces_after}
+use Rattle.reduce_port.specs.Children.{has_undef, are_rationals}
+use Rattle.reduce_port.specs.PlainTrees.{IsPlainAnswer, IsPlainOverflow}
+use Rattle.reduce_port.specs.Rewritings.{HasNoNewName, KeepsMeanings, Rewrites, Reduces}
+use Rattle.sum_reduce.specs.SumAnswers.{IsSumAnswer}
+use Rattle.tree_handles.specs.Expressions.{children_of}
+
+abbrev pub two : Tree → Tree → Trees
+two a b = more a (more b none)
+
+-- ---- lists
+
+rationals_defined : (us : Trees) → are_rationals us ≡ true → has_undef us ≡ false
+rationals_defined none e = refl
+rationals_defined (more u us) e = or_none (is_undef u) (has_undef us) (num_defined u (and_first (is_num u) (are_rationals us) e)) (rationals_defined us (and_second (is_num u) (are_rationals us) e))
+  where
+    num_defined : (t : Tree) → is_num t ≡ true → is_undef t ≡ false
+    num_defined (num q) h = refl
+    num_defined t h = cc
+
+pub no_names : (t u : Tree) → names u ≡ [] → HasNoNewName t u
+no_names t u e = record { name = λ x c. absurd (let f : length (names u) ≡ 0 = ap length e in let k : c.0 < length (names u) = c.1 in omega arith) }
+
+pub undef_reduced : is_reduced undef ≡ true
+unfolding is_reduced
+undef_reduced = refl
+
+pub number_reduced : (q : Fraction) → is_reduced (num q) ≡ true
+unfolding is_reduced is_number
+number_reduced q = refl
+
+symbol_reduced : (x : List ℕ) → is_reduced (symbol x) ≡ true
+unfolding is_reduced is_number
+symbol_reduced x = refl
+
+rational_number : (q : Fraction) → is_number (num q) ≡ true
+unfolding is_number
+rational_number q = refl
+
+pub undef_number : is_number undef ≡ true → ⊥
+unfolding is_number
+undef_number e = cc
+
+num_words : (t : Tree) → is_num t ≡ true → (q : Fraction) × (t ≡ num q)
+num_words (num q) e = (q, refl)
+num_words t e = cc
+
+-- ---- Undef
+
+undef_in : (ts : Trees) → has_undef ts ≡ true → IsPartOf undef ts
+undef_in none e = cc
+undef_in (more undef ts) e = first itself
+undef_in (more (num q) ts) e = later (undef_in ts e)
+undef_in (more (symbol x) ts) e = later (undef_in ts e)
+undef_in (more (add us) ts) e = later (undef_in ts e)
+undef_in (more (mult us) ts) e = later (undef_in ts e)
+undef_in (more (power b g) ts) e = later (undef_in ts e)
+undef_in (more (root a) ts) e = later (undef_in ts e)
+undef_in (more (neg a) ts) e = later (undef_in ts e)
+undef_in (more (sub a b) ts) e = later (undef_in ts e)
+undef_in (more (div a b) ts) e = later (undef_in ts e)
+
+in_two : (a b u : Tree) → (IsPart undef a → IsPart undef u) → (IsPart undef b → IsPart undef u) → IsPartOf undef (two a b) → IsPart undef u
+in_two a b u f g (first k) = f k
+in_two a b u f g (later (first k)) = g k
+in_two a b u f g (later (later k)) = elim k [ ]
+
+in_one : (a u : Tree) → (IsPart undef a → IsPart undef u) → IsPartOf undef (more a none) → IsPart undef u
+in_one a u f (first k) = f k
+in_one a u f (later k) = elim k [ ]
+
+undef_child : (u : Tree) → IsPartOf undef (children_of u) → IsPart undef u
+undef_child (num q) k = elim k [ ]
+undef_child (symbol x) k = elim k [ ]
+undef_child undef k = itself
+undef_child (add ts) k = in_add k
+undef_child (mult ts) k = in_mult k
+undef_child (power b e) k = in_two b e (power b e) (λ x. in_base x) (λ x. in_exponent x) k
+undef_child (root a) k = in_one a (root a) (λ x. in_root x) k
+undef_child (neg a) k = in_one a (neg a) (λ x. in_neg x) k
+undef_child (sub a b) k = in_two a b (sub a b) (λ x. in_left x) (λ x. in_right x) k
+undef_child (div a b) k = in_two a b (div a b) (λ x. in_dividend x) (λ x. in_divisor x) k
+
+-- a node with an Undef child
+pub undefined_answer : (u : Tree) → has_undef (children_of u) ≡ true → IsNodeAnswer u undef
+undefined_answer u e = record {
+  reduces = record { reduced = undef_reduced; no_new_name = no_names u undef refl; meanings = keeps (undef_part u (undef_child u (undef_in (children_of u) e))) };
+  undefined = λ h. refl;
+  number = λ h n. absurd (let y : has_no_value u ≡ true = undef_has_no_value u e in cc);
+  rational = λ h. absurd (let n : has_undef (children_of u) ≡ false = rationals_defined (children_of u) h in cc);
+}
+
+-- ---- leaves
+
+pub number_answer : (q : Fraction) → IsNodeAnswer (num q) (num q)
+number_answer q = record {
+  reduces = reduces (Rewrites-refl (num q)) (number_reduced q);
+  undefined = λ h. cc;
+  number = λ h n. rational_number q;
+  rational = λ h. refl;
+}
+
+pub symbol_answer : (x : List ℕ) → IsNodeAnswer (symbol x) (symbol x)
+symbol_answer x = record {
+  reduces = reduces (Rewrites-refl (symbol x)) (symbol_reduced x);
+  undefined = λ h. cc;
+  number = λ h n. cc;
+  rational = λ h. tt;
+}
+
+pub undef_answer : IsNodeAnswer undef undef
+undef_answer = record {
+  reduces = reduces (Rewrites-refl undef) undef_reduced;
+  undefined = λ h. refl;
+  number = λ h n. cc;
+  rational = λ h. refl;
+}
+
+-- ---- sums, products, powers and roots
+
+pub sum_answer : (ts : Trees) (r : Tree) → IsSumAnswer ts r → (are_rationals ts ≡ true → IsPlainAnswer (plain_value (add ts)) r) → IsNodeAnswer (add ts) r
+sum_answer ts r a p = record { reduces = a.reduces; undefined = λ h. undef_words r (a.undefined ∙ h); number = λ h n. a.number h; rational = p }
+
+pub product_answer : (ts : Trees) (r : Tree) → IsReducedProduct ts r → (are_rationals ts ≡ true → IsPlainAnswer (plain_value (mult ts)) r) → IsNodeAnswer (mult ts) r
+product_answer ts r a p = record { reduces = a.reduces; undefined = a.undefined; number = λ h n. a.number h; rational = p }
+
+pub power_answer : (b e r : Tree) → IsReducedPower b e r → (are_rationals (two b e) ≡ true → IsPlainAnswer (plain_value (power b e)) r) → IsNodeAnswer (power b e) r
+power_answer b e r a p = record { reduces = a.reduces; undefined = a.undefined; number = a.number; rational = p }
+
+pub root_answer : (a r : Tree) → IsRootAnswer a r → IsNodeAnswer (root a) r
+root_answer a r h = record { reduces = h.reduces; undefined = λ e. undef_words r (h.undefined ∙ e); number = h.number; rational = λ e. tt }
+
+pub empty_sum_answer : (r : Tree) → r ≡ num zero_fraction → IsNodeAnswer (add none) r
+empty_sum_answer r e = subst (IsNodeAnswer (add none)) (sym e) (record {
+  reduces = record { reduced = number_reduced zero_fraction; no_new_name = no_names (add none) (num zero_fraction) refl; meanings = keeps rewrites.empty_sum };
+  undefined = λ h. cc;
+  number = λ h n. rational_number zero_fraction;
+  rational = λ h. tt;
+})
+
+pub empty_product_answer : (r : Tree) → r ≡ num one_fraction → IsNodeAnswer (mult none) r
+empty_product_answer r e = subst (IsNodeAnswer (mult none)) (sym e) (record {
+  reduces = record { reduced = number_reduced one_fraction; no_new_name = no_names (mult none) (num one_fraction) refl; meanings = keeps rewrites.empty_product };
+  undefined = λ h. cc;
+  number = λ h n. rational_number one_fraction;
+  rational = λ h. tt;
+})
+
+-- ---- opposites
+
+neg_rewrites : (a : Tree) → Rewrites (neg a) (mult (two (num minus_one_fraction) a))
+neg_rewrites a = record { no_new_name = record { name = λ x c. one_name (names a) x c }; meanings = keeps (rewrites.neg_as_product a) }
+  where
+    one_name : {X : Type 0} (xs : List X) (x : X) → Contains (xs ++ []) x → Contains xs x
+    one_name xs x c = subst (λ ys. Contains ys x) (append-nil xs) c
+
+module _ (a r : Tree) (fit : (q : Fraction) → a ≡ num q → fraction_fits q ≡ true) where
+  neg_value : (q : Fraction) → a ≡ num q → plain_value (mult (two (num minus_one_fraction) a)) ≡ exactly (negative q)
+  neg_value q e = ap (λ t. plain_value (mult (two (num minus_one_fraction) t))) e ∙ opposite_fold (calculated mul_op minus_one_fraction q) (opposite_value q (fit q e))
+    where
+      opposite_fold : (v : PlainValue) → v ≡ exactly (negative q) → (elim v [ exactly x ↦ exactly x | undefined ↦ undefined | overflow o a b ↦ overflow o a b | nothing ↦ nothing ]) ≡ exactly (negative q)
+      opposite_fold v e = ap (λ (w : PlainValue). elim w [ exactly x ↦ exactly x | undefined ↦ undefined | overflow o a b ↦ overflow o a b | nothing ↦ nothing ]) e
+
+  pub neg_answer : IsNodeAnswer (mult (two (num minus_one_fraction) a)) r → IsNodeAnswer (neg a) r
+  neg_answer h = record {
+    reduces = reduces_after (neg_rewrites a) h.reduces;
+    undefined = λ e. h.undefined (or_true (is_undef a) false (inl e));
+    number = λ n d. h.number (and_true (is_number (num minus_one_fraction)) (is_number a && true) (rational_number minus_one_fraction) (and_true (is_number a) true n refl)) (or_none (is_undef a) false d refl);
+    rational = λ e.
+        let (q, is) = num_words a (and_first (is_num a) true e) in
+        let w : IsPlainAnswer (exactly (negative q)) r = subst (λ (v : PlainValue). IsPlainAnswer v r) (neg_value q is) (h.rational e) in
+        subst (λ (t : Tree). IsPlainAnswer (plain_value (neg t)) r) (sym is) w;
+  }
+
+  pub neg_overflow : (o : Overflow) → IsNodeOverflow (mult (two (num minus_one_fraction) a)) o → IsNodeOverflow (neg a) o
+  neg_overflow o h = record {
+    defined = h.defined;
+    rational = λ e.
+        let (q, is) = num_words a (and_first (is_num a) true e) in
+        absurd (subst (λ (v : PlainValue). IsPlainOverflow v o) (neg_value q is) (h.rational e));
+  }
+
+-- ---- differences
+
+sub_rewrites : (a b c : Tree) → Reduces (neg b) c → Rewrites (sub a b) (add (two a c))
+sub_rewrites a b c h = record {
+  no_new_name = record { name = λ x m. both (names a) (names b) (names a) (names c ++ []) (λ y k. k) (λ y k. h.no_new_name.name y (subst (λ ys. Contains ys y) (append-nil (names c)) k)) x m };
+  meanings = keeps (rewrites.KeepsMeanings-trans (rewrites.sub_as_neg a b) (rewrites.KeepsMeanings-sum_more (rewrites.KeepsMeanings-refl a) (rewrites.KeepsMeanings-sum_more (kept h.meanings) (rewrites.KeepsMeanings-refl (add none)))));
+}
+
+-- a side that is Undef, among two
+pub left_undefined : (a c : Tree) → is_undef a ≡ true → has_undef (two a c) ≡ true
+left_undefined a c e = or_true (is_undef a) (is_undef c || false) (inl e)
+
+pub right_undefined : (a c : Tree) → is_undef c ≡ true → has_undef (two a c) ≡ true
+right_undefined a c e = or_true (is_undef a) (is_undef c || false) (inr (or_true (is_undef c) false (inl e)))
+
+pub or_split : (a b : Bool) → a || b ≡ true → (a ≡ true) ⊎ (b ≡ true)
+or_split true b e = inl refl
+or_split false b e = inr e
+
+pub or_first : (a b : Bool) → a || b ≡ false → a ≡ false
+or_first true b e = e
+or_first false b e = refl
+
+pub or_second : (a b : Bool) → a || b ≡ false → b ≡ false
+or_second true b e = cc
+or_second false b e = e
+
+pub undef_test : (t : Tree) → t ≡ undef → is_undef t ≡ true
+undef_test t e = ap is_undef e
+
+pub two_rationals : (p q : Fraction) (a c : Tree) → a ≡ num p → c ≡ num q → are_rationals (two a c) ≡ true
+two_rationals p q a c e f = λ i. is_num (e i) && (is_num (f i) && true)
+
+-- the plain value of a sum or product of two rationals
+computed : (v : PlainValue) → (elim v [ exactly x ↦ exactly x | undefined ↦ undefined | overflow o a b ↦ overflow o a b | nothing ↦ nothing ]) ≡ v
+computed (exactly x) = refl
+computed undefined = refl
+computed (overflow o a b) = refl
+computed nothing = refl
+
+sum_value : (p q : Fraction) → plain_value (add (two (num p) (num q))) ≡ calculated add_op p q
+sum_value p q = computed (calculated add_op p q)
+
+pub product_value : (p q : Fraction) → plain_value (mult (two (num p) (num q))) ≡ calculated mul_op p q
+product_value p q = computed (calculated mul_op p q)
+
+-- two rationals by their tests
+pub record AreTwo (a b : Tree) : Type 0 where
+  pub left : Fraction
+  pub right : Fraction
+  pub left-is : a ≡ num left
+  pub right-is : b ≡ num right
+
+pub are_two : (a b : Tree) → are_rationals (two a b) ≡ true → AreTwo a b
+are_two a b e =
+    let (p, x) = num_words a (and_first (is_num a) (is_num b && true) e) in
+    let (q, y) = num_words b (and_first (is_num b) true (and_second (is_num a) (is_num b && true) e)) in
+    record { left = p; right = q; left-is = x; right-is = y }
+
+one_rational : (a : Tree) (q : Fraction) → a ≡ num q → are_rationals (more a none) ≡ true
+one_rational a q e = λ i. is_num (e i) && true
+
+module _ (a b c : Tree) (known : IsNodeAnswer (neg b) c) where
+  -- the opposite of a rational
+  opposite_is : (q : Fraction) → b ≡ num q → c ≡ num (negative q)
+  opposite_is q e = subst (λ (t : Tree). IsPlainAnswer (plain_value (neg t)) c) e (known.rational (one_rational b q e))
+
+  difference_value : (d : AreTwo a b) → plain_value (add (two a c)) ≡ plain_value (sub a b)
+  difference_value d =
+      (λ i. plain_value (add (two (d.left-is i) (opposite_is d.right d.right-is i)))) ∙ sum_value d.left (negative d.right) ∙ sym (λ i. plain_value (sub (d.left-is i) (d.right-is i)))
+
+  sides_rational : are_rationals (two a b) ≡ true → are_rationals (two a c) ≡ true
+  sides_rational e = let d = are_two a b e in two_rationals d.left (negative d.right) a c d.left-is (opposite_is d.right d.right-is)
+
+  pub sub_answer : (r : Tree) → IsNodeAnswer (add (two a c)) r → IsNodeAnswer (sub a b) r
+  sub_answer r h = record {
+    reduces = reduces_after (sub_rewrites a b c known.reduces) h.reduces;
+    undefined = λ e. by (or_split (is_undef a) (is_undef b) e);
+    number = λ n d.
+        let number : is_number c ≡ true = known.number (and_second (is_number a) (is_number b) n) (or_second (is_undef a) (is_undef b) d) in
+        h.number (and_true (is_number a) (is_number c && true) (and_first (is_number a) (is_number b) n) (and_true (is_number c) true number refl))
+        (or_none (is_undef a) (is_undef c || false) (or_first (is_undef a) (is_undef b) d) (or_none (is_undef c) false (number_defined c number) refl));
+    rational = λ e. subst (λ (v : PlainValue). IsPlainAnswer v r) (difference_value (are_two a b e)) (h.rational (sides_rational e));
+  }
+    where
+      by : (is_undef a ≡ true) ⊎ (is_undef b ≡ true) → r ≡ undef
+      by (inl e) = h.undefined (left_undefined a c e)
+      by (inr e) = h.undefined (right_undefined a c (undef_test c (known.undefined e)))
+
+  -- the sum does not fit
+  pub sub_overflow : (o : Overflow) → IsNodeOverflow (add (two a c)) o → has_undef (two a b) ≡ false → IsNodeOverflow (sub a b) o
+  sub_overflow o h d = record {
+    defined = d;
+    rational = λ e. subst (λ (v : PlainValue). IsPlainOverflow v o) (difference_value (are_two a b e)) (h.rational (sides_rational e));
+  }
+
+-- the opposite of the right is Undef
+pub undefined_difference : (a b c : Tree) → IsNodeAnswer (neg b) c → c ≡ undef → IsNodeAnswer (sub a b) undef
+undefined_difference a b c known e = record {
+  reduces = record {
+    reduced = undef_reduced;
+    no_new_name = no_names (sub a b) undef refl;
+    meanings = keeps (rewrites.KeepsMeanings-trans (rewrites.sub_as_neg a b) (undefined_part (neg b) (add (two a (neg b))) (in_add (later (first itself))) (kept (subst (λ (t : Tree). KeepsMeanings (neg b) t) e known.reduces.meanings))));
+  };
+  undefined = λ h. refl;
+  number = λ n d. absurd (undef_number (ap is_number (sym e) ∙ known.number (and_second (is_number a) (is_number b) n) (or_second (is_undef a) (is_undef b) d)));
+  rational = λ h. absurd (let d = are_two a b h in let n : num (negative d.right) ≡ undef = sym (opposite_is a b c known d.right d.right-is) ∙ e in cc);
+}
+
+-- the opposite of a rational fits
+pub opposite_overflow : (a b : Tree) (o : Overflow) → IsNodeOverflow (neg b) o → has_undef (two a b) ≡ false → IsNodeOverflow (sub a b) o
+opposite_overflow a b o h d = record {
+  defined = d;
+  rational = λ e. let t = are_two a b e in absurd (subst (λ (u : Tree). IsPlainOverflow (plain_value (neg u)) o) t.right-is (h.rational (one_rational b t.right t.right-is)));
+}

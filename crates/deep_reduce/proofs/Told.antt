@@ -1,0 +1,200 @@
+-- What calls on a node of a kind tell, in the words of any node.
+use Rattle.std.proofs.Common.{◌≡◌, ◌≢◌, pos, negsuc, true, false, ◌&&◌, refl, sym, ap, ◌∙◌, subst, arith}
+use Rattle.std.specs.Prelude.{◌||◌}
+use Rattle.calc_terms.specs.declared.rat.Rat.{Rat}
+use Rattle.calc_terms.specs.Fractions.{lowest, whole_fraction, zero_fraction, one_fraction, minus_one_fraction}
+use Rattle.calc_terms.specs.Rat.{ratio_of, value_of}
+use Rattle.calc_terms.specs.Ratio.{Ratio, whole}
+use Rattle.calc_terms.specs.PlainValues.{plain_value}
+use Rattle.calc_terms.specs.Reduced.{is_reduced}
+use Rattle.calc_terms.specs.Trees.{Tree, num, symbol, undef, add, mult, power, root, neg, sub, div, Trees, none, more, count, is_add, is_mult, is_root, is_sub, is_div, is_num, is_undef, root_kind}
+use Rattle.calc_terms.specs.declared.kind.Kind.TheVariants as kind
+use Rattle.deep_reduce.specs.Answers.{IsReducedProduct, IsReducedPower}
+use Rattle.deep_reduce.specs.Nodes.{IsNodeAnswer, IsNodeOverflow, is_neg}
+use Rattle.deep_reduce.proofs.EasyNodes.{and_true, and_first, and_second, or_none}
+use Rattle.deep_reduce.proofs.Steps.{two, or_first, or_second, sum_answer, product_answer, power_answer, root_answer, empty_sum_answer, empty_product_answer, number_answer, symbol_answer, undef_answer}
+use Rattle.power_reduce.specs.PowerAnswers.{base_in, exponent_in}
+use Rattle.radical_forms.specs.RootAnswers.{argument_of, IsRootAnswer}
+use Rattle.rational128.specs.declared.overflow.Overflow.{Overflow}
+use Rattle.reduce_port.specs.Children.{are_rationals, are_reduced, has_undef}
+use Rattle.reduce_port.specs.PlainTrees.{IsPlainAnswer, IsPlainOverflow}
+use Rattle.sum_reduce.specs.SumAnswers.{IsSumAnswer}
+use Rattle.tree_handles.specs.Expressions.{nth, children_of}
+
+-- ---- kinds
+
+pub sum_kind : (t : Tree) → kind.Add ≡ root_kind t → is_add t ≡ true
+sum_kind (add ts) e = refl
+sum_kind t e = cc
+
+pub product_kind : (t : Tree) → kind.Mult ≡ root_kind t → is_mult t ≡ true
+product_kind (mult ts) e = refl
+product_kind t e = cc
+
+pub power_kind : (t : Tree) → kind.Pow ≡ root_kind t → t ≡ power (base_in t) (exponent_in t)
+power_kind (power b e) k = refl
+power_kind t k = cc
+
+pub root_kind_is : (t : Tree) → kind.Root ≡ root_kind t → is_root t ≡ true
+root_kind_is (root a) e = refl
+root_kind_is t e = cc
+
+pub neg_kind : (t : Tree) → kind.Neg ≡ root_kind t → is_neg t ≡ true
+neg_kind (neg a) e = refl
+neg_kind t e = cc
+
+pub sub_kind : (t : Tree) → kind.Sub ≡ root_kind t → is_sub t ≡ true
+sub_kind (sub a b) e = refl
+sub_kind t e = cc
+
+pub div_kind : (t : Tree) → kind.Div ≡ root_kind t → is_div t ≡ true
+div_kind (div a b) e = refl
+div_kind t e = cc
+
+-- ---- the node by its children
+
+pub neg_is : (t : Tree) → is_neg t ≡ true → t ≡ neg (nth 0 (children_of t))
+neg_is (neg a) e = refl
+neg_is t e = cc
+
+pub sub_is : (t : Tree) → is_sub t ≡ true → t ≡ sub (nth 0 (children_of t)) (nth 1 (children_of t))
+sub_is (sub a b) e = refl
+sub_is t e = cc
+
+pub div_is : (t : Tree) → is_div t ≡ true → t ≡ div (nth 0 (children_of t)) (nth 1 (children_of t))
+div_is (div a b) e = refl
+div_is t e = cc
+
+pub neg_children : (t : Tree) → is_neg t ≡ true → children_of t ≡ more (nth 0 (children_of t)) none
+neg_children (neg a) e = refl
+neg_children t e = cc
+
+pub sub_children : (t : Tree) → is_sub t ≡ true → children_of t ≡ more (nth 0 (children_of t)) (more (nth 1 (children_of t)) none)
+sub_children (sub a b) e = refl
+sub_children t e = cc
+
+pub div_children : (t : Tree) → is_div t ≡ true → children_of t ≡ more (nth 0 (children_of t)) (more (nth 1 (children_of t)) none)
+div_children (div a b) e = refl
+div_children t e = cc
+
+-- ---- answers
+
+pub sum_told : (t r : Tree) → is_add t ≡ true → IsSumAnswer (children_of t) r → (are_rationals (children_of t) ≡ true → IsPlainAnswer (plain_value t) r) → IsNodeAnswer t r
+sum_told (add ts) r e a p = sum_answer ts r a p
+sum_told t r e a p = cc
+
+pub product_told : (t r : Tree) → is_mult t ≡ true → IsReducedProduct (children_of t) r → (are_rationals (children_of t) ≡ true → IsPlainAnswer (plain_value t) r) → IsNodeAnswer t r
+product_told (mult ts) r e a p = product_answer ts r a p
+product_told t r e a p = cc
+
+pub power_told : (t r : Tree) → t ≡ power (base_in t) (exponent_in t) → IsReducedPower (base_in t) (exponent_in t) r → (are_rationals (children_of t) ≡ true → IsPlainAnswer (plain_value t) r) → IsNodeAnswer t r
+power_told (power b e) r k a p = power_answer b e r a p
+power_told t r k a p = cc
+
+-- both sides are rationals
+pub power_sides : (t : Tree) → t ≡ power (base_in t) (exponent_in t) → are_rationals (children_of t) ≡ true → (is_num (base_in t) ≡ true) × (is_num (exponent_in t) ≡ true)
+power_sides (power b e) k h = (and_first (is_num b) (is_num e && true) h, and_first (is_num e) true (and_second (is_num b) (is_num e && true) h))
+power_sides t k h = cc
+
+pub power_reduced : (t : Tree) → t ≡ power (base_in t) (exponent_in t) → are_reduced (children_of t) ≡ true → (is_reduced (base_in t) ≡ true) × (is_reduced (exponent_in t) ≡ true)
+power_reduced (power b e) k h = (and_first (is_reduced b) (is_reduced e && true) h, and_first (is_reduced e) true (and_second (is_reduced b) (is_reduced e && true) h))
+power_reduced t k h = cc
+
+pub root_told : (t r : Tree) → is_root t ≡ true → IsRootAnswer (argument_of t) r → IsNodeAnswer t r
+root_told (root a) r e h = root_answer a r h
+root_told t r e h = cc
+
+pub argument_reduced : (t : Tree) → is_root t ≡ true → are_reduced (children_of t) ≡ true → is_reduced (argument_of t) ≡ true
+argument_reduced (root a) e h = and_first (is_reduced a) true h
+argument_reduced t e h = cc
+
+-- a root of rationals has no plain value
+pub root_overflow : (t : Tree) (o : Overflow) → is_root t ≡ true → has_undef (children_of t) ≡ false → IsNodeOverflow t o
+root_overflow (root a) o e h = record { defined = h; rational = λ r. tt }
+root_overflow t o e h = cc
+
+pub empty_sum_told : (t r : Tree) → is_add t ≡ true → count (children_of t) ≡ 0 → r ≡ num (whole_fraction (pos 0)) → IsNodeAnswer t r
+unfolding zero_fraction
+empty_sum_told (add none) r e n q = empty_sum_answer r q
+empty_sum_told (add (more t ts)) r e n q = absurd (omega arith)
+empty_sum_told t r e n q = cc
+
+pub empty_product_told : (t r : Tree) → is_mult t ≡ true → count (children_of t) ≡ 0 → r ≡ num (whole_fraction (pos 1)) → IsNodeAnswer t r
+unfolding one_fraction
+empty_product_told (mult none) r e n q = empty_product_answer r q
+empty_product_told (mult (more t ts)) r e n q = absurd (omega arith)
+empty_product_told t r e n q = cc
+
+-- a leaf is its own answer
+pub leaf_told : (t : Tree) → kind.Add ≢ root_kind t → kind.Mult ≢ root_kind t → kind.Pow ≢ root_kind t → kind.Root ≢ root_kind t → kind.Neg ≢ root_kind t → kind.Sub ≢ root_kind t → kind.Div ≢ root_kind t → IsNodeAnswer t t
+leaf_told (num q) a b c d e f g = number_answer q
+leaf_told (symbol x) a b c d e f g = symbol_answer x
+leaf_told undef a b c d e f g = undef_answer
+leaf_told (add ts) a b c d e f g = absurd (a refl)
+leaf_told (mult ts) a b c d e f g = absurd (b refl)
+leaf_told (power x y) a b c d e f g = absurd (c refl)
+leaf_told (root x) a b c d e f g = absurd (d refl)
+leaf_told (neg x) a b c d e f g = absurd (e refl)
+leaf_told (sub x y) a b c d e f g = absurd (f refl)
+leaf_told (div x y) a b c d e f g = absurd (g refl)
+
+-- ---- in other words
+
+pub power_words : (t b e : Tree) → t ≡ power b e → t ≡ power (base_in t) (exponent_in t)
+power_words t b e q = q ∙ (λ i. power (base_in (sym q i)) (exponent_in (sym q i)))
+
+-- of a tree that is another
+pub answer_at : {t u : Tree} (r : Tree) → t ≡ u → IsNodeAnswer t r → IsNodeAnswer u r
+answer_at r e h = subst (λ x. IsNodeAnswer x r) e h
+
+pub overflow_at : {t u : Tree} (o : Overflow) → t ≡ u → IsNodeOverflow t o → IsNodeOverflow u o
+overflow_at o e h = subst (λ x. IsNodeOverflow x o) e h
+
+-- -1, as the program makes it
+pub minus_one_value : (r : Rat) → ratio_of r ≡ whole (negsuc 0) → num (value_of r) ≡ num minus_one_fraction
+minus_one_value r e = ap (λ (x : Ratio). num (lowest x.num x.den)) e
+
+-- two reduced trees
+pub two_reduced : (a b : Tree) → is_reduced a ≡ true → is_reduced b ≡ true → are_reduced (two a b) ≡ true
+two_reduced a b h k = and_true (is_reduced a) (is_reduced b && true) h (and_true (is_reduced b) true k refl)
+
+pub two_defined : (a b : Tree) → is_undef a ≡ false → is_undef b ≡ false → has_undef (two a b) ≡ false
+two_defined a b h k = or_none (is_undef a) (is_undef b || false) h (or_none (is_undef b) false k refl)
+
+pub first_reduced : (a b : Tree) → are_reduced (two a b) ≡ true → is_reduced a ≡ true
+first_reduced a b h = and_first (is_reduced a) (is_reduced b && true) h
+
+pub second_reduced : (a b : Tree) → are_reduced (two a b) ≡ true → is_reduced b ≡ true
+second_reduced a b h = and_first (is_reduced b) true (and_second (is_reduced a) (is_reduced b && true) h)
+
+pub first_defined : (a b : Tree) → has_undef (two a b) ≡ false → is_undef a ≡ false
+first_defined a b h = or_first (is_undef a) (is_undef b || false) h
+
+pub second_defined : (a b : Tree) → has_undef (two a b) ≡ false → is_undef b ≡ false
+second_defined a b h = or_first (is_undef b) false (or_second (is_undef a) (is_undef b || false) h)
+
+-- what an answer of a node is where it is reduced
+pub answer_reduced : {t r : Tree} → IsNodeAnswer t r → is_reduced r ≡ true
+answer_reduced h = h.reduces.reduced
+
+-- an overflow of a power that is the inverse of a defined tree
+pub inverse_overflowed : (t b : Tree) (o : Overflow) → t ≡ power b (num minus_one_fraction) → is_undef b ≡ false → (are_rationals (children_of t) ≡ true → IsPlainOverflow (plain_value t) o) → IsNodeOverflow (power b (num minus_one_fraction)) o
+inverse_overflowed t b o e d h = overflow_at {t = t} o e (record { defined = ap (λ (u : Tree). has_undef (children_of u)) e ∙ two_defined b (num minus_one_fraction) d refl; rational = h })
+
+pub only_reduced : (ts : Trees) (a : Tree) → ts ≡ more a none → are_reduced ts ≡ true → is_reduced a ≡ true
+only_reduced ts a e h = and_first (is_reduced a) true (ap are_reduced (sym e) ∙ h)
+
+pub only_defined : (ts : Trees) (a : Tree) → ts ≡ more a none → has_undef ts ≡ false → is_undef a ≡ false
+only_defined ts a e h = or_first (is_undef a) false (ap has_undef (sym e) ∙ h)
+
+pub right_reduced : (ts : Trees) (a b : Tree) → ts ≡ two a b → are_reduced ts ≡ true → is_reduced b ≡ true
+right_reduced ts a b e h = second_reduced a b (ap are_reduced (sym e) ∙ h)
+
+pub right_defined : (ts : Trees) (a b : Tree) → ts ≡ two a b → has_undef ts ≡ false → is_undef b ≡ false
+right_defined ts a b e h = second_defined a b (ap has_undef (sym e) ∙ h)
+
+pub left_reduced : (ts : Trees) (a b : Tree) → ts ≡ two a b → are_reduced ts ≡ true → is_reduced a ≡ true
+left_reduced ts a b e h = first_reduced a b (ap are_reduced (sym e) ∙ h)
+
+pub left_defined : (ts : Trees) (a b : Tree) → ts ≡ two a b → has_undef ts ≡ false → is_undef a ≡ false
+left_defined ts a b e h = first_defined a b (ap has_undef (sym e) ∙ h)

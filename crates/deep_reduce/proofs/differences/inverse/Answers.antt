@@ -1,0 +1,77 @@
+use Rattle.std.proofs.Common.{◌≡◌, refl, ap, ◌∙◌}
+use Rattle.calc_terms.specs.Fractions.{minus_one_fraction}
+use Rattle.calc_terms.specs.PlainValues.{plain_value}
+use Rattle.calc_terms.specs.Reduced.{is_reduced}
+use Rattle.calc_terms.specs.Trees.{Tree, num}
+use Rattle.calc_terms.specs.declared.kind.Kind.TheVariants as kind
+use Rattle.power_reduce.specs.PowerAnswers.{base_in, exponent_in}
+use Rattle.reduce_port.specs.Rewritings.{tree_of}
+use Rattle.tree_handles.proofs.Fronts.{behind_first, behind_new, front_same, front_end, front_after, front_after_two}
+use Rattle.tree_handles.proofs.Given.{gives_as, given_handed, given_other, given_without}
+use Rattle.deep_reduce.proofs.Results.{answered, answer_as, overflowed}
+use Rattle.deep_reduce.proofs.Sides.{apart_second, new_second, reduced_front}
+use Rattle.deep_reduce.proofs.Steps.{number_reduced}
+use Rattle.deep_reduce.proofs.Told.{answer_at, minus_one_value, power_told, power_words, power_sides, inverse_overflowed}
+use Rattle.deep_reduce.proofs.differences.inverse.Goals as goal
+
+pub returns-in_err-exponent-clause-front : goal.returns-in_err-exponent-clause-front
+returns-in_err-exponent-clause-front c = front_after front_same c.number.ensures.front
+
+pub pair-requires-clause-first : goal.pair-requires-clause-first
+pair-requires-clause-first c = given_other c.in_ok-exponent.ensures.given c.requires.handed
+
+pub pair-requires-clause-second : goal.pair-requires-clause-second
+pair-requires-clause-second c = given_handed c.in_ok-exponent.ensures.given
+
+pub pair-requires-clause-apart : goal.pair-requires-clause-apart
+pair-requires-clause-apart c = apart_second c.in_ok-exponent.ensures.given c.requires.handed
+
+pub returns-in_err-power-clause-front : goal.returns-in_err-power-clause-front
+returns-in_err-power-clause-front c =
+    let n = c.in_ok-exponent.ensures.given in
+    front_after_two behind_first (behind_new n.ends front_same) (front_end n.ends front_same) c.pair.ensures.front
+
+pub reduce_power-requires-clause-handed : goal.reduce_power-requires-clause-handed
+reduce_power-requires-clause-handed c = given_handed c.in_ok-power.ensures.ok
+
+pub reduce_power-requires-clause-power : goal.reduce_power-requires-clause-power
+reduce_power-requires-clause-power c =
+    let n = gives_as c.in_ok-exponent.ensures.given refl (λ t e. e ∙ minus_one_value c.whole.result c.whole.ensures) in
+    power_words _ _ (num minus_one_fraction) (new_second {k = kind.Pow} n c.requires.handed c.in_ok-power.ensures.ok).tree
+
+pub reduce_power-requires-clause-base : goal.reduce_power-requires-clause-base
+reduce_power-requires-clause-base c =
+    let n = gives_as c.in_ok-exponent.ensures.given refl (λ t e. e ∙ minus_one_value c.whole.result c.whole.ensures) in
+    ap (λ (t : Tree). is_reduced (base_in t)) (new_second {k = kind.Pow} n c.requires.handed c.in_ok-power.ensures.ok).tree ∙ c.requires.reduced
+
+pub reduce_power-requires-clause-exponent : goal.reduce_power-requires-clause-exponent
+reduce_power-requires-clause-exponent c =
+    let n = gives_as c.in_ok-exponent.ensures.given refl (λ t e. e ∙ minus_one_value c.whole.result c.whole.ensures) in
+    ap (λ (t : Tree). is_reduced (exponent_in t)) (new_second {k = kind.Pow} n c.requires.handed c.in_ok-power.ensures.ok).tree ∙ number_reduced minus_one_fraction
+
+pub returns-clause-ok : goal.returns-clause-ok
+returns-clause-ok c =
+    let n = gives_as c.in_ok-exponent.ensures.given refl (λ t e. e ∙ minus_one_value c.whole.result c.whole.ensures) in
+    let p = new_second {k = kind.Pow} n c.requires.handed c.in_ok-power.ensures.ok in
+    let power : Tree = tree_of c.in_ok-power.power c.pair.new.pool in
+    let words = power_words power _ (num minus_one_fraction) p.tree in
+    answer_as _ _ c.reduce_power.new.pool _ _ _
+    (answered _ (plain_value power) c.reduce_power.new.pool _ _ _ c.reduce_power.ensures.ok
+    (λ h. c.reduce_power.ensures.rationals (power_sides power words h).0 (power_sides power words h).1) (λ t a q. power_told power t words a q))
+    p.rest (λ t h. answer_at t p.tree h)
+
+pub returns-clause-overflow : goal.returns-clause-overflow
+returns-clause-overflow c =
+    let n = gives_as c.in_ok-exponent.ensures.given refl (λ t e. e ∙ minus_one_value c.whole.result c.whole.ensures) in
+    let p = new_second {k = kind.Pow} n c.requires.handed c.in_ok-power.ensures.ok in
+    let power : Tree = tree_of c.in_ok-power.power c.pair.new.pool in
+    let words = power_words power _ (num minus_one_fraction) p.tree in
+    overflowed (plain_value power) c.reduce_power.new.pool _ _
+    (λ h. c.reduce_power.ensures.rationals (power_sides power words h).0 (power_sides power words h).1)
+    (λ o h. inverse_overflowed power _ o p.tree c.requires.defined h)
+
+pub returns-clause-front : goal.returns-clause-front
+returns-clause-front c =
+    let n = c.in_ok-exponent.ensures.given in
+    let paired = front_after_two behind_first (behind_new n.ends front_same) (front_end n.ends front_same) c.pair.ensures.front in
+    reduced_front paired c.in_ok-power.ensures.ok (given_without n c.requires.handed) c.reduce_power.ensures.front

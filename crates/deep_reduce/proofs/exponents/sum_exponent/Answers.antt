@@ -1,0 +1,94 @@
+use Rattle.std.proofs.Common.{ap, ◌∙◌, refl, arith, subst}
+use Rattle.calc_terms.specs.Trees.{Tree, count, is_add}
+use Rattle.coefficients.proofs.Rewritten.{over_back, apart_back, put_back, front_lost}
+use Rattle.coefficients.proofs.Steps.{children_in, moved, moved_front}
+use Rattle.deep_reduce.proofs.Children.{over_power, power_of_sum, exponent_taken, itself}
+use Rattle.power_reduce.specs.PowerAnswers.{exponent_in}
+use Rattle.reduce_port.specs.Children.{are_reduced}
+use Rattle.reduce_port.specs.Rewritings.{tree_of}
+use Rattle.sum_reduce.specs.SumAnswers.{IsSumAnswer}
+use Rattle.tree_handles.specs.Expressions.{children_of}
+use Rattle.tree_handles.proofs.Fronts.{front_same}
+use Rattle.tree_handles.proofs.Given.{given_handed, given_root, given_told}
+use Rattle.tree_handles.proofs.Roots.{root_held}
+use Rattle.deep_reduce.proofs.exponents.sum_exponent.Goals as goal
+
+pub take_child-exponent-requires-clause-within : goal.take_child-exponent-requires-clause-within
+take_child-exponent-requires-clause-within c =
+    let o = over_power _ c.requires.handed refl (power_of_sum _ c.requires.power) in
+    omega (arith, children_in c.requires.stands o)
+
+pub reduce_sum-requires-clause-handed : goal.reduce_sum-requires-clause-handed
+reduce_sum-requires-clause-handed c =
+    let o = over_power _ c.requires.handed refl (power_of_sum _ c.requires.power) in
+    let a = exponent_taken o (c.take_child-exponent.ensures.last c.requires.handed.root) in
+    given_handed a.gives
+
+pub reduce_sum-requires-clause-sum : goal.reduce_sum-requires-clause-sum
+reduce_sum-requires-clause-sum c =
+    let o = over_power _ c.requires.handed refl (power_of_sum _ c.requires.power) in
+    let a = exponent_taken o (c.take_child-exponent.ensures.last c.requires.handed.root) in
+    ap is_add (given_told a.gives) ∙ ap (λ (t : Tree). is_add (exponent_in t)) c.requires.power
+
+pub reduce_sum-requires-clause-some : goal.reduce_sum-requires-clause-some
+reduce_sum-requires-clause-some c =
+    let o = over_power _ c.requires.handed refl (power_of_sum _ c.requires.power) in
+    let a = exponent_taken o (c.take_child-exponent.ensures.last c.requires.handed.root) in
+    omega (arith, ap (λ (t : Tree). count (children_of t)) (given_told a.gives), c.requires.some)
+
+pub reduce_sum-requires-clause-reduced : goal.reduce_sum-requires-clause-reduced
+reduce_sum-requires-clause-reduced c =
+    let o = over_power _ c.requires.handed refl (power_of_sum _ c.requires.power) in
+    let a = exponent_taken o (c.take_child-exponent.ensures.last c.requires.handed.root) in
+    ap (λ (t : Tree). are_reduced (children_of t)) (given_told a.gives) ∙ c.requires.reduced
+
+pub returns-in_err-sum-clause-front : goal.returns-in_err-sum-clause-front
+returns-in_err-sum-clause-front c = front_lost _ front_same (c.take_child-exponent.ensures.last c.requires.handed.root) c.reduce_sum.ensures.front
+
+pub add_child-requires-clause-live : goal.add_child-requires-clause-live
+add_child-requires-clause-live c =
+    let o = over_power _ c.requires.handed refl (power_of_sum _ c.requires.power) in
+    let a = exponent_taken o (c.take_child-exponent.ensures.last c.requires.handed.root) in
+    root_held c.args.power _ (over_back o a (itself c.in_ok-sum.ensures.ok)).root
+
+pub add_child-requires-clause-within : goal.add_child-requires-clause-within
+add_child-requires-clause-within c =
+    let o = over_power _ c.requires.handed refl (power_of_sum _ c.requires.power) in
+    let a = exponent_taken o (c.take_child-exponent.ensures.last c.requires.handed.root) in
+    omega (arith, children_in c.in_ok-sum.ensures.stands (over_back o a (itself c.in_ok-sum.ensures.ok)))
+
+pub add_child-requires-clause-root : goal.add_child-requires-clause-root
+add_child-requires-clause-root c = given_root c.in_ok-sum.ensures.ok
+
+pub add_child-requires-clause-apart : goal.add_child-requires-clause-apart
+add_child-requires-clause-apart c =
+    let o = over_power _ c.requires.handed refl (power_of_sum _ c.requires.power) in
+    let a = exponent_taken o (c.take_child-exponent.ensures.last c.requires.handed.root) in
+    apart_back c.in_ok-sum.ensures.stands o a (itself c.in_ok-sum.ensures.ok)
+
+pub move_last-requires-clause-root : goal.move_last-requires-clause-root
+move_last-requires-clause-root c =
+    let o = over_power _ c.requires.handed refl (power_of_sum _ c.requires.power) in
+    let a = exponent_taken o (c.take_child-exponent.ensures.last c.requires.handed.root) in
+    let g = itself c.in_ok-sum.ensures.ok in
+    (put_back o a g (c.add_child.ensures.root (over_back o a g).root) refl).over.root
+
+pub returns-clause-ok : goal.returns-clause-ok
+returns-clause-ok c =
+    let o = over_power _ c.requires.handed refl (power_of_sum _ c.requires.power) in
+    let a = exponent_taken o (c.take_child-exponent.ensures.last c.requires.handed.root) in
+    let g = itself c.in_ok-sum.ensures.ok in
+    let p = put_back o a g (c.add_child.ensures.root (over_back o a g).root) refl in
+    moved p refl c.move_last.ensures.last (record {
+      exponent = tree_of c.in_ok-sum.sum c.reduce_sum.new.pool;
+      sum = subst (λ (t : Tree). IsSumAnswer (children_of t) (tree_of c.in_ok-sum.sum c.reduce_sum.new.pool)) (given_told a.gives) (given_told c.in_ok-sum.ensures.ok);
+      is = refl;
+    })
+
+pub returns-clause-front : goal.returns-clause-front
+returns-clause-front c =
+    let o = over_power _ c.requires.handed refl (power_of_sum _ c.requires.power) in
+    let a = exponent_taken o (c.take_child-exponent.ensures.last c.requires.handed.root) in
+    let g = itself c.in_ok-sum.ensures.ok in
+    let p = put_back o a g (c.add_child.ensures.root (over_back o a g).root) refl in
+    moved_front p c.move_last.ensures.last

@@ -1,0 +1,431 @@
+use Rattle.std.proofs.Common.{◌≡◌, ap, ◌∙◌, refl, sym, subst, arith, OnOk, IfErr}
+use Rattle.calc_terms.specs.Trees.{Tree, Trees, add, count, is_mult, power as power_tree}
+use Rattle.coefficients.proofs.Places.{over_product}
+use Rattle.coefficients.proofs.Puttings.{on_ok_after, fault_after}
+use Rattle.coefficients.proofs.Rewritten.{given_back, over_back, apart_back, put_back, front_lost}
+use Rattle.coefficients.proofs.Steps.{live, children_at, children_in, kind_of_root, product_kind, no_product_kind, if_map, moved, moved_front}
+use Rattle.deep_reduce.specs.Answers.{IsReducedProduct, IsReducedPower}
+use Rattle.deep_reduce.specs.Unfinished.{IsSummed}
+use Rattle.deep_reduce.proofs.Arms.{is_finished, is_joined, is_at, is_again}
+use Rattle.deep_reduce.proofs.Chains.{gives_next, front_next}
+use Rattle.deep_reduce.proofs.Children.{over_power, exponent_taken, placed, factor_taken, factor_inserted, itself}
+use Rattle.deep_reduce.proofs.Nested.{exponent_seen, with_product, without_product, taken_falls}
+use Rattle.deep_reduce.proofs.Falls.{joint_falls, product_falls, power_falls, rewritten_falls, powers_fall, ready_product_falls, exponent_falls, ready_power_falls, one_power_falls}
+use Rattle.deep_reduce.proofs.Finished.{product_of_powers, ready_product, transparent_children, ready_power, power_lifted, power_of_kind}
+use Rattle.deep_reduce.proofs.Measures.{few_factors}
+use Rattle.deep_reduce.proofs.Opened.{opened, power_after}
+use Rattle.deep_reduce.proofs.Ranks.{below_measure}
+use Rattle.deep_reduce.proofs.Rows.{IsPowerOf, none_reduced, part_front, next_power, next_within, back_within, next_of, next_taken, next_reduced, all_reduced}
+use Rattle.deep_reduce.proofs.Settled.{joint_at, ready_joint, ready_summed, settled_less, joint_less, product_after, product_finished}
+use Rattle.power_reduce.specs.PowerAnswers.{base_in, exponent_in}
+use Rattle.reduce_port.specs.Children.{are_reduced}
+use Rattle.reduce_port.specs.Rewritings.{Rewrites, tree_of}
+use Rattle.tree_handles.specs.Expressions.{nth, children_of}
+use Rattle.tree_handles.proofs.Forests.{keeps_none, keeps_after}
+use Rattle.tree_handles.proofs.Fronts.{behind_first, behind_new, front_same, front_put, front_end, front_without, front_after_one}
+use Rattle.tree_handles.proofs.Given.{gives, gives_as, given_handed, given_root, given_told, given_rest, represents_handed}
+use Rattle.tree_handles.proofs.Roots.{root_held}
+use Rattle.deep_reduce.proofs.whole.+reduction.Goals as goal
+
+-- ---- reduce_product
+
+pub reduce_product-returns-in-Done-clause-ok : goal.reduce_product-returns-in-Done-clause-ok
+reduce_product-returns-in-Done-clause-ok t c = gives_as (is_finished c.args.product c.args.pool.now c.joining_step.new.pool c.in-Done.is c.in_ok-answer.ensures.done) refl (λ u f. product_finished _ u f)
+
+pub reduce_product-reduce_joint-requires : goal.reduce_product-reduce_joint-requires
+reduce_product-reduce_joint-requires t c =
+    let g = is_joined c.args.product c.args.pool.now c.joining_step.new.pool c.in-Joined.is c.in_ok-answer.ensures.joined in
+    let j = given_told g in
+    let place = is_at c.args.product c.args.pool.now c.joining_step.new.pool c.in-Joined.is c.in_ok-answer.ensures.place in
+    (below_measure c.decreases (joint_falls (tree_of c.args.product c.args.pool.now) (tree_of c.in-Joined.product c.joining_step.new.pool) c.in-Joined.at (joint_less _ _ _ c.requires.reduced j place)), (c.in_ok-answer.ensures.stands, (given_handed g, (ap is_mult j.is, place))))
+
+pub reduce_product-returns-in_err-settled-in-Joined-clause-front : goal.reduce_product-returns-in_err-settled-in-Joined-clause-front
+reduce_product-returns-in_err-settled-in-Joined-clause-front t c = front_next (is_joined c.args.product c.args.pool.now c.joining_step.new.pool c.in-Joined.is c.in_ok-answer.ensures.joined) c.joining_step.ensures.front c.reduce_joint.ensures.front
+
+pub reduce_product-reduce_product-requires : goal.reduce_product-reduce_product-requires
+reduce_product-reduce_product-requires t c =
+    let g = c.in_ok-settled-in-Joined.ensures.ok in
+    let l = settled_less _ _ _ _ c.requires.reduced (given_told (is_joined c.args.product c.args.pool.now c.joining_step.new.pool c.in-Joined.is c.in_ok-answer.ensures.joined)) (is_at c.args.product c.args.pool.now c.joining_step.new.pool c.in-Joined.is c.in_ok-answer.ensures.place) (given_told g) in
+    (below_measure c.decreases (product_falls (tree_of c.args.product c.args.pool.now) _ l), (c.in_ok-settled-in-Joined.ensures.stands, (given_handed g, (ap is_mult l.is, (l.some, l.reduced)))))
+
+pub reduce_product-returns-in_ok-settled-in-Joined-clause-ok : goal.reduce_product-returns-in_ok-settled-in-Joined-clause-ok
+reduce_product-returns-in_ok-settled-in-Joined-clause-ok t c =
+    let g = c.in_ok-settled-in-Joined.ensures.ok in
+    let j = given_told (is_joined c.args.product c.args.pool.now c.joining_step.new.pool c.in-Joined.is c.in_ok-answer.ensures.joined) in
+    let l = settled_less _ _ _ _ c.requires.reduced j (is_at c.args.product c.args.pool.now c.joining_step.new.pool c.in-Joined.is c.in_ok-answer.ensures.place) (given_told g) in
+    if_map c.reduce_product.result _ _ c.reduce_product.ensures.ok (λ h x. gives_next (gives_next (is_joined c.args.product c.args.pool.now c.joining_step.new.pool c.in-Joined.is c.in_ok-answer.ensures.joined) g (λ u y. y)) x (λ r a. product_after _ _ _ r j l a))
+
+pub reduce_product-returns-in_ok-settled-in-Joined-clause-front : goal.reduce_product-returns-in_ok-settled-in-Joined-clause-front
+reduce_product-returns-in_ok-settled-in-Joined-clause-front t c =
+    let first = is_joined c.args.product c.args.pool.now c.joining_step.new.pool c.in-Joined.is c.in_ok-answer.ensures.joined in
+    front_next (gives_next first c.in_ok-settled-in-Joined.ensures.ok (λ u y. y)) (front_next first c.joining_step.ensures.front c.reduce_joint.ensures.front) c.reduce_product.ensures.front
+
+-- ---- reduce_joint
+
+pub reduce_joint-take_child-joint-requires-clause-within : goal.reduce_joint-take_child-joint-requires-clause-within
+reduce_joint-take_child-joint-requires-clause-within t c =
+    let o = over_product c.requires.handed c.requires.product in
+    omega (arith, children_in c.requires.stands o, c.requires.joint.within)
+
+pub reduce_joint-sum_exponent-requires-clause-handed : goal.reduce_joint-sum_exponent-requires-clause-handed
+reduce_joint-sum_exponent-requires-clause-handed t c =
+    let o = over_product c.requires.handed c.requires.product in
+    let n = placed c.args.at _ c.requires.joint.within in
+    let a = factor_taken c.args.at n o (c.take_child-joint.ensures.last c.requires.handed.root) in
+    given_handed a.gives
+
+pub reduce_joint-sum_exponent-requires-clause-power : goal.reduce_joint-sum_exponent-requires-clause-power
+reduce_joint-sum_exponent-requires-clause-power t c =
+    let o = over_product c.requires.handed c.requires.product in
+    let n = placed c.args.at _ c.requires.joint.within in
+    let a = factor_taken c.args.at n o (c.take_child-joint.ensures.last c.requires.handed.root) in
+    let r = ready_joint _ (joint_at c.requires.joint) in
+    subst (λ (x : Tree). x ≡ power_tree (base_in x) (add (children_of (exponent_in x)))) (sym (given_told a.gives)) r.is
+
+pub reduce_joint-sum_exponent-requires-clause-some : goal.reduce_joint-sum_exponent-requires-clause-some
+reduce_joint-sum_exponent-requires-clause-some t c =
+    let o = over_product c.requires.handed c.requires.product in
+    let n = placed c.args.at _ c.requires.joint.within in
+    let a = factor_taken c.args.at n o (c.take_child-joint.ensures.last c.requires.handed.root) in
+    let r = ready_joint _ (joint_at c.requires.joint) in
+    omega (arith, ap (λ (x : Tree). count (children_of (exponent_in x))) (given_told a.gives), r.some)
+
+pub reduce_joint-sum_exponent-requires-clause-reduced : goal.reduce_joint-sum_exponent-requires-clause-reduced
+reduce_joint-sum_exponent-requires-clause-reduced t c =
+    let o = over_product c.requires.handed c.requires.product in
+    let n = placed c.args.at _ c.requires.joint.within in
+    let a = factor_taken c.args.at n o (c.take_child-joint.ensures.last c.requires.handed.root) in
+    let r = ready_joint _ (joint_at c.requires.joint) in
+    ap (λ (x : Tree). are_reduced (children_of (exponent_in x))) (given_told a.gives) ∙ r.reduced
+
+pub reduce_joint-returns-in_err-power-clause-front : goal.reduce_joint-returns-in_err-power-clause-front
+reduce_joint-returns-in_err-power-clause-front t c = front_lost _ front_same (c.take_child-joint.ensures.last c.requires.handed.root) c.sum_exponent.ensures.front
+
+pub reduce_joint-reduce_power-requires : goal.reduce_joint-reduce_power-requires
+reduce_joint-reduce_power-requires t c =
+    let o = over_product c.requires.handed c.requires.product in
+    let n = placed c.args.at _ c.requires.joint.within in
+    let a = factor_taken c.args.at n o (c.take_child-joint.ensures.last c.requires.handed.root) in
+    let r = ready_joint _ (joint_at c.requires.joint) in
+    let g = c.in_ok-power.ensures.ok in
+    let s = subst (λ (x : Tree). IsSummed (base_in x) (children_of (exponent_in x)) (tree_of c.in_ok-power.power c.sum_exponent.new.pool)) (given_told a.gives) (given_told g) in
+    let y = ready_summed _ _ _ r.base_reduced s in
+    (below_measure c.decreases (power_falls (tree_of c.args.product c.args.pool.now) _ c.args.at r.is s), (c.in_ok-power.ensures.stands, (given_handed g, (y.is, (y.base_reduced, y.exponent_reduced)))))
+
+pub reduce_joint-returns-in_err-factor-clause-front : goal.reduce_joint-returns-in_err-factor-clause-front
+reduce_joint-returns-in_err-factor-clause-front t c =
+    let o = over_product c.requires.handed c.requires.product in
+    let n = placed c.args.at _ c.requires.joint.within in
+    let a = factor_taken c.args.at n o (c.take_child-joint.ensures.last c.requires.handed.root) in
+    let lost = front_lost _ front_same (c.take_child-joint.ensures.last c.requires.handed.root) c.sum_exponent.ensures.front in
+    let g = gives_as c.in_ok-power.ensures.ok (given_rest a.gives) (λ u x. x) in
+    front_after_one (behind_new g.ends (front_put a.now behind_first front_same)) lost c.reduce_power.ensures.front
+
+pub reduce_joint-add_child-requires-clause-live : goal.reduce_joint-add_child-requires-clause-live
+reduce_joint-add_child-requires-clause-live t c =
+    let o = over_product c.requires.handed c.requires.product in
+    let n = placed c.args.at _ c.requires.joint.within in
+    let a = factor_taken c.args.at n o (c.take_child-joint.ensures.last c.requires.handed.root) in
+    let g = itself (gives_next c.in_ok-power.ensures.ok c.in_ok-factor.ensures.ok (λ u x. x)) in
+    root_held c.args.product _ (over_back o a g).root
+
+pub reduce_joint-add_child-requires-clause-within : goal.reduce_joint-add_child-requires-clause-within
+reduce_joint-add_child-requires-clause-within t c =
+    let o = over_product c.requires.handed c.requires.product in
+    let n = placed c.args.at _ c.requires.joint.within in
+    let a = factor_taken c.args.at n o (c.take_child-joint.ensures.last c.requires.handed.root) in
+    let g = itself (gives_next c.in_ok-power.ensures.ok c.in_ok-factor.ensures.ok (λ u x. x)) in
+    omega (arith, children_in c.in_ok-factor.ensures.stands (over_back o a g), n.within)
+
+pub reduce_joint-add_child-requires-clause-root : goal.reduce_joint-add_child-requires-clause-root
+reduce_joint-add_child-requires-clause-root t c = given_root c.in_ok-factor.ensures.ok
+
+pub reduce_joint-add_child-requires-clause-apart : goal.reduce_joint-add_child-requires-clause-apart
+reduce_joint-add_child-requires-clause-apart t c =
+    let o = over_product c.requires.handed c.requires.product in
+    let n = placed c.args.at _ c.requires.joint.within in
+    let a = factor_taken c.args.at n o (c.take_child-joint.ensures.last c.requires.handed.root) in
+    let g = itself (gives_next c.in_ok-power.ensures.ok c.in_ok-factor.ensures.ok (λ u x. x)) in
+    apart_back c.in_ok-factor.ensures.stands o a g
+
+pub reduce_joint-move_last-requires-clause-root : goal.reduce_joint-move_last-requires-clause-root
+reduce_joint-move_last-requires-clause-root t c =
+    let o = over_product c.requires.handed c.requires.product in
+    let n = placed c.args.at _ c.requires.joint.within in
+    let a = factor_taken c.args.at n o (c.take_child-joint.ensures.last c.requires.handed.root) in
+    let g = itself (gives_next c.in_ok-power.ensures.ok c.in_ok-factor.ensures.ok (λ u x. x)) in
+    (put_back o a g (c.add_child.ensures.root (over_back o a g).root) (factor_inserted c.args.at n _)).over.root
+
+pub reduce_joint-returns-clause-ok : goal.reduce_joint-returns-clause-ok
+reduce_joint-returns-clause-ok t c =
+    let o = over_product c.requires.handed c.requires.product in
+    let n = placed c.args.at _ c.requires.joint.within in
+    let a = factor_taken c.args.at n o (c.take_child-joint.ensures.last c.requires.handed.root) in
+    let g = itself (gives_next c.in_ok-power.ensures.ok c.in_ok-factor.ensures.ok (λ u x. x)) in
+    let p = put_back o a g (c.add_child.ensures.root (over_back o a g).root) (factor_inserted c.args.at n _) in
+    let s = subst (λ (x : Tree). IsSummed (base_in x) (children_of (exponent_in x)) (tree_of c.in_ok-power.power c.sum_exponent.new.pool)) (given_told a.gives) (given_told c.in_ok-power.ensures.ok) in
+    moved p refl c.move_last.ensures.last (record {
+      exponent = s.exponent;
+      sum = s.sum;
+      factor = tree_of c.in_ok-factor.factor c.reduce_power.new.pool;
+      answer = subst (λ (x : Tree). IsReducedPower (base_in x) (exponent_in x) (tree_of c.in_ok-factor.factor c.reduce_power.new.pool)) s.is (given_told c.in_ok-factor.ensures.ok);
+      is = refl;
+    })
+
+pub reduce_joint-returns-clause-front : goal.reduce_joint-returns-clause-front
+reduce_joint-returns-clause-front t c =
+    let o = over_product c.requires.handed c.requires.product in
+    let n = placed c.args.at _ c.requires.joint.within in
+    let a = factor_taken c.args.at n o (c.take_child-joint.ensures.last c.requires.handed.root) in
+    let g = itself (gives_next c.in_ok-power.ensures.ok c.in_ok-factor.ensures.ok (λ u x. x)) in
+    let p = put_back o a g (c.add_child.ensures.root (over_back o a g).root) (factor_inserted c.args.at n _) in
+    moved_front p c.move_last.ensures.last
+
+-- ---- reduce_power
+
+pub reduce_power-reduce_rewritten-requires : goal.reduce_power-reduce_rewritten-requires
+reduce_power-reduce_rewritten-requires t c =
+    let g = is_again c.args.power c.args.pool.now c.power_step.new.pool c.in-Again.is c.in_ok-answer.ensures.ok in
+    let w = given_told g in
+    let o = opened _ _ _ c.requires.base c.requires.exponent w.0 in
+    (below_measure c.decreases (rewritten_falls _ _ c.requires.power o), (c.in_ok-answer.ensures.stands, (given_handed g, o.unfinished)))
+
+pub reduce_power-returns-in-Again-clause-ok : goal.reduce_power-returns-in-Again-clause-ok
+reduce_power-returns-in-Again-clause-ok t c =
+    let g = is_again c.args.power c.args.pool.now c.power_step.new.pool c.in-Again.is c.in_ok-answer.ensures.ok in
+    let w = given_told g in
+    let same = subst (λ (x : Tree). Rewrites x (tree_of c.in-Again.tree c.power_step.new.pool)) c.requires.power w.1 in
+    if_map c.reduce_rewritten.result _ _ c.reduce_rewritten.ensures.ok (λ h x. gives_next g x (λ r f. power_after _ _ _ r c.requires.base c.requires.exponent (w.0, same) f))
+
+pub reduce_power-returns-in-Again-clause-front : goal.reduce_power-returns-in-Again-clause-front
+reduce_power-returns-in-Again-clause-front t c = front_next (is_again c.args.power c.args.pool.now c.power_step.new.pool c.in-Again.is c.in_ok-answer.ensures.ok) c.power_step.ensures.front c.reduce_rewritten.ensures.front
+
+-- ---- reduce_rewritten
+
+pub reduce_rewritten-kind-requires-clause-live : goal.reduce_rewritten-kind-requires-clause-live
+reduce_rewritten-kind-requires-clause-live t c = live c.args.pool.now c.id.ensures c.requires.handed.root
+
+pub reduce_rewritten-reduce_powers-requires : goal.reduce_rewritten-reduce_powers-requires
+reduce_rewritten-reduce_powers-requires t c =
+    let m = product_kind _ (sym c.in-Mult.is ∙ kind_of_root {k = c.kind.result} c.id.ensures c.requires.stands c.requires.handed c.kind.ensures.plain) in
+    (below_measure c.decreases (powers_fall (tree_of c.args.tree c.args.pool.now) m), (c.requires.stands, (c.requires.handed, (m, transparent_children _ m c.requires.unfinished))))
+
+pub reduce_rewritten-reduce_product-requires : goal.reduce_rewritten-reduce_product-requires
+reduce_rewritten-reduce_product-requires t c =
+    let m = product_kind _ (sym c.in-Mult.is ∙ kind_of_root {k = c.kind.result} c.id.ensures c.requires.stands c.requires.handed c.kind.ensures.plain) in
+    let g = c.in_ok-product-in-Mult.ensures.ok in
+    let y = ready_product _ _ m c.requires.unfinished (given_told g) in
+    (below_measure c.decreases (ready_product_falls _ _ y), (c.in_ok-product-in-Mult.ensures.stands, (given_handed g, (y.is, (y.some, y.reduced)))))
+
+pub reduce_rewritten-returns-in_ok-product-in-Mult-clause-ok : goal.reduce_rewritten-returns-in_ok-product-in-Mult-clause-ok
+reduce_rewritten-returns-in_ok-product-in-Mult-clause-ok t c =
+    let m = product_kind _ (sym c.in-Mult.is ∙ kind_of_root {k = c.kind.result} c.id.ensures c.requires.stands c.requires.handed c.kind.ensures.plain) in
+    let g = c.in_ok-product-in-Mult.ensures.ok in
+    if_map c.reduce_product.result _ _ c.reduce_product.ensures.ok (λ h x. gives_next g x (λ r a. product_of_powers _ _ r m c.requires.unfinished (given_told g) a))
+
+pub reduce_rewritten-returns-in_ok-product-in-Mult-clause-front : goal.reduce_rewritten-returns-in_ok-product-in-Mult-clause-front
+reduce_rewritten-returns-in_ok-product-in-Mult-clause-front t c = front_next c.in_ok-product-in-Mult.ensures.ok c.reduce_powers.ensures.front c.reduce_product.ensures.front
+
+pub reduce_rewritten-reduce_exponent-requires : goal.reduce_rewritten-reduce_exponent-requires
+reduce_rewritten-reduce_exponent-requires t c =
+    let k = kind_of_root {k = c.kind.result} c.id.ensures c.requires.stands c.requires.handed c.kind.ensures.plain in
+    let p = power_of_kind _ (no_product_kind _ (λ e. c.in_default.not-Mult (k ∙ sym e))) c.requires.unfinished in
+    (below_measure c.decreases (exponent_falls (tree_of c.args.tree c.args.pool.now)), (c.requires.stands, (c.requires.handed, (p, c.requires.unfinished))))
+
+pub reduce_rewritten-reduce_power-requires : goal.reduce_rewritten-reduce_power-requires
+reduce_rewritten-reduce_power-requires t c =
+    let k = kind_of_root {k = c.kind.result} c.id.ensures c.requires.stands c.requires.handed c.kind.ensures.plain in
+    let p = power_of_kind _ (no_product_kind _ (λ e. c.in_default.not-Mult (k ∙ sym e))) c.requires.unfinished in
+    let g = c.in_ok-power-in_default.ensures.ok in
+    let y = ready_power _ _ p c.requires.unfinished (given_told g) in
+    (below_measure c.decreases (ready_power_falls _ _ y), (c.in_ok-power-in_default.ensures.stands, (given_handed g, (y.is, (y.base_reduced, y.exponent_reduced)))))
+
+pub reduce_rewritten-returns-in_ok-power-in_default : goal.reduce_rewritten-returns-in_ok-power-in_default
+reduce_rewritten-returns-in_ok-power-in_default t c =
+    let k = kind_of_root {k = c.kind.result} c.id.ensures c.requires.stands c.requires.handed c.kind.ensures.plain in
+    let p = power_of_kind _ (no_product_kind _ (λ e. c.in_default.not-Mult (k ∙ sym e))) c.requires.unfinished in
+    let g = c.in_ok-power-in_default.ensures.ok in
+    let y = ready_power _ _ p c.requires.unfinished (given_told g) in
+    let kept = c.in_ok-power-in_default.ensures.kept in
+    record {
+      ok = if_map c.reduce_power.result _ _ c.reduce_power.ensures.ok (λ h x. gives_next g x (λ r a. power_lifted _ _ r y a));
+      front = front_next g c.reduce_exponent.ensures.front c.reduce_power.ensures.front;
+      kept = on_ok_after c.reduce_power.result _ _ _ kept c.reduce_power.ensures.kept;
+      faults = fault_after c.reduce_power.result _ _ _ kept c.reduce_power.ensures.faults;
+      caused = c.reduce_power.ensures.caused;
+      stands = c.reduce_power.ensures.stands;
+    }
+
+-- ---- reduce_powers
+
+pub reduce_powers-children-powers-requires-clause-live : goal.reduce_powers-children-powers-requires-clause-live
+reduce_powers-children-powers-requires-clause-live t c = live c.args.pool.now c.id.ensures c.requires.handed.root
+
+pub reduce_powers-loop-at-init : goal.reduce_powers-loop-at-init
+reduce_powers-loop-at-init t c = record {
+  stands = c.requires.stands;
+  kept = keeps_none c.args.pool.now;
+  part = none_reduced (over_product c.requires.handed c.requires.product);
+}
+
+pub reduce_powers-take_child-power-requires-clause-within : goal.reduce_powers-take_child-power-requires-clause-within
+reduce_powers-take_child-power-requires-clause-within t c =
+    let many = c.children-powers.ensures.value ∙ children_at (over_product c.requires.handed c.requires.product) c.requires.stands c.id.ensures in
+    let n = next_power c.loop-at.invariant.part (omega (arith, many, c.loop-at-test.true)) in
+    omega (arith, children_in c.loop-at.invariant.stands n.over, next_within n)
+
+pub reduce_powers-reduce_power-requires : goal.reduce_powers-reduce_power-requires
+reduce_powers-reduce_power-requires t c =
+    let many = c.children-powers.ensures.value ∙ children_at (over_product c.requires.handed c.requires.product) c.requires.stands c.id.ensures in
+    let n = next_power c.loop-at.invariant.part (omega (arith, many, c.loop-at-test.true)) in
+    let a = next_taken n (c.take_child-power.ensures.last n.over.root) in
+    let q = subst (IsPowerOf (children_of (tree_of c.args.product c.args.pool.now))) (sym (given_told a.gives)) (next_of n c.requires.powers) in
+    (below_measure c.decreases (one_power_falls (tree_of c.args.product c.args.pool.now) _ q), (c.take_child-power.ensures.stands, (given_handed a.gives, (q.transparent.is, (q.transparent.base_reduced, q.transparent.exponent_reduced)))))
+
+pub reduce_powers-returns-in_err-reduced-clause-front : goal.reduce_powers-returns-in_err-reduced-clause-front
+reduce_powers-returns-in_err-reduced-clause-front t c =
+    let many = c.children-powers.ensures.value ∙ children_at (over_product c.requires.handed c.requires.product) c.requires.stands c.id.ensures in
+    let n = next_power c.loop-at.invariant.part (omega (arith, many, c.loop-at-test.true)) in
+    front_lost _ (part_front c.loop-at.invariant.part) (c.take_child-power.ensures.last n.over.root) c.reduce_power.ensures.front
+
+pub reduce_powers-add_child-requires-clause-live : goal.reduce_powers-add_child-requires-clause-live
+reduce_powers-add_child-requires-clause-live t c =
+    let many = c.children-powers.ensures.value ∙ children_at (over_product c.requires.handed c.requires.product) c.requires.stands c.id.ensures in
+    let n = next_power c.loop-at.invariant.part (omega (arith, many, c.loop-at-test.true)) in
+    let a = next_taken n (c.take_child-power.ensures.last n.over.root) in
+    root_held c.args.product _ (over_back n.over a (itself c.in_ok-reduced.ensures.ok)).root
+
+pub reduce_powers-add_child-requires-clause-within : goal.reduce_powers-add_child-requires-clause-within
+reduce_powers-add_child-requires-clause-within t c =
+    let many = c.children-powers.ensures.value ∙ children_at (over_product c.requires.handed c.requires.product) c.requires.stands c.id.ensures in
+    let n = next_power c.loop-at.invariant.part (omega (arith, many, c.loop-at-test.true)) in
+    let a = next_taken n (c.take_child-power.ensures.last n.over.root) in
+    omega (arith, children_in c.in_ok-reduced.ensures.stands (over_back n.over a (itself c.in_ok-reduced.ensures.ok)), back_within n)
+
+pub reduce_powers-add_child-requires-clause-root : goal.reduce_powers-add_child-requires-clause-root
+reduce_powers-add_child-requires-clause-root t c = given_root c.in_ok-reduced.ensures.ok
+
+pub reduce_powers-add_child-requires-clause-apart : goal.reduce_powers-add_child-requires-clause-apart
+reduce_powers-add_child-requires-clause-apart t c =
+    let many = c.children-powers.ensures.value ∙ children_at (over_product c.requires.handed c.requires.product) c.requires.stands c.id.ensures in
+    let n = next_power c.loop-at.invariant.part (omega (arith, many, c.loop-at-test.true)) in
+    let a = next_taken n (c.take_child-power.ensures.last n.over.root) in
+    apart_back c.in_ok-reduced.ensures.stands n.over a (itself c.in_ok-reduced.ensures.ok)
+
+pub reduce_powers-loop-at-preserved : goal.reduce_powers-loop-at-preserved
+reduce_powers-loop-at-preserved t c =
+    let many = c.children-powers.ensures.value ∙ children_at (over_product c.requires.handed c.requires.product) c.requires.stands c.id.ensures in
+    let n = next_power c.loop-at.invariant.part (omega (arith, many, c.loop-at-test.true)) in
+    let a = next_taken n (c.take_child-power.ensures.last n.over.root) in
+    let g = itself c.in_ok-reduced.ensures.ok in
+    let p = subst (λ (x : Tree). IsReducedPower (base_in x) (exponent_in x) (tree_of c.in_ok-reduced.reduced c.reduce_power.new.pool)) (given_told a.gives) (given_told c.in_ok-reduced.ensures.ok) in
+    record {
+      stands = c.add_child.ensures.stands;
+      kept = keeps_after _ _ _ c.loop-at.invariant.kept (keeps_after _ _ _ c.take_child-power.ensures.kept (keeps_after _ _ _ c.in_ok-reduced.ensures.kept c.add_child.ensures.kept));
+      part = next_reduced n a _ p (given_back a g) (c.add_child.ensures.root (over_back n.over a g).root);
+    }
+
+pub reduce_powers-returns-clause-ok : goal.reduce_powers-returns-clause-ok
+reduce_powers-returns-clause-ok t c =
+    let many = c.children-powers.ensures.value ∙ children_at (over_product c.requires.handed c.requires.product) c.requires.stands c.id.ensures in
+    let x = all_reduced c.loop-at.invariant.part (omega (arith, many, c.loop-at-test.false)) in
+    moved x.added refl c.move_last.ensures.last (record { factors = x.factors; are = x.are; is = refl })
+
+pub reduce_powers-returns-clause-front : goal.reduce_powers-returns-clause-front
+reduce_powers-returns-clause-front t c =
+    let many = c.children-powers.ensures.value ∙ children_at (over_product c.requires.handed c.requires.product) c.requires.stands c.id.ensures in
+    let x = all_reduced c.loop-at.invariant.part (omega (arith, many, c.loop-at-test.false)) in
+    moved_front x.added c.move_last.ensures.last
+
+-- ---- reduce_exponent
+
+pub reduce_exponent-child_id-exponent-requires-clause-within : goal.reduce_exponent-child_id-exponent-requires-clause-within
+reduce_exponent-child_id-exponent-requires-clause-within t c =
+    let o = over_power _ c.requires.handed refl c.requires.power in
+    omega (arith, children_at o c.requires.stands c.id.ensures)
+
+pub reduce_exponent-reduce_product-requires : goal.reduce_exponent-reduce_product-requires
+reduce_exponent-reduce_product-requires t c =
+    let o = over_power _ c.requires.handed refl c.requires.power in
+    let child = c.child_id-exponent.ensures in
+    let k = exponent_seen {x = c.kind.result} c.id.ensures c.requires.stands c.requires.handed c.requires.power child.expression child.plain c.kind.ensures.plain in
+    let m = product_kind _ (sym c.in-Mult.is ∙ k) in
+    let p = with_product _ c.requires.power m c.requires.unfinished in
+    let a = exponent_taken o (c.take_child-exponent.ensures.last c.requires.handed.root) in
+    let told = given_told a.gives in
+    let handed = given_handed a.gives in
+    let stands = c.take_child-exponent.ensures.stands in
+    let is = ap is_mult told ∙ m in (
+      below_measure c.decreases (taken_falls _ _ p told (few_factors _ _ stands handed is)),
+      (stands, (handed, (is, (omega (arith, ap (λ (x : Tree). count (children_of x)) told, p.nested.some), ap (λ (x : Tree). are_reduced (children_of x)) told ∙ p.nested.reduced)))),
+    )
+
+pub reduce_exponent-returns-in_err-product-in-Mult-clause-front : goal.reduce_exponent-returns-in_err-product-in-Mult-clause-front
+reduce_exponent-returns-in_err-product-in-Mult-clause-front t c = front_lost _ front_same (c.take_child-exponent.ensures.last c.requires.handed.root) c.reduce_product.ensures.front
+
+pub reduce_exponent-add_child-requires-clause-live : goal.reduce_exponent-add_child-requires-clause-live
+reduce_exponent-add_child-requires-clause-live t c =
+    let o = over_power _ c.requires.handed refl c.requires.power in
+    let a = exponent_taken o (c.take_child-exponent.ensures.last c.requires.handed.root) in
+    root_held c.args.power _ (over_back o a (itself c.in_ok-product-in-Mult.ensures.ok)).root
+
+pub reduce_exponent-add_child-requires-clause-within : goal.reduce_exponent-add_child-requires-clause-within
+reduce_exponent-add_child-requires-clause-within t c =
+    let o = over_power _ c.requires.handed refl c.requires.power in
+    let a = exponent_taken o (c.take_child-exponent.ensures.last c.requires.handed.root) in
+    omega (arith, children_in c.in_ok-product-in-Mult.ensures.stands (over_back o a (itself c.in_ok-product-in-Mult.ensures.ok)))
+
+pub reduce_exponent-add_child-requires-clause-root : goal.reduce_exponent-add_child-requires-clause-root
+reduce_exponent-add_child-requires-clause-root t c = given_root c.in_ok-product-in-Mult.ensures.ok
+
+pub reduce_exponent-add_child-requires-clause-apart : goal.reduce_exponent-add_child-requires-clause-apart
+reduce_exponent-add_child-requires-clause-apart t c =
+    let o = over_power _ c.requires.handed refl c.requires.power in
+    let a = exponent_taken o (c.take_child-exponent.ensures.last c.requires.handed.root) in
+    apart_back c.in_ok-product-in-Mult.ensures.stands o a (itself c.in_ok-product-in-Mult.ensures.ok)
+
+pub reduce_exponent-move_last-requires-clause-root : goal.reduce_exponent-move_last-requires-clause-root
+reduce_exponent-move_last-requires-clause-root t c =
+    let o = over_power _ c.requires.handed refl c.requires.power in
+    let a = exponent_taken o (c.take_child-exponent.ensures.last c.requires.handed.root) in
+    let g = itself c.in_ok-product-in-Mult.ensures.ok in
+    (put_back o a g (c.add_child.ensures.root (over_back o a g).root) refl).over.root
+
+pub reduce_exponent-returns-in_ok-product-in-Mult-clause-ok : goal.reduce_exponent-returns-in_ok-product-in-Mult-clause-ok
+reduce_exponent-returns-in_ok-product-in-Mult-clause-ok t c =
+    let o = over_power _ c.requires.handed refl c.requires.power in
+    let child = c.child_id-exponent.ensures in
+    let k = exponent_seen {x = c.kind.result} c.id.ensures c.requires.stands c.requires.handed c.requires.power child.expression child.plain c.kind.ensures.plain in
+    let p = with_product _ c.requires.power (product_kind _ (sym c.in-Mult.is ∙ k)) c.requires.unfinished in
+    let a = exponent_taken o (c.take_child-exponent.ensures.last c.requires.handed.root) in
+    let g = itself c.in_ok-product-in-Mult.ensures.ok in
+    let q = put_back o a g (c.add_child.ensures.root (over_back o a g).root) refl in
+    let v = tree_of c.in_ok-product-in-Mult.product c.reduce_product.new.pool in
+    moved q refl c.move_last.ensures.last (p.lifted _ (record {
+      exponent = v;
+      product = subst (λ (x : Tree). IsReducedProduct (children_of x) v) (given_told a.gives) (given_told c.in_ok-product-in-Mult.ensures.ok);
+      is = refl;
+    }))
+
+pub reduce_exponent-returns-in_ok-product-in-Mult-clause-front : goal.reduce_exponent-returns-in_ok-product-in-Mult-clause-front
+reduce_exponent-returns-in_ok-product-in-Mult-clause-front t c =
+    let o = over_power _ c.requires.handed refl c.requires.power in
+    let a = exponent_taken o (c.take_child-exponent.ensures.last c.requires.handed.root) in
+    let g = itself c.in_ok-product-in-Mult.ensures.ok in
+    let q = put_back o a g (c.add_child.ensures.root (over_back o a g).root) refl in
+    moved_front q c.move_last.ensures.last
+
+pub reduce_exponent-returns-in_default : goal.reduce_exponent-returns-in_default
+reduce_exponent-returns-in_default t c =
+    let child = c.child_id-exponent.ensures in
+    let k = exponent_seen {x = c.kind.result} c.id.ensures c.requires.stands c.requires.handed c.requires.power child.expression child.plain c.kind.ensures.plain in
+    let other = no_product_kind _ (λ e. c.in_default.not-Mult (k ∙ sym e)) in
+    let last = c.move_last-in_default.ensures.last in
+    record {
+      ok = gives last (represents_handed c.requires.handed) (without_product _ c.requires.power other);
+      front = front_end last (front_without behind_first front_same);
+      kept = c.move_last-in_default.ensures.kept;
+      faults = tt;
+      caused = tt;
+      stands = c.move_last-in_default.ensures.stands;
+    }

@@ -1,0 +1,26 @@
+-- What products and powers of reduced trees reduce to.
+use Rattle.std.specs.Prelude.{◌≡◌, ◌≤◌, ◌+◌, true, false}
+use Rattle.calc_terms.specs.Loads.{nest, load, weight}
+use Rattle.calc_terms.specs.Numbers.{is_number}
+use Rattle.calc_terms.specs.Reduced.{is_opaque_exponent}
+use Rattle.calc_terms.specs.Trees.{Tree, undef, mult, power, Trees}
+use Rattle.power_reduce.specs.PowerAnswers.{has_no_power, has_number_power}
+use Rattle.reduce_port.specs.Children.{has_undef, are_numbers}
+use Rattle.reduce_port.specs.Rewritings.{Reduces}
+
+-- the reduced product of these factors
+pub record IsReducedProduct (ts : Trees) (t : Tree) : Type 0 where
+  pub reduces : Reduces (mult ts) t
+  pub undefined : has_undef ts ≡ true → t ≡ undef
+  pub number : are_numbers ts ≡ true → is_number t ≡ true
+  pub nest : nest t ≤ nest (mult ts)
+  pub load : load t ≤ load (mult ts)
+
+-- b to the power e, reduced
+pub record IsReducedPower (b e t : Tree) : Type 0 where
+  pub reduces : Reduces (power b e) t
+  pub undefined : has_no_power b e ≡ true → t ≡ undef
+  pub number : has_number_power b e ≡ true → has_no_power b e ≡ false → is_number t ≡ true
+  pub nest : nest t ≤ nest (power b e)
+  pub opaque_load : load t ≤ 1 + weight b
+  pub load : is_opaque_exponent e ≡ false → load t ≤ weight b

@@ -1,0 +1,5 @@
+pub mod Answers
+pub mod Unfinished
+pub mod Nodes
+pub mod Reductions
+pub mod Pairs

@@ -1,0 +1,120 @@
+-- Trees after one rewriting, some of whose powers are still to be reduced, and bounds on what comes of them.
+use Rattle.std.specs.Prelude.{ℕ, zero, suc, ◌+◌, ◌≡◌, ◌≤◌, max, true, false}
+use Rattle.calc_terms.specs.Loads.{nest, nest_of, load, weight}
+use Rattle.calc_terms.specs.Reduced.{is_reduced, is_opaque_exponent}
+use Rattle.calc_terms.specs.Trees.{Tree, add, mult, power, Trees, none, more, count}
+use Rattle.deep_reduce.specs.Answers.{IsReducedProduct, IsReducedPower}
+use Rattle.power_reduce.specs.PowerAnswers.{base_in, exponent_in}
+use Rattle.product_reduce.specs.Joining.{IsJointAt}
+use Rattle.reduce_port.specs.Children.{are_reduced}
+use Rattle.reduce_port.specs.Rewritings.{Reduces}
+use Rattle.sum_reduce.specs.SumAnswers.{IsSumAnswer}
+use Rattle.tree_handles.specs.Expressions.{nth, children_of}
+
+-- ---- bounds
+
+-- the largest Nest of b, and of b to the power of one of these
+abbrev pub nest_over : Tree → Trees → ℕ
+nest_over b none = nest b
+nest_over b (more t ts) = max (nest (power b t)) (nest_over b ts)
+
+-- that of a tree whose exponent, a sum, is to be reduced
+abbrev pub nest_of_joint : Tree → ℕ
+nest_of_joint (power b (add ts)) = nest_over b ts
+nest_of_joint t = nest t
+
+-- that of a tree whose exponent, a product, is to be reduced
+abbrev pub nest_of_rewritten : Tree → ℕ
+nest_of_rewritten (power b (mult ts)) = nest_over b ts
+nest_of_rewritten t = nest t
+
+-- the weights of the bases of these powers
+abbrev pub weight_of_bases : Trees → ℕ
+weight_of_bases none = 0
+weight_of_bases (more t ts) = weight (base_in t) + weight_of_bases ts
+
+-- the weight of a power's base, or of the bases of the powers in a product
+abbrev pub weight_below : Tree → ℕ
+weight_below (mult ts) = weight_of_bases ts
+weight_below t = weight (base_in t)
+
+-- ---- trees
+
+-- a power of reduced trees that is not opaque
+pub record IsTransparent (t : Tree) : Type 0 where
+  pub is : t ≡ power (base_in t) (exponent_in t)
+  pub base_reduced : is_reduced (base_in t) ≡ true
+  pub exponent_reduced : is_reduced (exponent_in t) ≡ true
+  pub transparent : is_opaque_exponent (exponent_in t) ≡ false
+
+abbrev pub AreTransparent : Trees → Type 0
+AreTransparent none = Unit {0}
+AreTransparent (more t ts) = IsTransparent t × AreTransparent ts
+
+-- no tree of these makes a power opaque
+abbrev pub NoneIsOpaque : Trees → Type 0
+NoneIsOpaque none = Unit {0}
+NoneIsOpaque (more t ts) = (is_opaque_exponent t ≡ false) × NoneIsOpaque ts
+
+-- a reduced base to the power of a product of reduced trees
+pub record IsNested (b : Tree) (ts : Trees) : Type 0 where
+  pub base_reduced : is_reduced b ≡ true
+  pub reduced : are_reduced ts ≡ true
+  pub some : 1 ≤ count ts
+
+-- a product of powers, or a power that may have a product as its exponent
+abbrev pub IsUnfinished : Tree → Type 0
+IsUnfinished (mult ts) = AreTransparent ts × (1 ≤ count ts)
+IsUnfinished (power b (mult ts)) = IsNested b ts
+IsUnfinished t = IsTransparent t
+
+-- ---- what comes of them
+
+-- the reduced tree
+pub record Finishes (t r : Tree) : Type 0 where
+  pub reduces : Reduces t r
+  pub nest : nest r ≤ nest_of_rewritten t
+  pub load : load r ≤ 1 + weight_below t
+
+-- a power whose exponent was a sum of these, and is reduced
+pub record IsSummed (b : Tree) (ts : Trees) (t : Tree) : Type 0 where
+  pub exponent : Tree
+  pub sum : IsSumAnswer ts exponent
+  pub is : t ≡ power b exponent
+
+-- a power whose exponent is a product of these, and is reduced
+pub record IsMultiplied (b : Tree) (ts : Trees) (t : Tree) : Type 0 where
+  pub exponent : Tree
+  pub product : IsReducedProduct ts exponent
+  pub is : t ≡ power b exponent
+
+-- a tree whose exponent is reduced, if it is a product
+abbrev pub IsLifted : Tree → Tree → Type 0
+IsLifted (power b (mult ts)) u = IsMultiplied b ts u
+IsLifted t u = u ≡ t
+
+-- each power of one list is reduced in the other
+abbrev pub AreReducedPowers : Trees → Trees → Type 0
+AreReducedPowers none none = Unit {0}
+AreReducedPowers (more t ts) (more u us) = IsReducedPower (base_in t) (exponent_in t) u × AreReducedPowers ts us
+AreReducedPowers _ _ = ⊥
+
+-- a product whose powers are reduced
+pub record IsProductOfPowers (ts : Trees) (t : Tree) : Type 0 where
+  pub factors : Trees
+  pub are : AreReducedPowers ts factors
+  pub is : t ≡ mult factors
+
+-- another tree at a place, counted from 0
+abbrev pub replaced : ℕ → Tree → Trees → Trees
+replaced n u none = none
+replaced zero u (more t ts) = more u ts
+replaced (suc n) u (more t ts) = more t (replaced n u ts)
+
+-- a product in which the joint at a place is reduced
+pub record IsSettled (at : ℕ) (ts : Trees) (t : Tree) : Type 0 where
+  pub exponent : Tree
+  pub sum : IsSumAnswer (children_of (exponent_in (nth at ts))) exponent
+  pub factor : Tree
+  pub answer : IsReducedPower (base_in (nth at ts)) exponent factor
+  pub is : t ≡ mult (replaced at factor ts)

@@ -1,0 +1,40 @@
+//! The exponent of a power, reduced in its place.
+ghost use Rattle.std.specs.Prelude.{◌≡◌, ◌≤◌, IfOk, IfErr, OnOk, [], ◌∷◌, true};
+ghost use Rattle.calc_terms.specs.Trees.{add, count, power as power_tree};
+ghost use Rattle.deep_reduce.specs.Unfinished.{IsSummed};
+ghost use Rattle.power_reduce.specs.PowerAnswers.{base_in, exponent_in};
+ghost use Rattle.reduce_port.specs.Causes.{IsCaused};
+ghost use Rattle.reduce_port.specs.Children.{are_reduced};
+ghost use Rattle.reduce_port.specs.Rewritings.{tree_of};
+ghost use Rattle.tree_handles.specs.Expressions.{children_of};
+ghost use Rattle.tree_handles.specs.Faults.{Faults};
+ghost use Rattle.tree_handles.specs.Handed.{IsHanded, Gives, KeepsFront};
+ghost use Rattle.tree_handles.specs.Roots.{without_root};
+ghost use Rattle.tree_handles.specs.Standing.{Stands, forest, KeepsRefusals};
+
+use node_pool::Pool;
+use sum_reduce::reduce_sum;
+use tree_handles::{Handle, NumberFault, add_child, move_last, take_child};
+
+/// The exponent of a power, a sum of reduced trees, is reduced.
+pub(crate) fn sum_exponent(pool: &mut Pool, power: Handle) -> Result<Handle, NumberFault>
+    requires stands { Stands pool.old }
+    requires handed { IsHanded power (forest pool.old) }
+    requires power { let t = tree_of power pool.old in t ≡ power_tree (base_in t) (add (children_of (exponent_in t))) }
+    requires some { 1 ≤ count (children_of (exponent_in (tree_of power pool.old))) }
+    requires reduced { are_reduced (children_of (exponent_in (tree_of power pool.old))) ≡ true }
+    ensures ok { let t = tree_of power pool.old in
+        IfOk result (λ h. Gives (without_root power (forest pool.old)) (forest pool.new) h
+        (IsSummed (base_in t) (children_of (exponent_in t)))) }
+    ensures front { KeepsFront (power ∷ []) (forest pool.old) (forest pool.new) }
+    ensures kept { OnOk result (KeepsRefusals pool.old pool.new) }
+    ensures faults { IfErr result (Faults pool.old pool.new) }
+    ensures caused { IfErr result (IsCaused pool.new) }
+    ensures stands { Stands pool.new }
+{
+    let exponent = take_child(pool, &power, 1);
+    let sum = reduce_sum(pool, exponent)?;
+    add_child(pool, &power, 1, sum);
+    move_last(pool, &power);
+    Ok(power)
+}

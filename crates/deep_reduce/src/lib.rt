@@ -1,0 +1,11 @@
+//! Whole trees reduced, in a pool.
+#![tactic(auto)]
+
+mod differences;
+mod driver;
+mod exponents;
+mod nodes;
+mod whole;
+
+pub use driver::DeepReducer;
+pub use whole::{reduce_power, reduce_product};

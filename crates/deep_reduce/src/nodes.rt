@@ -1,0 +1,158 @@
+//! One node whose children are reduced.
+ghost use Rattle.std.specs.Prelude.{◌≡◌, ◌<◌, ◌^◌, nat_abs, true, false, IfOk, IfErr, OnOk, [], ◌∷◌};
+ghost use Rattle.calc_terms.specs.Fractions.{whole_fraction};
+ghost use Rattle.calc_terms.specs.Trees.{num, undef, is_add, is_mult, is_undef};
+ghost use Rattle.deep_reduce.specs.Nodes.{IsNodeAnswer, IsNodeOverflow};
+ghost use Rattle.radical_forms.specs.Refusals.{IfOverflow};
+ghost use Rattle.reduce_port.specs.Causes.{IsCaused};
+ghost use Rattle.reduce_port.specs.Children.{are_reduced, has_undef};
+ghost use Rattle.reduce_port.specs.Rewritings.{tree_of};
+ghost use Rattle.tree_handles.specs.Expressions.{IsExpression, plain, children_of};
+ghost use Rattle.tree_handles.specs.Faults.{Faults};
+ghost use Rattle.tree_handles.specs.Handed.{IsHanded, Gives, KeepsFront};
+ghost use Rattle.tree_handles.specs.Inside.{tree_at};
+ghost use Rattle.tree_handles.specs.Roots.{without_root};
+ghost use Rattle.tree_handles.specs.Standing.{Stands, forest, KeepsRefusals};
+
+use crate::differences::{divide, negate, subtract};
+use crate::whole::{reduce_power, reduce_product};
+use calc_terms::{Kind, Rat};
+use node_pool::{Id, Pool};
+use radical_forms::reduce_root;
+use sum_reduce::reduce_sum;
+use tree_handles::{
+    Handle, NumberFault, child_id, children, kind, move_last, node, number, release,
+};
+
+/// A node over reduced children, as the rules of its kind reduce it.
+pub(crate) fn reduce_node(pool: &mut Pool, tree: Handle) -> Result<Handle, NumberFault>
+    requires stands { Stands pool.old }
+    requires handed { IsHanded tree (forest pool.old) }
+    requires reduced { are_reduced (children_of (tree_of tree pool.old)) ≡ true }
+    ensures ok { IfOk result (λ h. Gives (without_root tree (forest pool.old)) (forest pool.new) h (IsNodeAnswer (tree_of tree pool.old))) }
+    ensures overflow { IfOverflow result (IsNodeOverflow (tree_of tree pool.old)) }
+    ensures front { KeepsFront (tree ∷ []) (forest pool.old) (forest pool.new) }
+    ensures kept { OnOk result (KeepsRefusals pool.old pool.new) }
+    ensures faults { IfErr result (Faults pool.old pool.new) }
+    ensures caused { IfErr result (IsCaused pool.new) }
+    ensures stands { Stands pool.new }
+{
+    // A node with an Undef child is Undef, whatever the others are.
+    if has_undefined(pool, tree.id()) {
+        return Ok(undefined(pool, tree));
+    }
+    match kind(pool, tree.id()) {
+        Kind::Add => add_up(pool, tree),
+        Kind::Mult => multiply(pool, tree),
+        Kind::Pow => reduce_power(pool, tree),
+        Kind::Root => reduce_root(pool, tree),
+        Kind::Neg => negate(pool, tree),
+        Kind::Sub => subtract(pool, tree),
+        Kind::Div => divide(pool, tree),
+        _ => {
+            move_last(pool, &tree);
+            Ok(tree)
+        }
+    }
+}
+
+/// A sum of reduced terms: 0 where there is none.
+pub(crate) fn add_up(pool: &mut Pool, sum: Handle) -> Result<Handle, NumberFault>
+    requires stands { Stands pool.old }
+    requires handed { IsHanded sum (forest pool.old) }
+    requires sum { is_add (tree_of sum pool.old) ≡ true }
+    requires reduced { are_reduced (children_of (tree_of sum pool.old)) ≡ true }
+    requires defined { has_undef (children_of (tree_of sum pool.old)) ≡ false }
+    ensures ok { IfOk result (λ h. Gives (without_root sum (forest pool.old)) (forest pool.new) h (IsNodeAnswer (tree_of sum pool.old))) }
+    ensures overflow { IfOverflow result (IsNodeOverflow (tree_of sum pool.old)) }
+    ensures front { KeepsFront (sum ∷ []) (forest pool.old) (forest pool.new) }
+    ensures kept { OnOk result (KeepsRefusals pool.old pool.new) }
+    ensures faults { IfErr result (Faults pool.old pool.new) }
+    ensures caused { IfErr result (IsCaused pool.new) }
+    ensures stands { Stands pool.new }
+{
+    if children(pool, sum.id()) == 0 {
+        return whole(pool, sum, 0);
+    }
+    reduce_sum(pool, sum)
+}
+
+/// A product of reduced factors: 1 where there is none.
+pub(crate) fn multiply(pool: &mut Pool, product: Handle) -> Result<Handle, NumberFault>
+    requires stands { Stands pool.old }
+    requires handed { IsHanded product (forest pool.old) }
+    requires product { is_mult (tree_of product pool.old) ≡ true }
+    requires reduced { are_reduced (children_of (tree_of product pool.old)) ≡ true }
+    requires defined { has_undef (children_of (tree_of product pool.old)) ≡ false }
+    ensures ok { IfOk result (λ h. Gives (without_root product (forest pool.old)) (forest pool.new) h (IsNodeAnswer (tree_of product pool.old))) }
+    ensures overflow { IfOverflow result (IsNodeOverflow (tree_of product pool.old)) }
+    ensures front { KeepsFront (product ∷ []) (forest pool.old) (forest pool.new) }
+    ensures kept { OnOk result (KeepsRefusals pool.old pool.new) }
+    ensures faults { IfErr result (Faults pool.old pool.new) }
+    ensures caused { IfErr result (IsCaused pool.new) }
+    ensures stands { Stands pool.new }
+{
+    if children(pool, product.id()) == 0 {
+        return whole(pool, product, 1);
+    }
+    reduce_product(pool, product)
+}
+
+/// A whole number in the place of a tree.
+fn whole(pool: &mut Pool, tree: Handle, n: i128) -> Result<Handle, NumberFault>
+    requires stands { Stands pool.old }
+    requires handed { IsHanded tree (forest pool.old) }
+    requires fits { nat_abs n < 2 ^ 127 }
+    ensures ok { IfOk result (λ h. Gives (without_root tree (forest pool.old)) (forest pool.new) h (λ t. t ≡ num (whole_fraction n))) }
+    ensures overflow { IfOverflow result (λ o. ⊥) }
+    ensures front { KeepsFront (tree ∷ []) (forest pool.old) (forest pool.new) }
+    ensures kept { OnOk result (KeepsRefusals pool.old pool.new) }
+    ensures faults { IfErr result (Faults pool.old pool.new) }
+    ensures caused { IfErr result (IsCaused pool.new) }
+    ensures stands { Stands pool.new }
+{
+    release(pool, tree);
+    Ok(number(pool, Rat::whole(n))?)
+}
+
+/// Undef in the place of a tree, whose bytes suffice for it.
+fn undefined(pool: &mut Pool, tree: Handle) -> Handle
+    requires stands { Stands pool.old }
+    requires handed { IsHanded tree (forest pool.old) }
+    ensures gives { Gives (without_root tree (forest pool.old)) (forest pool.new) result (λ t. t ≡ undef) }
+    ensures front { KeepsFront (tree ∷ []) (forest pool.old) (forest pool.new) }
+    ensures kept { KeepsRefusals pool.old pool.new }
+    ensures stands { Stands pool.new }
+{
+    release(pool, tree);
+    match node(pool, Kind::Undef) {
+        Ok(undef) => undef,
+        Err(_) => unreachable!(),
+    }
+}
+
+/// Whether a child of a node is Undef.
+fn has_undefined(pool: &Pool, id: Id) -> bool
+    requires stands { Stands pool.now }
+    requires expression { IsExpression id (forest pool.now) }
+    ensures { result ≡ has_undef (children_of (plain (tree_at id (forest pool.now)))) }
+{
+    for at in 0..children(pool, id) {
+        if is_undefined(pool, child_id(pool, id, at)) {
+            return true;
+        }
+    }
+    false
+}
+
+/// Whether a node is Undef.
+pub(crate) fn is_undefined(pool: &Pool, id: Id) -> bool
+    requires stands { Stands pool.now }
+    requires expression { IsExpression id (forest pool.now) }
+    ensures { result ≡ is_undef (plain (tree_at id (forest pool.now))) }
+{
+    match kind(pool, id) {
+        Kind::Undef => true,
+        _ => false,
+    }
+}

@@ -1,0 +1,188 @@
+//! Products and powers of reduced trees: steps are taken, and the new powers of each are reduced,
+//! until nothing is left to reduce.
+ghost use Rattle.std.specs.Prelude.{◌≡◌, ◌≤◌, IfOk, IfErr, OnOk, [], ◌∷◌, true};
+ghost use Rattle.calc_terms.specs.PlainValues.{plain_value};
+ghost use Rattle.calc_terms.specs.Reduced.{is_reduced};
+ghost use Rattle.calc_terms.specs.Trees.{count, is_mult, is_num, power as power_tree};
+ghost use Rattle.deep_reduce.specs.Answers.{IsReducedProduct, IsReducedPower};
+ghost use Rattle.deep_reduce.specs.Unfinished.{AreTransparent, Finishes, IsLifted, IsProductOfPowers, IsSettled, IsUnfinished};
+ghost use Rattle.number_forms.specs.Answers.{AnswersRationals};
+ghost use Rattle.power_reduce.specs.PowerAnswers.{base_in, exponent_in};
+ghost use Rattle.product_reduce.specs.Joining.{IsJointAt};
+ghost use Rattle.reduce_port.specs.Causes.{IsCaused};
+ghost use Rattle.reduce_port.specs.Children.{are_rationals, are_reduced};
+ghost use Rattle.reduce_port.specs.Rewritings.{tree_of};
+ghost use Rattle.tree_handles.specs.Expressions.{children_of};
+ghost use Rattle.tree_handles.specs.Faults.{Faults};
+ghost use Rattle.tree_handles.specs.Handed.{IsHanded, Gives, KeepsFront};
+ghost use Rattle.tree_handles.specs.Roots.{without_root};
+ghost use Rattle.tree_handles.specs.Standing.{Stands, forest, KeepsRefusals};
+
+use crate::exponents::sum_exponent;
+use calc_terms::Kind;
+use node_pool::Pool;
+use power_reduce::power_step;
+use product_reduce::{Joining, joining_step};
+use reduce_port::Step;
+use tree_handles::{
+    Handle, NumberFault, add_child, child_id, children, kind, move_last, take_child,
+};
+
+/// The product of reduced factors, as a reduced tree. Factors with identical bases are joined one pair
+/// at a time, and each joint is reduced before the next pair is sought.
+#[cycle(reduction)]
+pub fn reduce_product(pool: &mut Pool, product: Handle) -> Result<Handle, NumberFault>
+    requires stands { Stands pool.old }
+    requires handed { IsHanded product (forest pool.old) }
+    requires product { is_mult (tree_of product pool.old) ≡ true }
+    requires some { 1 ≤ count (children_of (tree_of product pool.old)) }
+    requires reduced { are_reduced (children_of (tree_of product pool.old)) ≡ true }
+    ensures ok { IfOk result (λ h. Gives (without_root product (forest pool.old)) (forest pool.new) h
+        (IsReducedProduct (children_of (tree_of product pool.old)))) }
+    ensures rationals { are_rationals (children_of (tree_of product pool.old)) ≡ true
+        → AnswersRationals (plain_value (tree_of product pool.old)) pool.new result }
+    ensures front { KeepsFront (product ∷ []) (forest pool.old) (forest pool.new) }
+    ensures kept { OnOk result (KeepsRefusals pool.old pool.new) }
+    ensures faults { IfErr result (Faults pool.old pool.new) }
+    ensures caused { IfErr result (IsCaused pool.new) }
+    ensures stands { Stands pool.new }
+{
+    match joining_step(pool, product)? {
+        Joining::Done(answer) => Ok(answer),
+        Joining::Joined { product, at } => {
+            let settled = reduce_joint(pool, product, at)?;
+            reduce_product(pool, settled)
+        }
+    }
+}
+
+/// The joint of two factors, reduced in its place: first the sum of the exponents, then the power.
+#[cycle(reduction)]
+fn reduce_joint(pool: &mut Pool, product: Handle, at: u16) -> Result<Handle, NumberFault>
+    requires stands { Stands pool.old }
+    requires handed { IsHanded product (forest pool.old) }
+    requires product { is_mult (tree_of product pool.old) ≡ true }
+    requires joint { IsJointAt at (children_of (tree_of product pool.old)) }
+    ensures ok { IfOk result (λ h. Gives (without_root product (forest pool.old)) (forest pool.new) h
+        (IsSettled at (children_of (tree_of product pool.old)))) }
+    ensures front { KeepsFront (product ∷ []) (forest pool.old) (forest pool.new) }
+    ensures kept { OnOk result (KeepsRefusals pool.old pool.new) }
+    ensures faults { IfErr result (Faults pool.old pool.new) }
+    ensures caused { IfErr result (IsCaused pool.new) }
+    ensures stands { Stands pool.new }
+{
+    let joint = take_child(pool, &product, at);
+    let power = sum_exponent(pool, joint)?;
+    let factor = reduce_power(pool, power)?;
+    add_child(pool, &product, at, factor);
+    move_last(pool, &product);
+    Ok(product)
+}
+
+/// A power of reduced trees, as a reduced tree.
+#[cycle(reduction)]
+pub fn reduce_power(pool: &mut Pool, power: Handle) -> Result<Handle, NumberFault>
+    requires stands { Stands pool.old }
+    requires handed { IsHanded power (forest pool.old) }
+    requires power { let t = tree_of power pool.old in t ≡ power_tree (base_in t) (exponent_in t) }
+    requires base { is_reduced (base_in (tree_of power pool.old)) ≡ true }
+    requires exponent { is_reduced (exponent_in (tree_of power pool.old)) ≡ true }
+    ensures ok { let t = tree_of power pool.old in
+        IfOk result (λ h. Gives (without_root power (forest pool.old)) (forest pool.new) h
+        (IsReducedPower (base_in t) (exponent_in t))) }
+    ensures rationals { let t = tree_of power pool.old in
+        is_num (base_in t) ≡ true → is_num (exponent_in t) ≡ true → AnswersRationals (plain_value t) pool.new result }
+    ensures front { KeepsFront (power ∷ []) (forest pool.old) (forest pool.new) }
+    ensures kept { OnOk result (KeepsRefusals pool.old pool.new) }
+    ensures faults { IfErr result (Faults pool.old pool.new) }
+    ensures caused { IfErr result (IsCaused pool.new) }
+    ensures stands { Stands pool.new }
+{
+    match power_step(pool, power)? {
+        Step::Done(answer) => Ok(answer),
+        Step::Again(tree) => reduce_rewritten(pool, tree),
+    }
+}
+
+/// A power after one rewriting: its powers are reduced where it is a product, and else its exponent,
+/// and then it is reduced itself.
+#[cycle(reduction)]
+fn reduce_rewritten(pool: &mut Pool, tree: Handle) -> Result<Handle, NumberFault>
+    requires stands { Stands pool.old }
+    requires handed { IsHanded tree (forest pool.old) }
+    requires unfinished { IsUnfinished (tree_of tree pool.old) }
+    ensures ok { IfOk result (λ h. Gives (without_root tree (forest pool.old)) (forest pool.new) h
+        (Finishes (tree_of tree pool.old))) }
+    ensures front { KeepsFront (tree ∷ []) (forest pool.old) (forest pool.new) }
+    ensures kept { OnOk result (KeepsRefusals pool.old pool.new) }
+    ensures faults { IfErr result (Faults pool.old pool.new) }
+    ensures caused { IfErr result (IsCaused pool.new) }
+    ensures stands { Stands pool.new }
+{
+    match kind(pool, tree.id()) {
+        Kind::Mult => {
+            let product = reduce_powers(pool, tree)?;
+            reduce_product(pool, product)
+        }
+        _ => {
+            let power = reduce_exponent(pool, tree)?;
+            reduce_power(pool, power)
+        }
+    }
+}
+
+/// Each power of a product, reduced in its place, from left to right.
+#[cycle(reduction)]
+fn reduce_powers(pool: &mut Pool, product: Handle) -> Result<Handle, NumberFault>
+    requires stands { Stands pool.old }
+    requires handed { IsHanded product (forest pool.old) }
+    requires product { is_mult (tree_of product pool.old) ≡ true }
+    requires powers { AreTransparent (children_of (tree_of product pool.old)) }
+    ensures ok { IfOk result (λ h. Gives (without_root product (forest pool.old)) (forest pool.new) h
+        (IsProductOfPowers (children_of (tree_of product pool.old)))) }
+    ensures front { KeepsFront (product ∷ []) (forest pool.old) (forest pool.new) }
+    ensures kept { OnOk result (KeepsRefusals pool.old pool.new) }
+    ensures faults { IfErr result (Faults pool.old pool.new) }
+    ensures caused { IfErr result (IsCaused pool.new) }
+    ensures stands { Stands pool.new }
+{
+    let powers = children(pool, product.id());
+    for at in 0..powers {
+        let power = take_child(pool, &product, at);
+        let reduced = reduce_power(pool, power)?;
+        add_child(pool, &product, at, reduced);
+    }
+    move_last(pool, &product);
+    Ok(product)
+}
+
+/// The exponent of a power, reduced in its place where it is a product.
+#[cycle(reduction)]
+fn reduce_exponent(pool: &mut Pool, power: Handle) -> Result<Handle, NumberFault>
+    requires stands { Stands pool.old }
+    requires handed { IsHanded power (forest pool.old) }
+    requires power { let t = tree_of power pool.old in t ≡ power_tree (base_in t) (exponent_in t) }
+    requires unfinished { IsUnfinished (tree_of power pool.old) }
+    ensures ok { IfOk result (λ h. Gives (without_root power (forest pool.old)) (forest pool.new) h
+        (IsLifted (tree_of power pool.old))) }
+    ensures front { KeepsFront (power ∷ []) (forest pool.old) (forest pool.new) }
+    ensures kept { OnOk result (KeepsRefusals pool.old pool.new) }
+    ensures faults { IfErr result (Faults pool.old pool.new) }
+    ensures caused { IfErr result (IsCaused pool.new) }
+    ensures stands { Stands pool.new }
+{
+    let exponent = child_id(pool, power.id(), 1);
+    match kind(pool, exponent) {
+        Kind::Mult => {
+            let exponent = take_child(pool, &power, 1);
+            let product = reduce_product(pool, exponent)?;
+            add_child(pool, &power, 1, product);
+            move_last(pool, &power);
+            Ok(power)
+        }
+        _ => {
+            move_last(pool, &power);
+            Ok(power)
+        }
+    }
+}

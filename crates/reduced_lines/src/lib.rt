@@ -1,0 +1,5 @@
+//! Lines of a table are read, reduced and shown, and each is interrupted at every check.
+#![tactic(auto)]
+
+#[cfg(test)]
+mod tests;
