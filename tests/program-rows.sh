@@ -14,9 +14,9 @@ failed=0
 # run STATUS INPUT OUTPUT ERRORS WORD..: texts in the form of printf
 run() {
     status=$1
-    printf "$2" >"$folder/input"
-    printf "$3" >"$folder/output"
-    printf "$4" >"$folder/errors"
+    printf -- "$2" >"$folder/input"
+    printf -- "$3" >"$folder/output"
+    printf -- "$4" >"$folder/errors"
     shift 4
     "$program" "$@" <"$folder/input" >"$folder/written" 2>"$folder/said"
     found=$?
@@ -50,22 +50,44 @@ answered '1+2+3' '6\n'
 answered '1+1\r\n\n007' '2\n7\n'
 answered '' ''
 answered ' \t\n' ''
-answered '1 + 2\n(1+2)+3\n((1))\n0.5+1\n1.0+2\n' '3\n! form\n1\n! form\n3\n'
-answered '2\303\2273\n1+\n1 + 1\n' '! form\n! syntax\n2\n'
-answered '+1\n1++1\n1a\n(1)(2)\n-1\n' '! syntax\n! syntax\n! form\n! form\n! form\n'
+answered '1 + 2\n(1+2)+3\n((1))\n0.5+1\n1.0+2\n' '3\n6\n1\n3/2\n3\n'
+answered '2\303\2273\n1+\n1 + 1\n' '6\n! syntax\n2\n'
+answered '+1\n1++1\n1a\n(1)(2)\n-1\n' '! syntax\n! syntax\na\n2\n-1\n'
 answered ':pool\n \t:\n1->x\n' '! form\n! form\n! form\n'
 answered '1.\n2$3\n2+\nabcdefgh\n' '! character 2\n! character 2\n! syntax\n! character 1\n'
 answered '1.000000000000000000000000000000000000001\n' '! number 1\n'
-answered "1\n$(printf '%063d' 0 | tr 0 -)1\n$(printf '%064d' 0 | tr 0 -)1\n" '1\n! form\n! deep\n'
+answered "1\n$(printf '%063d' 0 | tr 0 -)1\n$(printf '%064d' 0 | tr 0 -)1\n" '1\n-1\n! deep\n'
 answered "$(printf '%01024d' 0 | tr 0 1)\n$(printf '%01025d' 0 | tr 0 1)\n" '! number 1\n! long\n'
 answered "$(printf '%1024s')\n$(printf '%1025s')\n" '! long\n'
 answered "$greatest\n$greatest+1\n" "$greatest\n! overflow $greatest+1\n"
 answered '170141183460469231731687303715884105728\n' '! number 1\n'
 answered '1+1\n1\n' "$full$full" --pool 64
-answered '1+1\n9\n' "${full}9\n" --pool 104
-answered '1+1\n9\n' "${full}9\n" --pool=104
+answered '1+1\n' "$full" --pool 104
+answered '1+1\n' "$full" --pool=104
+answered '9\n' '9\n' --pool 128
 answered '1\n' "$full" --pool=0064
 answered '1+2+3\n' '6\n' --pool 524280
+
+# The worked rows.
+answered '1/3+1/6\n' '1/2\n'
+answered '√(8)+√(18)\n1/(√(2)+√(3))\n' '5×√(2)\n-√(2)+√(3)\n'
+answered 'x/x\n0^0\n1/0\n√(-1)\nx^2×x^-2\n√(0)\n' '1\nundef\nundef\nundef\n1\n0\n'
+answered '2^126\n2^127\n2^-3\n-2^2\n2^3^2\n' '85070591730234615865843651857942052864\n! overflow 2^127\n1/8\n-4\n512\n'
+answered '√(200280098)\n1/(1+√(2)+√(3))\nx+√(2)×x\n' '10007×√(2)\n1/(1+√(2)+√(3))\n(1+√(2))×x\n'
+answered '(-3+√(17))/4\n(√(2)+√(3))^2\n√(2)×√(3)\n√(1/2)\n' '-3/4+√(17)/4\n5+2×√(6)\n√(6)\n√(2)/2\n'
+answered '(x+√(2))^-1×(x+√(3))^-1\n' '1/((√(2)+x)×(√(3)+x))\n'
+answered '(x+1)-(x+1)\n(x×y)^2/x\n1/2x\n√(x)×√(x)\n2x(x+1)-2x^2\n' '0\nx×y^2\n1/(2×x)\nx\n2×x×(1+x)-2×x^2\n'
+answered '0.1+0.2\n2^(1/2)\n√(1+√(2))\n' '3/10\n2^(1/2)\n√(1+√(2))\n'
+
+# A hundred lines of all kinds.
+"$program" <"$top/tests/hundred-lines.txt" >"$folder/written"
+if cmp -s "$top/tests/hundred-answers.txt" "$folder/written"; then
+    passed=$((passed + 1))
+else
+    failed=$((failed + 1))
+    echo "failed: the hundred lines; expected and written:"
+    diff "$top/tests/hundred-answers.txt" "$folder/written"
+fi
 
 refused --pool 65
 refused --pool 56

@@ -16,4 +16,4 @@ pub mod Gathering
 pub mod Leaves
 pub mod UnderWay
 pub mod Sizes
-pub mod SumNodes
+pub mod NamesOfLines

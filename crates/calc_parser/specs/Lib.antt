@@ -7,5 +7,4 @@ pub mod Depths
 pub mod Outcomes
 pub mod Building
 pub mod Growing
-pub mod WholeSums
-pub mod WholeNodes
+pub mod Names

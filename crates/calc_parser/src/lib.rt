@@ -6,12 +6,12 @@ mod building;
 mod checking;
 mod depth;
 mod laws;
+mod names;
 mod nesting;
 mod postfix;
 mod reader;
-mod wholes;
 
 pub use building::build;
 pub use checking::{ParseFault, Shape, check};
 pub use laws::{building_takes_the_size, one_line};
-pub use wholes::is_whole_sum;
+pub use names::holds_name;

@@ -1,6 +1,10 @@
 pub mod DigitLemmas
 pub mod PoolLemmas
-pub mod SumLemmas
+pub mod StoredTrees
+pub mod WritableFaces
+pub mod EvaluationLemmas
+pub mod SessionLemmas
+pub mod MeaningLemmas
 pub mod ReadLemmas
 pub mod WordLemmas
 pub mod ReplyLemmas

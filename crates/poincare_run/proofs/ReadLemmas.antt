@@ -1,7 +1,7 @@
 -- Lines, from what the scanner and the parser answered.
-use Rattle.std.specs.Prelude.{◌≡◌, ◌≤◌, ◌<◌, ◌↔◌, ℕ, List, length, Bool, true, false, Option, Some, None, Result, Ok, Err, is_some}
+use Rattle.std.specs.Prelude.{◌≡◌, ◌≤◌, ◌↔◌, ℕ, List, length, true, false, Option, Some, None, Result, Ok, Err, is_some}
 use Rattle.std.specs.Option.{option_map}
-use Rattle.std.proofs.Common.{refl, sym, ap, ◌∙◌, subst, arith, leb}
+use Rattle.std.proofs.Common.{refl, leb}
 use Rattle.std.proofs.lemmas.Bool.{leb-true, leb-false}
 use Rattle.calc_terms.specs.Leaf.{name_of}
 use Rattle.calc_terms.specs.Trees.{Tree, depth}
@@ -9,19 +9,18 @@ use Rattle.calc_terms.specs.declared.name.Name.{Name}
 use Rattle.calc_tokens.specs.Faults.{IsFaultOf}
 use Rattle.calc_tokens.specs.Placed.{Placed, bare}
 use Rattle.calc_tokens.specs.Scanned.{AreTokensOf, IsFirstCharacter, IsFirstWide}
-use Rattle.calc_tokens.specs.Tokens.{tokens_of}
 use Rattle.calc_tokens.specs.declared.tokens.TokenFault.{TokenFault}
 use Rattle.calc_tokens.specs.declared.tokens.TokenFault.TheVariants.{Character, Number}
 use Rattle.calc_tokens.specs.declared.tokens.Tokens.{Tokens}
-use Rattle.calc_parser.specs.Lines.{IsLine, IsNoLine, IsLineOver, HasShape, IsTreeOf}
+use Rattle.calc_parser.specs.Lines.{IsLine, IsNoLine, IsLineOver, HasShape}
 use Rattle.calc_parser.specs.Outcomes.{IsFaultOf as IsLineFault}
-use Rattle.calc_parser.specs.WholeSums.{is_whole_sum}
 use Rattle.calc_parser.specs.declared.checking.Shape.{Shape}
 use Rattle.calc_parser.specs.declared.checking.ParseFault.{ParseFault}
 use Rattle.calc_parser.specs.declared.checking.ParseFault.TheVariants.{Syntax, Deep}
 use Rattle.tree_handles.proofs.Outcomes.{by_test}
 use Rattle.poincare_run.specs.Lines.{is_blank_line}
-use Rattle.poincare_run.specs.Replies.{form, is_command, IsReply, is_a_store, is_no_sum, IsText, ReadsAs, ReadsSum}
+use Rattle.poincare_run.specs.Reading.{is_command, HoldsAns, IsReply, is_a_store, holds_ans, IsText, ReadsAs, ReadsTree}
+use Rattle.poincare_run.specs.Replies.{form}
 
 pub text_is : (line : List ℕ) → length line ≤ 1024 → is_blank_line line ≡ false → is_command line ≡ false → IsText line
 text_is line s b c = record { short = s; some = b; no_command = c }
@@ -54,8 +53,11 @@ without : (line : List ℕ) (tokens : List Placed) (store : Option Name) (t : Tr
 without line tokens (Some name) t r h = absurd cc
 without line tokens None t r h = r
 
-pub no_sum_reply : (free : ℕ) (line : List ℕ) (tokens : List Placed) (store : Option Name) (t : Tree) → ReadsAs line tokens (option_map name_of store) t → is_some store ≡ false → is_whole_sum t ≡ false → IsReply free line form
-no_sum_reply free line tokens store t r h n = is_no_sum (without line tokens store t r h) n
+pub ans_reply : (free : ℕ) (line : List ℕ) (tokens : List Placed) (store : Option Name) (t : Tree) → ReadsAs line tokens (option_map name_of store) t → is_some store ≡ false → HoldsAns t → IsReply free line form
+ans_reply free line tokens store t r h n = holds_ans (without line tokens store t r h) n
 
-pub reads_sum : (line : List ℕ) (tokens : List Placed) (store : Option Name) (t : Tree) → ReadsAs line tokens (option_map name_of store) t → is_some store ≡ false → is_whole_sum t ≡ true → ReadsSum line tokens t
-reads_sum line tokens store t r h w = record { reads = without line tokens store t r h; sum = w }
+pub line_alone : (line : List ℕ) (tokens : List Placed) (store : Option Name) (t : Tree) → ReadsAs line tokens (option_map name_of store) t → is_some store ≡ false → IsLine (bare tokens) None t
+line_alone line tokens store t r h = (without line tokens store t r h).line-is
+
+pub reads_tree : (line : List ℕ) (tokens : List Placed) (store : Option Name) (t : Tree) → ReadsAs line tokens (option_map name_of store) t → is_some store ≡ false → ¬ (HoldsAns t) → ReadsTree line tokens t
+reads_tree line tokens store t r h n = record { reads = without line tokens store t r h; no_ans = n }

@@ -1,34 +1,32 @@
 -- Lemmas on replies and what the code answers for them.
-use Rattle.std.proofs.Common.{◌≡◌, ◌∙◌, ℕ, ℤ, nat_abs, codes, List, [], ◌∷◌, ◌++◌, Option, Some, None, Result, Ok, Err, refl, sym, ap, subst}
+use Rattle.std.proofs.Common.{◌≡◌, ◌∙◌, ℕ, ℤ, nat_abs, codes, List, ◌++◌, append_assoc, Option, Some, None, refl, sym, ap, subst}
 use Rattle.std.specs.Fmt.{signed_decimal}
-use Rattle.calc_terms.specs.Node.{Node, fresh}
-use Rattle.calc_terms.specs.Payload.{rational}
+use Rattle.calc_terms.specs.Node.{Node}
 use Rattle.calc_terms.specs.Rat.{ratio_of, value_of}
-use Rattle.calc_terms.specs.Ratio.{Ratio, whole}
+use Rattle.calc_terms.specs.Texts.{text}
 use Rattle.calc_terms.specs.Trees.{Tree}
-use Rattle.calc_tokens.specs.Placed.{Placed}
-use Rattle.node_pool.specs.Nodes.{IsLeastFree}
 use Rattle.rational128.proofs.LowestTerms.{parts_themselves}
-use Rattle.rational128.specs.Refusals.{operation_of}
-use Rattle.rational128.specs.declared.overflow.Op.{Op}
 use Rattle.calc_terms.specs.declared.rat.Rat.{Rat}
 use Rattle.node_pool.specs.State.{State as PoolState}
 use Rattle.node_pool.specs.declared.full.Full.{Full}
+use Rattle.line_text.specs.Content.{Content, extended}
 use Rattle.poincare_run.specs.declared.answers.Refusal.{Refusal}
 use Rattle.poincare_run.specs.declared.answers.Refusal.TheVariants as refusal
 use Rattle.poincare_run.specs.declared.answers.LineAnswer.{LineAnswer}
-use Rattle.poincare_run.specs.declared.answers.LineAnswer.TheVariants.{Blank, Shown, Refused}
-use Rattle.poincare_run.specs.Answers.{reply_of, printed, Replies, IsValueOf}
+use Rattle.poincare_run.specs.declared.answers.LineAnswer.TheVariants.{Blank, Shown, Undefined, Refused}
+use Rattle.poincare_run.specs.Answers.{reply_of, printed, Leads, Replies}
 use Rattle.poincare_run.specs.Pools.{after}
-use Rattle.poincare_run.specs.Replies.{Reply, blank, shown, overflow, IsReply, finds_no_room, does_not_fit, ReadsSum, sign_of, text_of}
+use Rattle.poincare_run.specs.Reading.{IsReply}
+use Rattle.poincare_run.specs.Replies.{blank, undefined, denominator_text, operand_text, text_of}
 use Rattle.poincare_run.specs.Seen.{Seen, Counts, pool_of}
-use Rattle.poincare_run.specs.States.{State, free_bytes}
+use Rattle.poincare_run.specs.States.{State, HoldsTree, free_bytes}
 use Rattle.poincare_run.specs.Steps.{Leaves, Step}
 
 -- an answer that is not blank is printed
 pub printed_text : (answer : LineAnswer) (text : List ℕ) → (answer ≡ Blank → ⊥) → printed answer text ≡ Some text
 printed_text Blank text other = absurd (other refl)
 printed_text Shown text other = refl
+printed_text Undefined text other = refl
 printed_text (Refused refusal) text other = refl
 
 pub step_of : (s t : State) (line : List ℕ) (answer : LineAnswer) (text : List ℕ) → Replies s line answer text t → Step s line (printed answer text) t
@@ -57,44 +55,41 @@ pub replies_nothing : (s t : State) (line : List ℕ) → IsReply (free_bytes s)
 unfolding text_of
 replies_nothing s t line r same text = record { reply = blank; reply_is = r; answer_is = refl; text_is = refl; state_is = same }
 
-pub replies_sum : (s t : State) (line text : List ℕ) (sum : Rat) (z : ℤ) → IsReply (free_bytes s) line (shown z) → Leaves (shown z) s t → text ≡ signed_decimal z → Replies s line Shown text t
+pub leads_refusal : (s t : State) (line : List ℕ) (refusal : Refusal) → IsReply (free_bytes s) line (reply_of refusal) → t ≡ s → Leads s line (Refused refusal) t
+leads_refusal s t line refusal r same = record { reply = reply_of refusal; reply_is = r; answer_is = refl; state_is = refused_leaves refusal s t same }
+
+pub leads_undefined : (s t : State) (line : List ℕ) → IsReply (free_bytes s) line undefined → t ≡ s → Leads s line Undefined t
+leads_undefined s t line r same = record { reply = undefined; reply_is = r; answer_is = refl; state_is = same }
+
+pub replies_with : (s t : State) (line text : List ℕ) (answer : LineAnswer) (l : Leads s line answer t) → printed answer text ≡ text_of l.reply → Replies s line answer text t
+replies_with s t line text answer l written = record { reply = l.reply; reply_is = l.reply_is; answer_is = l.answer_is; text_is = written; state_is = l.state_is }
+
+pub replies_blank : (s t : State) (line written : List ℕ) → Leads s line Blank t → Replies s line Blank written t
 unfolding text_of
-replies_sum s t line text sum z r leaves written = record { reply = shown z; reply_is = r; answer_is = (z, refl); text_is = ap Some written; state_is = leaves }
+replies_blank s t line written l = replies_with s t line written Blank l (sym (ap text_of l.answer_is))
 
-pub replies_refusal : (s t : State) (line text : List ℕ) (refusal : Refusal) → IsReply (free_bytes s) line (reply_of refusal) → t ≡ s → Some text ≡ text_of (reply_of refusal) → Replies s line (Refused refusal) text t
-replies_refusal s t line text refusal r same written = record { reply = reply_of refusal; reply_is = r; answer_is = refl; text_is = written; state_is = refused_leaves refusal s t same }
+-- the tree that is shown is the one that is kept
+pub shown_tree : (s t : State) (line : List ℕ) (l : Leads s line Shown t) → HoldsTree t l.answer_is.0
+shown_tree s t line l = (subst (λ r. Leaves r s t) l.answer_is.1 l.state_is).holds
 
--- ---- the text of an overflow
-
-pub overflow_text : (op : Op) (a b : Rat) → Some (codes "! overflow " ++ (signed_decimal (ratio_of a).num ++ (sign_of (operation_of op) ++ signed_decimal (ratio_of b).num))) ≡ text_of (overflow (operation_of op) (value_of a) (value_of b))
+pub replies_shown : (s t : State) (line written : List ℕ) (u : Tree) (l : Leads s line Shown t) → l.answer_is.0 ≡ u → written ≡ text u → Replies s line Shown written t
 unfolding text_of
-overflow_text op a b =
-    let first : (value_of a).num ≡ a.num = (parts_themselves a.num (nat_abs a.den) a.in_lowest_terms).num in
-    let second : (value_of b).num ≡ b.num = (parts_themselves b.num (nat_abs b.den) b.in_lowest_terms).num in
-    ap (λ (z : ℤ). Some (codes "! overflow " ++ (signed_decimal z ++ (sign_of (operation_of op) ++ signed_decimal b.num)))) (sym first)
-    ∙ ap (λ (z : ℤ). Some (codes "! overflow " ++ (signed_decimal (value_of a).num ++ (sign_of (operation_of op) ++ signed_decimal z)))) (sym second)
+replies_shown s t line written u l same is = replies_with s t line written Shown l (ap Some (is ∙ ap text (sym same)) ∙ sym (ap text_of l.answer_is.1))
 
--- ---- a sum and what it leaves
+pub replies_undefined : (s t : State) (line written : List ℕ) → Leads s line Undefined t → written ≡ codes "undef" → Replies s line Undefined written t
+unfolding text_of
+replies_undefined s t line written l is = replies_with s t line written Undefined l (ap Some is ∙ sym (ap text_of l.answer_is))
 
-abbrev pub kept : PoolState → ℕ → State
-kept p i = record { size = p.size; nodes = p.nodes; ans = i }
+pub replies_refusal : (s t : State) (line written : List ℕ) (refusal : Refusal) → Leads s line (Refused refusal) t → Some written ≡ text_of (reply_of refusal) → Replies s line (Refused refusal) written t
+replies_refusal s t line written refusal l is = replies_with s t line written (Refused refusal) l (is ∙ sym (ap text_of l.answer_is))
 
-pub sum_leaves : (p q r : PoolState) (old id : ℕ) (sum : Rat) (z : ℤ) → q ≡ after None p.nodes p → ratio_of sum ≡ whole z → IsLeastFree id q.nodes → r ≡ record q { nodes = fresh id (rational (ratio_of sum)) ∷ [] } → Leaves (shown z) (kept p old) (kept r id)
-sum_leaves p q r old id sum z e ratio least n = (
-  subst (λ (s : PoolState). IsLeastFree id s.nodes) e least,
-  ap (λ (s : PoolState). kept s id) n ∙ ap (λ (s : PoolState). kept (record s { nodes = fresh id (rational (ratio_of sum)) ∷ [] }) id) e ∙ ap (λ (x : Ratio). kept (record p { nodes = fresh id (rational x) ∷ [] }) id) ratio,
-)
+-- ---- the text of a rational
 
-pub refused_keeps : (refusal : Option Full) (p q : PoolState) (i : ℕ) → q ≡ after refusal p.nodes p → kept q i ≡ kept p i
-refused_keeps None p q i e = ap (λ (s : PoolState). kept s i) e
-refused_keeps (Some full) p q i e = ap (λ (s : PoolState). kept s i) e
+pub text_of_operand : (a : Rat) → operand_text (value_of a) ≡ signed_decimal (ratio_of a).num ++ denominator_text (ratio_of a).den
+text_of_operand a =
+    let p = parts_themselves a.num (nat_abs a.den) a.in_lowest_terms in
+    ap (λ (z : ℤ). signed_decimal z ++ denominator_text (value_of a).den) p.num ∙ ap (λ (d : ℕ). signed_decimal a.num ++ denominator_text d) p.den
 
-pub refused_value : (free : ℕ) (line : List ℕ) (tokens : List Placed) (t : Tree) (r : Refusal) → ReadsSum line tokens t → IsValueOf free t (Err r) → IsReply free line (reply_of r)
-refused_value free line tokens t (refusal.Full needed left) s v = finds_no_room s v
-refused_value free line tokens t (refusal.Overflow op a b) s v = does_not_fit s v.0.1 v.1
-refused_value free line tokens t refusal.Long s v = absurd v
-refused_value free line tokens t (refusal.Character at) s v = absurd v
-refused_value free line tokens t (refusal.Number at) s v = absurd v
-refused_value free line tokens t refusal.Syntax s v = absurd v
-refused_value free line tokens t refusal.Deep s v = absurd v
-refused_value free line tokens t refusal.Form s v = absurd v
+-- one piece and then another
+pub extended_twice : (c : Content) (a b : List ℕ) → extended (extended c a) b ≡ extended c (a ++ b)
+extended_twice c a b = ap (λ (bytes : List ℕ). record c { bytes = bytes }) (append_assoc c.bytes a b)

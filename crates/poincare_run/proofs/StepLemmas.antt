@@ -1,13 +1,14 @@
 -- Lemmas on the steps of a session, and on how far it has come.
-use Rattle.std.proofs.Common.{◌≡◌, ◌∙◌, ℕ, List, [], ◌∷◌, ◌++◌, length, ◌<◌, Bool, true, false, nat_le, cond, Option, refl, sym, ap, subst, arith, append_assoc, append-nil}
+use Rattle.std.proofs.Common.{◌≡◌, ◌∙◌, ℕ, List, [], ◌∷◌, ◌++◌, length, ◌<◌, Bool, true, false, nat_le, Option, refl, sym, ap, subst, arith, append_assoc, append-nil}
 use Rattle.std.proofs.lemmas.Bool.{leb-true, leb-false}
 use Rattle.std.specs.Str.Lines.{strip_carriage_return}
 use Rattle.poincare_run.specs.declared.buffer.LineBuffer.{LineBuffer}
 use Rattle.poincare_run.specs.declared.dialog.Dialog.{Dialog}
 use Rattle.poincare_run.specs.Lines.{is_newline, lines_of, line_of_rest, whole_lines, rest_of}
-use Rattle.poincare_run.specs.Replies.{Reply, IsReply, is_long, is_nothing, is_a_command, has_no_token, has_a_wide_number, is_no_line, is_too_deep, is_a_store, is_no_sum, finds_no_room, does_not_fit, has_a_value}
+use Rattle.poincare_run.specs.Reading.{IsReply, is_long, is_nothing, is_a_command, has_no_token, has_a_wide_number, is_no_line, is_too_deep, is_a_store, holds_ans, is_evaluated}
+use Rattle.poincare_run.specs.Replies.{Reply}
 use Rattle.poincare_run.specs.States.{State, free_bytes}
-use Rattle.poincare_run.specs.Steps.{Leaves, Step, Steps, written}
+use Rattle.poincare_run.specs.Steps.{Step, Steps, written}
 use Rattle.poincare_run.specs.Buffer.{Holds, StandsFor}
 use Rattle.poincare_run.specs.Progress.{Answered, AnswersLine, FailsAtLine, Continues, Breaks, Goes}
 use Rattle.poincare_run.proofs.ByteLemmas.{Appends-nil, Appends-trans, AppendsPart-after}
@@ -23,10 +24,8 @@ long_reply line k h (has_a_wide_number t f) = absurd (let short = t.short in ome
 long_reply line k h (is_no_line t f g) = absurd (let short = t.short in omega arith)
 long_reply line k h (is_too_deep t f g) = absurd (let short = t.short in omega arith)
 long_reply line k h (is_a_store r) = absurd (let short = r.text.short in omega arith)
-long_reply line k h (is_no_sum r f) = absurd (let short = r.text.short in omega arith)
-long_reply line k h (finds_no_room r f) = absurd (let short = r.reads.text.short in omega arith)
-long_reply line k h (does_not_fit r f g) = absurd (let short = r.reads.text.short in omega arith)
-long_reply line k h (has_a_value r f g) = absurd (let short = r.reads.text.short in omega arith)
+long_reply line k h (holds_ans r f) = absurd (let short = r.text.short in omega arith)
+long_reply line k h (is_evaluated r f) = absurd (let short = r.reads.text.short in omega arith)
 
 same_reply : (free : ℕ) (kept line : List ℕ) (reply : Reply) → StandsFor kept line → IsReply free kept reply → IsReply free line reply
 same_reply free kept line reply h r = by (nat_le (length line) 1024) refl

@@ -2,10 +2,14 @@ pub mod Lines
 pub mod States
 pub mod Pools
 pub mod Replies
+pub mod Evaluations
+pub mod Reading
+pub mod Meant
 pub mod Steps
 pub mod Seen
 pub mod Kept
 pub mod Answers
+pub mod Faces
 pub mod Buffer
 pub mod Endings
 pub mod Progress

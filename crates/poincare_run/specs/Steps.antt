@@ -1,13 +1,20 @@
 -- A session as a chain of steps, one for each line.
-use Rattle.std.specs.Prelude.{◌≡◌, ℕ, List, [], ◌∷◌, ◌++◌, Option, Some, None}
-use Rattle.calc_terms.specs.Node.{fresh}
-use Rattle.node_pool.specs.Nodes.{IsLeastFree}
-use Rattle.poincare_run.specs.States.{State, number, free_bytes}
-use Rattle.poincare_run.specs.Replies.{Reply, shown, IsReply, text_of}
+use Rattle.std.specs.Prelude.{◌≡◌, ℕ, List, [], ◌∷◌, ◌++◌, true, false, Option, Some, None}
+use Rattle.calc_terms.specs.Trees.{Tree}
+use Rattle.node_pool.specs.Nodes.{has}
+use Rattle.poincare_run.specs.Reading.{IsReply}
+use Rattle.poincare_run.specs.Replies.{Reply, shown, text_of}
+use Rattle.poincare_run.specs.States.{State, free_bytes, HoldsTree}
 
--- What a reply leaves. A sum that is shown is the one tree there is, and it has the least identifier that was free. Any other reply leaves all as it was.
+-- the last answer is this tree now, of new nodes, and nothing else is there
+pub record LeavesTree (t : Tree) (old new : State) : Type 0 where
+  pub holds : HoldsTree new t
+  pub size : new.size ≡ old.size
+  pub new_nodes : (id : ℕ) → has id new.nodes ≡ true → has id old.nodes ≡ false
+
+-- What a reply leaves. A tree that is shown is the one tree there is. Any other reply leaves all as it was.
 abbrev pub Leaves : Reply → State → State → Type 0
-Leaves (shown sum) old new = IsLeastFree new.ans old.nodes × (new ≡ record old { ans = new.ans; nodes = fresh new.ans (number sum) ∷ [] })
+Leaves (shown t) old new = LeavesTree t old new
 Leaves reply old new = new ≡ old
 
 -- From a state a line is answered by a text, or by none, and leaves a state.

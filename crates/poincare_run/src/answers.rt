@@ -15,7 +15,7 @@ pub enum Refusal {
     Syntax,
     /// The line's tree is over 64 deep.
     Deep,
-    /// The line is a command or a store, or no sum of whole numbers.
+    /// The line is a command or a store, or holds the name of the last answer.
     Form,
     /// A node needs more bytes than are free in the pool.
     Full { needed: u32, free: u32 },
@@ -28,5 +28,7 @@ pub enum LineAnswer {
     /// The line is blank, and there is no text.
     Blank,
     Shown,
+    /// No assignment of rationals to the names gives the line a meaning.
+    Undefined,
     Refused(Refusal),
 }

@@ -4,14 +4,16 @@
 mod answers;
 mod buffer;
 mod dialog;
+mod evaluating;
+mod laws;
 mod reading;
 mod session;
-mod sums;
 mod text;
 mod top;
 mod words;
 
 pub use answers::{LineAnswer, Refusal};
+pub use laws::{answers_mean_their_lines, undef_has_no_meaning};
 pub use session::Session;
 pub use top::run;
 

@@ -9,19 +9,21 @@ ghost use Rattle.calc_tokens.specs.Scanned.{AreTokensOf};
 ghost use Rattle.calc_tokens.specs.Tokens.{tokens_of};
 ghost use Rattle.poincare_run.specs.Answers.{reply_of};
 ghost use Rattle.poincare_run.specs.Lines.{is_blank_line as is_blank_line_of};
-ghost use Rattle.poincare_run.specs.Replies.{is_command as is_command_of, refusal_in, IsReply, IsText, ReadsSum};
+ghost use Rattle.poincare_run.specs.Reading.{is_command as is_command_of, IsReply, IsText, ReadsTree};
+ghost use Rattle.poincare_run.specs.Replies.{refusal_in};
 
 use crate::Refusal;
-use calc_parser::{ParseFault, check, is_whole_sum};
+use calc_parser::{ParseFault, check, holds_name};
+use calc_terms::Name;
 use calc_tokens::{TokenFault, Tokens, scan};
 
 /// The most bytes of a line.
 pub const LINE_LIMIT: usize = 1024;
 
-/// The tokens of a line that is a sum of whole numbers.
-pub fn read_sum(line: &[u8]) -> Result<Tokens, Refusal>
+/// The tokens of a line that is to be evaluated.
+pub fn read_line(line: &[u8]) -> Result<Tokens, Refusal>
     requires { length line.now ≤ 1024 → is_blank_line_of line.now ≡ false }
-    ensures sum { IfOk result (λ tokens. (t : Tree) × ReadsSum line.now (tokens_of tokens) t) }
+    ensures tree { IfOk result (λ tokens. (t : Tree) × ReadsTree line.now (tokens_of tokens) t) }
     ensures refused { IfErr result (λ refusal. (free : ℕ) → IsReply free line.now (reply_of refusal)) }
     ensures no_pool { IfErr result (λ refusal. refusal_in (reply_of refusal) ≡ None) }
 {
@@ -42,7 +44,7 @@ pub fn read_sum(line: &[u8]) -> Result<Tokens, Refusal>
     if shape.store.is_some() {
         return Err(Refusal::Form);
     }
-    if !is_whole_sum(&tokens) {
+    if holds_name(&tokens, Name::ans()) {
         return Err(Refusal::Form);
     }
     Ok(tokens)

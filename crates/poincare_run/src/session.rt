@@ -1,13 +1,17 @@
 //! A session, which answers line by line.
-ghost use Rattle.std.specs.Prelude.{◌≡◌, ◌≤◌, [], length, false, IfOk};
-ghost use Rattle.node_pool.specs.State.{IsPoolSize};
+ghost use Rattle.std.specs.Prelude.{◌≡◌, ◌≤◌, ◌+◌, [], ◌∷◌, ◌++◌, List, length, false, IfOk, Some};
+ghost use Rattle.calc_terms.specs.Node.{Node};
+ghost use Rattle.node_pool.specs.Nodes.{used};
+ghost use Rattle.node_pool.specs.State.{IsPool, IsPoolSize};
 ghost use Rattle.poincare_run.specs.Lines.{is_blank_line as is_blank_line_of};
 
-use crate::reading::{LINE_LIMIT, is_blank_line, read_sum};
-use crate::sums::{replace, sum_in};
-use crate::text::{Text, write_number, write_refusal};
+use crate::evaluating::{Evaluation, evaluate};
+use crate::reading::{LINE_LIMIT, is_blank_line, read_line};
+use crate::text::{write_refusal, write_undef};
 use crate::{LineAnswer, Refusal};
+use breakers::{NeverBreaker, Watch};
 use calc_terms::{Leaf, Rat};
+use line_text::{Text, write_text};
 use node_pool::{Id, Pool};
 use std::alloc::{AllocError, Global};
 use std::marker::Model;
@@ -18,6 +22,7 @@ pub struct Session {
     pool: Pool,
     answer: Id,
     text: Text,
+    watch: Watch<NeverBreaker>,
 }
 
 impl Model for Session {
@@ -35,7 +40,7 @@ impl Model for Session {
 impl Session {
     ghost use Rattle.poincare_run.specs.States.{first_state, HoldsAnswer};
     ghost use Rattle.poincare_run.specs.Seen.{pool_of, Counts};
-    ghost use Rattle.poincare_run.specs.Answers.{Replies, IsSum, refusal_of_pool, refusal_of_sum};
+    ghost use Rattle.poincare_run.specs.Answers.{Leads, Replies, refusal_of_pool};
 
     /// A session with a pool of that many bytes, in which the last answer is 0. All memory is
     /// taken here.
@@ -44,11 +49,13 @@ impl Session {
         ensures { IfOk result (λ session. session ≡ record { state = first_state size; refusals = 0; last_refused = record { needed = 0; free = 0 }; text = [] }) }
     {
         let mut pool = Pool::open(alloc, size)?;
+        let text = Text::open(alloc, 3 * size + 256)?;
         let answer = pool.place(Leaf::Num(Rat::whole(0))).unwrap();
         Ok(Session {
             pool,
             answer,
-            text: Text::new(),
+            text,
+            watch: Watch::new(Vec::new(alloc)),
         })
     }
 
@@ -65,36 +72,39 @@ impl Session {
             self.text.clear();
             return LineAnswer::Blank;
         }
-        let answer = self.sum(line);
+        let answer = self.answer_line(line);
         self.text.clear();
         match answer {
-            Ok(sum) => {
-                write_number(&mut self.text, sum);
-                LineAnswer::Shown
-            }
-            Err(refusal) => {
-                write_refusal(&mut self.text, refusal);
-                LineAnswer::Refused(refusal)
-            }
+            LineAnswer::Blank => {}
+            LineAnswer::Shown => write_text(&self.pool, self.answer, &mut self.text),
+            LineAnswer::Undefined => write_undef(&mut self.text),
+            LineAnswer::Refused(refusal) => write_refusal(&mut self.text, refusal),
         }
+        answer
     }
 
-    /// The value of a line that is a sum, which is the last answer then. Never inlined: a function
-    /// pays at its entry for the tokens of a line, and a blank line has none.
+    /// Answers a line that is not blank, but for the text. Never inlined: a function pays at its
+    /// entry for the tokens of a line, and a blank line has none.
     #[inline(never)]
-    fn sum(&mut self, line: &[u8]) -> Result<Rat, Refusal>
+    fn answer_line(&mut self, line: &[u8]) -> LineAnswer
         requires { length line.now ≤ 1024 → is_blank_line_of line.now ≡ false }
-        ensures sum { IsSum self.old.state line.now result self.new.state }
-        ensures counted { Counts (refusal_of_sum result) self.old self.new }
+        ensures leads { Leads self.old.state line.now result self.new.state }
+        ensures counted { Counts (refusal_of_pool result) self.old self.new }
         ensures text { self.new.text ≡ self.old.text }
     {
-        let tokens = read_sum(line)?;
-        match sum_in(&mut self.pool, &tokens) {
-            Ok(sum) => {
-                self.answer = replace(&mut self.pool, self.answer, sum);
-                Ok(sum)
+        let tokens = match read_line(line) {
+            Ok(tokens) => tokens,
+            Err(refusal) => return LineAnswer::Refused(refusal),
+        };
+        let begin = self.pool.used();
+        match evaluate(&mut self.pool, &tokens, &mut self.watch) {
+            Evaluation::Face(face) => {
+                drop_first(&mut self.pool, begin);
+                self.answer = face.id();
+                LineAnswer::Shown
             }
-            Err(refusal) => Err(refusal),
+            Evaluation::Undefined => LineAnswer::Undefined,
+            Evaluation::Refused(refusal) => LineAnswer::Refused(refusal),
         }
     }
 
@@ -119,6 +129,16 @@ impl Session {
     {
         self.answer
     }
+}
+
+/// The nodes before a place go.
+fn drop_first(pool: &mut Pool, begin: u32)
+    requires begin { (first others : List Node) × (pool.old.nodes ≡ first ++ others) × (begin ≡ used first) }
+    ensures dropped { (first others : List Node) → pool.old.nodes ≡ first ++ others → begin ≡ used first
+        → pool.new ≡ record pool.old { nodes = others } }
+    ensures pool { IsPool pool.new }
+{
+    pool.remove_block(0, begin);
 }
 
 #[cfg(test)]

@@ -43,11 +43,11 @@ fn lines_are_answered_in_any_pieces(rt: HostRuntime) -> Result<(), Fail> {
         (" \t\r\n\r\n\t", ""),
         (
             "1 + 2\n(1+2)+3\n((1))\n0.5+1\n1.0+2\n(1)(2)\n",
-            "3\n! form\n1\n! form\n3\n! form\n",
+            "3\n6\n1\n3/2\n3\n2\n",
         ),
         (
             "2×3\n1+\n+1\n1++1\n1a\n-1\nundef\n",
-            "! form\n! syntax\n! syntax\n! syntax\n! form\n! form\n! form\n",
+            "6\n! syntax\n! syntax\n! syntax\na\n-1\nundef\n",
         ),
         (
             ":pool\n\t :\n1→x\n1.\n2$3\n2+\nabcdefgh\n: $\n",
@@ -78,6 +78,44 @@ fn lines_are_answered_in_any_pieces(rt: HostRuntime) -> Result<(), Fail> {
     Ok(())
 }
 
+/// Each row is a session of its own.
+#[test]
+fn algebra_is_answered(rt: HostRuntime) -> Result<(), Fail> {
+    let rows = [
+        ("1/3+1/6", "1/2\n"),
+        ("√(8)+√(18)", "5×√(2)\n"),
+        ("1/(√(2)+√(3))", "-√(2)+√(3)\n"),
+        (
+            "x/x\n0^0\n1/0\n√(-1)\nx^2×x^-2\n√(0)",
+            "1\nundef\nundef\nundef\n1\n0\n",
+        ),
+        (
+            "2^126\n2^127\n2^-3\n-2^2\n2^3^2",
+            "85070591730234615865843651857942052864\n! overflow 2^127\n1/8\n-4\n512\n",
+        ),
+        ("√(200280098)", "10007×√(2)\n"),
+        ("1/(1+√(2)+√(3))", "1/(1+√(2)+√(3))\n"),
+        ("x+√(2)×x", "(1+√(2))×x\n"),
+        ("(-3+√(17))/4", "-3/4+√(17)/4\n"),
+        (
+            "(√(2)+√(3))^2\n√(2)×√(3)\n√(1/2)",
+            "5+2×√(6)\n√(6)\n√(2)/2\n",
+        ),
+        ("(x+√(2))^-1×(x+√(3))^-1", "1/((√(2)+x)×(√(3)+x))\n"),
+        (
+            "(x+1)-(x+1)\n(x×y)^2/x\n1/2x\n√(x)×√(x)\n2x(x+1)-2x^2",
+            "0\nx×y^2\n1/(2×x)\nx\n2×x×(1+x)-2×x^2\n",
+        ),
+        ("0.1+0.2\n2^(1/2)\n√(1+√(2))", "3/10\n2^(1/2)\n√(1+√(2))\n"),
+    ];
+    for (input, output) in rows {
+        let got = converse(rt.alloc(), &[], input.as_bytes(), 4096, 1000, &[])?;
+        assert_eq!(rt; got.status, 0, "{input:?}");
+        assert_eq!(rt; got.taken.as_slice(), output.as_bytes(), "{input:?}");
+    }
+    Ok(())
+}
+
 #[test]
 fn a_line_of_any_length_is_answered(rt: HostRuntime) -> Result<(), Fail> {
     let rows = [
@@ -89,7 +127,7 @@ fn a_line_of_any_length_is_answered(rt: HostRuntime) -> Result<(), Fail> {
         (" ", 1024, "\r", ""),
         (" ", 3000, "\r", "! long\n"),
         (" ", 3000, "1", "! long\n"),
-        ("-", 63, "1", "! form\n"),
+        ("-", 63, "1", "-1\n"),
         ("-", 64, "1", "! deep\n"),
         ("0", 1023, "7\r\n", "7\n"),
     ];
@@ -149,7 +187,7 @@ fn the_words_name_the_size_of_the_pool(rt: HostRuntime) -> Result<(), Fail> {
         (["--pool", "64"].as_slice(), "1+1", full),
         (&["--pool=64"], "1", full),
         (&["--pool", "104"], "1+1", full),
-        (&["--pool=104"], "9", "9\n"),
+        (&["--pool=128"], "9", "9\n"),
         (&["--pool=0064"], "1", full),
         (&["--pool", "00000000000000000064"], "1", full),
         (&["--pool=524280"], "1+1", "2\n"),

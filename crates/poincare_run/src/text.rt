@@ -1,121 +1,118 @@
+//! Texts of answers that are no trees.
 ghost use Rattle.std.specs.Prelude.{◌≡◌, ◌+◌, ◌≤◌, ◌++◌, [], length, pos, codes, Some};
 ghost use Rattle.std.specs.Fmt.{signed_decimal};
-ghost use Rattle.calc_terms.specs.Rat.{ratio_of};
+ghost use Rattle.calc_terms.specs.Rat.{ratio_of, value_of};
 ghost use Rattle.rational128.specs.Refusals.{operation_of};
+ghost use Rattle.line_text.specs.Content.{extended};
 ghost use Rattle.poincare_run.specs.Answers.{reply_of};
-ghost use Rattle.poincare_run.specs.Replies.{text_of, sign_of as sign_text};
+ghost use Rattle.poincare_run.specs.Replies.{denominator_text, operand_text, text_of, sign_of as sign_text};
 
 use crate::Refusal;
-use arrayvec::ArrayVec;
 use calc_terms::Rat;
 use itoa::Buffer;
+use line_text::Text;
 use rational128::Op;
-use std::marker::Model;
 
-/// The most bytes of a text.
-pub const TEXT_LIMIT: usize = 128;
-
-/// The text of an answer, in bytes that are taken once.
-#[derive(Drop)]
-pub struct Text {
-    bytes: ArrayVec<u8, TEXT_LIMIT>,
-}
-
-impl Model for Text {
-    ghost use Rattle.std.specs.Prelude.{List, ℕ};
-
-    ghost Value = { List ℕ };
-
-    ghost view = { λ t. t.bytes.items };
-}
-
-impl Text {
-    pub fn new() -> Text
-        ensures { result ≡ [] }
-    {
-        Text {
-            bytes: ArrayVec::new(),
-        }
-    }
-
-    pub fn clear(&mut self)
-        ensures { self.new ≡ [] }
-    {
-        self.bytes.clear();
-    }
-
-    pub fn push(&mut self, more: &[u8])
-        requires { length self.old + length more.now ≤ TEXT_LIMIT }
-        ensures { self.new ≡ self.old ++ more.now }
-    {
-        self.bytes.try_extend_from_slice(more).unwrap();
-    }
-
-    /// A number in decimal digits, with a minus sign where it is below zero: at most 40 bytes.
-    pub fn push_number(&mut self, number: i128)
-        requires { length self.old + 40 ≤ TEXT_LIMIT }
-        ensures value { self.new ≡ self.old ++ signed_decimal number }
-        ensures short { length self.new ≤ length self.old + 40 }
-    {
-        let mut digits = Buffer::new();
-        self.push(digits.format(number).as_bytes());
-    }
-
-    /// A word and the place of a byte.
-    fn push_place(&mut self, word: &[u8], at: u16)
-        requires { length self.old + length word.now + 40 ≤ TEXT_LIMIT }
-        ensures { self.new ≡ self.old ++ word.now ++ signed_decimal (pos at) }
-    {
-        self.push(word);
-        self.push_number(i128::from(at));
-    }
-
-    pub fn bytes(&self) -> &[u8]
-        ensures { result.now ≡ self.now }
-    {
-        self.bytes.as_slice()
-    }
-}
-
-/// The text of a whole number.
-pub fn write_number(text: &mut Text, number: Rat)
-    requires { text.old ≡ [] }
-    ensures { text.new ≡ signed_decimal (ratio_of number).num }
-{
-    text.push_number(number.num());
-}
-
-/// The text of a refusal; the operands of an overflow are whole numbers.
+/// Appends the text of a refusal: at most 256 bytes.
 #[tactic(auto, unfolding(crate::specs::Replies::text_of))]
 pub fn write_refusal(text: &mut Text, refusal: Refusal)
-    requires { text.old ≡ [] }
-    ensures { Some text.new ≡ text_of (reply_of refusal) }
+    requires empty { text.old.bytes ≡ [] }
+    requires room { 256 ≤ text.old.capacity }
+    ensures text { Some text.new.bytes ≡ text_of (reply_of refusal) }
+    ensures capacity { text.new.capacity ≡ text.old.capacity }
 {
     match refusal {
         Refusal::Long => text.push(b"! long"),
-        Refusal::Character { at } => text.push_place(b"! character ", at),
-        Refusal::Number { at } => text.push_place(b"! number ", at),
+        Refusal::Character { at } => push_place(text, b"! character ", at),
+        Refusal::Number { at } => push_place(text, b"! number ", at),
         Refusal::Syntax => text.push(b"! syntax"),
         Refusal::Deep => text.push(b"! deep"),
         Refusal::Form => text.push(b"! form"),
-        Refusal::Full { needed, free } => {
-            text.push(b"! full needed ");
-            text.push_number(i128::from(needed));
-            text.push(b" free ");
-            text.push_number(i128::from(free));
-        }
-        Refusal::Overflow { op, a, b } => write_overflow(text, op, a, b),
+        Refusal::Full { needed, free } => push_full(text, needed, free),
+        Refusal::Overflow { op, a, b } => push_overflow(text, op, a, b),
     }
 }
 
-fn write_overflow(text: &mut Text, op: Op, a: Rat, b: Rat)
-    requires { text.old ≡ [] }
-    ensures { text.new ≡ codes "! overflow " ++ (signed_decimal (ratio_of a).num ++ (sign_text (operation_of op) ++ signed_decimal (ratio_of b).num)) }
+/// Appends the text of an answer that is Undef.
+pub fn write_undef(text: &mut Text)
+    requires empty { text.old.bytes ≡ [] }
+    requires room { 256 ≤ text.old.capacity }
+    ensures text { text.new.bytes ≡ codes "undef" }
+    ensures capacity { text.new.capacity ≡ text.old.capacity }
+{
+    text.push(b"undef");
+}
+
+fn push_full(text: &mut Text, needed: u32, free: u32)
+    requires empty { text.old.bytes ≡ [] }
+    requires room { 256 ≤ text.old.capacity }
+    ensures { text.new ≡ extended text.old (codes "! full needed " ++ (signed_decimal (pos needed) ++ (codes " free " ++ signed_decimal (pos free)))) }
+{
+    text.push(b"! full needed ");
+    push_number(text, i128::from(needed));
+    text.push(b" free ");
+    push_number(text, i128::from(free));
+}
+
+fn push_overflow(text: &mut Text, op: Op, a: Rat, b: Rat)
+    requires empty { text.old.bytes ≡ [] }
+    requires room { 256 ≤ text.old.capacity }
+    ensures { text.new ≡ extended text.old (codes "! overflow " ++ (operand_text (value_of a) ++ (sign_text (operation_of op) ++ operand_text (value_of b)))) }
 {
     text.push(b"! overflow ");
-    text.push_number(a.num());
+    push_operand(text, a);
     text.push(sign_of(op));
-    text.push_number(b.num());
+    push_operand(text, b);
+}
+
+/// A word and the place of a byte.
+fn push_place(text: &mut Text, word: &[u8], at: u16)
+    requires { length text.old.bytes + length word.now + 40 ≤ text.old.capacity }
+    ensures { text.new ≡ extended text.old (word.now ++ signed_decimal (pos at)) }
+{
+    text.push(word);
+    push_number(text, i128::from(at));
+}
+
+/// A rational, without its denominator where that is 1: at most 81 bytes.
+fn push_operand(text: &mut Text, value: Rat)
+    requires { length text.old.bytes + 81 ≤ text.old.capacity }
+    ensures value { text.new ≡ extended text.old (operand_text (value_of value)) }
+    ensures short { length text.new.bytes ≤ length text.old.bytes + 81 }
+{
+    push_numerator(text, value);
+    push_denominator(text, value);
+}
+
+fn push_numerator(text: &mut Text, value: Rat)
+    requires { length text.old.bytes + 40 ≤ text.old.capacity }
+    ensures value { text.new ≡ extended text.old (signed_decimal (ratio_of value).num) }
+    ensures short { length text.new.bytes ≤ length text.old.bytes + 40 }
+{
+    push_number(text, value.num());
+}
+
+/// The denominator behind a slash, unless it is 1.
+fn push_denominator(text: &mut Text, value: Rat)
+    requires { length text.old.bytes + 41 ≤ text.old.capacity }
+    ensures value { text.new ≡ extended text.old (denominator_text (ratio_of value).den) }
+    ensures short { length text.new.bytes ≤ length text.old.bytes + 41 }
+{
+    if value.is_whole() {
+        return;
+    }
+    text.push(b"/");
+    push_number(text, value.den());
+}
+
+/// A number in decimal digits, with a minus sign where it is below zero: at most 40 bytes.
+fn push_number(text: &mut Text, number: i128)
+    requires { length text.old.bytes + 40 ≤ text.old.capacity }
+    ensures value { text.new ≡ extended text.old (signed_decimal number) }
+    ensures short { length text.new.bytes ≤ length text.old.bytes + 40 }
+{
+    let mut digits = Buffer::new();
+    text.push(digits.format(number).as_bytes());
 }
 
 fn sign_of(op: Op) -> &'static [u8]

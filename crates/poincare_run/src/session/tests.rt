@@ -1,7 +1,6 @@
 ghost use Rattle.node_pool.specs.State.{IsPoolSize};
 
 use super::*;
-use node_pool::Full;
 use std::test::Fail;
 
 /// The bytes of a pool with one number below 256 in it, written down by hand.
@@ -14,22 +13,21 @@ fn bytes_with(alloc: Global, size: u32, id: u8, number: u8) -> Result<Vec<u8>, A
     Ok(bytes)
 }
 
-/// A line, its text, and the identifier and the value of the last answer after it.
-type Row = (&'static str, &'static str, u8, u8);
-
-/// The first line in a pool of that many bytes that is not answered as its row says.
-fn wrong_line(alloc: Global, size: u32, rows: &[Row]) -> Result<Option<&'static str>, AllocError>
+/// The first of the lines that is not refused by its text, or whose refusal changes the pool of a new
+/// session.
+fn line_that_changes(
+    alloc: Global,
+    size: u32,
+    rows: &[(&'static str, &'static str)],
+) -> Result<Option<&'static str>, AllocError>
     requires { IsPoolSize size }
 {
     let mut session = Session::open(alloc, size)?;
-    if session.pool().bytes() != bytes_with(alloc, size, 0, 0)?.as_slice() {
-        return Ok(Some("the pool at first"));
-    }
-    for (line, text, id, number) in rows {
+    let bytes = bytes_with(alloc, size, 0, 0)?;
+    for (line, text) in rows {
         let _ = session.line(line.as_bytes());
-        let bytes = bytes_with(alloc, size, *id, *number)?;
         if session.text() != text.as_bytes()
-            || session.ans().value() != u16::from(*id)
+            || session.ans().value() != 0
             || session.pool().bytes() != bytes.as_slice()
         {
             return Ok(Some(*line));
@@ -39,72 +37,82 @@ fn wrong_line(alloc: Global, size: u32, rows: &[Row]) -> Result<Option<&'static 
 }
 
 #[test]
-fn each_line_leaves_one_number(rt: HostRuntime) -> Result<(), Fail> {
+fn what_is_not_shown_changes_nothing(rt: HostRuntime) -> Result<(), Fail> {
     let rows = [
-        ("1+1", "! full needed 40 free 24", 0, 0),
-        ("1", "! full needed 40 free 24", 0, 0),
-        (" \t", "", 0, 0),
+        ("1+1", "! full needed 40 free 24"),
+        ("x+1+1", "! full needed 40 free 8"),
+        (" \t", ""),
     ];
-    assert_eq!(rt; wrong_line(rt.alloc(), 64, &rows)?, None);
+    assert_eq!(rt; line_that_changes(rt.alloc(), 64, &rows)?, None);
     let rows = [
-        ("1+1", "! full needed 40 free 24", 0, 0),
-        ("9", "9", 1, 9),
-        ("1+1", "! full needed 40 free 24", 1, 9),
+        ("1/0", "undef"),
+        ("x×(1+0^0)", "undef"),
+        ("2^127", "! overflow 2^127"),
+        ("(1/3)^100", "! overflow 1/3^100"),
+        ("1→x", "! form"),
+        ("x+ans", "! form"),
+        (":pool", "! form"),
+        ("2+", "! syntax"),
     ];
-    assert_eq!(rt; wrong_line(rt.alloc(), 104, &rows)?, None);
-    let rows = [
-        ("200", "200", 1, 200),
-        ("1+1", "! full needed 8 free 0", 1, 200),
-        ("0+x", "! form", 1, 200),
-    ];
-    assert_eq!(rt; wrong_line(rt.alloc(), 120, &rows)?, None);
-    let rows = [
-        ("1+2+3", "6", 1, 6),
-        ("007", "7", 0, 7),
-        (
-            "1+170141183460469231731687303715884105727+5",
-            "! overflow 1+170141183460469231731687303715884105727",
-            0,
-            7,
-        ),
-        (
-            "170141183460469231731687303715884105728",
-            "! number 1",
-            0,
-            7,
-        ),
-        ("(1+(2))", "3", 1, 3),
-    ];
-    assert_eq!(rt; wrong_line(rt.alloc(), 32768, &rows)?, None);
+    assert_eq!(rt; line_that_changes(rt.alloc(), 32768, &rows)?, None);
     Ok(())
 }
 
-/// Three numbers and an Add are placed behind the first number.
 #[test]
-fn a_sum_is_answered_where_its_nodes_find_room(rt: HostRuntime) -> Result<(), Fail> {
-    for eights in 8..65 {
-        let size = eights * 8;
-        let mut session = Session::open(rt.alloc(), size)?;
-        let answer = session.line(b"1+2+3");
-        if size >= 168 {
-            assert!(rt; matches!(answer, LineAnswer::Shown), "{size} bytes");
-            let bytes = bytes_with(rt.alloc(), size, 1, 6)?;
-            assert_eq!(rt; session.pool().bytes(), bytes.as_slice(), "{size} bytes");
-            assert_eq!(rt; session.pool().refusals(), 0);
-            continue;
+fn each_line_leaves_its_face(rt: HostRuntime) -> Result<(), Fail> {
+    let mut session = Session::open(rt.alloc(), 32768)?;
+    let rows = [("1+2+3", 6), ("007", 7), ("-3+√(16)", 1), ("x/x", 1)];
+    for (line, number) in rows {
+        let answer = session.line(line.as_bytes());
+        assert!(rt; matches!(answer, LineAnswer::Shown), "{line:?}");
+        let id = u8::try_from(session.ans().value()).unwrap_or(u8::MAX);
+        let bytes = bytes_with(rt.alloc(), 32768, id, number)?;
+        assert_eq!(rt; session.pool().bytes(), bytes.as_slice(), "{line:?}");
+    }
+    let _ = session.line("1/2".as_bytes());
+    assert_eq!(rt; session.pool().nodes(), 3);
+    assert_eq!(rt; session.pool().used(), 88);
+    Ok(())
+}
+
+/// Whether a line is answered by its text in a pool of that size; else it lacks bytes, and changes
+/// nothing.
+fn is_answered(alloc: Global, size: u32, line: &str, text: &str) -> Result<Option<bool>, AllocError>
+    requires { IsPoolSize size }
+{
+    let mut session = Session::open(alloc, size)?;
+    match session.line(line.as_bytes()) {
+        LineAnswer::Shown if session.text() == text.as_bytes() => Ok(Some(true)),
+        LineAnswer::Refused(Refusal::Full { needed, free }) if needed > free => {
+            let bytes = bytes_with(alloc, size, 0, 0)?;
+            if session.pool().bytes() == bytes.as_slice() {
+                Ok(Some(false))
+            } else {
+                Ok(None)
+            }
         }
-        let (needed, free) = match size {
-            64..80 => (40, size - 40),
-            80..120 => (40, size - 80),
-            120..160 => (40, size - 120),
-            _ => (8, 0),
-        };
-        let text = format!(in rt.alloc(); "! full needed {needed} free {free}")?;
-        assert_eq!(rt; session.text(), text.as_bytes(), "{size} bytes");
-        let bytes = bytes_with(rt.alloc(), size, 0, 0)?;
-        assert_eq!(rt; session.pool().bytes(), bytes.as_slice(), "{size} bytes");
-        assert_eq!(rt; session.pool().refusals(), 1);
-        assert_eq!(rt; session.pool().last_refused(), Full { needed, free });
+        _ => Ok(None),
+    }
+}
+
+#[test]
+fn a_line_lacks_bytes_or_is_answered(rt: HostRuntime) -> Result<(), Fail> {
+    let rows = [
+        ("1/3+1/6", "1/2"),
+        ("√(8)+√(18)", "5×√(2)"),
+        ("1/(√(2)+√(3))", "-√(2)+√(3)"),
+        ("(x×y)^2/x", "x×y^2"),
+        ("-a-b", "-a-b"),
+    ];
+    for (line, text) in rows {
+        let mut answered = false;
+        for eights in 8..256 {
+            match is_answered(rt.alloc(), eights * 8, line, text)? {
+                Some(is) => answered = is,
+                None => assert!(rt; false, "{line:?} in {eights} times 8 bytes"),
+            }
+        }
+        assert!(rt; answered, "{line:?}");
     }
     Ok(())
 }

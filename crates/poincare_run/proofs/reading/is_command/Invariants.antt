@@ -1,5 +1,5 @@
 use Rattle.std.proofs.Common.{◌≡◌, drop}
-use Rattle.poincare_run.specs.Replies.{is_command}
+use Rattle.poincare_run.specs.Reading.{is_command}
 use Rattle.poincare_run.proofs.reading.is_command.Given as goal
 
 abbrev pub invariant-loop-byte : goal.invariant-loop-byte

@@ -1,7 +1,7 @@
 use Rattle.std.proofs.Common.{subst}
 use Rattle.calc_tokens.specs.Placed.{bare}
 use Rattle.calc_parser.specs.Outcomes.{IsFaultOf}
-use Rattle.poincare_run.specs.Replies.{is_no_line, is_too_deep}
+use Rattle.poincare_run.specs.Reading.{is_no_line, is_too_deep}
 use Rattle.poincare_run.proofs.reading.line_refusal.Goals as goal
 
 pub returns-in-Syntax-clause-refused : goal.returns-in-Syntax-clause-refused

@@ -1,6 +1,6 @@
 use Rattle.std.proofs.Common.{subst}
 use Rattle.calc_tokens.specs.Faults.{IsFaultOf}
-use Rattle.poincare_run.specs.Replies.{has_no_token, has_a_wide_number}
+use Rattle.poincare_run.specs.Reading.{has_no_token, has_a_wide_number}
 use Rattle.poincare_run.proofs.reading.token_refusal.Goals as goal
 
 pub returns-in-Character-clause-refused : goal.returns-in-Character-clause-refused

@@ -1,0 +1,116 @@
+#!/usr/bin/env python3
+"""Times a session of 1,750 lines of eight kinds: this program, and beside it what is installed of GiNaC's ginsh, maxima,
+giac and Python's sympy, each asked to clear roots from divisors and to join like roots.
+
+    bench/session/run.py [RUNS]
+
+Each program reads all lines from its standard input in a process of its own. A wall time is the least of RUNS runs
+(3), starting up included; the ratio is that time over this program's; the memory is the most that a run of its own held
+of pages, as the system counts it while the program runs.
+"""
+import os
+import shutil
+import subprocess
+import sys
+import tempfile
+import time
+
+TOP = os.path.join(os.path.dirname(os.path.abspath(__file__)), "..", "..")
+
+# The lines of each eight, by their place from 1 on. The seventh would be a store and is left out.
+KINDS = {
+    1: "{a}/{b}+{b}/{a}",
+    2: "√({a})+√({b})",
+    3: "1/(√({a})+√({b}))",
+    4: "({a}+√({b}))^3",
+    5: "{a}×x+{b}×x-√({a})×x",
+    6: "(x+{a})^2/(x+{b})",
+    0: "y×√({b})+x",
+}
+
+SYMPY = """
+import sys
+import sympy
+names = {name: sympy.Symbol(name) for name in "xy"}
+for line in sys.stdin:
+    print(sympy.radsimp(sympy.expand(sympy.sympify(line, locals=names))))
+"""
+
+
+def lines(count):
+    """The generated lines: two small numbers, drawn by a linear congruence, in each of the eight forms in turn."""
+    state = 1
+    for place in range(1, count + 1):
+        state = (75 * state + 74) % 65537
+        form = KINDS.get(place % 8)
+        if form:
+            yield form.format(a=state % 97 + 1, b=state // 97 % 89 + 1)
+
+
+def plain(line):
+    return line.replace("√", "sqrt").replace("×", "*")
+
+
+def programs():
+    """Each program with its words and its input."""
+    session = list(lines(2000))
+    ascii_lines = [plain(line) for line in session]
+    subprocess.run([os.path.join(TOP, "poincare")], stdin=subprocess.DEVNULL, check=True)
+    yield "poincare", [os.path.join(TOP, "crates", "poincare", "out", "poincare")], session
+    if shutil.which("ginsh"):
+        yield "ginsh", ["ginsh"], [f"normal({line});" for line in ascii_lines]
+    if shutil.which("maxima"):
+        yield "maxima", ["maxima", "--very-quiet"], ["algebraic:true$", "display2d:false$"] + [
+            f"ratsimp({line});" for line in ascii_lines
+        ]
+    if shutil.which("giac"):
+        yield "giac", ["giac"], [f"normal({line});" for line in ascii_lines]
+    try:
+        import sympy  # noqa: F401
+    except ImportError:
+        return
+    yield "sympy", [sys.executable, "-c", SYMPY], [line.replace("^", "**") for line in ascii_lines]
+
+
+def started(command, text):
+    """A process over the lines, whose answers go nowhere."""
+    source = tempfile.TemporaryFile()
+    source.write(text.encode())
+    source.seek(0)
+    return subprocess.Popen(command, stdin=source, stdout=subprocess.DEVNULL, stderr=subprocess.DEVNULL)
+
+
+def seconds_of(command, text):
+    begin = time.monotonic()
+    if started(command, text).wait() != 0:
+        print(f"{command[0]} did not end well", file=sys.stderr)
+    return time.monotonic() - begin
+
+
+def kilobytes_of(command, text):
+    """The greatest resident size, read again and again until the process has ended."""
+    process, most = started(command, text), 0
+    while process.poll() is None:
+        try:
+            with open(f"/proc/{process.pid}/status") as status:
+                sizes = [line.split()[1] for line in status if line.startswith("VmHWM")]
+        except OSError:
+            break
+        most = max([most, *map(int, sizes)])
+    process.wait()
+    return most
+
+
+def main():
+    runs = int(sys.argv[1]) if len(sys.argv) > 1 else 3
+    own = None
+    print(f"{'program':10} {'seconds':>9} {'ratio':>8} {'memory/KB':>10}")
+    for name, command, session in programs():
+        text = "\n".join(session) + "\n"
+        seconds = min(seconds_of(command, text) for _ in range(runs))
+        own = own or seconds
+        memory = kilobytes_of(command, text)
+        print(f"{name:10} {seconds:9.4f} {seconds / own:8.1f} {memory:10}")
+
+
+main()

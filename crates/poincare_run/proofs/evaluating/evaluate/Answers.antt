@@ -1,0 +1,50 @@
+use Rattle.std.proofs.Common.{None}
+use Rattle.poincare_run.specs.Answers.{reply_of}
+use Rattle.poincare_run.specs.Replies.{refusal_in}
+use Rattle.poincare_run.proofs.PoolLemmas.{IsRolledBack, behind_nodes, rolled_back}
+use Rattle.poincare_run.proofs.evaluating.evaluate.Goals as goal
+use Rattle.poincare_run.proofs.evaluating.evaluate.Goals.{After-roll_back, After-roll_back-in-Refused}
+
+pub roll_back-requires : goal.roll_back-requires
+roll_back-requires c =
+    let (placed, is) = behind_nodes c.args.pool.now c.build_and_reduce.new.pool c.requires.stands c.build_and_reduce.ensures.stands c.build_and_reduce.ensures.front in
+    record { begin = (c.args.pool.now.nodes, placed, is, c.used-begin.ensures.value) }
+
+pub roll_back-requires-in-Refused : goal.roll_back-requires-in-Refused
+roll_back-requires-in-Refused c =
+    let (placed, is) = behind_nodes c.args.pool.now c.build_and_reduce.new.pool c.requires.stands c.build_and_reduce.ensures.stands c.build_and_reduce.ensures.front in
+    record { begin = (c.args.pool.now.nodes, placed, is, c.used-begin.ensures.value) }
+
+undefined_back : (c : After-roll_back) → IsRolledBack None c.args.pool.now c.roll_back.new.pool
+undefined_back c =
+    rolled_back None c.args.pool.now c.build_and_reduce.new.pool c.roll_back.new.pool c.used-begin.result c.requires.stands c.build_and_reduce.ensures.stands c.build_and_reduce.ensures.front c.in-Undefined.ensures.counted c.used-begin.ensures.value
+    c.roll_back.ensures.rolled_back c.roll_back.ensures.pool
+
+refused_back : (c : After-roll_back-in-Refused) → IsRolledBack (refusal_in (reply_of c.in-Refused.refusal)) c.args.pool.now c.roll_back-in-Refused.new.pool
+refused_back c =
+    rolled_back (refusal_in (reply_of c.in-Refused.refusal)) c.args.pool.now c.build_and_reduce.new.pool c.roll_back-in-Refused.new.pool c.used-begin.result c.requires.stands c.build_and_reduce.ensures.stands c.build_and_reduce.ensures.front c.in-Refused.ensures.counted
+    c.used-begin.ensures.value c.roll_back-in-Refused.ensures.rolled_back c.roll_back-in-Refused.ensures.pool
+
+pub returns-in-Undefined-clause-counted : goal.returns-in-Undefined-clause-counted
+returns-in-Undefined-clause-counted c = (undefined_back (goal.at.returns-in-Undefined-clause-counted c).After-roll_back).counted
+
+pub returns-in-Undefined-clause-as_before : goal.returns-in-Undefined-clause-as_before
+returns-in-Undefined-clause-as_before c = (undefined_back (goal.at.returns-in-Undefined-clause-as_before c).After-roll_back).as_before
+
+pub returns-in-Undefined-clause-front : goal.returns-in-Undefined-clause-front
+returns-in-Undefined-clause-front c = (undefined_back (goal.at.returns-in-Undefined-clause-front c).After-roll_back).front
+
+pub returns-in-Undefined-clause-stands : goal.returns-in-Undefined-clause-stands
+returns-in-Undefined-clause-stands c = (undefined_back (goal.at.returns-in-Undefined-clause-stands c).After-roll_back).stands
+
+pub returns-in-Refused-clause-counted : goal.returns-in-Refused-clause-counted
+returns-in-Refused-clause-counted c = (refused_back (goal.at.returns-in-Refused-clause-counted c).After-roll_back-in-Refused).counted
+
+pub returns-in-Refused-clause-as_before : goal.returns-in-Refused-clause-as_before
+returns-in-Refused-clause-as_before c = (refused_back (goal.at.returns-in-Refused-clause-as_before c).After-roll_back-in-Refused).as_before
+
+pub returns-in-Refused-clause-front : goal.returns-in-Refused-clause-front
+returns-in-Refused-clause-front c = (refused_back (goal.at.returns-in-Refused-clause-front c).After-roll_back-in-Refused).front
+
+pub returns-in-Refused-clause-stands : goal.returns-in-Refused-clause-stands
+returns-in-Refused-clause-stands c = (refused_back (goal.at.returns-in-Refused-clause-stands c).After-roll_back-in-Refused).stands
