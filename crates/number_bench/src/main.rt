@@ -13,7 +13,7 @@ use node_pool::Pool;
 use number_forms::{Inverse, add_numbers, invert_number, multiply_numbers, place_term};
 use std::rt::Clock;
 use std::time::Instant;
-use std::{env, io};
+use std::{env, fmt, io};
 use surd_terms::square_root;
 use tree_handles::{Handle, NumberFault, number, release};
 
@@ -45,8 +45,23 @@ impl Times {
         }
     }
 
-    fn per_second(&self) -> u128 {
-        self.calls.saturating_mul(1_000_000_000) / self.nanos.max(1)
+    fn per_second(&self) -> Rate {
+        Rate {
+            thousandths: self.calls.saturating_mul(1_000_000_000_000) / self.nanos.max(1),
+        }
+    }
+}
+
+/// Calls a second, in thousandths, so that calls of many seconds show too.
+#[derive(Drop)]
+struct Rate {
+    thousandths: u128,
+}
+
+impl fmt::Display for Rate {
+    fn fmt<W: fmt::Write>(&self, f: &mut fmt::Formatter<W>) -> fmt::Result {
+        let (whole, decimals) = (self.thousandths / 1000, self.thousandths % 1000);
+        write!(f, "{whole}.{decimals:03}")
     }
 }
 

@@ -16,3 +16,4 @@ pub mod Pairs
 pub mod Room
 pub mod Rising
 pub mod Recognized
+pub mod SquareFreeSums

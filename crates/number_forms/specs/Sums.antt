@@ -33,6 +33,10 @@ pub record IsPlace (n r : ℕ) (ts : Trees) : Type 0 where
   pub below : (k : ℕ) → k < n → (term_of (nth k ts)).radicand < r
   pub above : n < count ts → r ≤ (term_of (nth n ts)).radicand
 
+-- the radicand of each of the terms is below b
+abbrev pub AreBelow : ℕ → Trees → Type 0
+AreBelow b ts = (k : ℕ) → k < count ts → (term_of (nth k ts)).radicand < b
+
 -- the trees from a place on, counted from 0
 abbrev pub trees_from : ℕ → Trees → Trees
 trees_from zero ts = ts

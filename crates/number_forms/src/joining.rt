@@ -1,13 +1,13 @@
 //! Terms joined to a sum of terms that stands last.
-ghost use Rattle.std.specs.Prelude.{◌≡◌, ◌<◌, ◌∷◌, [], IfOk, IfErr, OnOk};
-ghost use Rattle.calc_terms.specs.Numbers.{value};
+ghost use Rattle.std.specs.Prelude.{◌≡◌, ◌<◌, ◌≤◌, ◌-◌, ◌^◌, ◌∷◌, [], IsTrue, IfOk, IfErr, OnOk};
+ghost use Rattle.calc_terms.specs.Numbers.{value, term_of as term_of_tree};
 ghost use Rattle.calc_terms.specs.Trees.{add, count};
-ghost use Rattle.number_forms.specs.Sums.{IsSum, IsSumOf, IsApart, IsPlace, removed};
+ghost use Rattle.number_forms.specs.Sums.{IsSum, IsSumOf, IsApart, IsPlace, AreBelow, removed};
 ghost use Rattle.number_forms.specs.Joins.{IsMatch};
 ghost use Rattle.reduce_port.specs.Causes.{LacksBytes, IsCaused, Overflows};
 ghost use Rattle.reduce_port.specs.Rewritings.{tree_of};
 ghost use Rattle.surd_terms.specs.Terms.{term_of};
-ghost use Rattle.tree_handles.specs.Expressions.{children_of, plain, IsExpression};
+ghost use Rattle.tree_handles.specs.Expressions.{children_of, nth, plain, IsExpression};
 ghost use Rattle.tree_handles.specs.Faults.{Faults};
 ghost use Rattle.tree_handles.specs.Handed.{Gives, KeepsFront};
 ghost use Rattle.tree_handles.specs.Inside.{tree_at};
@@ -21,10 +21,14 @@ use rational128::Overflow;
 use surd_terms::{Joined, Term, join};
 use tree_handles::{Handle, NumberFault, add_child, child_id, children, release, take_child};
 
-/// A term of a sum that is alike with another term, and what the two make.
+/// A clean number below this one is square-free, so that each class has one.
+const SQUARE_FREE_BELOW: u128 = 1_000_000_000_000;
+
+/// How a term meets a sum: apart from all of its terms, with its place among them; or alike with the one at a
+/// place, and what the two make.
 #[derive(Clone, Copy)]
 enum Match {
-    None,
+    Apart(u16),
     Zero(u16),
     Term(u16, Term),
 }
@@ -41,18 +45,72 @@ pub(crate) fn join_term(pool: &mut Pool, sum: &Handle, term: Term) -> Result<(),
     ensures stands { Stands pool.new }
 {
     match match_in(pool, sum.id(), term)? {
-        Match::None => insert(pool, sum, term)?,
+        Match::Apart(at) => insert(pool, sum, at, term)?,
         Match::Zero(at) => remove(pool, sum, at),
         Match::Term(at, joined) => {
             remove(pool, sum, at);
-            insert(pool, sum, joined)?;
+            let place = place_near(pool, sum.id(), at, joined.radicand());
+            insert(pool, sum, place, joined)?;
         }
     }
     Ok(())
 }
 
-/// The term of a sum that is alike with a term, if there is one.
+/// How a term meets a sum.
 fn match_in(pool: &Pool, sum: Id, term: Term) -> Result<Match, Overflow>
+    requires stands { Stands pool.now }
+    requires expression { IsExpression sum (forest pool.now) }
+    requires sum { IsSum (plain (tree_at sum (forest pool.now))) }
+    ensures ok { IfOk result (IsMatch (term_of term) (children_of (plain (tree_at sum (forest pool.now))))) }
+    ensures caused { IfErr result Overflows }
+{
+    if term.radicand() < SQUARE_FREE_BELOW && are_square_free(pool, sum) {
+        match_at_place(pool, sum, term)
+    } else {
+        match_anywhere(pool, sum, term)
+    }
+}
+
+/// Whether each radicand of a sum is below the number below which clean ones are square-free: the
+/// last one is the greatest.
+fn are_square_free(pool: &Pool, sum: Id) -> bool
+    requires stands { Stands pool.now }
+    requires expression { IsExpression sum (forest pool.now) }
+    requires sum { IsSum (plain (tree_at sum (forest pool.now))) }
+    ensures { IsTrue result → AreBelow (10 ^ 12) (children_of (plain (tree_at sum (forest pool.now)))) }
+{
+    let many = children(pool, sum);
+    if many == 0 {
+        return true;
+    }
+    radicand_at(pool, sum, many - 1) < SQUARE_FREE_BELOW
+}
+
+/// The same where all radicands are square-free, so that only an equal one is alike.
+fn match_at_place(pool: &Pool, sum: Id, term: Term) -> Result<Match, Overflow>
+    requires stands { Stands pool.now }
+    requires expression { IsExpression sum (forest pool.now) }
+    requires sum { IsSum (plain (tree_at sum (forest pool.now))) }
+    requires term_below { (term_of term).radicand < 10 ^ 12 }
+    requires sum_below { AreBelow (10 ^ 12) (children_of (plain (tree_at sum (forest pool.now)))) }
+    ensures ok { IfOk result (IsMatch (term_of term) (children_of (plain (tree_at sum (forest pool.now))))) }
+    ensures caused { IfErr result Overflows }
+{
+    let at = place_of(pool, sum, term.radicand());
+    if at == children(pool, sum) {
+        return Ok(Match::Apart(at));
+    }
+    let other = term_at(pool, child_id(pool, sum, at));
+    let joined = join(other, term)?;
+    match joined {
+        Joined::Apart => Ok(Match::Apart(at)),
+        Joined::Zero => Ok(Match::Zero(at)),
+        Joined::Term(one) => Ok(Match::Term(at, one)),
+    }
+}
+
+/// The same for any radicands.
+fn match_anywhere(pool: &Pool, sum: Id, term: Term) -> Result<Match, Overflow>
     requires stands { Stands pool.now }
     requires expression { IsExpression sum (forest pool.now) }
     requires sum { IsSum (plain (tree_at sum (forest pool.now))) }
@@ -67,14 +125,16 @@ fn match_in(pool: &Pool, sum: Id, term: Term) -> Result<Match, Overflow>
             Joined::Term(joined) => return Ok(Match::Term(at, joined)),
         }
     }
-    Ok(Match::None)
+    let at = place_of(pool, sum, term.radicand());
+    Ok(Match::Apart(at))
 }
 
-/// Puts a term into a sum, in which none is alike with it.
-fn insert(pool: &mut Pool, sum: &Handle, term: Term) -> Result<(), Full>
+/// Puts a term into a sum at its place, where none is alike with it.
+fn insert(pool: &mut Pool, sum: &Handle, at: u16, term: Term) -> Result<(), Full>
     requires stands { Stands pool.old }
     requires sum { Gives (without_root sum.now (forest pool.old)) (forest pool.old) sum.now IsSum }
     requires apart { IsApart (term_of term).radicand (value (tree_of sum.now pool.old)) }
+    requires place { IsPlace at (term_of term).radicand (children_of (tree_of sum.now pool.old)) }
     ensures ok { OnOk result (Gives (without_root sum.now (forest pool.old)) (forest pool.new) sum.now (IsSumOf (term_of term ∷ value (tree_of sum.now pool.old)))) }
     ensures front { KeepsFront (sum.now ∷ []) (forest pool.old) (forest pool.new) }
     ensures kept { OnOk result (KeepsRefusals pool.old pool.new) }
@@ -82,10 +142,67 @@ fn insert(pool: &mut Pool, sum: &Handle, term: Term) -> Result<(), Full>
     ensures caused { IfErr result (LacksBytes pool.new) }
     ensures stands { Stands pool.new }
 {
-    let at = place_of(pool, sum.id(), term.radicand());
     let child = place_term(pool, term)?;
     add_child(pool, sum, at, child);
     Ok(())
+}
+
+/// The place of a radicand among those of a sum, where one is given that may be it.
+fn place_near(pool: &Pool, sum: Id, at: u16, radicand: u128) -> u16
+    requires stands { Stands pool.now }
+    requires expression { IsExpression sum (forest pool.now) }
+    requires sum { IsSum (plain (tree_at sum (forest pool.now))) }
+    ensures { IsPlace result radicand (children_of (plain (tree_at sum (forest pool.now)))) }
+{
+    if is_place(pool, sum, at, radicand) {
+        at
+    } else {
+        place_of(pool, sum, radicand)
+    }
+}
+
+/// Whether a place is that of a radicand: the one before is below it, and the one there is not.
+fn is_place(pool: &Pool, sum: Id, at: u16, radicand: u128) -> bool
+    requires stands { Stands pool.now }
+    requires expression { IsExpression sum (forest pool.now) }
+    requires sum { IsSum (plain (tree_at sum (forest pool.now))) }
+    ensures { IsTrue result → IsPlace at radicand (children_of (plain (tree_at sum (forest pool.now)))) }
+{
+    if children(pool, sum) < at {
+        return false;
+    }
+    if !is_above_before(pool, sum, at, radicand) {
+        return false;
+    }
+    is_at_most_there(pool, sum, at, radicand)
+}
+
+/// Whether a radicand is above that of the term before a place, if there is one.
+fn is_above_before(pool: &Pool, sum: Id, at: u16, radicand: u128) -> bool
+    requires stands { Stands pool.now }
+    requires expression { IsExpression sum (forest pool.now) }
+    requires sum { IsSum (plain (tree_at sum (forest pool.now))) }
+    requires within { at ≤ count (children_of (plain (tree_at sum (forest pool.now)))) }
+    ensures { IsTrue result → 0 < at → (term_of_tree (nth (at - 1) (children_of (plain (tree_at sum (forest pool.now)))))).radicand < radicand }
+{
+    if at == 0 {
+        return true;
+    }
+    radicand_at(pool, sum, at - 1) < radicand
+}
+
+/// Whether a radicand is at most that of the term at a place, if there is one.
+fn is_at_most_there(pool: &Pool, sum: Id, at: u16, radicand: u128) -> bool
+    requires stands { Stands pool.now }
+    requires expression { IsExpression sum (forest pool.now) }
+    requires sum { IsSum (plain (tree_at sum (forest pool.now))) }
+    requires within { at ≤ count (children_of (plain (tree_at sum (forest pool.now)))) }
+    ensures { IsTrue result → at < count (children_of (plain (tree_at sum (forest pool.now)))) → radicand ≤ (term_of_tree (nth at (children_of (plain (tree_at sum (forest pool.now)))))).radicand }
+{
+    if at == children(pool, sum) {
+        return true;
+    }
+    radicand <= radicand_at(pool, sum, at)
 }
 
 /// The place of a radicand among those of a sum.
@@ -95,13 +212,28 @@ fn place_of(pool: &Pool, sum: Id, radicand: u128) -> u16
     requires sum { IsSum (plain (tree_at sum (forest pool.now))) }
     ensures { IsPlace result radicand (children_of (plain (tree_at sum (forest pool.now)))) }
 {
-    let many = children(pool, sum);
-    for at in 0..many {
-        if radicand <= term_at(pool, child_id(pool, sum, at)).radicand() {
-            return at;
+    let mut low = 0;
+    let mut high = children(pool, sum);
+    while low < high {
+        let mid = low + (high - low) / 2;
+        if radicand_at(pool, sum, mid) < radicand {
+            low = mid + 1;
+        } else {
+            high = mid;
         }
     }
-    many
+    low
+}
+
+/// The radicand of a term of a sum.
+fn radicand_at(pool: &Pool, sum: Id, at: u16) -> u128
+    requires stands { Stands pool.now }
+    requires expression { IsExpression sum (forest pool.now) }
+    requires sum { IsSum (plain (tree_at sum (forest pool.now))) }
+    requires within { at < count (children_of (plain (tree_at sum (forest pool.now)))) }
+    ensures { result ≡ (term_of_tree (nth at (children_of (plain (tree_at sum (forest pool.now)))))).radicand }
+{
+    term_at(pool, child_id(pool, sum, at)).radicand()
 }
 
 /// Takes a term out of a sum.

@@ -83,6 +83,40 @@ const SUMS: [[Rows; 3]; 14] = [
     ],
 ];
 
+/// Sums with radicands from 10^12 on: 10007^2 * 10009 is clean, and alike with 10009.
+const SUMS_OF_LARGE_RADICANDS: [[Rows; 3]; 6] = [
+    [
+        [[1, 1, 10009], [0, 1, 1], [0, 1, 1]],
+        [[1, 1, 1002301750441], [0, 1, 1], [0, 1, 1]],
+        [[10008, 1, 10009], [0, 1, 1], [0, 1, 1]],
+    ],
+    [
+        [[1, 1, 2], [1, 1, 1002301750441], [0, 1, 1]],
+        [[1, 1, 10009], [0, 1, 1], [0, 1, 1]],
+        [[1, 1, 2], [10008, 1, 10009], [0, 1, 1]],
+    ],
+    [
+        [[1, 1, 3], [2, 1, 1002301750441], [0, 1, 1]],
+        [[1, 1, 2], [0, 1, 1], [0, 1, 1]],
+        [[1, 1, 2], [1, 1, 3], [2, 1, 1002301750441]],
+    ],
+    [
+        [[1, 1, 7], [-10007, 1, 10009], [0, 1, 1]],
+        [[1, 1, 1002301750441], [0, 1, 1], [0, 1, 1]],
+        [[1, 1, 7], [0, 1, 1], [0, 1, 1]],
+    ],
+    [
+        [[1, 2, 10009], [0, 1, 1], [0, 1, 1]],
+        [[1, 1, 2], [-1, 10007, 1002301750441], [0, 1, 1]],
+        [[1, 1, 2], [-1, 2, 10009], [0, 1, 1]],
+    ],
+    [
+        [[1, 1, 1], [1, 1, 1002301750441], [0, 1, 1]],
+        [[-1, 1, 1], [1, 1, 1002301750441], [0, 1, 1]],
+        [[2, 1, 1002301750441], [0, 1, 1], [0, 1, 1]],
+    ],
+];
+
 const PRODUCTS: [[Rows; 3]; 14] = [
     [
         [[1, 1, 2], [1, 1, 3], [0, 1, 1]],
@@ -292,6 +326,16 @@ fn product_of(pool: &mut Pool, a: &Rows, b: &Rows) -> Result<Handle, NumberFault
 #[test]
 fn sums(rt: HostRuntime) -> Result<(), Fail> {
     for [a, b, sum] in &SUMS {
+        let mut pool = opened(rt.alloc(), 4096)?;
+        let answer = sum_of(&mut pool, a, b)?;
+        assert!(rt; has_terms(&pool, &answer, sum), "{sum:?}");
+    }
+    Ok(())
+}
+
+#[test]
+fn sums_of_large_radicands(rt: HostRuntime) -> Result<(), Fail> {
+    for [a, b, sum] in &SUMS_OF_LARGE_RADICANDS {
         let mut pool = opened(rt.alloc(), 4096)?;
         let answer = sum_of(&mut pool, a, b)?;
         assert!(rt; has_terms(&pool, &answer, sum), "{sum:?}");

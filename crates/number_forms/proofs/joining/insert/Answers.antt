@@ -1,6 +1,6 @@
 use Rattle.std.proofs.Common.{ap, arith}
 use Rattle.calc_terms.specs.Trees.{count}
-use Rattle.number_forms.proofs.SumChanges.{read_expression, read_sum, read_place, many_kids, inserted_sum}
+use Rattle.number_forms.proofs.SumChanges.{many_kids, inserted_sum}
 use Rattle.surd_terms.specs.Terms.{term_of}
 use Rattle.tree_handles.specs.Expressions.{plain, children_of}
 use Rattle.tree_handles.specs.Forest.{Forest}
@@ -11,12 +11,6 @@ use Rattle.tree_handles.proofs.Outcomes.{eqb-sym}
 use Rattle.tree_handles.proofs.Roots.{root_held}
 use Rattle.number_forms.proofs.joining.insert.Goals as goal
 
-pub place_of-at-requires-clause-expression : goal.place_of-at-requires-clause-expression
-place_of-at-requires-clause-expression c = read_expression _ _ c.args.pool.now c.id.ensures c.requires.stands (given_handed c.requires.sum)
-
-pub place_of-at-requires-clause-sum : goal.place_of-at-requires-clause-sum
-place_of-at-requires-clause-sum c = read_sum _ _ c.args.pool.now c.id.ensures c.requires.stands c.requires.sum
-
 pub add_child-requires-clause-live : goal.add_child-requires-clause-live
 add_child-requires-clause-live c = root_held c.args.sum.now _ (given_other c.in_ok-child.ensures.ok (given_handed c.requires.sum)).root
 
@@ -25,8 +19,7 @@ add_child-requires-clause-within c =
     let handed = given_other c.in_ok-child.ensures.ok (given_handed c.requires.sum) in
     let many = many_kids c.args.sum.now c.place_term.new.pool c.in_ok-child.ensures.stands handed in
     let same = ap (λ (f : Forest). count (children_of (plain f))) (given_same c.args.sum.now c.in_ok-child.ensures.ok (given_root c.requires.sum)) in
-    let place = read_place _ c.args.sum.now c.place_of-at.result _ _ c.args.pool.now c.id.ensures c.requires.stands (given_root c.requires.sum) c.radicand.ensures.value c.place_of-at.ensures in
-    omega (arith, place.within, many, same)
+    omega (arith, c.requires.place.within, many, same)
 
 pub add_child-requires-clause-root : goal.add_child-requires-clause-root
 add_child-requires-clause-root c = given_root c.in_ok-child.ensures.ok
@@ -40,8 +33,7 @@ add_child-requires-clause-apart c =
 pub returns-clause-ok : goal.returns-clause-ok
 returns-clause-ok c =
     let child = c.in_ok-child.ensures.ok in
-    let place = read_place _ c.args.sum.now c.place_of-at.result _ _ c.args.pool.now c.id.ensures c.requires.stands (given_root c.requires.sum) c.radicand.ensures.value c.place_of-at.ensures in
-    inserted_sum (term_of c.args.term) c.requires.sum child c.args.term.positive c.requires.apart place (c.add_child.ensures.root (given_other child (given_handed c.requires.sum)).root)
+    inserted_sum (term_of c.args.term) c.requires.sum child c.args.term.positive c.requires.apart c.requires.place (c.add_child.ensures.root (given_other child (given_handed c.requires.sum)).root)
 
 pub returns-clause-front : goal.returns-clause-front
 returns-clause-front c =

@@ -1,7 +1,7 @@
 use Rattle.std.proofs.Common.{◌≡◌, sym, subst, refl}
 use Rattle.calc_terms.specs.Trees.{Tree}
 use Rattle.number_forms.specs.Sums.{IsSum, IsApart}
-use Rattle.number_forms.proofs.SumChanges.{same_plain, read_expression, read_sum, sum_value, removed_is_sum, cancelled, made_one, matched, apart_rest}
+use Rattle.number_forms.proofs.SumChanges.{same_plain, read_expression, read_sum, read_place, sum_value, removed_is_sum, cancelled, made_one, matched, apart_rest}
 use Rattle.reduce_port.specs.Rewritings.{tree_of}
 use Rattle.surd_terms.specs.Terms.{term_of}
 use Rattle.tree_handles.proofs.Fronts.{behind_first, front_after_one}
@@ -18,17 +18,34 @@ pub insert-requires-clause-apart : goal.insert-requires-clause-apart
 insert-requires-clause-apart c =
     let sum : Tree = tree_of c.args.sum.now c.args.pool.now in
     let same = same_plain _ c.args.sum.now c.args.pool.now c.id.ensures c.requires.stands (given_root c.requires.sum) in
-    subst (IsApart (term_of c.args.term).radicand) (sym (sum_value sum (given_told c.requires.sum))) (matched (term_of c.args.term) _ sum _ _ same c.in-None.is c.in_ok-match_in.ensures.ok)
+    subst (IsApart (term_of c.args.term).radicand) (sym (sum_value sum (given_told c.requires.sum))) (matched (term_of c.args.term) _ sum _ _ same c.in-Apart.is c.in_ok-at.ensures.ok).0
+
+pub insert-requires-clause-place : goal.insert-requires-clause-place
+insert-requires-clause-place c =
+    let same = same_plain _ c.args.sum.now c.args.pool.now c.id.ensures c.requires.stands (given_root c.requires.sum) in
+    (matched (term_of c.args.term) _ (tree_of c.args.sum.now c.args.pool.now) _ _ same c.in-Apart.is c.in_ok-at.ensures.ok).1
 
 pub remove-requires-clause-within : goal.remove-requires-clause-within
 remove-requires-clause-within c =
     let same = same_plain _ c.args.sum.now c.args.pool.now c.id.ensures c.requires.stands (given_root c.requires.sum) in
-    (matched (term_of c.args.term) _ (tree_of c.args.sum.now c.args.pool.now) _ _ same c.in-Zero.is c.in_ok-match_in.ensures.ok).0
+    (matched (term_of c.args.term) _ (tree_of c.args.sum.now c.args.pool.now) _ _ same c.in-Zero.is c.in_ok-at.ensures.ok).0
 
 pub remove-requires-in-Term-clause-within : goal.remove-requires-in-Term-clause-within
 remove-requires-in-Term-clause-within c =
     let same = same_plain _ c.args.sum.now c.args.pool.now c.id.ensures c.requires.stands (given_root c.requires.sum) in
-    (matched (term_of c.args.term) _ (tree_of c.args.sum.now c.args.pool.now) _ _ same c.in-Term.is c.in_ok-match_in.ensures.ok).0
+    (matched (term_of c.args.term) _ (tree_of c.args.sum.now c.args.pool.now) _ _ same c.in-Term.is c.in_ok-at.ensures.ok).0
+
+pub place_near-place-requires-clause-expression : goal.place_near-place-requires-clause-expression
+place_near-place-requires-clause-expression c = read_expression _ c.args.sum.now c.remove-in-Term.new.pool c.id-in-Term.ensures c.remove-in-Term.ensures.stands (given_handed c.remove-in-Term.ensures.sum)
+
+pub place_near-place-requires-clause-sum : goal.place_near-place-requires-clause-sum
+place_near-place-requires-clause-sum c =
+    let rest = gives_as c.remove-in-Term.ensures.sum refl (λ t e. removed_is_sum c.in-Term.at (tree_of c.args.sum.now c.args.pool.now) t (given_told c.requires.sum) e) in
+    read_sum _ c.args.sum.now c.remove-in-Term.new.pool c.id-in-Term.ensures c.remove-in-Term.ensures.stands rest
+
+pub insert-requires-in-Term-clause-place : goal.insert-requires-in-Term-clause-place
+insert-requires-in-Term-clause-place c =
+    read_place _ c.args.sum.now c.place_near-place.result _ _ c.remove-in-Term.new.pool c.id-in-Term.ensures c.remove-in-Term.ensures.stands (given_root c.remove-in-Term.ensures.sum) c.radicand.ensures.value c.place_near-place.ensures
 
 pub insert-requires-in-Term-clause-sum : goal.insert-requires-in-Term-clause-sum
 insert-requires-in-Term-clause-sum c =
@@ -39,7 +56,7 @@ pub insert-requires-in-Term-clause-apart : goal.insert-requires-in-Term-clause-a
 insert-requires-in-Term-clause-apart c =
     let sum : Tree = tree_of c.args.sum.now c.args.pool.now in
     let same = same_plain _ c.args.sum.now c.args.pool.now c.id.ensures c.requires.stands (given_root c.requires.sum) in
-    let m = matched (term_of c.args.term) _ sum _ _ same c.in-Term.is c.in_ok-match_in.ensures.ok in
+    let m = matched (term_of c.args.term) _ sum _ _ same c.in-Term.is c.in_ok-at.ensures.ok in
     apart_rest c.in-Term.at sum _ (term_of c.args.term) (term_of c.in-Term.joined) (given_told c.requires.sum) m.0 (record { not_zero = c.in-Term.joined.not_zero; positive = c.in-Term.joined.positive }) m.1.0 m.1.1
     (given_told c.remove-in-Term.ensures.sum)
 
@@ -50,14 +67,14 @@ pub returns-in-Zero-clause-ok : goal.returns-in-Zero-clause-ok
 returns-in-Zero-clause-ok c =
     let sum : Tree = tree_of c.args.sum.now c.args.pool.now in
     let same = same_plain _ c.args.sum.now c.args.pool.now c.id.ensures c.requires.stands (given_root c.requires.sum) in
-    let m = matched (term_of c.args.term) _ sum _ _ same c.in-Zero.is c.in_ok-match_in.ensures.ok in
+    let m = matched (term_of c.args.term) _ sum _ _ same c.in-Zero.is c.in_ok-at.ensures.ok in
     gives_as c.remove.ensures.sum refl (λ t e. cancelled c.in-Zero.at sum t (term_of c.args.term) (given_told c.requires.sum) m.0 m.1.1 e)
 
 pub returns-in_ok-insert-in-Term-clause-ok : goal.returns-in_ok-insert-in-Term-clause-ok
 returns-in_ok-insert-in-Term-clause-ok c =
     let sum : Tree = tree_of c.args.sum.now c.args.pool.now in
     let same = same_plain _ c.args.sum.now c.args.pool.now c.id.ensures c.requires.stands (given_root c.requires.sum) in
-    let m = matched (term_of c.args.term) _ sum _ _ same c.in-Term.is c.in_ok-match_in.ensures.ok in
+    let m = matched (term_of c.args.term) _ sum _ _ same c.in-Term.is c.in_ok-at.ensures.ok in
     let rest = c.remove-in-Term.ensures.sum in
     gives_as c.in_ok-insert-in-Term.ensures.ok (given_rest rest)
     (λ x w. made_one c.in-Term.at sum _ x (term_of c.args.term) (term_of c.in-Term.joined) (given_told c.requires.sum) m.0 m.1.1 (given_told rest) w)

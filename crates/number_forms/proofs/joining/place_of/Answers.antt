@@ -1,14 +1,17 @@
-use Rattle.std.proofs.Common.{◌≡◌, ◌<◌, arith}
-use Rattle.calc_terms.specs.Trees.{count}
-use Rattle.tree_handles.specs.Expressions.{plain, children_of}
+use Rattle.std.proofs.Common.{◌+◌, ◌-◌, ◌/◌, ◌<◌, subst, arith}
+use Rattle.number_forms.proofs.SquareFreeSums.{below_up_to}
+use Rattle.tree_handles.specs.Expressions.{plain}
 use Rattle.tree_handles.specs.Inside.{tree_at}
 use Rattle.tree_handles.specs.Standing.{forest}
-use Rattle.number_forms.proofs.SumChanges.{term_of_sum}
 use Rattle.number_forms.proofs.joining.place_of.Goals as goal
 
-pub term_at-requires-clause-term : goal.term_at-requires-clause-term
-term_at-requires-clause-term c =
-    let t = plain (tree_at c.args.sum (forest c.args.pool.now)) in
-    let many : c.children-many.result ≡ count (children_of t) = c.children-many.ensures.plain c.requires.expression in
-    let within : c.loop-at.at < count (children_of t) = omega (arith, many, c.loop-at-test.true) in
-    term_of_sum t _ c.loop-at.at c.requires.sum within (c.child_id.ensures.plain c.requires.expression)
+pub loop-low-preserved-then-radicand_at-radicand : goal.loop-low-preserved-then-radicand_at-radicand
+loop-low-preserved-then-radicand_at-radicand c =
+    let mid = c.loop-low.low + (c.loop-low.high - c.loop-low.low) / 2 in
+    let below = subst (λ (n : _). n < c.args.radicand) c.radicand_at.ensures c.if-radicand_at-radicand.true in
+    record {
+      order = omega (arith, c.loop-low-test.true);
+      within = c.loop-low.invariant.within;
+      below = λ k l. below_up_to (plain (tree_at c.args.sum (forest c.args.pool.now))) mid k c.args.radicand c.requires.sum (omega (arith, c.loop-low-test.true, c.loop-low.invariant.within)) below (omega (arith, l));
+      above = c.loop-low.invariant.above;
+    }

@@ -1,9 +1,18 @@
-use Rattle.std.proofs.Common.{ℕ, ◌<◌}
+use Rattle.std.proofs.Common.{ℕ, ◌<◌, ◌≤◌, ◌-◌}
 use Rattle.calc_terms.specs.Numbers.{term_of}
+use Rattle.calc_terms.specs.Trees.{count}
 use Rattle.tree_handles.specs.Expressions.{nth, plain, children_of}
 use Rattle.tree_handles.specs.Inside.{tree_at}
 use Rattle.tree_handles.specs.Standing.{forest}
 use Rattle.number_forms.proofs.joining.place_of.Given as goal
 
-abbrev pub invariant-loop-at : goal.invariant-loop-at
-invariant-loop-at l = (k : ℕ) → k < l.at → (term_of (nth k (children_of (plain (tree_at l.sum (forest l.pool)))))).radicand < l.radicand
+abbrev pub invariant-loop-low : goal.invariant-loop-low
+invariant-loop-low l = record {
+  order : l.low ≤ l.high;
+  within : l.high ≤ count (children_of (plain (tree_at l.sum (forest l.pool))));
+  below : (k : ℕ) → k < l.low → (term_of (nth k (children_of (plain (tree_at l.sum (forest l.pool)))))).radicand < l.radicand;
+  above : l.high < count (children_of (plain (tree_at l.sum (forest l.pool)))) → l.radicand ≤ (term_of (nth l.high (children_of (plain (tree_at l.sum (forest l.pool)))))).radicand;
+}
+
+abbrev pub decreases-loop-low : goal.decreases-loop-low
+decreases-loop-low l = l.high - l.low

@@ -1,11 +1,12 @@
-use Rattle.std.proofs.Common.{◌≡◌, ◌<◌, sym, ◌∙◌, arith}
+use Rattle.std.proofs.Common.{◌≡◌, ℕ, ◌<◌, subst, arith}
 use Rattle.calc_terms.specs.Trees.{count}
+use Rattle.number_forms.specs.Sums.{IsPlace}
 use Rattle.tree_handles.specs.Expressions.{plain, children_of}
 use Rattle.tree_handles.specs.Inside.{tree_at}
 use Rattle.tree_handles.specs.Standing.{forest}
 use Rattle.number_forms.proofs.Joined.{apart_each}
 use Rattle.number_forms.proofs.SumChanges.{term_of_sum}
-use Rattle.number_forms.proofs.joining.match_in.Goals as goal
+use Rattle.number_forms.proofs.joining.match_anywhere.Goals as goal
 
 pub term_at-other-requires-clause-term : goal.term_at-other-requires-clause-term
 term_at-other-requires-clause-term c =
@@ -18,4 +19,5 @@ pub returns-clause-ok : goal.returns-clause-ok
 returns-clause-ok c =
     let t = plain (tree_at c.args.sum (forest c.args.pool.now)) in
     let many : c.children-at-end.result ≡ count (children_of t) = c.children-at-end.ensures.plain c.requires.expression in
-    apart_each _ (children_of t) (λ k l. c.loop-at.invariant k (omega (arith, many, l, c.loop-at-test.false)))
+    let place = subst (λ (r : ℕ). IsPlace c.place_of-at.result r (children_of t)) c.radicand.ensures.value c.place_of-at.ensures in
+    (apart_each _ (children_of t) (λ k l. c.loop-at.invariant k (omega (arith, many, l, c.loop-at-test.false))), place)

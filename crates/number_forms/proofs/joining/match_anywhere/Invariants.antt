@@ -5,7 +5,7 @@ use Rattle.surd_terms.specs.Terms.{term_of}
 use Rattle.tree_handles.specs.Expressions.{nth, plain, children_of}
 use Rattle.tree_handles.specs.Inside.{tree_at}
 use Rattle.tree_handles.specs.Standing.{forest}
-use Rattle.number_forms.proofs.joining.match_in.Given as goal
+use Rattle.number_forms.proofs.joining.match_anywhere.Given as goal
 
 abbrev pub invariant-loop-at : goal.invariant-loop-at
 invariant-loop-at l = (k : ℕ) → k < l.at → are_alike (term_of l.term).radicand (term_of_tree (nth k (children_of (plain (tree_at l.sum (forest l.pool)))))).radicand ≡ false

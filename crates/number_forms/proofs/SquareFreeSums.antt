@@ -1,0 +1,107 @@
+-- Sums of terms whose radicands are so small that each class has one.
+use Rattle.std.proofs.Common.{◌≡◌, ℕ, zero, suc, ◌-◌, ◌<◌, ◌≤◌, ◌^◌, ◌⊎◌, inl, inr, false, refl, sym, ap, ◌∙◌, subst, arith}
+use Rattle.std.proofs.lemmas.Bool.{false_from_ne_true}
+use Rattle.calc_terms.specs.Clean.{IsClean}
+use Rattle.calc_terms.specs.Numbers.{AreTerms, IsBelowAll, Rises, term_of, terms_of}
+use Rattle.calc_terms.specs.SquareClasses.{are_alike}
+use Rattle.calc_terms.specs.Surds.{Term}
+use Rattle.calc_terms.specs.Trees.{Tree, Trees, none, more, add, count}
+use Rattle.calc_terms.proofs.CleanLaws.{IsSquareFree, clean_square_free, alike_square_free}
+use Rattle.calc_terms.proofs.NumberUniqueness.{term_simplest}
+use Rattle.number_forms.specs.Sums.{IsSum, IsApart, IsPlace, AreBelow}
+use Rattle.number_forms.proofs.Joined.{apart_each, apart_turned}
+use Rattle.number_forms.proofs.LastSums.{sum_is}
+use Rattle.number_forms.proofs.Shaped.{nth_is_term}
+use Rattle.surd_terms.specs.Sums.{Joins}
+use Rattle.surd_terms.specs.declared.sums.Joined.{Joined}
+use Rattle.surd_terms.specs.declared.sums.Joined.TheVariants as joined
+use Rattle.tree_handles.specs.Expressions.{nth, children_of}
+
+-- ---- a term that was read
+
+pub read_radicand : (x : ℕ) (s : Term) (u v : Tree) → x ≡ s.radicand → s ≡ term_of u → u ≡ v → x ≡ (term_of v).radicand
+read_radicand x s u v e f g = e ∙ ap (λ (t : Term). t.radicand) (f ∙ ap term_of g)
+
+pub read_apart : (j : Joined) (s x : Term) (u v : Tree) → j ≡ joined.Apart → Joins j s x → s ≡ term_of u → u ≡ v → are_alike x.radicand (term_of v).radicand ≡ false
+read_apart j s x u v e h f g =
+    let apart : are_alike s.radicand x.radicand ≡ false = subst (λ (k : Joined). Joins k s x) e h in
+    let same : s.radicand ≡ (term_of v).radicand = read_radicand s.radicand s u v refl f g in
+    apart_turned (term_of v).radicand x.radicand (subst (λ (n : ℕ). are_alike n x.radicand ≡ false) same apart)
+
+-- ---- radicands by place
+
+order : (a b : ℕ) → (a < b) ⊎ (b ≤ a)
+order a b = grind arith
+
+at_most : (a b : ℕ) → a ≤ b → (a < b) ⊎ (a ≡ b)
+at_most a b h = grind arith
+
+nth_above : (u : Term) (n : ℕ) (ts : Trees) → IsBelowAll u (terms_of ts) → n < count ts → u.radicand < (term_of (nth n ts)).radicand
+nth_above u n none b l = absurd (omega arith)
+nth_above u zero (more t ts) (x, c, b) l = x
+nth_above u (suc n) (more t ts) (x, c, b) l = nth_above u n ts b (omega arith)
+
+rises_nth : (m n : ℕ) (ts : Trees) → Rises (terms_of ts) → m < n → n < count ts → (term_of (nth m ts)).radicand < (term_of (nth n ts)).radicand
+rises_nth m n none h k l = absurd (omega arith)
+rises_nth zero zero (more t ts) h k l = absurd (omega arith)
+rises_nth zero (suc n) (more t ts) (b, h) k l = nth_above (term_of t) n ts b (omega arith)
+rises_nth (suc m) zero (more t ts) h k l = absurd (omega arith)
+rises_nth (suc m) (suc n) (more t ts) (b, h) k l = rises_nth m n ts h (omega arith) (omega arith)
+
+sum_parts : (t : Tree) → IsSum t → IsSum (add (children_of t))
+sum_parts t h = subst IsSum (sum_is t h) h
+
+pub rises_in_sum : (t : Tree) (m n : ℕ) → IsSum t → m < n → n < count (children_of t) → (term_of (nth m (children_of t))).radicand < (term_of (nth n (children_of t))).radicand
+rises_in_sum t m n h k l = rises_nth m n (children_of t) (sum_parts t h).1 k l
+
+-- up to a place, where the radicand there is below
+pub below_up_to : (t : Tree) (m k r : ℕ) → IsSum t → m < count (children_of t) → (term_of (nth m (children_of t))).radicand < r → k ≤ m → (term_of (nth k (children_of t))).radicand < r
+below_up_to t m k r h l b x = by (at_most k m x)
+  where
+    by : (k < m) ⊎ (k ≡ m) → (term_of (nth k (children_of t))).radicand < r
+    by (inl y) = let z = rises_in_sum t k m h y l in omega (arith, z, b)
+    by (inr e) = subst (λ (n : ℕ). (term_of (nth n (children_of t))).radicand < r) (sym e) b
+
+-- a place between a radicand that is below and one that is not
+pub place_between : (t : Tree) (n r : ℕ) → IsSum t → n ≤ count (children_of t) → (0 < n → (term_of (nth (n - 1) (children_of t))).radicand < r) → (n < count (children_of t) → r ≤ (term_of (nth n (children_of t))).radicand) → IsPlace n r (children_of t)
+place_between t n r h l b a = record {
+  within = l;
+  below = λ k x. below_up_to t (n - 1) k r h (omega (arith, l, x)) (b (omega (arith, x))) (omega (arith, x));
+  above = a;
+}
+
+-- ---- the last is the greatest
+
+pub all_below : (t : Tree) (m r : ℕ) → IsSum t → suc m ≡ count (children_of t) → (term_of (nth m (children_of t))).radicand < r → AreBelow r (children_of t)
+all_below t m r h e b = λ k l. below_up_to t m k r h (omega (arith, e)) b (omega (arith, e, l))
+
+-- ---- small clean radicands are alike where they are equal
+
+apart_small : (r s : ℕ) → IsSquareFree r → IsSquareFree s → (r ≡ s → ⊥) → are_alike r s ≡ false
+apart_small r s f g h = false_from_ne_true (are_alike r s) (λ a. absurd (h (alike_square_free r s a f g)))
+
+pub apart_at_place : (t : Tree) (r n : ℕ) → IsSum t → IsClean r → r < 10 ^ 12 → AreBelow (10 ^ 12) (children_of t) → IsPlace n r (children_of t)
+    → (n < count (children_of t) → are_alike r (term_of (nth n (children_of t))).radicand ≡ false) → IsApart r (terms_of (children_of t))
+apart_at_place t r n h c l s p at = apart_each r ts (λ k x. by k x (order k n))
+  where
+    ts : Trees
+    ts = children_of t
+
+    free : (k : ℕ) → k < count ts → IsSquareFree (term_of (nth k ts)).radicand
+    free k x = (term_simplest (nth k ts) (nth_is_term ts k x (sum_parts t h).0) (s k x)).square_free
+
+    unequal : (k : ℕ) → k < count ts → (r ≡ (term_of (nth k ts)).radicand → ⊥) → are_alike r (term_of (nth k ts)).radicand ≡ false
+    unequal k x u = apart_small r (term_of (nth k ts)).radicand (clean_square_free r c l) (free k x) u
+
+    behind : (k : ℕ) → k < count ts → (n < k) ⊎ (n ≡ k) → are_alike r (term_of (nth k ts)).radicand ≡ false
+    behind k x (inl y) =
+        let a : r ≤ (term_of (nth n ts)).radicand = p.above (omega (arith, x, y)) in
+        let b = rises_in_sum t n k h y x in
+        unequal k x (λ e. absurd (omega (arith, a, b, e)))
+    behind k x (inr e) = subst (λ (j : ℕ). are_alike r (term_of (nth j ts)).radicand ≡ false) e (at (omega (arith, x, e)))
+
+    by : (k : ℕ) → k < count ts → (k < n) ⊎ (n ≤ k) → are_alike r (term_of (nth k ts)).radicand ≡ false
+    by k x (inl y) =
+        let a = p.below k y in
+        unequal k x (λ e. absurd (omega (arith, a, e)))
+    by k x (inr y) = behind k x (at_most n k y)

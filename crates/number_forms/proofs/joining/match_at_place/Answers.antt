@@ -1,0 +1,32 @@
+use Rattle.std.proofs.Common.{◌≡◌, ℕ, ◌<◌, subst, arith}
+use Rattle.calc_terms.specs.Trees.{count}
+use Rattle.number_forms.proofs.SumChanges.{term_of_sum}
+use Rattle.number_forms.proofs.SquareFreeSums.{read_apart, apart_at_place}
+use Rattle.number_forms.specs.Sums.{IsPlace}
+use Rattle.surd_terms.specs.Terms.{term_of}
+use Rattle.tree_handles.specs.Expressions.{nth, plain, children_of}
+use Rattle.tree_handles.specs.Inside.{tree_at}
+use Rattle.tree_handles.specs.Standing.{forest}
+use Rattle.number_forms.proofs.joining.match_at_place.Goals as goal
+
+pub returns-then-at-children-clause-ok : goal.returns-then-at-children-clause-ok
+returns-then-at-children-clause-ok c =
+    let t = plain (tree_at c.args.sum (forest c.args.pool.now)) in
+    let many : c.children.result ≡ count (children_of t) = c.children.ensures.plain c.requires.expression in
+    let place = subst (λ (r : ℕ). IsPlace c.place_of-at.result r (children_of t)) c.radicand.ensures.value c.place_of-at.ensures in
+    (apart_at_place t (term_of c.args.term).radicand c.place_of-at.result c.requires.sum c.args.term.clean c.requires.term_below c.requires.sum_below place (λ l. absurd (omega (arith, many, c.if-at-children.true, l))), place)
+
+pub term_at-other-requires-clause-term : goal.term_at-other-requires-clause-term
+term_at-other-requires-clause-term c =
+    let t = plain (tree_at c.args.sum (forest c.args.pool.now)) in
+    let many : c.children.result ≡ count (children_of t) = c.children.ensures.plain c.requires.expression in
+    let within : c.place_of-at.result < count (children_of t) = omega (arith, many, c.place_of-at.ensures.within, c.if-at-children.false) in
+    term_of_sum t _ c.place_of-at.result c.requires.sum within (c.child_id.ensures.plain c.requires.expression)
+
+pub returns-in-Apart-clause-ok : goal.returns-in-Apart-clause-ok
+returns-in-Apart-clause-ok c =
+    let t = plain (tree_at c.args.sum (forest c.args.pool.now)) in
+    let place = subst (λ (r : ℕ). IsPlace c.place_of-at.result r (children_of t)) c.radicand.ensures.value c.place_of-at.ensures in
+    let apart = read_apart c.in_ok-joined.joined (term_of c.term_at-other.result) (term_of c.args.term) (plain (tree_at c.child_id.result (forest c.args.pool.now))) (nth c.place_of-at.result (children_of t))
+    c.in-Apart.is c.in_ok-joined.ensures.joins c.term_at-other.ensures (c.child_id.ensures.plain c.requires.expression) in
+    (apart_at_place t (term_of c.args.term).radicand c.place_of-at.result c.requires.sum c.args.term.clean c.requires.term_below c.requires.sum_below place (λ l. apart), place)
