@@ -1,5 +1,5 @@
 -- A run over a list of tokens, by place.
-use Rattle.std.specs.Prelude.{ℕ, suc, ◌+◌, ◌≡◌, ◌≤◌, ◌<◌, List, [], ◌∷◌, length, drop, Option, Some, None, Result, Ok, Err, MatchResult, IfErr, IfOk}
+use Rattle.std.specs.Prelude.{ℕ, suc, ◌+◌, ◌≡◌, ◌≤◌, ◌<◌, List, [], ◌∷◌, length, drop, Option, Some, None, Result, Ok, Err, MatchResult, OnErr, OnOk}
 use Rattle.std.proofs.Common.{refl, sym, ap, ◌∙◌, get_or, drop-cons, add-one}
 use Rattle.std.proofs.lemmas.List.{get_or-map, drop_all}
 use Rattle.calc_terms.specs.Tokens.{Token, undef_mark}
@@ -7,11 +7,10 @@ use Rattle.calc_terms.specs.Trees.{Tree}
 use Rattle.calc_terms.specs.Grammar.{IsSum}
 use Rattle.calc_tokens.specs.declared.tokens.Token.{Token as Placed}
 use Rattle.calc_tokens.specs.Tokens.{token_of}
-use Rattle.calc_parser.specs.declared.postfix.Postfix.{Postfix}
 use Rattle.calc_parser.specs.declared.reader.NoSum.{NoSum}
 use Rattle.calc_parser.specs.Postfix.{Node, postfix}
 use Rattle.calc_parser.specs.Automaton.{State, step, then_run, finish, run, start}
-use Rattle.calc_parser.specs.Reader.{token_in, tokens_in, nodes_in}
+use Rattle.calc_parser.specs.Reader.{token_in, tokens_in}
 use Rattle.calc_parser.proofs.ReadsSums.{sum_is_read}
 use Rattle.calc_parser.proofs.OnlySums.{only_sums}
 
@@ -44,17 +43,17 @@ run_all ts st at r past e = ap (run st) (sym (drop_all at ts past)) ∙ e
 pub no_sum : (ts : List Token) → run start ts ≡ None → (t : Tree) → IsSum ts t → ⊥
 no_sum ts e t d = let f : run start ts ≡ Some (postfix t) = sum_is_read ts t d in cc
 
-pub on_err : {T E : Type 0} (P : Type 0) (r : Result T E) → P → IfErr r (λ x. P)
+pub on_err : {T E : Type 0} (P : Type 0) (r : Result T E) → P → OnErr r P
 on_err P (Ok x) p = tt
 on_err P (Err e) p = p
 
-abbrev pub Finishes : List Token → State → Result Postfix NoSum → Type 0
-Finishes ts st r = MatchResult r (λ found. finish st ≡ Some (nodes_in ts found)) (λ fault. finish st ≡ None)
+abbrev pub Finishes : {T : Type 0} → State → List Node → Result T NoSum → Type 0
+Finishes st nodes r = MatchResult r (λ x. finish st ≡ Some nodes) (λ fault. finish st ≡ None)
 
-pub finished_sum : (ts : List Token) (st : State) (r : Result Postfix NoSum) → finish st ≡ run start ts → Finishes ts st r → IfOk r (λ found. (t : Tree) × IsSum ts t × (nodes_in ts found ≡ postfix t))
-finished_sum ts st (Ok found) e h = only_sums ts (nodes_in ts found) (sym e ∙ h)
-finished_sum ts st (Err fault) e h = tt
+pub finished_sum : {T : Type 0} (ts : List Token) (st : State) (nodes : List Node) (r : Result T NoSum) → finish st ≡ run start ts → Finishes st nodes r → OnOk r ((t : Tree) × IsSum ts t × (nodes ≡ postfix t))
+finished_sum ts st nodes (Ok x) e h = only_sums ts nodes (sym e ∙ h)
+finished_sum ts st nodes (Err fault) e h = tt
 
-pub finished_none : (ts : List Token) (st : State) (r : Result Postfix NoSum) → finish st ≡ run start ts → Finishes ts st r → IfErr r (λ fault. (t : Tree) → IsSum ts t → ⊥)
-finished_none ts st (Ok found) e h = tt
-finished_none ts st (Err fault) e h = no_sum ts (sym e ∙ h)
+pub finished_none : {T : Type 0} (ts : List Token) (st : State) (nodes : List Node) (r : Result T NoSum) → finish st ≡ run start ts → Finishes st nodes r → OnErr r ((t : Tree) → IsSum ts t → ⊥)
+finished_none ts st nodes (Ok x) e h = tt
+finished_none ts st nodes (Err fault) e h = no_sum ts (sym e ∙ h)

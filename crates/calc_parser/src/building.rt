@@ -18,7 +18,7 @@ ghost use Rattle.calc_parser.specs.Reader.{node_of, token_in, tokens_in};
 
 use crate::checking::without_store;
 use crate::postfix::Step;
-use crate::reader::read;
+use crate::reader::Reader;
 use arrayvec::ArrayVec;
 use calc_terms::Kind;
 use calc_tokens::{Token, Tokens, What};
@@ -60,10 +60,11 @@ fn place_line(pool: &mut Pool, tokens: &[Token]) -> Result<Handle, Full>
     ensures stands { Stands pool.new }
 {
     let (sum, _) = without_store(tokens);
-    let Ok(postfix) = read(sum) else {
+    let mut reader = Reader::new();
+    let Ok(()) = reader.read(sum) else {
         unreachable!()
     };
-    place_nodes(pool, sum, postfix.steps())
+    place_nodes(pool, sum, reader.steps())
 }
 
 /// The tree that these steps make.

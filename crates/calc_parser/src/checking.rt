@@ -11,7 +11,7 @@ ghost use Rattle.calc_parser.specs.Stores.{stored, IsSplit};
 ghost use Rattle.calc_parser.specs.Reader.{tokens_in};
 
 use crate::depth::depth;
-use crate::reader::read;
+use crate::reader::Reader;
 use calc_terms::Name;
 use calc_tokens::{Token, Tokens, What};
 
@@ -54,10 +54,11 @@ fn checked(tokens: &[Token]) -> Result<Shape, ParseFault>
     ensures { MatchResult result (IsShallow (tokens_in tokens.now)) (IsFaultOf (tokens_in tokens.now)) }
 {
     let (sum, store) = without_store(tokens);
-    let Ok(postfix) = read(sum) else {
+    let mut reader = Reader::new();
+    let Ok(()) = reader.read(sum) else {
         return Err(ParseFault::Syntax);
     };
-    let steps = postfix.steps();
+    let steps = reader.steps();
     let depth = depth(steps);
     if depth > MAX_DEPTH {
         return Err(ParseFault::Deep);

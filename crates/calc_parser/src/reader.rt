@@ -1,13 +1,13 @@
 //! A sum read token by token.
-ghost use Rattle.std.specs.Prelude.{◌≡◌, ◌<◌, ◌≤◌, ◌+◌, ℕ, List, ◌∷◌, ◌++◌, length, map, MatchResult, OnOk, IfOk, IfErr, Some, None};
+ghost use Rattle.std.specs.Prelude.{◌≡◌, ◌<◌, ◌≤◌, ◌+◌, ℕ, List, ◌∷◌, ◌++◌, length, map, MatchResult, OnOk, OnErr, Some, None};
 ghost use Rattle.std.specs.Option.{option_map};
 ghost use Rattle.calc_terms.specs.Tokens.{Token as Mark};
 ghost use Rattle.calc_terms.specs.Trees.{Tree};
 ghost use Rattle.calc_terms.specs.Grammar.{IsSum};
 ghost use Rattle.calc_tokens.specs.Tokens.{token_of};
 ghost use Rattle.calc_parser.specs.Postfix.{postfix as postfix_of};
-ghost use Rattle.calc_parser.specs.Automaton.{state, ended, gathered, complete as completed_all, end_part, end_powers as powers_ended, end_product as product_ended, sum_nodes, minus_in as sign_in, begin_operand as operand_begun, at_operand, at_parenthesis, at_operator, leave_parentheses as parentheses_left, step, finish as finished, run, start};
-ghost use Rattle.calc_parser.specs.Reader.{open_in, innermost, innermost_completed, innermost_place, node_of, nodes_in, state_in, ended_in, room_in, token_in, tokens_in, IsStep};
+ghost use Rattle.calc_parser.specs.Automaton.{state, ended, gathered, complete as completed_all, end_part, end_powers as powers_ended, end_product as product_ended, sum_nodes, minus_in as sign_in, begin_operand as operand_begun, at_operand, at_parenthesis, at_operator, leave_parentheses as parentheses_left, step, finish as finished, start};
+ghost use Rattle.calc_parser.specs.Reader.{open_in, innermost, innermost_completed, innermost_place, node_of, nodes_in, state_in, ended_in, room_in, steps_in, token_in, tokens_in, IsStep};
 
 use crate::nesting::{Level, Nesting, Open, Place};
 use crate::postfix::{Postfix, Step};
@@ -37,24 +37,41 @@ pub(crate) struct Reader {
     postfix: Postfix,
 }
 
-/// The tree of tokens that are a sum.
-pub(crate) fn read(tokens: &[Token]) -> Result<Postfix, NoSum>
-    requires { length tokens.now ≤ 1024 }
-    ensures sum { IfOk result (λ postfix. (t : Tree) × IsSum (tokens_in tokens.now) t × (nodes_in (tokens_in tokens.now) postfix ≡ postfix_of t)) }
-    ensures no_sum { IfErr result (λ _. (t : Tree) → IsSum (tokens_in tokens.now) t → ⊥) }
-{
-    let mut reader = Reader {
-        expects: Expects::Operand,
-        nesting: Nesting::none(),
-        postfix: Postfix::none(),
-    };
-    for (at, token) in tokens.iter().enumerate() {
-        reader.take(at as u16, token.what)?;
-    }
-    reader.finish()
-}
-
 impl Reader {
+    /// A reader to which no token has come.
+    pub(crate) fn new() -> Reader
+        ensures state { (ts : List Mark) → state_in ts result ≡ start }
+        ensures room { room_in result ≡ 0 }
+    {
+        Reader {
+            expects: Expects::Operand,
+            nesting: Nesting::none(),
+            postfix: Postfix::none(),
+        }
+    }
+
+    /// Reads tokens that are a sum, the first that come. The nodes of its tree are then whole.
+    pub(crate) fn read(&mut self, tokens: &[Token]) -> Result<(), NoSum>
+        requires few { length tokens.now ≤ 1024 }
+        requires first { state_in (tokens_in tokens.now) self.old ≡ start }
+        requires room { room_in self.old ≡ 0 }
+        ensures sum { OnOk result ((t : Tree) × IsSum (tokens_in tokens.now) t × (nodes_in (tokens_in tokens.now) self.new.postfix ≡ postfix_of t)) }
+        ensures no_sum { OnErr result ((t : Tree) → IsSum (tokens_in tokens.now) t → ⊥) }
+    {
+        for (at, token) in tokens.iter().enumerate() {
+            self.take(at as u16, token.what)?;
+        }
+        self.finish()
+    }
+
+    /// The nodes that are whole.
+    pub(crate) fn steps(&self) -> &[Step]
+        ensures steps { result.now ≡ steps_in self.now.postfix }
+        ensures fits { length result.now ≤ 2048 }
+    {
+        self.postfix.steps()
+    }
+
     /// Reads the token at this place.
     fn take(&mut self, at: u16, what: What) -> Result<(), NoSum>
         requires { room_in self.old + 2 ≤ 2048 }
@@ -68,10 +85,10 @@ impl Reader {
         }
     }
 
-    /// The whole tree, where nothing is open.
-    fn finish(mut self) -> Result<Postfix, NoSum>
-        requires { room_in self ≤ 2048 }
-        ensures { (ts : List Mark) → MatchResult result (λ postfix. finished (state_in ts self) ≡ Some (nodes_in ts postfix)) (λ _. finished (state_in ts self) ≡ None) }
+    /// Ends the whole sum, where nothing is open.
+    fn finish(&mut self) -> Result<(), NoSum>
+        requires { room_in self.old ≤ 2048 }
+        ensures { (ts : List Mark) → MatchResult result (λ _. finished (state_in ts self.old) ≡ Some (nodes_in ts self.new.postfix)) (λ _. finished (state_in ts self.old) ≡ None) }
     {
         match self.expects {
             Expects::Operand | Expects::Parenthesis => return Err(NoSum),
@@ -79,7 +96,7 @@ impl Reader {
         }
         self.end_sum();
         match self.nesting.innermost() {
-            None => Ok(self.postfix),
+            None => Ok(()),
             Some(_) => Err(NoSum),
         }
     }

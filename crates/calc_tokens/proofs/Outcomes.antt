@@ -1,35 +1,39 @@
--- What `scan` answers, from what it found.
+-- What is answered, from what was found.
 use Rattle.std.specs.Prelude.{ℕ, ◌≡◌, List, Result, Ok, Err, MatchResult, IsOkAnd, ◌↔◌}
 use Rattle.std.proofs.Common.{ap, subst}
-use Rattle.calc_tokens.specs.declared.tokens.Tokens.{Tokens}
 use Rattle.calc_tokens.specs.declared.tokens.TokenFault.{TokenFault}
 use Rattle.calc_tokens.specs.declared.tokens.TokenFault.TheVariants.{Character, Number}
-use Rattle.calc_tokens.specs.Tokens.{tokens_of}
 use Rattle.calc_tokens.specs.Placed.{Placed}
 use Rattle.calc_tokens.specs.Scanned.{AreTokensOf, IsFirstCharacter, IsFirstWide}
 use Rattle.calc_tokens.specs.Faults.{IsFaultOf}
 use Rattle.calc_tokens.proofs.OneScan.{character_or_all, wide_or_all, character_or_wide, one_character, one_wide, one_list}
 
-abbrev pub Found : List ℕ → Result Tokens TokenFault → Type 0
-Found line r = MatchResult r (λ tokens. AreTokensOf (tokens_of tokens) line) (λ fault. IsFaultOf line fault)
+-- the tokens of a line behind Ok, or its fault
+abbrev pub Found : {T : Type 0} → (T → List Placed) → List ℕ → Result T TokenFault → Type 0
+Found tokens line r = MatchResult r (λ x. AreTokensOf (tokens x) line) (λ fault. IsFaultOf line fault)
 
-pub character_exact : (line : List ℕ) (r : Result Tokens TokenFault) → Found line r → (at : ℕ) → (r ≡ Err (Character at)) ↔ IsFirstCharacter line at
-character_exact line r h at = (λ e. subst (Found line) e h, back r h)
+pub character_exact : {T : Type 0} (tokens : T → List Placed) (line : List ℕ) (r : Result T TokenFault) → Found tokens line r → (at : ℕ) → (r ≡ Err (Character at)) ↔ IsFirstCharacter line at
+character_exact {T} tokens line r h at = (λ e. subst (Found tokens line) e h, back r h)
   where
-    back : (r : Result Tokens TokenFault) → Found line r → IsFirstCharacter line at → r ≡ Err (Character at)
-    back (Ok tokens) h f = absurd (character_or_all line at (tokens_of tokens) f h)
+    back : (r : Result T TokenFault) → Found tokens line r → IsFirstCharacter line at → r ≡ Err (Character at)
+    back (Ok x) h f = absurd (character_or_all line at (tokens x) f h)
     back (Err (Character p)) h f = ap (λ n. Err (Character n)) (one_character line p at h f)
     back (Err (Number p)) h f = absurd (character_or_wide line at p f h)
 
-pub number_exact : (line : List ℕ) (r : Result Tokens TokenFault) → Found line r → (at : ℕ) → (r ≡ Err (Number at)) ↔ IsFirstWide line at
-number_exact line r h at = (λ e. subst (Found line) e h, back r h)
+pub number_exact : {T : Type 0} (tokens : T → List Placed) (line : List ℕ) (r : Result T TokenFault) → Found tokens line r → (at : ℕ) → (r ≡ Err (Number at)) ↔ IsFirstWide line at
+number_exact {T} tokens line r h at = (λ e. subst (Found tokens line) e h, back r h)
   where
-    back : (r : Result Tokens TokenFault) → Found line r → IsFirstWide line at → r ≡ Err (Number at)
-    back (Ok tokens) h f = absurd (wide_or_all line at (tokens_of tokens) f h)
+    back : (r : Result T TokenFault) → Found tokens line r → IsFirstWide line at → r ≡ Err (Number at)
+    back (Ok x) h f = absurd (wide_or_all line at (tokens x) f h)
     back (Err (Character p)) h f = absurd (character_or_wide line p at h f)
     back (Err (Number p)) h f = ap (λ n. Err (Number n)) (one_wide line p at h f)
 
-pub accepted : (line : List ℕ) (r : Result Tokens TokenFault) → Found line r → (ts : List Placed) → AreTokensOf ts line → IsOkAnd r (λ tokens. tokens_of tokens ≡ ts)
-accepted line (Ok tokens) h ts d = one_list line (tokens_of tokens) ts h d
-accepted line (Err (Character p)) h ts d = absurd (character_or_all line p ts h d)
-accepted line (Err (Number p)) h ts d = absurd (wide_or_all line p ts h d)
+pub accepted : {T : Type 0} (tokens : T → List Placed) (line : List ℕ) (r : Result T TokenFault) → Found tokens line r → (ts : List Placed) → AreTokensOf ts line → IsOkAnd r (λ x. tokens x ≡ ts)
+accepted tokens line (Ok x) h ts d = one_list line (tokens x) ts h d
+accepted tokens line (Err (Character p)) h ts d = absurd (character_or_all line p ts h d)
+accepted tokens line (Err (Number p)) h ts d = absurd (wide_or_all line p ts h d)
+
+-- a fault that is told exactly is the fault of the line
+pub fault_found : {T : Type 0} (line : List ℕ) (r : Result T TokenFault) (fault : TokenFault) → r ≡ Err fault → ((at : ℕ) → (r ≡ Err (Character at)) ↔ IsFirstCharacter line at) → ((at : ℕ) → (r ≡ Err (Number at)) ↔ IsFirstWide line at) → IsFaultOf line fault
+fault_found line r (Character at) e h k = (h at).0 e
+fault_found line r (Number at) e h k = (k at).0 e

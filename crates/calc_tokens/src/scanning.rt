@@ -1,5 +1,5 @@
 //! From bytes to tokens.
-ghost use Rattle.std.specs.Prelude.{◌≡◌, ◌↔◌, ◌≤◌, ℕ, List, length, IfOk, IsOkAnd, MatchResult, Err, true, false};
+ghost use Rattle.std.specs.Prelude.{◌≡◌, ◌↔◌, ◌≤◌, ℕ, List, [], length, IfOk, IsOkAnd, MatchResult, OnErr, OnOk, Err, true, false};
 ghost use Rattle.calc_terms.specs.Tokens.{is_blank};
 ghost use Rattle.calc_tokens.specs.Placed.{Placed};
 ghost use Rattle.calc_tokens.specs.Tokens.{tokens_of, token_of};
@@ -21,15 +21,41 @@ pub fn scan(line: &[u8]) -> Result<Tokens, TokenFault>
     ensures character { (at : ℕ) → (result ≡ Err (TokenFault.Character at)) ↔ IsFirstCharacter line.now at }
     ensures number { (at : ℕ) → (result ≡ Err (TokenFault.Number at)) ↔ IsFirstWide line.now at }
 {
-    scanned(line)
+    let mut tokens = Tokens::none();
+    match scan_into(&mut tokens, line) {
+        Ok(()) => Ok(tokens),
+        Err(fault) => Err(fault),
+    }
 }
 
-/// The tokens, or the first fault.
-fn scanned(line: &[u8]) -> Result<Tokens, TokenFault>
+/// Puts the tokens of a line in place of those of the list, as `scan` finds them; the list is empty
+/// behind a fault.
+pub fn scan_into(tokens: &mut Tokens, line: &[u8]) -> Result<(), TokenFault>
     requires { length line.now ≤ 1024 }
-    ensures { MatchResult result (λ tokens. AreTokensOf (tokens_of tokens) line.now) (λ fault. IsFaultOf line.now fault) }
+    ensures tokens { OnOk result (AreTokensOf (tokens_of tokens.new) line.now) }
+    ensures accepts { (ts : List Placed) → AreTokensOf ts line.now → IsOkAnd result (λ _. tokens_of tokens.new ≡ ts) }
+
+    // The first place in the line decides which fault it is.
+    ensures character { (at : ℕ) → (result ≡ Err (TokenFault.Character at)) ↔ IsFirstCharacter line.now at }
+    ensures number { (at : ℕ) → (result ≡ Err (TokenFault.Number at)) ↔ IsFirstWide line.now at }
+    ensures emptied { OnErr result (tokens_of tokens.new ≡ []) }
 {
-    let mut tokens = Tokens::none();
+    tokens.clear();
+    match push_tokens(tokens, line) {
+        Ok(()) => Ok(()),
+        Err(fault) => {
+            tokens.clear();
+            Err(fault)
+        }
+    }
+}
+
+/// Puts the tokens of a line into a list without tokens, up to the first fault.
+fn push_tokens(tokens: &mut Tokens, line: &[u8]) -> Result<(), TokenFault>
+    requires short { length line.now ≤ 1024 }
+    requires none { tokens_of tokens.old ≡ [] }
+    ensures { MatchResult result (λ _. AreTokensOf (tokens_of tokens.new) line.now) (λ fault. IsFaultOf line.now fault) }
+{
     let mut rest = line;
     while let Some((first, others)) = rest.split_first() {
         if is_blank(*first) {
@@ -41,7 +67,7 @@ fn scanned(line: &[u8]) -> Result<Tokens, TokenFault>
         tokens.push(Token { what, at });
         rest = behind;
     }
-    Ok(tokens)
+    Ok(())
 }
 
 fn is_blank(byte: u8) -> bool

@@ -56,7 +56,7 @@ impl Tokens {
     ghost use Rattle.calc_tokens.specs.Tokens.{placed, tokens_of};
 
     /// A list without tokens.
-    pub(crate) fn none() -> Tokens
+    pub fn none() -> Tokens
         ensures { tokens_of result ≡ [] }
     {
         Tokens {
@@ -70,6 +70,12 @@ impl Tokens {
         ensures fits { length result.now ≤ 1024 }
     {
         self.items.as_slice()
+    }
+
+    pub(crate) fn clear(&mut self)
+        ensures { tokens_of self.new ≡ [] }
+    {
+        self.items.clear();
     }
 
     pub(crate) fn push(&mut self, token: Token)

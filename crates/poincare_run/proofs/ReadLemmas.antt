@@ -11,7 +11,6 @@ use Rattle.calc_tokens.specs.Placed.{Placed, bare}
 use Rattle.calc_tokens.specs.Scanned.{AreTokensOf, IsFirstCharacter, IsFirstWide}
 use Rattle.calc_tokens.specs.declared.tokens.TokenFault.{TokenFault}
 use Rattle.calc_tokens.specs.declared.tokens.TokenFault.TheVariants.{Character, Number}
-use Rattle.calc_tokens.specs.declared.tokens.Tokens.{Tokens}
 use Rattle.calc_parser.specs.Lines.{IsLine, IsNoLine, IsLineOver, HasShape}
 use Rattle.calc_parser.specs.Outcomes.{IsFaultOf as IsLineFault}
 use Rattle.calc_parser.specs.declared.checking.Shape.{Shape}
@@ -25,7 +24,7 @@ use Rattle.poincare_run.specs.Replies.{form}
 pub text_is : (line : List ℕ) → length line ≤ 1024 → is_blank_line line ≡ false → is_command line ≡ false → IsText line
 text_is line s b c = record { short = s; some = b; no_command = c }
 
-pub token_fault : (line : List ℕ) (r : Result Tokens TokenFault) (fault : TokenFault) → r ≡ Err fault → ((at : ℕ) → (r ≡ Err (Character at)) ↔ IsFirstCharacter line at) → ((at : ℕ) → (r ≡ Err (Number at)) ↔ IsFirstWide line at) → IsFaultOf line fault
+pub token_fault : {T : Type 0} (line : List ℕ) (r : Result T TokenFault) (fault : TokenFault) → r ≡ Err fault → ((at : ℕ) → (r ≡ Err (Character at)) ↔ IsFirstCharacter line at) → ((at : ℕ) → (r ≡ Err (Number at)) ↔ IsFirstWide line at) → IsFaultOf line fault
 token_fault line r (Character at) e h k = (h at).0 e
 token_fault line r (Number at) e h k = (k at).0 e
 

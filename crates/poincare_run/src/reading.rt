@@ -1,5 +1,5 @@
 //! Lines, read by the grammar.
-ghost use Rattle.std.specs.Prelude.{◌≡◌, ◌≤◌, ℕ, List, length, false, None, IfOk, IfErr};
+ghost use Rattle.std.specs.Prelude.{◌≡◌, ◌≤◌, ℕ, List, length, false, None, OnOk, IfErr};
 ghost use Rattle.calc_terms.specs.Tokens.{is_blank as is_blank_of};
 ghost use Rattle.calc_terms.specs.Trees.{Tree};
 ghost use Rattle.calc_parser.specs.Outcomes.{IsFaultOf as IsLineFault};
@@ -15,15 +15,15 @@ ghost use Rattle.poincare_run.specs.Replies.{refusal_in};
 use crate::Refusal;
 use calc_parser::{ParseFault, check, holds_name};
 use calc_terms::Name;
-use calc_tokens::{TokenFault, Tokens, scan};
+use calc_tokens::{TokenFault, Tokens, scan_into};
 
 /// The most bytes of a line.
 pub const LINE_LIMIT: usize = 1024;
 
-/// The tokens of a line that is to be evaluated.
-pub fn read_line(line: &[u8]) -> Result<Tokens, Refusal>
+/// Puts the tokens of a line that is to be evaluated in place of those of the list.
+pub fn read_line(line: &[u8], tokens: &mut Tokens) -> Result<(), Refusal>
     requires { length line.now ≤ 1024 → is_blank_line_of line.now ≡ false }
-    ensures tree { IfOk result (λ tokens. (t : Tree) × ReadsTree line.now (tokens_of tokens) t) }
+    ensures tree { OnOk result ((t : Tree) × ReadsTree line.now (tokens_of tokens.new) t) }
     ensures refused { IfErr result (λ refusal. (free : ℕ) → IsReply free line.now (reply_of refusal)) }
     ensures no_pool { IfErr result (λ refusal. refusal_in (reply_of refusal) ≡ None) }
 {
@@ -33,21 +33,21 @@ pub fn read_line(line: &[u8]) -> Result<Tokens, Refusal>
     if is_command(line) {
         return Err(Refusal::Form);
     }
-    let tokens = match scan(line) {
-        Ok(tokens) => tokens,
+    match scan_into(tokens, line) {
+        Ok(()) => {}
         Err(fault) => return Err(token_refusal(fault)),
-    };
-    let shape = match check(&tokens) {
+    }
+    let shape = match check(tokens) {
         Ok(shape) => shape,
         Err(fault) => return Err(line_refusal(fault)),
     };
     if shape.store.is_some() {
         return Err(Refusal::Form);
     }
-    if holds_name(&tokens, Name::ans()) {
+    if holds_name(tokens, Name::ans()) {
         return Err(Refusal::Form);
     }
-    Ok(tokens)
+    Ok(())
 }
 
 fn token_refusal(fault: TokenFault) -> Refusal

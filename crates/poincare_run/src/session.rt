@@ -11,17 +11,20 @@ use crate::text::{write_refusal, write_undef};
 use crate::{LineAnswer, Refusal};
 use breakers::{NeverBreaker, Watch};
 use calc_terms::{Leaf, Rat};
+use calc_tokens::Tokens;
 use line_text::{Text, write_text};
 use node_pool::{Id, Pool};
 use std::alloc::{AllocError, Global};
 use std::marker::Model;
 
-/// A pool, and the last answer in it.
+/// A pool, and the last answer in it. The list of a line's tokens is taken once, and each line is
+/// cut into it.
 #[derive(Drop)]
 pub struct Session {
     pool: Pool,
     answer: Id,
     text: Text,
+    tokens: Tokens,
     watch: Watch<NeverBreaker>,
 }
 
@@ -55,6 +58,7 @@ impl Session {
             pool,
             answer,
             text,
+            tokens: Tokens::none(),
             watch: Watch::new(Vec::new(alloc)),
         })
     }
@@ -83,21 +87,19 @@ impl Session {
         answer
     }
 
-    /// Answers a line that is not blank, but for the text. Never inlined: a function pays at its
-    /// entry for the tokens of a line, and a blank line has none.
-    #[inline(never)]
+    /// Answers a line that is not blank, but for the text.
     fn answer_line(&mut self, line: &[u8]) -> LineAnswer
         requires { length line.now ≤ 1024 → is_blank_line_of line.now ≡ false }
         ensures leads { Leads self.old.state line.now result self.new.state }
         ensures counted { Counts (refusal_of_pool result) self.old self.new }
         ensures text { self.new.text ≡ self.old.text }
     {
-        let tokens = match read_line(line) {
-            Ok(tokens) => tokens,
+        match read_line(line, &mut self.tokens) {
+            Ok(()) => {}
             Err(refusal) => return LineAnswer::Refused(refusal),
-        };
+        }
         let begin = self.pool.used();
-        match evaluate(&mut self.pool, &tokens, &mut self.watch) {
+        match evaluate(&mut self.pool, &self.tokens, &mut self.watch) {
             Evaluation::Face(face) => {
                 drop_first(&mut self.pool, begin);
                 self.answer = face.id();

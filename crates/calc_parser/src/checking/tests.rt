@@ -26,8 +26,9 @@ fn shown(alloc: Global, line: &[u8]) -> Result<String, AllocError>
             let (depth, nodes) = (shape.depth, shape.nodes);
             write!(text, "{depth} {nodes}:")?;
             let (sum, _) = without_store(tokens.items());
-            if let Ok(postfix) = read(sum) {
-                for step in postfix.steps() {
+            let mut reader = Reader::new();
+            if reader.read(sum).is_ok() {
+                for step in reader.steps() {
                     text.push(' ')?;
                     push_step(&mut text, sum, *step)?;
                 }

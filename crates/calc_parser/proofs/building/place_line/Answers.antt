@@ -42,3 +42,6 @@ returns-clause-room c = λ t is. subst (λ (ns : List Node). OnOk c.place_nodes.
 
 pub returns-clause-full : goal.returns-clause-full
 returns-clause-full c = λ t is. subst (λ (ns : List Node). IfErr c.place_nodes.result (λ full. placing (free_of c.args.pool.now) ns ≡ Err full)) (nodes_are c t is) c.place_nodes.ensures.full
+
+pub read-requires-clause-first : goal.read-requires-clause-first
+read-requires-clause-first c = c.new-reader.ensures.state (tokens_in c.without_store.result.0.now)

@@ -40,3 +40,6 @@ returns c =
       },
       c.if-depth-gt-MAX_DEPTH.false,
     )
+
+pub read-requires-clause-first : goal.read-requires-clause-first
+read-requires-clause-first c = c.new-reader.ensures.state (tokens_in c.without_store-store.result.0.now)

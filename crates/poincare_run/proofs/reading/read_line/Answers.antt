@@ -18,13 +18,13 @@ pub returns-in-Err-clause-refused : goal.returns-in-Err-clause-refused
 returns-in-Err-clause-refused c = λ free.
     let short : length c.args.line.now ≤ 1024 = omega (arith, c.if-line-gt-LINE_LIMIT.false) in
     c.token_refusal.ensures.refused free c.args.line.now (text_is c.args.line.now short (c.requires short) (sym c.is_command.ensures ∙ c.if-is_command.false))
-    (token_fault c.args.line.now c.scan.result c.in-Err.fault c.in-Err.is c.scan.ensures.character c.scan.ensures.number)
+    (token_fault c.args.line.now c.scan_into.result c.in-Err.fault c.in-Err.is c.scan_into.ensures.character c.scan_into.ensures.number)
 
 pub returns-in-Err-check-clause-refused : goal.returns-in-Err-check-clause-refused
 returns-in-Err-check-clause-refused c = λ free.
     let short : length c.args.line.now ≤ 1024 = omega (arith, c.if-line-gt-LINE_LIMIT.false) in
-    c.line_refusal.ensures.refused free c.args.line.now (tokens_of c.in-Ok.tokens) (text_is c.args.line.now short (c.requires short) (sym c.is_command.ensures ∙ c.if-is_command.false))
-    c.in-Ok.ensures.tokens (line_fault (tokens_of c.in-Ok.tokens) c.check.result c.in-Err-check.fault c.in-Err-check.is c.check.ensures.syntax c.check.ensures.deep)
+    c.line_refusal.ensures.refused free c.args.line.now (tokens_of c.scan_into.new.tokens) (text_is c.args.line.now short (c.requires short) (sym c.is_command.ensures ∙ c.if-is_command.false))
+    c.in-Ok.ensures.tokens (line_fault (tokens_of c.scan_into.new.tokens) c.check.result c.in-Err-check.fault c.in-Err-check.is c.check.ensures.syntax c.check.ensures.deep)
 
 pub returns-then-is_some-clause-refused : goal.returns-then-is_some-clause-refused
 returns-then-is_some-clause-refused c = λ free.
@@ -32,8 +32,8 @@ returns-then-is_some-clause-refused c = λ free.
     let text = text_is c.args.line.now short (c.requires short) (sym c.is_command.ensures ∙ c.if-is_command.false) in
     let shape = c.in-Ok-check.shape in
     let h = c.in-Ok-check.ensures.shape in
-    store_reply free c.args.line.now (tokens_of c.in-Ok.tokens) shape.store h.tree
-    (read_line c.args.line.now (tokens_of c.in-Ok.tokens) shape c.check.result text c.in-Ok.ensures.tokens c.in-Ok-check.is c.check.ensures.deep h) (sym c.is_some.ensures ∙ c.if-is_some.true)
+    store_reply free c.args.line.now (tokens_of c.scan_into.new.tokens) shape.store h.tree
+    (read_line c.args.line.now (tokens_of c.scan_into.new.tokens) shape c.check.result text c.in-Ok.ensures.tokens c.in-Ok-check.is c.check.ensures.deep h) (sym c.is_some.ensures ∙ c.if-is_some.true)
 
 pub returns-then-holds_name-clause-refused : goal.returns-then-holds_name-clause-refused
 returns-then-holds_name-clause-refused c = λ free.
@@ -41,10 +41,10 @@ returns-then-holds_name-clause-refused c = λ free.
     let text = text_is c.args.line.now short (c.requires short) (sym c.is_command.ensures ∙ c.if-is_command.false) in
     let shape = c.in-Ok-check.shape in
     let h = c.in-Ok-check.ensures.shape in
-    let reads = read_line c.args.line.now (tokens_of c.in-Ok.tokens) shape c.check.result text c.in-Ok.ensures.tokens c.in-Ok-check.is c.check.ensures.deep h in
+    let reads = read_line c.args.line.now (tokens_of c.scan_into.new.tokens) shape c.check.result text c.in-Ok.ensures.tokens c.in-Ok-check.is c.check.ensures.deep h in
     let none = sym c.is_some.ensures ∙ c.if-is_some.false in
-    let line = line_alone c.args.line.now (tokens_of c.in-Ok.tokens) shape.store h.tree reads none in
-    ans_reply free c.args.line.now (tokens_of c.in-Ok.tokens) shape.store h.tree reads none
+    let line = line_alone c.args.line.now (tokens_of c.scan_into.new.tokens) shape.store h.tree reads none in
+    ans_reply free c.args.line.now (tokens_of c.scan_into.new.tokens) shape.store h.tree reads none
     (subst (λ x. Contains (names h.tree) x) c.ans.ensures ((c.holds_name.ensures h.tree line).0 c.if-holds_name.true))
 
 pub returns-clause-tree : goal.returns-clause-tree
@@ -53,10 +53,10 @@ returns-clause-tree c =
     let text = text_is c.args.line.now short (c.requires short) (sym c.is_command.ensures ∙ c.if-is_command.false) in
     let shape = c.in-Ok-check.shape in
     let h = c.in-Ok-check.ensures.shape in
-    let reads = read_line c.args.line.now (tokens_of c.in-Ok.tokens) shape c.check.result text c.in-Ok.ensures.tokens c.in-Ok-check.is c.check.ensures.deep h in
+    let reads = read_line c.args.line.now (tokens_of c.scan_into.new.tokens) shape c.check.result text c.in-Ok.ensures.tokens c.in-Ok-check.is c.check.ensures.deep h in
     let none = sym c.is_some.ensures ∙ c.if-is_some.false in
-    let line = line_alone c.args.line.now (tokens_of c.in-Ok.tokens) shape.store h.tree reads none in (
+    let line = line_alone c.args.line.now (tokens_of c.scan_into.new.tokens) shape.store h.tree reads none in (
       h.tree,
-      reads_tree c.args.line.now (tokens_of c.in-Ok.tokens) shape.store h.tree reads none
+      reads_tree c.args.line.now (tokens_of c.scan_into.new.tokens) shape.store h.tree reads none
           (λ holds. clash _ ((c.holds_name.ensures h.tree line).1 (subst (λ x. Contains (names h.tree) x) (sym c.ans.ensures) holds)) c.if-holds_name.false),
     )

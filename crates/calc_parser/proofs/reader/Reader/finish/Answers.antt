@@ -3,14 +3,14 @@ use Rattle.calc_parser.proofs.Finishes.{not_finished, nothing_open, something_op
 use Rattle.calc_parser.proofs.reader.Reader.finish.Goals as goal
 
 pub returns-in-Operand : goal.returns-in-Operand
-returns-in-Operand c = λ ts. not_finished c.args.self.expects (open_in c.args.self.nesting) (nodes_in ts c.args.self.postfix) c.in-Operand.is
+returns-in-Operand c = λ ts. not_finished c.args.self.now.expects (open_in c.args.self.now.nesting) (nodes_in ts c.args.self.now.postfix) c.in-Operand.is
 
 pub returns-in-None : goal.returns-in-None
 returns-in-None c = λ ts.
-    nothing_open c.args.self.expects c.end_sum.new.self.expects (open_in c.args.self.nesting) (open_in c.end_sum.new.self.nesting) (nodes_in ts c.args.self.postfix) (nodes_in ts c.end_sum.new.self.postfix)
+    nothing_open c.args.self.now.expects c.end_sum.new.self.expects (open_in c.args.self.now.nesting) (open_in c.end_sum.new.self.nesting) (nodes_in ts c.args.self.now.postfix) (nodes_in ts c.end_sum.new.self.postfix)
     c.in-Operator.is (c.end_sum.ensures.ended ts) c.in-None.ensures
 
 pub returns-in-Some : goal.returns-in-Some
 returns-in-Some c = λ ts.
-    something_open c.args.self.expects c.end_sum.new.self.expects (open_in c.args.self.nesting) (open_in c.end_sum.new.self.nesting) (nodes_in ts c.args.self.postfix) (nodes_in ts c.end_sum.new.self.postfix)
+    something_open c.args.self.now.expects c.end_sum.new.self.expects (open_in c.args.self.now.nesting) (open_in c.end_sum.new.self.nesting) (nodes_in ts c.args.self.now.postfix) (nodes_in ts c.end_sum.new.self.postfix)
     c.in-Operator.is (c.end_sum.ensures.ended ts) c.in-Some.field-0 c.in-Some.ensures

@@ -23,12 +23,12 @@ drop_first-requires c =
 here : (c : After-id-self-inside) → IsReplaced c.self.inside.pool c.drop_first.new.pool c.self.inside.answer c.id-self-inside.result c.args.line.now
 here c =
     let (t, s) = c.in-Ok.ensures.tree in
-    replaced c.self.inside.pool c.evaluate.new.pool c.drop_first.new.pool c.self.inside.answer c.id-self-inside.result c.in-Face.face c.used-begin.result c.args.line.now (tokens_of c.in-Ok.tokens) t s c.self.invariant.stands c.evaluate.ensures.stands
+    replaced c.self.inside.pool c.evaluate.new.pool c.drop_first.new.pool c.self.inside.answer c.id-self-inside.result c.in-Face.face c.used-begin.result c.args.line.now (tokens_of c.read_line.new.tokens) t s c.self.invariant.stands c.evaluate.ensures.stands
     (c.in-Face.ensures.reply t (None, s.reads.line-is)) c.in-Face.ensures.counted c.used-begin.ensures.value c.drop_first.ensures.dropped c.drop_first.ensures.pool c.id-self-inside.ensures
 
-pub invariant_of-self : goal.invariant_of-self
-invariant_of-self c =
-    let r = here (goal.at.invariant_of-self c).After-id-self-inside in
+pub invariant_of-self-in-Face : goal.invariant_of-self-in-Face
+invariant_of-self-in-Face c =
+    let r = here (goal.at.invariant_of-self-in-Face c).After-id-self-inside in
     record { answer = r.answer; stands = r.stands; room = c.self.invariant.room ∙ ap (λ n. 3 * n + 256) (sym r.keeps.size); no_breaker = c.evaluate.ensures.no_breaker }
 
 pub returns-in-Face-clause-leads : goal.returns-in-Face-clause-leads

@@ -4,9 +4,9 @@ use Rattle.calc_terms.specs.Trees.{Tree}
 use Rattle.calc_terms.specs.Grammar.{IsSum}
 use Rattle.calc_tokens.specs.Tokens.{token_of}
 use Rattle.calc_parser.specs.Automaton.{run, start}
-use Rattle.calc_parser.specs.Reader.{tokens_in, token_in, state_in}
+use Rattle.calc_parser.specs.Reader.{tokens_in, token_in, nodes_in, state_in}
 use Rattle.calc_parser.proofs.Runs.{count_tokens, token_at_place, run_on, run_stops, run_all, no_sum, on_err, finished_sum, finished_none}
-use Rattle.calc_parser.proofs.reader.read.Goals as goal
+use Rattle.calc_parser.proofs.reader.Reader.read.Goals as goal
 
 pub returns-in_err-take-clause-no_sum : goal.returns-in_err-take-clause-no_sum
 returns-in_err-take-clause-no_sum c =
@@ -15,7 +15,7 @@ returns-in_err-take-clause-no_sum c =
     let here : token_in ts c.loop-at.at ≡ token_of c.index-tokens-at.result.what = token_at_place tokens c.loop-at.at c.index-tokens-at.result c.loop-at-test.true c.index-tokens-at.is in
     let inside : c.loop-at.at < length ts = omega (arith, count_tokens tokens) in
     on_err ((t : Tree) → IsSum ts t → ⊥) c.from_residual.result
-    (no_sum ts (run_stops ts (state_in ts c.loop-at.reader) c.loop-at.at _ inside here (run start ts) (c.in_err-take.ensures.step ts here) (c.loop-at.invariant.0)))
+    (no_sum ts (run_stops ts (state_in ts c.loop-at.self) c.loop-at.at _ inside here (run start ts) (c.in_err-take.ensures.step ts here) (c.loop-at.invariant.0)))
 
 pub loop-at-preserved : goal.loop-at-preserved
 loop-at-preserved c =
@@ -23,7 +23,7 @@ loop-at-preserved c =
     let ts = tokens_in tokens in
     let here : token_in ts c.loop-at.at ≡ token_of c.index-tokens-at.result.what = token_at_place tokens c.loop-at.at c.index-tokens-at.result c.loop-at-test.true c.index-tokens-at.is in
     let inside : c.loop-at.at < length ts = omega (arith, count_tokens tokens) in (
-      run_on ts (state_in ts c.loop-at.reader) c.loop-at.at _ inside here (state_in ts c.take.new.self) (run start ts) (c.in_ok-take.ensures.step ts here) (c.loop-at.invariant.0),
+      run_on ts (state_in ts c.loop-at.self) c.loop-at.at _ inside here (state_in ts c.take.new.self) (run start ts) (c.in_ok-take.ensures.step ts here) (c.loop-at.invariant.0),
       omega (arith, c.loop-at.invariant.1, c.in_ok-take.ensures.room),
     )
 
@@ -32,11 +32,11 @@ returns-clause-sum c =
     let tokens = c.args.tokens.now in
     let ts = tokens_in tokens in
     let past : length ts ≤ c.loop-at.at = omega (arith, count_tokens tokens) in
-    finished_sum ts (state_in ts c.loop-at.reader) c.finish.result (run_all ts (state_in ts c.loop-at.reader) c.loop-at.at (run start ts) past (c.loop-at.invariant.0)) (c.finish.ensures ts)
+    finished_sum ts (state_in ts c.loop-at.self) (nodes_in ts c.finish.new.self.postfix) c.finish.result (run_all ts (state_in ts c.loop-at.self) c.loop-at.at (run start ts) past (c.loop-at.invariant.0)) (c.finish.ensures ts)
 
 pub returns-clause-no_sum : goal.returns-clause-no_sum
 returns-clause-no_sum c =
     let tokens = c.args.tokens.now in
     let ts = tokens_in tokens in
     let past : length ts ≤ c.loop-at.at = omega (arith, count_tokens tokens) in
-    finished_none ts (state_in ts c.loop-at.reader) c.finish.result (run_all ts (state_in ts c.loop-at.reader) c.loop-at.at (run start ts) past (c.loop-at.invariant.0)) (c.finish.ensures ts)
+    finished_none ts (state_in ts c.loop-at.self) (nodes_in ts c.finish.new.self.postfix) c.finish.result (run_all ts (state_in ts c.loop-at.self) c.loop-at.at (run start ts) past (c.loop-at.invariant.0)) (c.finish.ensures ts)

@@ -1,7 +1,7 @@
 use Rattle.std.proofs.Common.{◌≡◌, ◌≤◌, ◌*◌, drop}
 use Rattle.calc_parser.specs.Automaton.{run, start}
 use Rattle.calc_parser.specs.Reader.{state_in, room_in, tokens_in}
-use Rattle.calc_parser.proofs.reader.read.Given as goal
+use Rattle.calc_parser.proofs.reader.Reader.read.Given as goal
 
 abbrev pub invariant-loop-at : goal.invariant-loop-at
-invariant-loop-at l = (run (state_in (tokens_in l.tokens) l.reader) (drop l.at (tokens_in l.tokens)) ≡ run start (tokens_in l.tokens)) × (room_in l.reader ≤ 2 * l.at)
+invariant-loop-at l = (run (state_in (tokens_in l.tokens) l.self) (drop l.at (tokens_in l.tokens)) ≡ run start (tokens_in l.tokens)) × (room_in l.self ≤ 2 * l.at)

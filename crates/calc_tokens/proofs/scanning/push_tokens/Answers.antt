@@ -3,10 +3,10 @@ use Rattle.calc_tokens.specs.Tokens.{tokens_of, token_of}
 use Rattle.calc_tokens.specs.Scanned.{place}
 use Rattle.calc_tokens.proofs.Shorter.{token_shorter}
 use Rattle.calc_tokens.proofs.Scans.{reached_start, reached_blank, reached_token}
-use Rattle.calc_tokens.proofs.scanning.scanned.Goals as goal
+use Rattle.calc_tokens.proofs.scanning.push_tokens.Goals as goal
 
 pub loop-first-init : goal.loop-first-init
-loop-first-init c = reached_start c.args.line.now (tokens_of c.none-tokens.result) c.none-tokens.ensures
+loop-first-init c = reached_start c.args.line.now (tokens_of c.args.tokens.now) c.requires.none
 
 pub loop-first-preserved-then-is_blank : goal.loop-first-preserved-then-is_blank
 loop-first-preserved-then-is_blank c =

@@ -1,7 +1,7 @@
 use Rattle.std.proofs.Common.{length}
 use Rattle.calc_tokens.specs.Tokens.{tokens_of}
 use Rattle.calc_tokens.proofs.Scans.{Reached}
-use Rattle.calc_tokens.proofs.scanning.scanned.Given as goal
+use Rattle.calc_tokens.proofs.scanning.push_tokens.Given as goal
 
 abbrev pub invariant-loop-first : goal.invariant-loop-first
 invariant-loop-first l = Reached l.line (tokens_of l.tokens) l.rest
