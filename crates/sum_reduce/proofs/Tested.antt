@@ -1,5 +1,5 @@
 -- Trees that the tests build.
-use Rattle.std.proofs.Common.{ℕ, zero, suc, ◌≡◌, ◌≤◌, ◌+◌, List, inr, Bool, true, false, ◌&&◌, refl, sym, ap, ◌∙◌, subst, arith}
+use Rattle.std.proofs.Common.{ℕ, zero, suc, ◌≡◌, ◌≤◌, ◌+◌, List, inr, Bool, true, false, ◌&&◌, not, refl, sym, ap, ◌∙◌, subst, arith}
 use Rattle.std.proofs.lemmas.Bool.{and_parts, and_from}
 use Rattle.calc_terms.specs.Numbers.{is_number}
 use Rattle.calc_terms.specs.Reduced.{is_reduced}
@@ -17,7 +17,11 @@ use Rattle.tree_handles.proofs.Lasts.{last_tree}
 use Rattle.tree_handles.proofs.Roots.{put-same}
 use Rattle.coefficients.proofs.Places.{over_end}
 use Rattle.sum_reduce.specs.Sums.{IsSum, Takes, terms_in}
+use Rattle.sum_reduce.specs.Terms.{is_loose}
 use Rattle.sum_reduce.proofs.Sums.{IsRewritten, sum_over, over_is_sum, over_terms}
+
+clash : false ≡ true → ⊥
+clash e = cc
 
 pub symbol_monic : (x : List ℕ) → IsMonic (symbol x)
 unfolding is_number
@@ -25,6 +29,15 @@ symbol_monic x = record { reduced = parts_reduced (symbol x) (inr tt); defined =
 
 pub number_reduced : (t : Tree) → is_number t ≡ true → is_reduced t ≡ true
 number_reduced t h = parts_reduced t (number_parts t (number_words t h))
+
+-- a reduced sum that is no Number has no coefficient
+pub loose_monic : (t : Tree) → is_reduced t ≡ true → is_loose t ≡ true → IsMonic t
+loose_monic (add ts) r h = record { reduced = r; defined = refl; no_coefficient = no_number (is_number (add ts)) h }
+  where
+    no_number : (b : Bool) → (true && not b) ≡ true → b ≡ false
+    no_number true e = absurd (clash e)
+    no_number false e = refl
+loose_monic t r h = absurd (clash h)
 
 -- a sum without terms
 pub empty_sum : {i : ℕ} {f g : Forest} → Gives f g i (λ t. t ≡ add none) → IsSum i g

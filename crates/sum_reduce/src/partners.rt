@@ -98,6 +98,7 @@ pub fn leads_pair(pool: &Pool, sum: &Handle, at: u16) -> bool
     requires formed { AreFormed (terms_in sum.now (forest pool.now)) }
     requires within { at < count (terms_in sum.now (forest pool.now)) }
     ensures pair { result ≡ true → IsPair at (terms_in sum.now (forest pool.now)) }
+    ensures each { IsPair at (terms_in sum.now (forest pool.now)) → result ≡ true }
     ensures fits { result ≡ true → at + 1 < 2 ^ 16 }
 {
     at < term_count(pool, sum) - 1 && are_partners(pool, sum, at, at + 1)

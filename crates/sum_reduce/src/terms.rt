@@ -57,7 +57,7 @@ pub fn has_undef_term(pool: &Pool, sum: &Handle) -> bool
 }
 
 /// Whether a reduced tree is a sum, and no Number.
-fn is_loose(pool: &Pool, id: Id) -> bool
+pub fn is_loose(pool: &Pool, id: Id) -> bool
     requires stands { Stands pool.now }
     requires expression { IsExpression id (forest pool.now) }
     requires reduced { is_reduced (plain (tree_at id (forest pool.now))) ≡ true }

@@ -1,0 +1,30 @@
+use Rattle.std.proofs.Common.{◌∙◌, ap, sym}
+use Rattle.calc_terms.specs.Numbers.{is_number}
+use Rattle.calc_terms.specs.Reduced.{is_reduced}
+use Rattle.calc_terms.proofs.NumberLaws.{number_words}
+use Rattle.coefficients.proofs.Coefficients.{put_reduces}
+use Rattle.tree_handles.specs.Expressions.{plain}
+use Rattle.tree_handles.specs.Roots.{without_root}
+use Rattle.tree_handles.proofs.Given.{gives_as, given_handed, given_other, given_apart, given_rest, given_same, given_told}
+use Rattle.tree_handles.proofs.Outcomes.{eqb-sym}
+use Rattle.sum_reduce.proofs.Results.{if_ok_map}
+use Rattle.sum_reduce.proofs.tests.building.multiple.Goals as goal
+
+pub put_coefficient-requires-clause-first : goal.put_coefficient-requires-clause-first
+put_coefficient-requires-clause-first c = given_other c.in_ok-part.ensures.ok c.requires.handed
+
+pub put_coefficient-requires-clause-second : goal.put_coefficient-requires-clause-second
+put_coefficient-requires-clause-second c = given_handed c.in_ok-part.ensures.ok
+
+pub put_coefficient-requires-clause-apart : goal.put_coefficient-requires-clause-apart
+put_coefficient-requires-clause-apart c = eqb-sym c.in_ok-part.part c.args.coefficient (given_apart c.in_ok-part.ensures.ok c.requires.handed)
+
+pub put_coefficient-requires-clause-reduced : goal.put_coefficient-requires-clause-reduced
+put_coefficient-requires-clause-reduced c = (given_told c.in_ok-part.ensures.ok).reduced
+
+pub returns-clause-ok : goal.returns-clause-ok
+returns-clause-ok c =
+    let p = c.in_ok-part.ensures.ok in
+    let same = ap plain (given_same c.args.coefficient p c.requires.handed.root) in
+    if_ok_map c.put_coefficient.result c.put_coefficient.ensures.ok
+    (λ h k. gives_as k (ap (without_root c.args.coefficient) (given_rest p)) (λ t e. ap is_reduced e ∙ (put_reduces _ _ (number_words _ (ap is_number same ∙ c.requires.number)) (given_told p)).reduced))

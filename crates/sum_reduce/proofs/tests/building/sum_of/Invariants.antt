@@ -1,0 +1,14 @@
+use Rattle.std.proofs.Common.{◌≡◌, ◌≤◌, true}
+use Rattle.calc_terms.specs.Trees.{count}
+use Rattle.reduce_port.specs.Children.{are_reduced}
+use Rattle.tree_handles.specs.Standing.{Stands, forest}
+use Rattle.sum_reduce.specs.Sums.{Changes, terms_in}
+use Rattle.sum_reduce.proofs.tests.building.sum_of.Given as goal
+
+abbrev pub invariant-loop-shape : goal.invariant-loop-shape
+invariant-loop-shape l = record {
+  changes : Changes l.sum (forest l.initial.pool) (forest l.pool);
+  reduced : are_reduced (terms_in l.sum (forest l.pool)) ≡ true;
+  many : l.shape-index ≤ count (terms_in l.sum (forest l.pool));
+  stands : Stands l.pool;
+}

@@ -1,8 +1,0 @@
-use Rattle.std.proofs.Common.{sym, subst, refl}
-use Rattle.coefficients.specs.Coefficients.{IsMonic}
-use Rattle.tree_handles.proofs.Given.{gives_as}
-use Rattle.sum_reduce.proofs.Tested.{symbol_monic}
-use Rattle.sum_reduce.proofs.tests.name.Goals as goal
-
-pub returns-clause-ok : goal.returns-clause-ok
-returns-clause-ok c = gives_as c.in_ok-tree.ensures.given refl (λ t e. subst IsMonic (sym e) (symbol_monic _))
