@@ -11,7 +11,9 @@ use Rattle.calc_terms.specs.Reduced.{is_reduced}
 use Rattle.calc_terms.specs.SquareRoots.{square_root}
 use Rattle.calc_terms.specs.Trees.{Tree, num, symbol, mult, power, root, none, more}
 use Rattle.calc_terms.specs.declared.rat.Rat.{Rat}
+use Rattle.calc_terms.proofs.NumberLaws.{number_words}
 use Rattle.calc_terms.proofs.ReducedLaws.{reduced_test}
+use Rattle.coefficients.proofs.Forms.{parts_reduced, number_parts}
 use Rattle.node_pool.specs.State.{State}
 use Rattle.power_reduce.specs.PowerAnswers.{IsStep}
 use Rattle.reduce_port.specs.Rewritings.{tree_of}
@@ -49,6 +51,23 @@ root_of_two = refl
 
 pub number_root_reduced : (r : Rat) → ratio_of r ≡ whole (pos 2) → is_reduced (root (num (value_of r))) ≡ true
 number_root_reduced r e = ap (λ (q : Fraction). is_reduced (root (num q))) (value_is r e) ∙ root_of_two
+
+pub any_number_reduced : (t : Tree) → is_number t ≡ true → is_reduced t ≡ true
+any_number_reduced t h = parts_reduced t (number_parts t (number_words t h))
+
+two_is_radicand : is_number (root (num (lowest (pos 2) 1))) ≡ true
+unfolding is_number is_clean left_of square_root gcd lowest
+two_is_radicand = refl
+
+three_is_radicand : is_number (root (num (lowest (pos 3) 1))) ≡ true
+unfolding is_number is_clean left_of square_root gcd lowest
+three_is_radicand = refl
+
+pub root_two : (r : Rat) → ratio_of r ≡ whole (pos 2) → is_number (root (num (value_of r))) ≡ true
+root_two r e = ap (λ (q : Ratio). is_number (root (num (lowest q.num q.den)))) e ∙ two_is_radicand
+
+pub root_three : (r : Rat) → ratio_of r ≡ whole (pos 3) → is_number (root (num (value_of r))) ≡ true
+root_three r e = ap (λ (q : Ratio). is_number (root (num (lowest q.num q.den)))) e ∙ three_is_radicand
 
 step_done : (t : Tree) (others : Forest) (new : State) (s : Step) → IsStep t others new s → IfDone s (λ h. IsHanded h (forest new) × (is_reduced (tree_of h new) ≡ true))
 step_done t others new (step.Done h) k = (given_handed k.1, (given_told k.1).reduces.reduced)

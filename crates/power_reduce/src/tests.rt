@@ -1,18 +1,20 @@
-//! Steps on powers of rationals, of a symbol, of roots, of a power and of a product. The expected bytes are worked out
+//! Steps on powers of rationals, of a symbol, of roots, of sums of roots, of a power and of a product. The expected bytes are worked out
 //! by hand: 8 for each node, 16 for the symbol x and 40 for a rational.
-ghost use Rattle.std.specs.Prelude.{◌≡◌, ◌≢◌, IfOk, pos, true};
-ghost use Rattle.calc_terms.specs.Rat.{ratio_of};
+ghost use Rattle.std.specs.Prelude.{◌≡◌, IfOk, true};
+ghost use Rattle.calc_terms.specs.Numbers.{is_number};
+ghost use Rattle.calc_terms.specs.Rat.{value_of};
 ghost use Rattle.calc_terms.specs.Reduced.{is_reduced};
-ghost use Rattle.calc_terms.specs.Ratio.{whole};
+ghost use Rattle.calc_terms.specs.Trees.{num, root as root_tree_of};
 ghost use Rattle.node_pool.specs.State.{IsPoolSize};
 ghost use Rattle.reduce_port.specs.Rewritings.{tree_of};
 ghost use Rattle.reduce_port.specs.Steps.{IfDone};
-ghost use Rattle.tree_handles.specs.Handed.{IsHanded};
+ghost use Rattle.tree_handles.specs.Handed.{IsHanded, Gives};
 ghost use Rattle.tree_handles.specs.Standing.{Stands, forest};
 
 use super::power_step;
 use calc_terms::{Kind, Name, Rat};
 use node_pool::Pool;
+use number_forms::add_numbers;
 use reduce_port::Step;
 use std::alloc::{AllocError, Global};
 use std::test::Fail;
@@ -98,6 +100,58 @@ fn number_step(pool: &mut Pool, q: Rat) -> Result<Step, NumberFault>
 {
     let argument = number(pool, Rat::whole(2))?;
     let base = node_over(pool, Kind::Root, argument)?;
+    step(pool, base, q)
+}
+
+/// The root of a rational that stands under no square part.
+fn root(pool: &mut Pool, radicand: Rat) -> Result<Handle, NumberFault>
+    requires stands { Stands pool.old }
+    requires number { is_number (root_tree_of (num (value_of radicand))) ≡ true }
+    ensures ok { IfOk result (λ h. Gives (forest pool.old) (forest pool.new) h (λ t. is_number t ≡ true)) }
+    ensures stands { Stands pool.new }
+{
+    let argument = number(pool, radicand)?;
+    let root = node_over(pool, Kind::Root, argument)?;
+    Ok(root)
+}
+
+/// √2+√3
+fn two_classes(pool: &mut Pool) -> Result<Handle, NumberFault>
+    requires { Stands pool.old }
+    ensures ok { IfOk result (λ h. Gives (forest pool.old) (forest pool.new) h (λ t. is_number t ≡ true)) }
+    ensures stands { Stands pool.new }
+{
+    let a = root(pool, Rat::whole(2))?;
+    let b = root(pool, Rat::whole(3))?;
+    add_numbers(pool, a, b)
+}
+
+/// 1+√2+√3
+fn three_classes(pool: &mut Pool) -> Result<Handle, NumberFault>
+    requires { Stands pool.old }
+    ensures ok { IfOk result (λ h. Gives (forest pool.old) (forest pool.new) h (λ t. is_number t ≡ true)) }
+    ensures stands { Stands pool.new }
+{
+    let one = number(pool, Rat::whole(1))?;
+    let others = two_classes(pool)?;
+    add_numbers(pool, one, others)
+}
+
+/// One step on √2+√3 to the power q.
+fn two_class_step(pool: &mut Pool, q: Rat) -> Result<Step, NumberFault>
+    requires { Stands pool.old }
+    ensures { Stands pool.new }
+{
+    let base = two_classes(pool)?;
+    step(pool, base, q)
+}
+
+/// One step on 1+√2+√3 to the power q.
+fn three_class_step(pool: &mut Pool, q: Rat) -> Result<Step, NumberFault>
+    requires { Stands pool.old }
+    ensures { Stands pool.new }
+{
+    let base = three_classes(pool)?;
     step(pool, base, q)
 }
 
@@ -199,5 +253,17 @@ fn powers_of_a_number(rt: HostRuntime) -> Result<(), Fail> {
         let answer = number_step(&mut pool, Rat::whole(n));
         assert_eq!(rt; outcome(&pool, &answer), want, "√2^{n}");
     }
+    Ok(())
+}
+
+// (√2+√3)^-2 is (√3-√2)^2, 5-2×√6. The inverse of 1+√2+√3 is kept.
+#[test]
+fn inverses_of_sums(rt: HostRuntime) -> Result<(), Fail> {
+    let mut pool = opened(rt.alloc(), 1024)?;
+    let answer = two_class_step(&mut pool, Rat::whole(-2));
+    assert_eq!(rt; outcome(&pool, &answer), 144);
+    let mut pool = opened(rt.alloc(), 1024)?;
+    let answer = three_class_step(&mut pool, Rat::whole(-1));
+    assert_eq!(rt; outcome(&pool, &answer), 192);
     Ok(())
 }

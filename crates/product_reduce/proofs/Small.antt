@@ -1,33 +1,44 @@
 -- Small trees that are reduced.
-use Rattle.std.proofs.Common.{ℕ, List, ◌≤◌, ◌≡◌, true, refl, ap, ◌∙◌, subst, arith}
-use Rattle.std.proofs.lemmas.Bool.{and_from}
-use Rattle.std.specs.Prelude.{pos}
+use Rattle.std.proofs.Common.{ℕ, zero, suc, ℤ, List, ◌≤◌, ◌≡◌, inr, true, refl, sym, ap, ◌∙◌, subst}
+use Rattle.std.proofs.lemmas.Bool.{and_from, and_parts}
+use Rattle.std.specs.Prelude.{pos, negsuc}
+use Rattle.std.specs.Cmp.Lexicographic.{slice_cmp}
+use Rattle.std.specs.Ordering.{nat_cmp}
+use Rattle.std.specs.declared.cmp.Ordering.TheVariants.{Less}
 use Rattle.calc_terms.specs.Clean.{is_clean, left_of}
 use Rattle.calc_terms.specs.SquareRoots.{square_root}
 use Rattle.calc_terms.specs.declared.rat.Rat.{Rat}
 use Rattle.calc_terms.specs.Rat.{ratio_of, value_of}
 use Rattle.calc_terms.specs.Ratio.{Ratio, whole}
-use Rattle.calc_terms.specs.Fractions.{Fraction, lowest, zero_fraction, one_fraction}
+use Rattle.calc_terms.specs.Fractions.{lowest, zero_fraction, one_fraction}
 use Rattle.calc_terms.specs.Gcd.{gcd}
 use Rattle.calc_terms.specs.Numbers.{is_number}
 use Rattle.calc_terms.specs.Reduced.{is_reduced}
-use Rattle.calc_terms.specs.Trees.{Tree, num, symbol, undef, add, mult, power, root, none, more, count, is_mult}
+use Rattle.calc_terms.specs.Trees.{Tree, num, symbol, undef, add, mult, power, root, Trees, none, more, count, is_mult}
+use Rattle.calc_terms.proofs.NumberLaws.{number_words}
+use Rattle.coefficients.specs.Coefficients.{IsMonic}
+use Rattle.coefficients.proofs.Forms.{parts_reduced, number_parts}
 use Rattle.reduce_port.specs.Children.{are_reduced}
-use Rattle.tree_handles.specs.Forest.{Forest}
-use Rattle.tree_handles.specs.Handed.{IsHanded, Gives}
-use Rattle.tree_handles.proofs.Given.{given_handed}
+use Rattle.tree_handles.specs.Expressions.{plain, inserted, children_of}
+use Rattle.tree_handles.specs.Forest.{Forest, kids, with_nth}
+use Rattle.tree_handles.specs.Handed.{IsHanded, Ends, Gives}
+use Rattle.tree_handles.specs.Roots.{root_tree, without_root, put}
+use Rattle.tree_handles.proofs.Given.{gives, given_handed, given_told, represents_handed}
+use Rattle.tree_handles.proofs.Lasts.{ends_as, last_tree}
 use Rattle.product_reduce.specs.declared.steps.Joining.{Joining}
 use Rattle.product_reduce.specs.declared.steps.Joining.TheVariants as joining
 use Rattle.product_reduce.specs.Answers.{IfFinished, IfJoined}
-use Rattle.tree_handles.specs.Expressions.{children_of}
+use Rattle.product_reduce.specs.Products.{IsProduct, Becomes, factors_in}
+use Rattle.product_reduce.proofs.Beside.{beside_given, beside_product}
+use Rattle.product_reduce.proofs.Joins.{put_back}
+use Rattle.product_reduce.proofs.Products.{becomes_as, factors_are}
 
-pub number_reduced : (q : Fraction) → is_reduced (num q) ≡ true
-unfolding is_reduced is_number
-number_reduced q = refl
+pub number_reduced : (t : Tree) → is_number t ≡ true → is_reduced t ≡ true
+number_reduced t h = parts_reduced t (number_parts t (number_words t h))
 
-pub symbol_reduced : (n : List ℕ) → is_reduced (symbol n) ≡ true
-unfolding is_reduced is_number
-symbol_reduced n = refl
+pub symbol_monic : (x : List ℕ) → IsMonic (symbol x)
+unfolding is_number
+symbol_monic x = record { reduced = parts_reduced (symbol x) (inr tt); defined = refl; no_coefficient = refl }
 
 pub undef_reduced : is_reduced undef ≡ true
 unfolding is_reduced
@@ -41,27 +52,75 @@ pub power_reduced : (b e : List ℕ) → is_reduced (power (symbol b) (symbol e)
 unfolding is_reduced is_number
 power_reduced b e = refl
 
+-- two names added in their order
+pub names_reduced : (x y : List ℕ) → slice_cmp nat_cmp x y ≡ Less → is_reduced (add (more (symbol x) (more (symbol y) none))) ≡ true
+unfolding is_reduced is_number
+names_reduced x y e = rw e refl
+
+pub square_reduced : (b : List ℕ) → is_reduced (power (symbol b) (num (lowest (pos 2) 1))) ≡ true
+unfolding is_reduced is_number one_fraction zero_fraction lowest gcd
+square_reduced b = refl
+
+pub inverse_square_reduced : (b : List ℕ) → is_reduced (power (symbol b) (num (lowest (negsuc 1) 1))) ≡ true
+unfolding is_reduced is_number one_fraction zero_fraction lowest gcd
+inverse_square_reduced b = refl
+
 pub opaque_reduced : (b : List ℕ) → is_reduced (power (symbol b) (num (lowest (pos 1) 2))) ≡ true
 unfolding is_reduced is_number lowest gcd
 opaque_reduced b = refl
 
-pub twice_reduced : (n : List ℕ) → is_reduced (mult (more (num (lowest (pos 2) 1)) (more (symbol n) none))) ≡ true
-unfolding is_reduced is_number one_fraction zero_fraction lowest gcd
-twice_reduced n = refl
+-- the roots of 2, 3 and 6
+pub root_two : is_number (root (num (lowest (pos 2) 1))) ≡ true
+unfolding is_number is_clean left_of square_root lowest gcd
+root_two = refl
 
-pub root_reduced : is_reduced (root (num (lowest (pos 2) 1))) ≡ true
-unfolding is_reduced is_number is_clean left_of square_root lowest gcd
-root_reduced = refl
+pub root_three : is_number (root (num (lowest (pos 3) 1))) ≡ true
+unfolding is_number is_clean left_of square_root lowest gcd
+root_three = refl
 
-pub two_value : (r : Rat) → ratio_of r ≡ whole (pos 2) → value_of r ≡ lowest (pos 2) 1
-two_value r e = ap (λ (x : Ratio). lowest x.num x.den) e
+pub root_six : is_number (root (num (lowest (pos 6) 1))) ≡ true
+unfolding is_number is_clean left_of square_root lowest gcd
+root_six = refl
 
-pub product_of_two : (t a b : Tree) → t ≡ mult (more a (more b none)) → is_reduced a ≡ true → is_reduced b ≡ true → (is_mult t ≡ true) × (1 ≤ count (children_of t)) × (are_reduced (children_of t) ≡ true)
-product_of_two t a b e r s = (
-  ap is_mult e,
-  (let n = ap (λ (u : Tree). count (children_of u)) e in omega arith),
-  ap (λ (u : Tree). are_reduced (children_of u)) e ∙ and_from _ _ r (and_from _ _ s refl),
-)
+pub whole_value : (n : ℤ) (r : Rat) → ratio_of r ≡ whole n → value_of r ≡ lowest n 1
+whole_value n r e = ap (λ (x : Ratio). lowest x.num x.den) e
+
+-- ---- products of pieces
+
+-- a product without factors
+pub empty_product : {i : ℕ} {f g : Forest} → Gives f g i (λ t. t ≡ mult none) → IsProduct i g none
+empty_product k = record { handed = given_handed k; tree = given_told k }
+
+-- the same product by its own factors
+pub own_factors : {i : ℕ} {f g : Forest} {ts : Trees} → Becomes i f g ts → Becomes i f g (factors_in i g)
+own_factors b = becomes_as b (sym (factors_are b.product))
+
+-- a tree is placed beside a product
+pub placed_beside : {i h : ℕ} {f l g : Forest} {us : Trees} {Told : Tree → Type 0} → Becomes i f l us → Gives l g h Told → IsProduct i g us
+placed_beside b k = beside_product (beside_given k) b.product
+
+-- and goes into it
+pub put_beside : {i h : ℕ} {f l g new : Forest} {us : Trees} {Told : Tree → Type 0} (at : ℕ) → Becomes i f l us → Gives l g h Told → at ≤ count us
+    → new ≡ put i (with_nth at (root_tree h g) (kids (root_tree i g))) (without_root h g) → Becomes i f new (inserted at (more (plain (root_tree h g)) none) us)
+put_beside {i = i} {h = h} {f = f} {l = l} {g = g} {new = new} {us = us} at b k w e =
+    put_back i at h us f l g new _ b (record { tree = k.tree; ends = k.ends; once = k.once; whole = k.whole; told = ap plain (sym (last_tree k.ends)) }) w e
+
+pub reduced_inserted : (n : ℕ) (t : Tree) (ts : Trees) → is_reduced t ≡ true → are_reduced ts ≡ true → are_reduced (inserted n (more t none) ts) ≡ true
+reduced_inserted zero t ts h k = and_from _ _ h k
+reduced_inserted (suc n) t none h k = and_from _ _ h refl
+reduced_inserted (suc n) t (more u ts) h k = let (a, b) = and_parts (is_reduced u) (are_reduced ts) k in and_from _ _ a (reduced_inserted n t ts h b)
+
+pub count_inserted : (n : ℕ) (t : Tree) (ts : Trees) → count (inserted n (more t none) ts) ≡ suc (count ts)
+count_inserted zero t ts = refl
+count_inserted (suc n) t none = refl
+count_inserted (suc n) t (more u ts) = ap suc (count_inserted n t ts)
+
+-- the product goes behind all other trees
+pub moved_product : {i n : ℕ} {f l g others : Forest} {us : Trees} → Becomes i f l us → Ends i (root_tree i l) (without_root i l) g → without_root i f ≡ others → n ≤ count us → are_reduced us ≡ true
+    → Gives others g i (λ t. (is_mult t ≡ true) × (n ≤ count (children_of t)) × (are_reduced (children_of t) ≡ true))
+moved_product {n = n} b e q m r =
+    gives (ends_as e refl (b.others ∙ q)) (represents_handed b.product.handed)
+    (ap is_mult b.product.tree, subst (λ (t : Tree). n ≤ count (children_of t)) (sym b.product.tree) m, ap (λ (t : Tree). are_reduced (children_of t)) b.product.tree ∙ r)
 
 -- ---- answers
 

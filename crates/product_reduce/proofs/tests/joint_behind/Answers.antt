@@ -1,5 +1,5 @@
-use Rattle.std.proofs.Common.{◌≡◌, ◌∙◌, ap, refl, sym, true}
-use Rattle.tree_handles.proofs.Given.{given_handed, given_other, given_apart, given_rest, given_same, given_root, given_told, given_without, gives_as}
+use Rattle.std.proofs.Common.{◌∙◌}
+use Rattle.tree_handles.proofs.Given.{given_handed, given_other, given_apart, given_rest, given_without, gives_as}
 use Rattle.tree_handles.proofs.Outcomes.{eqb-sym}
 use Rattle.product_reduce.proofs.tests.joint_behind.Goals as goal
 

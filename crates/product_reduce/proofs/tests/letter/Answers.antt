@@ -1,8 +1,8 @@
-use Rattle.std.proofs.Common.{◌≡◌, ◌∙◌, ap, refl, true}
-use Rattle.calc_terms.specs.Reduced.{is_reduced}
+use Rattle.std.proofs.Common.{sym, subst, refl}
+use Rattle.coefficients.specs.Coefficients.{IsMonic}
 use Rattle.tree_handles.proofs.Given.{gives_as}
-use Rattle.product_reduce.proofs.Small.{symbol_reduced}
+use Rattle.product_reduce.proofs.Small.{symbol_monic}
 use Rattle.product_reduce.proofs.tests.letter.Goals as goal
 
 pub returns-clause-ok : goal.returns-clause-ok
-returns-clause-ok c = gives_as c.in_ok-tree.ensures.given refl (λ t e. ap is_reduced e ∙ symbol_reduced _)
+returns-clause-ok c = gives_as c.in_ok-tree.ensures.given refl (λ t e. subst IsMonic (sym e) (symbol_monic _))

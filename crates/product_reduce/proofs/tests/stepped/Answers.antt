@@ -1,3 +1,4 @@
+use Rattle.std.proofs.Common.{◌≤◌, arith}
 use Rattle.tree_handles.proofs.Given.{given_handed, given_told}
 use Rattle.reduce_port.specs.Rewritings.{tree_of}
 use Rattle.tree_handles.specs.Expressions.{children_of}
@@ -14,7 +15,7 @@ pub joining_step-requires-clause-product : goal.joining_step-requires-clause-pro
 joining_step-requires-clause-product c = (given_told c.in_ok-tree.ensures.ok).0
 
 pub joining_step-requires-clause-some : goal.joining_step-requires-clause-some
-joining_step-requires-clause-some c = (given_told c.in_ok-tree.ensures.ok).1
+joining_step-requires-clause-some c = omega (arith, (given_told c.in_ok-tree.ensures.ok).1, c.requires.some)
 
 pub joining_step-requires-clause-reduced : goal.joining_step-requires-clause-reduced
 joining_step-requires-clause-reduced c = (given_told c.in_ok-tree.ensures.ok).2

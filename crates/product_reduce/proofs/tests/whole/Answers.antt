@@ -1,8 +1,8 @@
-use Rattle.std.proofs.Common.{◌≡◌, ◌∙◌, ap, refl, true}
-use Rattle.calc_terms.specs.Reduced.{is_reduced}
+use Rattle.std.proofs.Common.{◌∙◌, ap, refl}
+use Rattle.calc_terms.specs.Numbers.{is_number}
+use Rattle.calc_terms.proofs.NumberLaws.{number_test}
 use Rattle.tree_handles.proofs.Given.{gives_as}
-use Rattle.product_reduce.proofs.Small.{number_reduced}
 use Rattle.product_reduce.proofs.tests.whole.Goals as goal
 
 pub returns-clause-ok : goal.returns-clause-ok
-returns-clause-ok c = gives_as c.in_ok-tree.ensures.given refl (λ t e. ap is_reduced e ∙ number_reduced _)
+returns-clause-ok c = gives_as c.in_ok-tree.ensures.given refl (λ t e. ap is_number e ∙ number_test _ tt)

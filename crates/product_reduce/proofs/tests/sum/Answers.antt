@@ -1,8 +1,7 @@
-use Rattle.std.proofs.Common.{◌≡◌, ◌∙◌, ap, refl, sym, true}
-use Rattle.tree_handles.proofs.Given.{given_handed, given_other, given_apart, given_rest, given_same, given_root, given_told, given_without, gives_as}
+use Rattle.std.proofs.Common.{◌∙◌}
+use Rattle.tree_handles.proofs.Given.{given_handed, given_other, given_apart, given_rest, given_without, gives_as}
 use Rattle.tree_handles.proofs.Outcomes.{eqb-sym}
-use Rattle.calc_terms.specs.Trees.{Tree}
-use Rattle.product_reduce.proofs.tests.three.Goals as goal
+use Rattle.product_reduce.proofs.tests.sum.Goals as goal
 
 pub node_over_two-requires-clause-first : goal.node_over_two-requires-clause-first
 node_over_two-requires-clause-first c = given_other c.in_ok-second.ensures.ok (given_handed c.in_ok-first.ensures.ok)

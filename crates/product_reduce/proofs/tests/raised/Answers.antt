@@ -1,11 +1,10 @@
-use Rattle.std.proofs.Common.{◌≡◌, ◌∙◌, ap, refl, sym, true}
+use Rattle.std.proofs.Common.{◌∙◌, ap}
+use Rattle.calc_terms.specs.Reduced.{is_reduced}
+use Rattle.calc_terms.specs.Trees.{power}
+use Rattle.tree_handles.specs.Expressions.{plain}
 use Rattle.tree_handles.proofs.Given.{given_handed, given_other, given_apart, given_rest, given_same, given_root, given_told, given_without, gives_as}
 use Rattle.tree_handles.proofs.Outcomes.{eqb-sym}
-use Rattle.calc_terms.specs.Reduced.{is_reduced}
-use Rattle.calc_terms.specs.Trees.{num, power}
-use Rattle.tree_handles.specs.Expressions.{plain}
-use Rattle.product_reduce.proofs.Small.{opaque_reduced}
-use Rattle.product_reduce.proofs.tests.opaque.Goals as goal
+use Rattle.product_reduce.proofs.tests.raised.Goals as goal
 
 pub node_over_two-requires-clause-first : goal.node_over_two-requires-clause-first
 node_over_two-requires-clause-first c = given_other c.in_ok-above.ensures.given (given_handed c.in_ok-below.ensures.given)
@@ -21,4 +20,4 @@ returns-clause-ok c =
     let first = c.in_ok-below.ensures.given in
     let second = c.in_ok-above.ensures.given in
     gives_as c.in_ok-tree.ensures.ok (given_without second (given_handed first) ∙ given_rest first)
-    (λ t e. ap is_reduced (e ∙ (λ i. power ((ap plain (given_same c.in_ok-below.below second (given_root first)) ∙ given_told first) i) ((given_told second ∙ ap num c.ratio.ensures.value) i))) ∙ opaque_reduced _)
+    (λ t e. ap is_reduced (e ∙ (λ i. power ((ap plain (given_same c.in_ok-below.below second (given_root first)) ∙ given_told first) i) (given_told second i))) ∙ c.requires.kept _)

@@ -1,0 +1,29 @@
+use Rattle.std.proofs.Common.{◌∙◌, ap, pos}
+use Rattle.calc_terms.specs.Numbers.{is_number}
+use Rattle.calc_terms.specs.Trees.{num, root}
+use Rattle.number_forms.proofs.Pairs.{first_handed, pair_apart, first_told, pair_rest}
+use Rattle.number_forms.proofs.TermTrees.{if_given}
+use Rattle.tree_handles.proofs.Given.{given_handed, given_told}
+use Rattle.product_reduce.proofs.Small.{root_two, whole_value}
+use Rattle.product_reduce.proofs.tests.one_and_root.Goals as goal
+
+pub root-requires-clause-number : goal.root-requires-clause-number
+root-requires-clause-number c = ap (λ q. is_number (root (num q))) (whole_value (pos 2) c.whole-2.result c.whole-2.ensures) ∙ root_two
+
+pub add_numbers-requires-clause-first : goal.add_numbers-requires-clause-first
+add_numbers-requires-clause-first c = first_handed c.in_ok-a.ensures.ok c.in_ok-b.ensures.ok
+
+pub add_numbers-requires-clause-second : goal.add_numbers-requires-clause-second
+add_numbers-requires-clause-second c = given_handed c.in_ok-b.ensures.ok
+
+pub add_numbers-requires-clause-apart : goal.add_numbers-requires-clause-apart
+add_numbers-requires-clause-apart c = pair_apart c.in_ok-a.a c.in_ok-b.b c.in_ok-a.ensures.ok c.in_ok-b.ensures.ok
+
+pub add_numbers-requires-clause-first_number : goal.add_numbers-requires-clause-first_number
+add_numbers-requires-clause-first_number c = first_told c.in_ok-a.ensures.ok c.in_ok-b.ensures.ok ∙ given_told c.in_ok-a.ensures.ok
+
+pub add_numbers-requires-clause-second_number : goal.add_numbers-requires-clause-second_number
+add_numbers-requires-clause-second_number c = given_told c.in_ok-b.ensures.ok
+
+pub returns-clause-ok : goal.returns-clause-ok
+returns-clause-ok c = if_given _ _ _ _ _ c.add_numbers.result c.add_numbers.ensures.ok (pair_rest c.in_ok-a.ensures.ok c.in_ok-b.ensures.ok) (λ t h. h.number)

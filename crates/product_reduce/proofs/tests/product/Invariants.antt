@@ -1,0 +1,14 @@
+use Rattle.std.proofs.Common.{◌≡◌, ◌≤◌, true}
+use Rattle.calc_terms.specs.Trees.{count}
+use Rattle.reduce_port.specs.Children.{are_reduced}
+use Rattle.tree_handles.specs.Standing.{Stands, forest}
+use Rattle.product_reduce.specs.Products.{Becomes, factors_in}
+use Rattle.product_reduce.proofs.tests.product.Given as goal
+
+abbrev pub invariant-loop-piece : goal.invariant-loop-piece
+invariant-loop-piece l = record {
+  becomes : Becomes l.product (forest l.initial.pool) (forest l.pool) (factors_in l.product (forest l.pool));
+  reduced : are_reduced (factors_in l.product (forest l.pool)) ≡ true;
+  many : l.piece-index ≤ count (factors_in l.product (forest l.pool));
+  stands : Stands l.pool;
+}
