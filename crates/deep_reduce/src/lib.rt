@@ -9,3 +9,6 @@ mod whole;
 
 pub use driver::DeepReducer;
 pub use whole::{reduce_power, reduce_product};
+
+#[cfg(test)]
+mod tests;

@@ -1,4 +1,4 @@
-//! Lines of a table are read, reduced and shown, and each is interrupted at every check.
+//! Lines of tables are read, reduced and shown, and each is interrupted at every check.
 #![tactic(auto)]
 
 #[cfg(test)]

@@ -1,201 +1,31 @@
-mod rows;
+mod tables;
+mod trials;
 
-ghost use Rattle.std.specs.Prelude.{◌≡◌, ◌≤◌, IfOk, IfSome};
-ghost use Rattle.node_pool.specs.State.{IsPoolSize};
-ghost use Rattle.tree_handles.specs.Handed.{IsHanded, Gives};
-ghost use Rattle.tree_handles.specs.Standing.{Stands, forest};
-
-use beautify::face_of;
-use breakers::{Breaker, CountBreaker, Interrupted, Watch};
-use calc_parser::{build, check};
-use calc_terms::Kind;
-use calc_tokens::scan;
-use deep_reduce::DeepReducer;
-use node_order::compare;
-use node_pool::Pool;
-use reduce_port::{ReduceFault, Reducer};
-use rows::{INTERRUPTED, ROWS, WIDE};
-use std::alloc::{AllocError, Global};
-use std::cmp::Ordering;
 use std::test::Fail;
-use tree_handles::{Handle, kind, tree_nodes};
-
-/// The bytes of each pool.
-const SIZE: u32 = 16_384;
-
-/// What became of a line.
-#[derive(Clone, Copy, Debug, PartialEq, Eq)]
-enum Outcome {
-    /// It is no line, or one of the two was refused where it was built.
-    Unread,
-    /// Its answer is the tree of the text that is wanted.
-    Wanted,
-    Other,
-    Full,
-    Overflow,
-    Interrupted(u32),
-}
-
-/// A pool with no tree in it.
-fn opened(alloc: Global, size: u32) -> Result<Pool, AllocError>
-    requires { IsPoolSize size }
-    ensures { IfOk result Stands }
-{
-    let pool = Pool::open(alloc, size)?;
-    Ok(pool)
-}
-
-/// A watch over one breaker, which trips after so many polls.
-fn armed(alloc: Global, polls: u64) -> Result<Watch<CountBreaker>, AllocError> {
-    let mut breaker = CountBreaker::new();
-    breaker.arm(polls);
-    let mut breakers = Vec::new(alloc);
-    breakers.push(breaker)?;
-    Ok(Watch::new(breakers))
-}
-
-/// The tree of a line, which becomes the last one.
-fn read(pool: &mut Pool, line: &[u8]) -> Option<Handle>
-    requires stands { Stands pool.old }
-    ensures gives { IfSome result (λ h. Gives (forest pool.old) (forest pool.new) h (λ t. t ≡ t)) }
-    ensures stands { Stands pool.new }
-{
-    if line.len() > 1024 {
-        return None;
-    }
-    let Ok(tokens) = scan(line) else {
-        return None;
-    };
-    let Ok(_shape) = check(&tokens) else {
-        return None;
-    };
-    let Ok(tree) = build(pool, &tokens) else {
-        return None;
-    };
-    Some(tree)
-}
-
-/// A tree reduced, and its face, where it has one.
-fn answer<R: Reducer>(
-    reducer: &R,
-    pool: &mut Pool,
-    tree: Handle,
-    watch: &mut Watch<CountBreaker>,
-) -> Result<Handle, ReduceFault>
-    requires stands { Stands pool.old }
-    requires handed { IsHanded tree (forest pool.old) }
-    ensures gives { IfOk result (λ h. IsHanded h (forest pool.new)) }
-    ensures stands { Stands pool.new }
-{
-    let reduced = reducer.reduce(pool, tree, watch)?;
-    match kind(pool, reduced.id()) {
-        Kind::Undef => Ok(reduced),
-        _ => {
-            let face = face_of(pool, reduced)?;
-            Ok(face)
-        }
-    }
-}
-
-/// Whether an answer is the tree of a text.
-fn is_tree_of(pool: &mut Pool, answer: &Handle, text: &[u8]) -> bool
-    requires stands { Stands pool.old }
-    requires handed { IsHanded answer.now (forest pool.old) }
-{
-    match read(pool, text) {
-        Some(tree) => compare(pool, answer.id(), tree.id()) == Ordering::Equal,
-        None => false,
-    }
-}
-
-/// Reduces a line under a breaker that trips after so many polls, and compares the answer with a text.
-fn tried<R: Reducer>(
-    reducer: &R,
-    pool: &mut Pool,
-    line: &[u8],
-    text: &[u8],
-    watch: &mut Watch<CountBreaker>,
-) -> Outcome
-    requires stands { Stands pool.old }
-{
-    let Some(tree) = read(pool, line) else {
-        return Outcome::Unread;
-    };
-    match answer(reducer, pool, tree, watch) {
-        Ok(face) => {
-            if is_tree_of(pool, &face, text) {
-                Outcome::Wanted
-            } else {
-                Outcome::Other
-            }
-        }
-        Err(ReduceFault::Full(_)) => Outcome::Full,
-        Err(ReduceFault::Overflow(_)) => Outcome::Overflow,
-        Err(ReduceFault::Interrupted(Interrupted { by })) => Outcome::Interrupted(by),
-    }
-}
-
-/// The nodes of a line's tree.
-fn nodes_of(pool: &mut Pool, line: &[u8]) -> u32
-    requires stands { Stands pool.old }
-{
-    match read(pool, line) {
-        Some(tree) => tree_nodes(pool, tree.id()),
-        None => 0,
-    }
-}
+use tables::{CANCELLED, FACES, POWERS, PRODUCTS, SUMS, SURDS, UNDEFINED, WIDE};
+use trials::{Outcome, first_other, first_uninterrupted};
 
 #[test]
 fn each_line_has_its_answer(rt: HostRuntime) -> Result<(), Fail> {
-    for (line, text) in ROWS {
-        let mut pool = opened(rt.alloc(), SIZE)?;
-        let mut watch = armed(rt.alloc(), u64::MAX)?;
-        let found = tried(
-            &DeepReducer,
-            &mut pool,
-            line.as_bytes(),
-            text.as_bytes(),
-            &mut watch,
-        );
-        assert_eq!(rt; found, Outcome::Wanted, "{line}");
+    for table in [SURDS, CANCELLED, UNDEFINED, POWERS, PRODUCTS, SUMS, FACES] {
+        let other = first_other(rt.alloc(), table, Outcome::Wanted)?;
+        assert_eq!(rt; other, None, "{table}");
     }
     Ok(())
 }
 
 #[test]
 fn wide_operations_are_refused(rt: HostRuntime) -> Result<(), Fail> {
-    for line in WIDE {
-        let mut pool = opened(rt.alloc(), SIZE)?;
-        let mut watch = armed(rt.alloc(), u64::MAX)?;
-        let found = tried(&DeepReducer, &mut pool, line.as_bytes(), b"0", &mut watch);
-        assert_eq!(rt; found, Outcome::Overflow, "{line}");
-    }
+    let other = first_other(rt.alloc(), WIDE, Outcome::Overflow)?;
+    assert_eq!(rt; other, None);
     Ok(())
 }
 
-/// With fewer checks than a line has nodes it is interrupted, and with as many it is answered.
 #[test]
 fn each_check_can_interrupt(rt: HostRuntime) -> Result<(), Fail> {
-    for (line, text) in INTERRUPTED {
-        let mut counted = opened(rt.alloc(), SIZE)?;
-        let nodes = nodes_of(&mut counted, line.as_bytes());
-        for polls in 0..=nodes {
-            let mut pool = opened(rt.alloc(), SIZE)?;
-            let mut watch = armed(rt.alloc(), u64::from(polls))?;
-            let found = tried(
-                &DeepReducer,
-                &mut pool,
-                line.as_bytes(),
-                text.as_bytes(),
-                &mut watch,
-            );
-            let wanted = if polls < nodes {
-                Outcome::Interrupted(0)
-            } else {
-                Outcome::Wanted
-            };
-            assert_eq!(rt; found, wanted, "{line} after {polls} checks");
-        }
+    for table in [SURDS, CANCELLED, UNDEFINED, POWERS, PRODUCTS, SUMS, FACES] {
+        let uninterrupted = first_uninterrupted(rt.alloc(), table)?;
+        assert_eq!(rt; uninterrupted, None, "{table}");
     }
     Ok(())
 }

@@ -1,6 +1,6 @@
 use Rattle.tree_handles.proofs.Given.{given_handed, given_other}
 use Rattle.tree_handles.proofs.Lasts.{expression_root}
-use Rattle.reduced_lines.proofs.tests.is_tree_of.Goals as goal
+use Rattle.reduced_lines.proofs.tests.trials.is_tree_of.Goals as goal
 
 pub compare-requires-clause-first : goal.compare-requires-clause-first
 compare-requires-clause-first c = rw c.id.ensures (expression_root c.read.ensures.stands (given_other c.in-Some.ensures.gives c.requires.handed))

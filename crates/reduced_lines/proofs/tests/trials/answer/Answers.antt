@@ -1,12 +1,10 @@
-use Rattle.std.proofs.Common.{◌≡◌, ◌≢◌, ◌∙◌, false, refl, sym, ap, subst}
+use Rattle.std.proofs.Common.{◌≡◌, ◌≢◌, ◌∙◌, false, refl, ap}
 use Rattle.calc_terms.specs.declared.kind.Kind.TheVariants as kind
 use Rattle.calc_terms.specs.Trees.{Tree, undef, is_undef, root_kind}
-use Rattle.reduce_port.specs.Rewritings.{tree_of}
 use Rattle.tree_handles.proofs.Given.{given_handed, given_told}
 use Rattle.tree_handles.proofs.Lasts.{expression_root, plain_root}
 use Rattle.tree_handles.proofs.Roots.{root_held}
-use Rattle.reduced_lines.proofs.tests.answer.Goals as goal
-use Rattle.reduced_lines.proofs.tests.answer.Goals.{After-kind}
+use Rattle.reduced_lines.proofs.tests.trials.answer.Goals as goal
 
 defined_by_kind : (t : Tree) → root_kind t ≢ kind.Undef → is_undef t ≡ false
 defined_by_kind undef e = absurd (e refl)

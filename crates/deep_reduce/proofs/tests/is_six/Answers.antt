@@ -1,0 +1,18 @@
+use Rattle.std.proofs.Common.{sym, subst}
+use Rattle.tree_handles.specs.Expressions.{IsExpression}
+use Rattle.tree_handles.specs.Standing.{forest}
+use Rattle.tree_handles.proofs.Given.{gives_as, given_handed, given_other, given_rest}
+use Rattle.tree_handles.proofs.Lasts.{expression_root}
+use Rattle.deep_reduce.proofs.tests.is_six.Goals as goal
+
+pub reduce-requires-clause-handed : goal.reduce-requires-clause-handed
+reduce-requires-clause-handed c = given_handed c.in_ok-sum.ensures.sum
+
+pub compare-requires-clause-first : goal.compare-requires-clause-first
+compare-requires-clause-first c =
+    let a = gives_as c.in_ok-answer.ensures.reduces (given_rest c.in_ok-sum.ensures.sum) (λ t x. x) in
+    subst (λ i. IsExpression i (forest c.reduce.new.pool)) (sym c.id.ensures) (expression_root c.reduce.ensures.stands (given_other a (given_handed c.in_ok-six.ensures.given)))
+
+pub compare-requires-clause-second : goal.compare-requires-clause-second
+compare-requires-clause-second c =
+    subst (λ i. IsExpression i (forest c.reduce.new.pool)) (sym c.id-2.ensures) (expression_root c.reduce.ensures.stands (given_handed c.in_ok-answer.ensures.reduces))
