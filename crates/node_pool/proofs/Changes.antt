@@ -6,18 +6,19 @@ use Rattle.calc_terms.specs.Node.{IsNode, Node, encoding, fresh, header_bytes, l
 use Rattle.calc_terms.specs.Payload.{IsPayload, Payload, kind_of_payload, size_of_payload}
 use Rattle.calc_terms.proofs.Codec.{length-encoding}
 use Rattle.calc_terms.proofs.LowBytes.{length-low_bytes}
-use Rattle.node_pool.specs.Bytes.{cleared, put, rotated, slid}
+use Rattle.node_pool.specs.Bytes.{cleared, put, rotated, slid, switched}
 use Rattle.node_pool.specs.Contents.{Contents}
 use Rattle.node_pool.specs.Laid.{contents_of}
 use Rattle.node_pool.specs.Nodes.{AreNodes, encodings, has, place_of, used, with_children, with_count}
-use Rattle.node_pool.specs.Places.{IsBoundary, between, since, swapped, until, without}
+use Rattle.node_pool.specs.Places.{IsBoundary, between, exchanged, since, swapped, until, without}
 use Rattle.node_pool.specs.declared.buffer.Buffer.TheInside.{Inside}
-use Rattle.node_pool.proofs.Cuts.{AreNodes-swap, AreNodes-without, cut, cut3}
+use Rattle.node_pool.proofs.Cuts.{AreNodes-swap, AreNodes-without, boundary_le, cut, cut3}
+use Rattle.node_pool.proofs.Exchanges.{AreBlocks, half}
 use Rattle.node_pool.proofs.Fields.{IsDone, IsOf, contents_are, laid, size_is}
 use Rattle.node_pool.proofs.Found.{found}
 use Rattle.node_pool.proofs.Puts.{length-put}
 use Rattle.node_pool.proofs.Sizes.{AreNodes-append, AreNodes-left, AreNodes-right, encodings-append, length-encodings, used-append}
-use Rattle.node_pool.proofs.Slides.{closed_up, turned}
+use Rattle.node_pool.proofs.Slides.{closed_up, switched_twice, turned}
 
 -- the fields afterwards
 pub record IsNext (p q : Inside) (ns : List Node) : Type 0 where
@@ -119,7 +120,19 @@ turned_nodes p q ns i j k o a b c h1 h2 e1 e2 e3 =
     let x = cut3 i j k ns a b c h1 h2 in
     rotated_split p q (until i ns) (between i j ns) (between j k ns) (since k ns) i j k (subst (IsOf p) x.whole o) a x.second x.third h1 h2 e1 e2 e3
 
--- ---- one number of a node changes
+pub exchanged_nodes : (p q : Inside) (ns : List Node) (i j k l : ℕ) → IsOf p ns → AreBlocks i j k l ns → l - k ≡ j - i → q.store ≡ switched p.store i k (l - k) → q.used ≡ p.used → q.count ≡ p.count → IsNext p q (exchanged i j k l ns)
+exchanged_nodes p q ns i j k l o r same e1 e2 e3 =
+    let len = l - k in
+    let m : Inside = record p { store = rotated p.store i k l } in
+    let n = half i j k l ns r in
+    let mid : j ≡ i + len = omega (arith, same, r.low) in
+    let end : k + len ≡ l = omega (arith, r.high) in
+    let inside : k + len ≤ length p.store = omega (arith, boundary_le l ns r.end, o.fits, end) in
+    let one : IsNext p m (swapped i k l ns) = turned_nodes p m ns i k l o r.first r.second r.end (omega (arith, r.low, r.apart)) r.high refl refl refl in
+    let twice = switched_twice p.store i k len (omega (arith, mid, r.apart)) inside in
+    let store : q.store ≡ rotated m.store (i + len) (j + len) l = e1 ∙ twice ∙ ap (λ (x : ℕ). rotated (rotated p.store i k x) (i + len) (i + len + len) x) end ∙ ap (λ (x : ℕ). rotated m.store (i + len) (x + len) l) (sym mid) in
+    let two : IsNext m q (swapped (i + len) (j + len) l (swapped i k l ns)) = turned_nodes m q (swapped i k l ns) (i + len) (j + len) l one.of n.start n.mid n.end (omega (arith, r.low)) (omega (arith, r.apart, r.high)) store e2 e3 in
+    record { of = subst (IsOf q) n.done two.of; size = two.size ∙ one.size }
 
 -- ---- one number of a node changes
 

@@ -1,12 +1,16 @@
 -- A buffer whose bytes are those of a list of nodes.
-use Rattle.std.proofs.Common.{List, ap, arith, drop, length, refl, replicate, subst, sym, ℕ, ◌++◌, ◌+◌, ◌-◌, ◌<◌, ◌∙◌, ◌∷◌, ◌≡◌, ◌≤◌}
-use Rattle.calc_terms.specs.Node.{Node, header_of, node_at, size_of, size_of_header}
+use Rattle.std.proofs.Common.{List, ap, arith, drop, get_or, length, refl, replicate, subst, sym, ℕ, ◌++◌, ◌+◌, ◌-◌, ◌<◌, ◌∙◌, ◌∷◌, ◌≡◌, ◌≤◌}
+use Rattle.std.specs.Prelude.{Option}
+use Rattle.calc_terms.specs.Kind.{kind_of}
+use Rattle.calc_terms.specs.Node.{Node, header_of, kind_at, kind_or_undef, node_at, size_of, size_of_header}
+use Rattle.calc_terms.specs.declared.kind.Kind.{Kind}
 use Rattle.calc_terms.specs.declared.leaf.Header.{Header}
 use Rattle.node_pool.specs.Contents.{Contents, IsContents, nodes_of}
 use Rattle.node_pool.specs.Laid.{IsLaid, contents_of}
 use Rattle.node_pool.specs.Nodes.{AreNodes, encodings, first_of, used}
 use Rattle.node_pool.specs.Places.{IsBoundary, since}
 use Rattle.node_pool.specs.declared.buffer.Buffer.TheInside.{Inside}
+use Rattle.node_pool.proofs.Numbers.{byte_read}
 use Rattle.node_pool.proofs.Sizes.{length-nodes_of, nodes_of-encodings, size_from}
 use Rattle.node_pool.proofs.Walk.{here}
 
@@ -79,3 +83,8 @@ has_room b c at k e place lt =
     let o = opened b c k e in
     let x = here at c.nodes b.store (replicate (length b.store - used c.nodes) 0) o.bytes o.nodes place lt in
     omega (arith, x.1.room, size_from x.0, o.fits)
+
+-- the kind whose code is read at a place
+pub kind_is : (xs : List ℕ) (at code : ℕ) (k : Option Kind) → at < length xs → code ≡ get_or xs at 0 → k ≡ kind_of code → kind_or_undef k ≡ kind_at (drop at xs)
+unfolding kind_at
+kind_is xs at code k h e is = ap kind_or_undef (is ∙ ap kind_of (e ∙ sym (byte_read xs at h)))

@@ -1,5 +1,5 @@
 -- What a change of the nodes leaves of the pool's fields.
-use Rattle.std.proofs.Common.{Bool, List, [], ap, arith, cond, eqb, false, length, refl, set, subst, sym, true, ℕ, ◌++◌, ◌-◌, ◌/◌, ◌<◌, ◌^◌, ◌∙◌, ◌∷◌, ◌≡◌, ◌≤◌}
+use Rattle.std.proofs.Common.{Bool, List, [], ap, arith, cond, eqb, false, length, refl, set, subst, sym, true, ℕ, ◌++◌, ◌+◌, ◌-◌, ◌/◌, ◌<◌, ◌^◌, ◌∙◌, ◌∷◌, ◌≡◌, ◌≤◌}
 use Rattle.std.proofs.lemmas.Bool.{eq-eqb, eqb-false, eqb-true, ne_eqb}
 use Rattle.std.proofs.lemmas.List.{length-set}
 use Rattle.calc_terms.specs.Node.{Node, fresh}
@@ -9,10 +9,11 @@ use Rattle.node_pool.specs.Flags.{AreBelow, AreFlagsOf, HasUnused, IsLeastUnused
 use Rattle.node_pool.specs.Kept.{IsKept, state_of}
 use Rattle.node_pool.specs.Noted.{ArePlacesOf, noted}
 use Rattle.node_pool.specs.Nodes.{AreDistinct, has, place_of, used, with_children, with_count}
-use Rattle.node_pool.specs.Places.{IsBoundary, between, since, swapped, until, without}
+use Rattle.node_pool.specs.Places.{IsBoundary, between, exchanged, since, swapped, until, without}
 use Rattle.node_pool.specs.State.{IsPoolSize, State}
 use Rattle.node_pool.specs.declared.pool.Pool.TheInside.{Inside}
 use Rattle.node_pool.proofs.Cuts.{AreDistinct-swap, AreDistinct-without, boundary_le, cut, cut3}
+use Rattle.node_pool.proofs.Exchanges.{AreBlocks, are_exchanged, blocks_of, exchanged_places, half}
 use Rattle.node_pool.proofs.Found.{AreDistinct-same, found, has-same}
 use Rattle.node_pool.proofs.Ids.{AreApart, AreApart-parts, AreApart-sym, AreDistinct-append, AreDistinct-parts, has-append, not_both, or_is_false}
 use Rattle.node_pool.proofs.Marks.{below, flag-set, flag-without_ids, flag_inside, length-without_ids, unused}
@@ -137,6 +138,56 @@ rotated_block p q i j k kept a b c h1 h2 t e h s =
     let known = swapped_known p i j k kept a b c h1 h2 in
     kept_same p q ms kept e h t (ap length s ∙ length-noted i (between i k ms) p.places) ids
     (subst (ArePlacesOf ms) (sym s) (turned_places p.places (turned i j k ns a b c h1 h2) kept.pool.distinct ids.distinct known kept.places))
+
+-- ----two blocks of one size change places
+
+exchanged_ids : (i j k l : ℕ) (ns : List Node) → AreBlocks i j k l ns → AreDistinct ns → SameIds ns (exchanged i j k l ns)
+exchanged_ids i j k l ns r d =
+    let n = half i j k l ns r in
+    let one = swapped_ids i k l ns r.first r.second r.end (omega (arith, r.low, r.apart)) r.high d in
+    let two = swapped_ids (i + (l - k)) (j + (l - k)) l (swapped i k l ns) n.start n.mid n.end (omega (arith, r.low)) (omega (arith, r.apart, r.high)) one.distinct in
+    subst (SameIds ns) n.done (record { distinct = two.distinct; same = λ m. two.same m ∙ one.same m })
+
+pub exchanged_known : (p : Inside) (i j k l s t : ℕ) → IsKept p → AreBlocks i j k l p.buffer.nodes → IsBoundary s (exchanged i j k l p.buffer.nodes) → IsBoundary t (exchanged i j k l p.buffer.nodes) → s ≤ t
+    → AreBelow (length p.places) (between s t (exchanged i j k l p.buffer.nodes))
+exchanged_known p i j k l s t kept r a b h =
+    let ns = p.buffer.nodes in
+    below (length p.places) _ (λ n e. inside p kept n (sym ((exchanged_ids i j k l ns r kept.pool.distinct).same n) ∙ between_has n s t (exchanged i j k l ns) a b h e))
+
+-- what noting the two blocks asks
+pub record AreNotable (i j k l : ℕ) (ms : List Node) (places : List ℕ) : Type 0 where
+  pub first : IsBoundary i ms
+  pub mid : IsBoundary j ms
+  pub second : IsBoundary k ms
+  pub end : IsBoundary l ms
+  pub low : AreBelow (length places) (between i j ms)
+  pub high : AreBelow (length places) (between k l ms)
+
+pub notable : (p : Inside) (b : Contents) (i j k l : ℕ) → IsKept p → AreBlocks i j k l p.buffer.nodes → l - k ≡ j - i → b ≡ record p.buffer { nodes = exchanged i j k l p.buffer.nodes } → AreNotable i j k l b.nodes p.places
+notable p b i j k l kept r same e =
+    let x = blocks_of (are_exchanged i j k l p.buffer.nodes r same) in
+    subst (λ (t : List Node). AreNotable i j k l t p.places) (sym (ap (λ (c : Contents). c.nodes) e)) (record {
+      first = x.first;
+      mid = x.mid;
+      second = x.second;
+      end = x.end;
+      low = exchanged_known p i j k l i j kept r x.first x.mid r.low;
+      high = exchanged_known p i j k l k l kept r x.second x.end r.high;
+    })
+
+pub exchanged_blocks : (p q : Inside) (i j k l : ℕ) → IsKept p → AreBlocks i j k l p.buffer.nodes → l - k ≡ j - i → q.taken ≡ p.taken
+    → q.buffer ≡ record p.buffer { nodes = exchanged i j k l p.buffer.nodes } → IsContents q.buffer
+    → q.places ≡ noted k (between k l (exchanged i j k l p.buffer.nodes)) (noted i (between i j (exchanged i j k l p.buffer.nodes)) p.places) → IsKept q
+exchanged_blocks p q i j k l kept r same t e h s =
+    let ns = p.buffer.nodes in
+    let ms = exchanged i j k l ns in
+    let ids = exchanged_ids i j k l ns r kept.pool.distinct in
+    let x = are_exchanged i j k l ns r same in
+    let b = blocks_of x in
+    let low = exchanged_known p i j k l i j kept r b.first b.mid r.low in
+    let high = exchanged_known p i j k l k l kept r b.second b.end r.high in
+    kept_same p q ms kept e h t (ap length s ∙ length-noted k (between k l ms) (noted i (between i j ms) p.places) ∙ length-noted i (between i j ms) p.places) ids
+    (subst (ArePlacesOf ms) (sym s) (exchanged_places p.places x kept.pool.distinct ids.distinct low high kept.places))
 
 -- ---- one node more
 

@@ -6,6 +6,7 @@ pub mod Ids
 pub mod Cuts
 pub mod Found
 pub mod Splits
+pub mod Exchanges
 pub mod Walk
 pub mod Fields
 pub mod LeastFree

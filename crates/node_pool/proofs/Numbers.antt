@@ -1,44 +1,70 @@
 -- Numbers, byte by byte.
-use Rattle.std.proofs.Common.{List, ap, arith, drop, get_or, length, subst, suc, sym, take, zero, ℕ, ◌%◌, ◌*◌, ◌+◌, ◌-◌, ◌/◌, ◌<◌, ◌^◌, ◌∙◌, ◌∷◌, ◌≡◌, ◌≤◌}
-use Rattle.std.proofs.lemmas.List.{drop_more, get_or-take, length-drop, length-take}
+use Rattle.std.proofs.Common.{List, ap, arith, drop, get_or, length, refl, suc, sym, take, zero, ℕ, ◌%◌, ◌*◌, ◌++◌, ◌+◌, ◌/◌, ◌<◌, ◌^◌, ◌∙◌, ◌∷◌, ◌≡◌, ◌≤◌}
+use Rattle.std.proofs.Math.Nat.{div-div-eq-div-mul, mul_assoc, mul_comm, pow-suc}
+use Rattle.std.proofs.lemmas.List.{drop_more}
+use Rattle.std.specs.Int.{byte_at, bytes_low_first, to_le_bytes, w64}
 use Rattle.calc_terms.specs.Node.{from_bytes, low_bytes}
 
--- one more byte written
-pub write_rest : (s : List ℕ) (i len rest : ℕ) → i < len → drop i s ≡ low_bytes (len - i) rest → (get_or s i 0 ≡ rest % 256) × (drop (i + 1) s ≡ low_bytes (len - (i + 1)) (rest / 256))
+byte_is : (i n : ℕ) → byte_at i n ≡ n / 256 ^ i % 256
+byte_is zero n = omega arith
+byte_is (suc i) n = refl
+
+further : (i n : ℕ) → n / 256 ^ i / 256 ≡ n / 256 ^ suc i
+further i n = div-div-eq-div-mul n (256 ^ i) 256 ∙ ap (λ (p : ℕ). n / p) (sym (pow-suc 256 i))
+
+-- the bytes of a number from one place on
+written_from : (i k n : ℕ) → bytes_low_first i k n ≡ low_bytes k (n / 256 ^ i)
 unfolding low_bytes
-write_rest s i len rest h e =
-    let k : len - i ≡ suc (len - (i + 1)) = omega arith in
-    let cut : drop i s ≡ rest % 256 ∷ low_bytes (len - (i + 1)) (rest / 256) = e ∙ ap (λ (n : ℕ). low_bytes n rest) k in
-    let long : 0 < length (drop i s) = rw cut (omega arith) in
-    let more : drop i s ≡ get_or s i 0 ∷ drop (i + 1) s = drop_more s i 0 (omega (arith, length-drop i s)) in
-    let both : get_or s i 0 ∷ drop (i + 1) s ≡ rest % 256 ∷ low_bytes (len - (i + 1)) (rest / 256) = sym more ∙ cut in
-    (cc, cc)
+written_from i zero n = refl
+written_from i (suc k) n = rw (byte_is i n, further i n) (ap (λ (bs : List ℕ). n / 256 ^ i % 256 ∷ bs) (written_from (suc i) k n))
 
-more_pow : (i k : ℕ) → 256 ^ i ≤ 256 ^ (k + i)
-more_pow i zero = let e : 0 + i ≡ i = omega arith in rw e (omega arith)
-more_pow i (suc k) =
-    let h : 256 ^ i ≤ 256 ^ (k + i) = more_pow i k in
-    let e : suc k + i ≡ suc (k + i) = omega arith in
-    rw e (grind arith)
+pub written_is : (k n : ℕ) → bytes_low_first 0 k n ≡ low_bytes k n
+written_is k n = let e : n / 256 ^ 0 ≡ n = omega arith in written_from 0 k n ∙ ap (low_bytes k) e
 
-grow : (i j : ℕ) → i ≤ j → 256 ^ i ≤ 256 ^ j
-grow i j h = let e : (j - i) + i ≡ j = omega arith in subst (λ (x : ℕ). 256 ^ i ≤ 256 ^ x) e (more_pow i (j - i))
+-- the bytes of a number in two parts
+low_parts : (j k n : ℕ) → low_bytes (j + k) n ≡ low_bytes j n ++ low_bytes k (n / 256 ^ j)
+unfolding low_bytes
+low_parts zero k n =
+    let e : n / 256 ^ 0 ≡ n = omega arith in
+    let none : 0 + k ≡ k = omega arith in
+    rw (e, none) refl
+low_parts (suc j) k n =
+    let e : n / 256 / 256 ^ j ≡ n / 256 ^ suc j = div-div-eq-div-mul n 256 (256 ^ j) ∙ ap (λ (p : ℕ). n / p) (mul_comm 256 (256 ^ j) ∙ sym (pow-suc 256 j)) in
+    let more : suc j + k ≡ suc (j + k) = omega arith in
+    rw more (ap (λ (bs : List ℕ). n % 256 ∷ bs) (low_parts j k (n / 256) ∙ ap (λ (m : ℕ). low_bytes j (n / 256) ++ low_bytes k m) e))
 
--- one more byte read
-pub read_bound : (n b len left : ℕ) → 0 < left → left ≤ len → n < 256 ^ (len - left) → b < 256 → n * 256 + b < 256 ^ (len - (left - 1))
-read_bound n b len left h le small byte =
-    let k : len - (left - 1) ≡ suc (len - left) = omega arith in
-    rw k (grind arith)
+lowest_byte : (n m p : ℕ) → n ≡ m + 256 * p → (n % 256 ≡ m % 256) × (n / 256 ≡ m / 256 + p)
+lowest_byte n m p e = (omega arith, omega arith)
 
-pub read_fits : (n b len left : ℕ) → 0 < left → left ≤ len → len ≤ 16 → n < 256 ^ (len - left) → b < 256 → n * 256 + b < 2 ^ 128
-read_fits n b len left h le wide small byte =
-    let top : 256 ^ (len - left) ≤ 256 ^ 15 = grow (len - left) 15 (omega arith) in
-    omega arith
+-- what is worth more than k bytes changes none of them
+low_of : (k m q n : ℕ) → n ≡ m + 256 ^ k * q → low_bytes k n ≡ low_bytes k m
+unfolding low_bytes
+low_of zero m q n e = refl
+low_of (suc k) m q n e =
+    let step : 256 ^ suc k * q ≡ 256 * (256 ^ k * q) = ap (λ (x : ℕ). x * q) (pow-suc 256 k ∙ mul_comm (256 ^ k) 256) ∙ mul_assoc 256 (256 ^ k) q in
+    let both = lowest_byte n m (256 ^ k * q) (e ∙ ap (λ (x : ℕ). m + x) step) in
+    rw (both.0, low_of k (m / 256) q (n / 256) both.1) refl
 
-pub read_value : (xs : List ℕ) (len left : ℕ) → 0 < left → left ≤ len → len ≤ length xs → from_bytes (drop (left - 1) (take len xs)) ≡ from_bytes (drop left (take len xs)) * 256 + get_or xs (left - 1) 0
-read_value xs len left h le long =
-    let n : left - 1 + 1 ≡ left = omega arith in
-    let in_range : left - 1 < length (take len xs) = omega (arith, length-take len xs) in
-    let cut : drop (left - 1) (take len xs) ≡ get_or (take len xs) (left - 1) 0 ∷ drop (left - 1 + 1) (take len xs) = drop_more (take len xs) (left - 1) 0 in_range in
-    let at : get_or (take len xs) (left - 1) 0 ≡ get_or xs (left - 1) 0 = get_or-take len xs (left - 1) 0 (omega arith) in
-    rw (cut, n, at) (omega arith)
+-- the bytes of two halves are those of the number
+pub halves_are : (n : ℕ) → to_le_bytes w64 (n % 2 ^ 64) ++ to_le_bytes w64 (n / 2 ^ 64) ≡ low_bytes 16 n
+halves_are n =
+    let low = n % 2 ^ 64 in
+    let high = n / 2 ^ 64 in
+    let whole : n ≡ low + 256 ^ 8 * high = omega arith in
+    let first : low_bytes 8 n ≡ low_bytes 8 low = low_of 8 low high n whole in
+    ap (λ (bs : List ℕ). bs ++ to_le_bytes w64 high) (written_is 8 low ∙ sym first)
+    ∙ ap (λ (bs : List ℕ). low_bytes 8 n ++ bs) (written_is 8 high)
+    ∙ sym (low_parts 8 8 n)
+
+-- one byte is a number
+pub byte_read : (xs : List ℕ) (at : ℕ) → at < length xs → from_bytes (take 1 (drop at xs)) ≡ get_or xs at 0
+byte_read xs at h =
+    let cut : drop at xs ≡ get_or xs at 0 ∷ drop (at + 1) xs = drop_more xs at 0 h in
+    rw cut (omega arith)
+
+-- two bytes read at once
+pub pair_is : (xs : List ℕ) (at low high : ℕ) → at + 2 ≤ length xs → low ≡ get_or xs at low → high ≡ get_or xs (at + 1) high → low + 256 * high ≡ from_bytes (take 2 (drop at xs))
+pair_is xs at low high h l r =
+    let one : drop at xs ≡ low ∷ drop (at + 1) xs = drop_more xs at low (omega arith) ∙ ap (λ (b : ℕ). b ∷ drop (at + 1) xs) (sym l) in
+    let two : drop (at + 1) xs ≡ high ∷ drop (at + 1 + 1) xs = drop_more xs (at + 1) high (omega arith) ∙ ap (λ (b : ℕ). b ∷ drop (at + 1 + 1) xs) (sym r) in
+    rw (one, two) (omega arith)

@@ -1,5 +1,5 @@
 -- Writing one list after another.
-use Rattle.std.proofs.Common.{List, [], ap, append_assoc, arith, drop, length, refl, sym, take, ℕ, ◌++◌, ◌+◌, ◌∙◌, ◌≡◌, ◌≤◌}
+use Rattle.std.proofs.Common.{List, [], ap, append_assoc, arith, drop, length, refl, sym, take, ℕ, ◌%◌, ◌++◌, ◌+◌, ◌<◌, ◌∙◌, ◌∷◌, ◌≡◌, ◌≤◌}
 use Rattle.std.proofs.lemmas.List.{drop-drop, drop_at, length-append, length-drop, length-take, take-append-drop, take_at}
 use Rattle.calc_terms.specs.Kind.{code_of}
 use Rattle.calc_terms.specs.Node.{encoding, fresh, header_bytes, header_of, low_bytes, payload_bytes}
@@ -31,16 +31,17 @@ put-put xs at ys next zs e h =
 pub then_put : (s0 s1 s2 : List ℕ) (at : ℕ) (ys : List ℕ) (next : ℕ) (zs : List ℕ) → at ≤ length s0 → next ≡ at + length ys → s1 ≡ put s0 at ys → s2 ≡ put s1 next zs → s2 ≡ put s0 at (ys ++ zs)
 then_put s0 s1 s2 at ys next zs h e p q = q ∙ ap (λ (s : List ℕ). put s next zs) p ∙ put-put s0 at ys next zs e h
 
-pub header_put : (s0 s1 s2 s3 s4 s5 : List ℕ) (at k i n c : ℕ) (h : Header) → at ≤ length s0 → k ≡ code_of h.kind → i ≡ h.id → n ≡ h.count → c ≡ h.children
-    → s1 ≡ put s0 at (low_bytes 1 k) → s2 ≡ put s1 (at + 1) (low_bytes 1 0) → s3 ≡ put s2 (at + 2) (low_bytes 2 i) → s4 ≡ put s3 (at + 4) (low_bytes 2 n) → s5 ≡ put s4 (at + 6) (low_bytes 2 c) → s5 ≡ put s0 at (header_bytes h)
+pub header_put : (s0 s1 s2 s3 s4 : List ℕ) (at k : ℕ) (h : Header) → at ≤ length s0 → k ≡ code_of h.kind → k < 256
+    → s1 ≡ put s0 at (k ∷ 0 ∷ []) → s2 ≡ put s1 (at + 2) (low_bytes 2 h.id) → s3 ≡ put s2 (at + 4) (low_bytes 2 h.count) → s4 ≡ put s3 (at + 6) (low_bytes 2 h.children) → s4 ≡ put s0 at (header_bytes h)
 unfolding header_bytes low_bytes
-header_put s0 s1 s2 s3 s4 s5 at k i n c h small hk hi hn hc e1 e2 e3 e4 e5 =
-    let z = low_bytes 1 0 in
-    let f2 = then_put s0 s1 s2 at (low_bytes 1 k) (at + 1) z small refl e1 e2 in
-    let f3 = then_put s0 s2 s3 at (low_bytes 1 k ++ z) (at + 2) (low_bytes 2 i) small refl f2 e3 in
-    let f4 = then_put s0 s3 s4 at ((low_bytes 1 k ++ z) ++ low_bytes 2 i) (at + 4) (low_bytes 2 n) small refl f3 e4 in
-    let f5 = then_put s0 s4 s5 at (((low_bytes 1 k ++ z) ++ low_bytes 2 i) ++ low_bytes 2 n) (at + 6) (low_bytes 2 c) small refl f4 e5 in
-    rw (← hk, ← hi, ← hn, ← hc) f5
+header_put s0 s1 s2 s3 s4 at k h small hk byte e1 e2 e3 e4 =
+    let front = low_bytes 1 k ++ low_bytes 1 0 in
+    let same : k % 256 ≡ k = omega arith in
+    let f1 : s1 ≡ put s0 at front = e1 ∙ ap (λ (b : ℕ). put s0 at (b ∷ 0 ∷ [])) (sym same) in
+    let f2 = then_put s0 s1 s2 at front (at + 2) (low_bytes 2 h.id) small refl f1 e2 in
+    let f3 = then_put s0 s2 s3 at (front ++ low_bytes 2 h.id) (at + 4) (low_bytes 2 h.count) small refl f2 e3 in
+    let f4 = then_put s0 s3 s4 at ((front ++ low_bytes 2 h.id) ++ low_bytes 2 h.count) (at + 6) (low_bytes 2 h.children) small refl f3 e4 in
+    rw (← hk) f4
 
 pub rational_put : (s0 s1 s2 : List ℕ) (at a b p q : ℕ) → at + 32 ≤ length s0 → p ≡ a → q ≡ b → s1 ≡ put s0 at (low_bytes 16 p) → s2 ≡ put s1 (at + 16) (low_bytes 16 q) → s2 ≡ put s0 at (low_bytes 16 a ++ low_bytes 16 b)
 rational_put s0 s1 s2 at a b p q small hp hq e1 e2 =

@@ -1,7 +1,7 @@
 -- Bytes that move or go.
 use Rattle.std.proofs.Common.{List, ap, append_assoc, arith, drop, length, refl, replicate, sym, take, ℕ, ◌++◌, ◌+◌, ◌-◌, ◌∙◌, ◌≡◌, ◌≤◌}
-use Rattle.std.proofs.lemmas.List.{drop-drop, drop-take, drop_at, length-append, take-take, take_at}
-use Rattle.node_pool.specs.Bytes.{cleared, rotated, slid}
+use Rattle.std.proofs.lemmas.List.{drop-drop, drop-take, drop_at, length-append, length-drop, length-take-le, take-append-drop, take-take, take_at}
+use Rattle.node_pool.specs.Bytes.{cleared, rotated, slid, switched}
 
 pub rotated_is : (xs ys : List ℕ) (a b c : ℕ) → a ≤ b → b ≤ c → ys ≡ drop (b - a) (take (c - a) (drop a xs)) ++ take (b - a) (take (c - a) (drop a xs)) → take a xs ++ (ys ++ drop (c - a) (drop a xs)) ≡ rotated xs a b c
 rotated_is xs ys a b c h k e =
@@ -38,3 +38,61 @@ turned a x y d store i j k e ha hx hy h1 h2 =
     let one : take (k - j) (drop j store) ≡ y = ap (take (k - j)) at-y ∙ take_at y d (k - j) hy in
     let two : take (j - i) (drop i store) ≡ x = ap (take (j - i)) at-x ∙ take_at x (y ++ d) (j - i) hx in
     rw (front, one, two, at-d) refl
+
+-- two parts of one length change places
+pub switched_parts : (a x y z d store : List ℕ) (i k len : ℕ) → store ≡ a ++ (x ++ (y ++ (z ++ d))) → length a ≡ i → length x ≡ len → length y ≡ k - (i + len) → length z ≡ len → i + len ≤ k → switched store i k len ≡ a ++ (z ++ (y ++ (x ++ d)))
+switched_parts a x y z d store i k len e ha hx hy hz h =
+    let front : take i store ≡ a = ap (take i) e ∙ take_at a (x ++ (y ++ (z ++ d))) i ha in
+    let at-x : drop i store ≡ x ++ (y ++ (z ++ d)) = ap (drop i) e ∙ drop_at a (x ++ (y ++ (z ++ d))) i ha in
+    let at-y : drop (i + len) store ≡ y ++ (z ++ d) = sym (drop-drop len i store) ∙ ap (λ (t : List ℕ). drop len t) at-x ∙ drop_at x (y ++ (z ++ d)) len hx in
+    let at-z : drop k store ≡ z ++ d = ap (λ (n : ℕ). drop n store) (omega arith) ∙ sym (drop-drop (k - (i + len)) (i + len) store) ∙ ap (λ (t : List ℕ). drop (k - (i + len)) t) at-y ∙ drop_at y (z ++ d) (k - (i + len)) hy in
+    let at-d : drop (k + len) store ≡ d = sym (drop-drop len k store) ∙ ap (λ (t : List ℕ). drop len t) at-z ∙ drop_at z d len hz in
+    let one : take len (drop k store) ≡ z = ap (take len) at-z ∙ take_at z d len hz in
+    let two : take (k - (i + len)) (drop (i + len) store) ≡ y = ap (take (k - (i + len))) at-y ∙ take_at y (z ++ d) (k - (i + len)) hy in
+    let three : take len (drop i store) ≡ x = ap (take len) at-x ∙ take_at x (y ++ (z ++ d)) len hx in
+    rw (front, one, two, three, at-d) refl
+
+-- four cuts of bytes
+four_parts : (store : List ℕ) (i k len : ℕ) → i + len ≤ k
+    → store ≡ take i store ++ (take len (drop i store) ++ (take (k - (i + len)) (drop (i + len) store) ++ (take len (drop k store) ++ drop (k + len) store)))
+four_parts store i k len h =
+    let behind : drop (k - (i + len)) (drop (i + len) store) ≡ drop k store = drop-drop (k - (i + len)) (i + len) store ∙ ap (λ (n : ℕ). drop n store) (omega arith) in
+    let last : drop k store ≡ take len (drop k store) ++ drop (k + len) store = sym (take-append-drop len (drop k store)) ∙ ap (λ (t : List ℕ). take len (drop k store) ++ t) (drop-drop len k store) in
+    let middle : drop (i + len) store ≡ take (k - (i + len)) (drop (i + len) store) ++ (take len (drop k store) ++ drop (k + len) store) =
+    sym (take-append-drop (k - (i + len)) (drop (i + len) store)) ∙ ap (λ (t : List ℕ). take (k - (i + len)) (drop (i + len) store) ++ t) (behind ∙ last) in
+    sym (take-append-drop i store) ∙ ap (λ (t : List ℕ). take i store ++ t) (sym (take-append-drop len (drop i store)) ∙ ap (λ (t : List ℕ). take len (drop i store) ++ t) (drop-drop len i store ∙ middle))
+
+-- the second part goes before the first, and then what stood between them
+pub switched_twice : (store : List ℕ) (i k len : ℕ) → i + len ≤ k → k + len ≤ length store → switched store i k len ≡ rotated (rotated store i k (k + len)) (i + len) (i + len + len) (k + len)
+switched_twice store i k len h fits =
+    let a = take i store in
+    let x = take len (drop i store) in
+    let y = take (k - (i + len)) (drop (i + len) store) in
+    let z = take len (drop k store) in
+    let d = drop (k + len) store in
+    let s1 = rotated store i k (k + len) in
+    let whole = four_parts store i k len h in
+    let ha : length a ≡ i = length-take-le i store (omega arith) in
+    let hx : length x ≡ len = length-take-le len (drop i store) (omega (arith, length-drop i store)) in
+    let hy : length y ≡ k - (i + len) = length-take-le (k - (i + len)) (drop (i + len) store) (omega (arith, length-drop (i + len) store)) in
+    let hz : length z ≡ len = length-take-le len (drop k store) (omega (arith, length-drop k store)) in
+    let grouped : store ≡ a ++ ((x ++ y) ++ (z ++ d)) = whole ∙ ap (λ (t : List ℕ). a ++ t) (sym (append_assoc x y (z ++ d))) in
+    let first : s1 ≡ a ++ ((z ++ (x ++ y)) ++ d) = turned a (x ++ y) z d store i k (k + len) grouped ha (omega (arith, length-append x y)) (omega arith) (omega arith) (omega arith) in
+    let regrouped : a ++ ((z ++ (x ++ y)) ++ d) ≡ (a ++ z) ++ (x ++ (y ++ d)) = simp append_assoc in
+    let second : rotated s1 (i + len) (i + len + len) (k + len) ≡ (a ++ z) ++ ((y ++ x) ++ d) =
+    turned (a ++ z) x y d s1 (i + len) (i + len + len) (k + len) (first ∙ regrouped) (omega (arith, length-append a z)) (omega arith) (omega arith) (omega arith) (omega arith) in
+    let flat : a ++ (z ++ (y ++ (x ++ d))) ≡ (a ++ z) ++ ((y ++ x) ++ d) = sym (simp append_assoc) in
+    switched_parts a x y z d store i k len whole ha hx hy hz h ∙ flat ∙ sym second
+
+pub switched_is : (bytes front back one two : List ℕ) (low high len : ℕ) → low + len ≤ high → front ≡ take high bytes → back ≡ drop high bytes → one ≡ take len back → two ≡ take (low + len - low) (drop low front)
+    → (take low front ++ (one ++ drop (low + len - low) (drop low front))) ++ (two ++ drop len back) ≡ switched bytes low high len
+switched_is bytes front back one two low high len h ef eb e1 e2 =
+    let n : low + len - low ≡ len = omega arith in
+    let rest : drop low front ≡ take (high - low) (drop low bytes) = ap (drop low) (ef ∙ ap (λ (k : ℕ). take k bytes) (omega arith)) ∙ drop-take low (high - low) bytes in
+    let start : take low front ≡ take low bytes = ap (take low) ef ∙ take-take low high bytes (omega arith) in
+    let first : two ≡ take len (drop low bytes) = e2 ∙ ap (λ (k : ℕ). take k (drop low front)) n ∙ ap (take len) rest ∙ take-take len (high - low) (drop low bytes) (omega arith) in
+    let second : one ≡ take len (drop high bytes) = e1 ∙ ap (take len) eb in
+    let middle : drop (low + len - low) (drop low front) ≡ take (high - (low + len)) (drop (low + len) bytes) =
+    ap (λ (k : ℕ). drop k (drop low front)) n ∙ ap (λ (t : List ℕ). drop len t) (rest ∙ ap (λ (k : ℕ). take k (drop low bytes)) (omega arith)) ∙ drop-take len (high - (low + len)) (drop low bytes) ∙ ap (take (high - (low + len))) (drop-drop len low bytes) in
+    let last : drop len back ≡ drop (high + len) bytes = ap (λ (t : List ℕ). drop len t) eb ∙ drop-drop len high bytes in
+    rw (start, first, second, middle, last) (simp append_assoc)

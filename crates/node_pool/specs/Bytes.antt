@@ -16,3 +16,7 @@ cleared xs a b = take a xs ++ (replicate (b - a) 0 ++ drop b xs)
 -- what stands from b to before c, and then what stands from a to before b
 abbrev pub rotated : List ℕ → ℕ → ℕ → ℕ → List ℕ
 rotated xs a b c = take a xs ++ ((take (c - b) (drop b xs) ++ take (b - a) (drop a xs)) ++ drop c xs)
+
+-- the len bytes from a on and those from b on change places
+abbrev pub switched : List ℕ → ℕ → ℕ → ℕ → List ℕ
+switched xs a b len = take a xs ++ (take len (drop b xs) ++ (take (b - (a + len)) (drop (a + len) xs) ++ (take len (drop a xs) ++ drop (b + len) xs)))

@@ -32,3 +32,7 @@ swapped a b c ns = until a ns ++ (between b c ns ++ (between a b ns ++ since c n
 -- the nodes in len bytes from a place on stand before what begins at another
 abbrev pub moved : ℕ → ℕ → ℕ → List Node → List Node
 moved from len to ns = if nat_le to from then swapped to from (from + len) ns else swapped from (from + len) to ns
+
+-- the nodes from a to before b and those from c to before d change places
+abbrev pub exchanged : ℕ → ℕ → ℕ → ℕ → List Node → List Node
+exchanged a b c d ns = until a ns ++ (between c d ns ++ (between b c ns ++ (between a b ns ++ since d ns)))

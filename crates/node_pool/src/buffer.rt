@@ -6,7 +6,7 @@ ghost use Rattle.calc_terms.specs.Payload.{rational, named, kind_of_payload, siz
 ghost use Rattle.calc_terms.specs.Leaf.{payload_of, name_of, IsUsable};
 ghost use Rattle.calc_terms.specs.Node.{header_of, fresh, size_of_header};
 ghost use Rattle.node_pool.specs.Nodes.{used, has, place_of, first_of, payload_of_id, with_count, with_children};
-ghost use Rattle.node_pool.specs.Places.{since, between, without, swapped, moved, IsBoundary};
+ghost use Rattle.node_pool.specs.Places.{since, between, without, swapped, exchanged, IsBoundary};
 ghost use Rattle.node_pool.specs.Contents.{bytes_in, IsContents};
 
 use crate::node;
@@ -167,6 +167,23 @@ impl Buffer {
         ensures kept { IsContents self.new }
     {
         self.store.rotate(start, mid, end);
+    }
+
+    /// The nodes from `first` to before `mid` and those from `second` to before `end`, which take as
+    /// many bytes, change places.
+    pub fn exchange(&mut self, first: u32, mid: u32, second: u32, end: u32)
+        requires first { IsBoundary first self.old.nodes }
+        requires mid { IsBoundary mid self.old.nodes }
+        requires second { IsBoundary second self.old.nodes }
+        requires end { IsBoundary end self.old.nodes }
+        requires low { first ≤ mid }
+        requires apart { mid ≤ second }
+        requires high { second ≤ end }
+        requires alike { end - second ≡ mid - first }
+        ensures nodes { self.new ≡ record self.old { nodes = exchanged first mid second end self.old.nodes } }
+        ensures kept { IsContents self.new }
+    {
+        self.store.exchange(first, second, end - second);
     }
 
     /// How many nodes begin from `from` to before `to`.

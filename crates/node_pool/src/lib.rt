@@ -6,7 +6,6 @@ mod full;
 mod id;
 mod identifiers;
 mod node;
-mod number;
 mod places;
 mod pool;
 mod store;

@@ -11,7 +11,6 @@ ghost use Rattle.calc_terms.specs.Leaf.{payload_of, name_of, IsUsable};
 ghost use Rattle.calc_terms.specs.Node.{node_at, kind_at, ratio_at, header_of, fresh, encoding, header_bytes, low_bytes, payload_bytes, ratio_bytes};
 ghost use Rattle.node_pool.specs.Bytes.{put};
 
-use crate::number;
 use crate::store::Store;
 use calc_terms::{Header, Kind, Leaf, Name, Rat};
 
@@ -23,9 +22,9 @@ pub fn header_at(store: &Store, at: u32) -> Header
 {
     Header {
         kind: kind_at(store, at),
-        id: number::read(store, at + 2, 2) as u16,
-        count: number::read(store, at + 4, 2) as u16,
-        children: number::read(store, at + 6, 2) as u16,
+        id: store.pair(at + 2),
+        count: store.pair(at + 4),
+        children: store.pair(at + 6),
     }
 }
 
@@ -36,8 +35,8 @@ pub fn rational_at(store: &Store, at: u32) -> Rat
     requires rat { IsRat (ratio_at (drop (at + 8) store.now)) }
     ensures { ratio_of result ≡ ratio_at (drop (at + 8) store.now) }
 {
-    let num = number::read(store, at + 8, 16);
-    let den = number::read(store, at + 24, 16);
+    let num = store.wide(at + 8);
+    let den = store.wide(at + 24);
     Rat::lowest(num.cast_signed(), den.cast_signed())
 }
 
@@ -48,7 +47,7 @@ pub fn name_at(store: &Store, at: u32) -> Name
     requires name { HoldsName (take 8 (drop (at + 8) store.now)) }
     ensures { name_of result ≡ before_zero (take 8 (drop (at + 8) store.now)) }
 {
-    Name::from_padded(text_at(store, at + 8))
+    Name::from_padded(store.eight(at + 8))
 }
 
 /// Writes a new node, held once and without children.
@@ -62,7 +61,7 @@ pub fn write_node(store: &mut Store, at: u32, id: u16, leaf: Leaf)
     write_header(store, at, leaf.header(id));
     match leaf {
         Leaf::Num(value) => write_rational(store, at + 8, value),
-        Leaf::Sym(name) => write_text(store, at + 8, name.padded().as_slice()),
+        Leaf::Sym(name) => store.put(at + 8, &name.padded()),
         Leaf::Plain(_) => {}
     }
 }
@@ -73,7 +72,7 @@ pub fn write_count(store: &mut Store, at: u32, count: u16)
     requires small { length store.old < 2 ^ 32 }
     ensures { store.new ≡ put store.old (at + 4) (low_bytes 2 count) }
 {
-    number::write(store, at + 4, 2, u128::from(count));
+    store.put_pair(at + 4, count);
 }
 
 /// Writes the number of children of the node at a place.
@@ -82,31 +81,17 @@ pub fn write_children(store: &mut Store, at: u32, children: u16)
     requires small { length store.old < 2 ^ 32 }
     ensures { store.new ≡ put store.old (at + 6) (low_bytes 2 children) }
 {
-    number::write(store, at + 6, 2, u128::from(children));
+    store.put_pair(at + 6, children);
 }
 
-#[tactic(auto, unfolding(calc_terms::specs::Node::kind_at))]
 fn kind_at(store: &Store, at: u32) -> Kind
-    requires inside { at + 8 ≤ length store.now }
-    requires small { length store.now < 2 ^ 32 }
+    requires { at < length store.now }
     ensures { result ≡ kind_at (drop at store.now) }
 {
-    match Kind::from_code(number::read(store, at, 1) as u8) {
+    match Kind::from_code(store.get(at)) {
         Some(kind) => kind,
         None => Kind::Undef,
     }
-}
-
-fn text_at(store: &Store, at: u32) -> [u8; 8]
-    requires inside { at + 8 ≤ length store.now }
-    requires small { length store.now < 2 ^ 32 }
-    ensures { result ≡ take 8 (drop at store.now) }
-{
-    let mut text = [0; 8];
-    for i in 0..8usize {
-        text[i] = store.get(at + i as u32);
-    }
-    text
 }
 
 fn write_header(store: &mut Store, at: u32, header: Header)
@@ -115,11 +100,10 @@ fn write_header(store: &mut Store, at: u32, header: Header)
     ensures put { store.new ≡ put store.old at (header_bytes header) }
     ensures len { length store.new ≡ length store.old }
 {
-    number::write(store, at, 1, u128::from(header.kind.code()));
-    number::write(store, at + 1, 1, 0);
-    number::write(store, at + 2, 2, u128::from(header.id));
-    number::write(store, at + 4, 2, u128::from(header.count));
-    number::write(store, at + 6, 2, u128::from(header.children));
+    store.put(at, &[header.kind.code(), 0]);
+    store.put_pair(at + 2, header.id);
+    store.put_pair(at + 4, header.count);
+    store.put_pair(at + 6, header.children);
 }
 
 fn write_rational(store: &mut Store, at: u32, value: Rat)
@@ -128,17 +112,6 @@ fn write_rational(store: &mut Store, at: u32, value: Rat)
     ensures put { store.new ≡ put store.old at (ratio_bytes (ratio_of value)) }
     ensures len { length store.new ≡ length store.old }
 {
-    number::write(store, at, 16, value.num().cast_unsigned());
-    number::write(store, at + 16, 16, value.den().cast_unsigned());
-}
-
-fn write_text(store: &mut Store, at: u32, text: &[u8])
-    requires inside { at + length text.now ≤ length store.old }
-    requires small { length store.old < 2 ^ 32 }
-    ensures put { store.new ≡ put store.old at text.now }
-    ensures len { length store.new ≡ length store.old }
-{
-    for i in 0..text.len() {
-        store.set(at + i as u32, text[i]);
-    }
+    store.put_wide(at, value.num().cast_unsigned());
+    store.put_wide(at + 16, value.den().cast_unsigned());
 }

@@ -1,12 +1,12 @@
 //! The pool: nodes one after another in bytes that are taken once.
-ghost use Rattle.std.specs.Prelude.{◌≡◌, ◌+◌, ◌≤◌, ◌<◌, ◌↔◌, ◌⊎◌, [], ◌∷◌, ◌++◌, length, IfOk, IfErr, IsOk, OnOk, true};
+ghost use Rattle.std.specs.Prelude.{◌≡◌, ◌+◌, ◌-◌, ◌≤◌, ◌<◌, ◌↔◌, ◌⊎◌, [], ◌∷◌, ◌++◌, length, IfOk, IfErr, IsOk, OnOk, true};
 ghost use Rattle.calc_terms.specs.declared.kind.Kind.TheVariants.{Num, Sym};
 ghost use Rattle.calc_terms.specs.Rat.{ratio_of};
 ghost use Rattle.calc_terms.specs.Payload.{rational, named, kind_of_payload, size_of_payload};
 ghost use Rattle.calc_terms.specs.Leaf.{payload_of, name_of, IsUsable};
 ghost use Rattle.calc_terms.specs.Node.{header_of, fresh};
 ghost use Rattle.node_pool.specs.Nodes.{used, has, place_of, first_of, payload_of_id, with_count, with_children, IsLeastFree};
-ghost use Rattle.node_pool.specs.Places.{since, without, swapped, moved, IsBoundary};
+ghost use Rattle.node_pool.specs.Places.{since, without, swapped, moved, exchanged, IsBoundary};
 ghost use Rattle.node_pool.specs.State.{bytes_of, free_of, IsPoolSize, IsPool, refused};
 
 use crate::buffer::Buffer;
@@ -266,6 +266,47 @@ impl Pool {
         let end = from + len;
         buffer.rotate(to, from, end);
         note_block(&mut self.places, buffer, to, end);
+    }
+
+    /// The nodes from `first` to before `mid` and those from `second` to before `end` change places.
+    pub fn swap_blocks(&mut self, first: u32, mid: u32, second: u32, end: u32)
+        requires first { IsBoundary first self.old.nodes }
+        requires mid { IsBoundary mid self.old.nodes }
+        requires second { IsBoundary second self.old.nodes }
+        requires end { IsBoundary end self.old.nodes }
+        requires low { first ≤ mid }
+        requires apart { mid ≤ second }
+        requires high { second ≤ end }
+        ensures nodes { self.new ≡ record self.old { nodes = exchanged first mid second end self.old.nodes } }
+        ensures pool { IsPool self.new }
+    {
+        let len = end - second;
+        if len == mid - first {
+            self.exchange(first, mid, second, end);
+        } else {
+            self.bring_forward(second, len, first);
+            self.bring_forward(mid + len, second - mid, first + len);
+        }
+    }
+
+    /// The nodes from `first` to before `mid` and those from `second` to before `end`, which take as
+    /// many bytes, change places.
+    fn exchange(&mut self, first: u32, mid: u32, second: u32, end: u32)
+        requires first { IsBoundary first self.old.nodes }
+        requires mid { IsBoundary mid self.old.nodes }
+        requires second { IsBoundary second self.old.nodes }
+        requires end { IsBoundary end self.old.nodes }
+        requires low { first ≤ mid }
+        requires apart { mid ≤ second }
+        requires high { second ≤ end }
+        requires alike { end - second ≡ mid - first }
+        ensures nodes { self.new ≡ record self.old { nodes = exchanged first mid second end self.old.nodes } }
+        ensures pool { IsPool self.new }
+    {
+        let buffer = &mut self.buffer;
+        buffer.exchange(first, mid, second, end);
+        note_block(&mut self.places, buffer, first, mid);
+        note_block(&mut self.places, buffer, second, end);
     }
 
     /// The nodes in the `len` bytes at `at` go, those behind them close up, and their identifiers

@@ -128,3 +128,35 @@ fn nodes_go_and_move_and_their_identifiers_come_again(rt: HostRuntime) -> Result
     assert_eq!(rt; pool.refusals(), 1);
     Ok(())
 }
+
+#[test]
+fn blocks_of_one_length_change_places(rt: HostRuntime) -> Result<(), Fail> {
+    let mut pool = Pool::open(rt.alloc(), 64)?;
+    pool.place(Leaf::Plain(Kind::Add))?;
+    pool.place(Leaf::Sym(Name::ans()))?;
+    pool.place(Leaf::Plain(Kind::Mult))?;
+    pool.swap_blocks(0, 8, 24, 32);
+    let bytes = [
+        5, 0, 2, 0, 1, 0, 0, 0, 2, 0, 1, 0, 1, 0, 0, 0, 97, 110, 115, 0, 0, 0, 0, 0, 4, 0, 0, 0, 1,
+        0, 0, 0, 0, 0, 0, 0, 0, 0, 0, 0, 0, 0, 0, 0, 0, 0, 0, 0, 0, 0, 0, 0, 0, 0, 0, 0, 0, 0, 0,
+        0, 0, 0, 0, 0,
+    ];
+    assert_eq!(rt; pool.bytes(), bytes.as_slice());
+    Ok(())
+}
+
+#[test]
+fn blocks_of_two_lengths_change_places(rt: HostRuntime) -> Result<(), Fail> {
+    let mut pool = Pool::open(rt.alloc(), 64)?;
+    pool.place(Leaf::Sym(Name::ans()))?;
+    pool.place(Leaf::Plain(Kind::Add))?;
+    pool.place(Leaf::Plain(Kind::Mult))?;
+    pool.swap_blocks(0, 16, 24, 32);
+    let bytes = [
+        5, 0, 2, 0, 1, 0, 0, 0, 4, 0, 1, 0, 1, 0, 0, 0, 2, 0, 0, 0, 1, 0, 0, 0, 97, 110, 115, 0, 0,
+        0, 0, 0, 0, 0, 0, 0, 0, 0, 0, 0, 0, 0, 0, 0, 0, 0, 0, 0, 0, 0, 0, 0, 0, 0, 0, 0, 0, 0, 0,
+        0, 0, 0, 0, 0,
+    ];
+    assert_eq!(rt; pool.bytes(), bytes.as_slice());
+    Ok(())
+}

@@ -9,6 +9,6 @@ returns c =
     let s = c.args.store.now in
     let at = c.args.at in
     header_is (drop at s) _ _ _ _ c.kind_at.ensures
-    (c.read.ensures.value ∙ ap (λ x. from_bytes (take 2 x)) (sym (drop-drop 2 at s)))
-    (c.read-2.ensures.value ∙ ap (λ x. from_bytes (take 2 x)) (sym (drop-drop 4 at s)))
-    (c.read-3.ensures.value ∙ ap (λ x. from_bytes (take 2 x)) (sym (drop-drop 6 at s)))
+    (c.pair.ensures ∙ ap (λ x. from_bytes (take 2 x)) (sym (drop-drop 2 at s)))
+    (c.pair-2.ensures ∙ ap (λ x. from_bytes (take 2 x)) (sym (drop-drop 4 at s)))
+    (c.pair-3.ensures ∙ ap (λ x. from_bytes (take 2 x)) (sym (drop-drop 6 at s)))

@@ -13,7 +13,7 @@ returns-in-Num-clause-put c = node_put c.args.store.now c.write_header.new.store
 
 pub returns-in-Sym-clause-put : goal.returns-in-Sym-clause-put
 returns-in-Sym-clause-put c = node_put c.args.store.now c.write_header.new.store _ c.args.at c.args.id (payload_of c.args.leaf) c.header.result (omega (arith, c.requires.inside, size_leaf (payload_of c.args.leaf))) c.header.ensures c.write_header.ensures.put
-    (c.write_text.ensures.put ∙ ap (put c.write_header.new.store (c.args.at + 8)) (c.as_slice.ensures ∙ c.padded.ensures.value) ∙ ap (λ (x : Leaf). put c.write_header.new.store (c.args.at + 8) (payload_bytes (payload_of x))) (sym c.in-Sym.is))
+    (c.put.ensures ∙ ap (put c.write_header.new.store (c.args.at + 8)) c.padded.ensures.value ∙ ap (λ (x : Leaf). put c.write_header.new.store (c.args.at + 8) (payload_bytes (payload_of x))) (sym c.in-Sym.is))
 
 pub returns-in-Plain-clause-put : goal.returns-in-Plain-clause-put
 returns-in-Plain-clause-put c = node_put c.args.store.now c.write_header.new.store _ c.args.at c.args.id (payload_of c.args.leaf) c.header.result (omega (arith, c.requires.inside, size_leaf (payload_of c.args.leaf))) c.header.ensures c.write_header.ensures.put
