@@ -3,10 +3,11 @@ use Rattle.std.proofs.Common.{◌≡◌, ℕ, ◌+◌, ◌-◌, ◌<◌, ◌≤�
 use Rattle.std.proofs.lemmas.List.{append-nil, length-append}
 use Rattle.calc_terms.specs.Node.{Node, size_of}
 use Rattle.node_pool.specs.Nodes.{has, used, place_of, first_of, with_children, AreDistinct}
-use Rattle.node_pool.specs.Places.{since, moved, without, IsBoundary}
+use Rattle.node_pool.specs.Places.{since, moved, without, exchanged, IsBoundary}
 use Rattle.node_pool.specs.State.{State}
 use Rattle.node_pool.proofs.Sizes.{used-append, size_from}
 use Rattle.node_pool.proofs.Cuts.{since-append}
+use Rattle.node_pool.proofs.Exchanges.{exchanged-append}
 use Rattle.node_pool.proofs.Splits.{boundary-append, place_of-append, moved_left, moved_right, without-append, with_children-append}
 use Rattle.tree_handles.specs.Forest.{Forest, empty, tree, join, arity, kids, node_of, flatten, first_trees, rest_trees, tree_nth, set_nth, swapped_nth, merged_nth, AllNodes}
 use Rattle.tree_handles.specs.Inside.{tree_at, kids_of, with_kids}
@@ -27,15 +28,12 @@ used_some (tree l k r) h = omega (arith, size_from (node_of l k))
 
 -- ---- two children change places
 
--- what the two moves ask for and leave
+-- what the exchange of their blocks asks for and leaves
 pub record IsSwap (i n m first mid second end : ℕ) (s : State) : Type 0 where
-  pub low : mid ≤ second
-  pub some : first < mid
-  pub far : second < end
-  pub begins : IsBoundary (first + (end - second)) (moved second (end - second) first s.nodes)
-  pub ends : IsBoundary (first + (end - second) + (mid - first)) (moved second (end - second) first s.nodes)
-  pub goal : IsBoundary end (moved second (end - second) first s.nodes)
-  pub done : moved (first + (end - second)) (mid - first) end (moved second (end - second) first s.nodes) ≡ flatten (with_kids i (swapped_nth n m (kids_of i (forest s))) (forest s))
+  pub low : first ≤ mid
+  pub apart : mid ≤ second
+  pub high : second ≤ end
+  pub done : exchanged first mid second end s.nodes ≡ flatten (with_kids i (swapped_nth n m (kids_of i (forest s))) (forest s))
 
 behind_one : (at place : ℕ) (ns x : List Node) (t : Forest) (rest : List Node) → arity t ≡ 1 → IsBoundary at ns → since at ns ≡ skip 1 (since place ns) → since place ns ≡ flatten t ++ rest → ns ≡ x ++ (flatten t ++ rest) → at ≡ used x + used (flatten t)
 behind_one at place ns x t rest one b r h e =
@@ -85,28 +83,18 @@ swaps i n m first mid second end s st lt within bf rf bs rs bm rm be re =
     let there-u : since second ns ≡ c ++ d = ap (λ (j : ℕ). since j ns) second-is ∙ ap (since (used (x ++ (a ++ b)))) grouped ∙ since-append (x ++ (a ++ b)) (c ++ d) in
     let end-is : end ≡ used (x ++ (a ++ b)) + used c = behind_one end second ns (x ++ (a ++ b)) u d single-u be re there-u grouped in
     let sizes : used (x ++ (a ++ b)) ≡ used x + used a + used b = omega (arith, used-append x (a ++ b), used-append a b) in
-    let now : moved second (end - second) first ns ≡ x ++ (c ++ ((a ++ b) ++ d)) =
-    ap (moved second (end - second) first) (whole ∙ ap (λ (l : List Node). x ++ l) (sym (append_assoc a b (c ++ d)))) ∙ moved_left x (a ++ b) c d second (end - second) first first-is (omega (arith, second-is, used-append x (a ++ b))) (omega (arith, end-is, second-is)) in
-    let now-split : moved second (end - second) first ns ≡ (x ++ c) ++ (a ++ (b ++ d)) = now ∙ ap (λ (l : List Node). x ++ (c ++ l)) (append_assoc a b d) ∙ sym (append_assoc x c (a ++ (b ++ d))) in
-    let start : first + (end - second) ≡ used (x ++ c) = omega (arith, first-is, end-is, second-is, used-append x c) in
-    let len : mid - first ≡ used a = omega (arith, first-is, mid-is) in
-    let to : end ≡ used (x ++ c) + used a + used b = omega (arith, end-is, sizes, used-append x c) in
-    let some : 0 < used a = used_some t single-t in
-    let move : moved (first + (end - second)) (mid - first) end (moved second (end - second) first ns) ≡ (x ++ c) ++ (b ++ (a ++ d)) =
-    ap (moved (first + (end - second)) (mid - first) end) now-split ∙ moved_right (x ++ c) a b d (first + (end - second)) (mid - first) end start len to (omega (arith, len, some)) in
+    let move : exchanged first mid second end ns ≡ x ++ (c ++ (b ++ (a ++ d))) =
+    ap (exchanged first mid second end) whole ∙ exchanged-append x a b c d first mid second end first-is mid-is (omega (arith, second-is, sizes)) (omega (arith, end-is, sizes)) in
     let new = swapped_nth n m k in
     let new-flat : flatten new ≡ one ++ (c ++ (b ++ (a ++ flatten q.behind))) = ap flatten q.swapped ∙ flatten-four (first_trees n k) u q.between t q.behind in
     let new-arity : arity new ≡ arity k = omega (arith, ap arity q.swapped, ap arity q.whole, arity-join (first_trees n k) (join u (join q.between (join t q.behind))), arity-join u (join q.between (join t q.behind)), arity-join q.between (join t q.behind), arity-join t q.behind, arity-join (first_trees n k) (join t (join q.between (join u q.behind))), arity-join t (join q.between (join u q.behind)), arity-join q.between (join u q.behind), arity-join u q.behind, single-t, single-u) in
     let target : flatten (with_kids i new f) ≡ x ++ (c ++ (b ++ (a ++ d))) =
     p.put new ∙ ap (λ (j : ℕ). p.before ++ (record (node_of p.label k) { children = j } ∷ (flatten new ++ p.after))) new-arity ∙ ap (λ (l : List Node). p.before ++ (node ∷ (l ++ p.after))) new-flat ∙ regroup p.before node one c b a (flatten q.behind) p.after in
     record {
-      low = omega (arith, mid-is, second-is, sizes);
-      some = omega (arith, first-is, mid-is, some);
-      far = omega (arith, end-is, second-is, used_some u single-u);
-      begins = subst (IsBoundary (first + (end - second))) (sym now-split) (boundary-append (x ++ c) (a ++ (b ++ d)) (first + (end - second)) start);
-      ends = subst (IsBoundary (first + (end - second) + (mid - first))) (sym (now-split ∙ sym (append_assoc (x ++ c) a (b ++ d)))) (boundary-append ((x ++ c) ++ a) (b ++ d) (first + (end - second) + (mid - first)) (omega (arith, start, len, used-append (x ++ c) a)));
-      goal = subst (IsBoundary end) (sym (now-split ∙ ap (λ (l : List Node). (x ++ c) ++ l) (sym (append_assoc a b d)) ∙ sym (append_assoc (x ++ c) (a ++ b) d))) (boundary-append ((x ++ c) ++ (a ++ b)) d end (omega (arith, to, used-append (x ++ c) (a ++ b), used-append a b)));
-      done = move ∙ append_assoc x c (b ++ (a ++ d)) ∙ sym target;
+      low = omega (arith, first-is, mid-is);
+      apart = omega (arith, mid-is, second-is, sizes);
+      high = omega (arith, end-is, second-is);
+      done = move ∙ sym target;
     }
 
 pub counted_swapped : (i n m : ℕ) (s : State) → Stands s → AllNodes IsCounted (with_kids i (swapped_nth n m (kids_of i (forest s))) (forest s))

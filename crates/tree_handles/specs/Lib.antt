@@ -4,6 +4,7 @@ pub mod Roots
 pub mod Standing
 pub mod Expressions
 pub mod Handed
+pub mod Children
 pub mod Copies
 pub mod Walks
 pub mod Faults

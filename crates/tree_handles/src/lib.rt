@@ -10,6 +10,7 @@ mod measure;
 mod moving;
 mod read;
 mod releasing;
+mod siblings;
 mod walk;
 
 pub use building::{node_over, node_over_two};
@@ -18,9 +19,12 @@ pub use counts::{child, retain};
 pub use fault::NumberFault;
 pub use handle::{Handle, node, number, symbol};
 pub use measure::{tree_bytes, tree_depth, tree_nodes};
-pub use moving::{add_child, merge_children, move_last, replace_child, swap_children, take_child};
+pub use moving::{
+    add_child, merge_children, move_last, replace_child, swap_children, swap_siblings, take_child,
+};
 pub use read::{child_id, children, count, kind, name, rational};
 pub use releasing::release;
+pub use siblings::{ChildIds, child_ids};
 
 #[cfg(test)]
 mod tests;

@@ -1,5 +1,6 @@
 //! Moving children.
 ghost use Rattle.std.specs.Prelude.{◌≡◌, ◌<◌, ◌≤◌, ◌+◌, ◌-◌, ℕ, true, false};
+ghost use Rattle.tree_handles.specs.Children.{AreSiblings};
 ghost use Rattle.tree_handles.specs.Forest.{Forest, join, arity, kids, with_root_kids, tree_nth, without_nth, with_nth, set_nth, swapped_nth, merged_nth, root_id, root_count};
 ghost use Rattle.tree_handles.specs.Handed.{Ends};
 ghost use Rattle.tree_handles.specs.Inside.{holds, kids_of, with_kids};
@@ -100,29 +101,45 @@ pub fn swap_children(pool: &mut Pool, parent: &Handle, i: u16, j: u16)
     ensures stands { Stands pool.new }
 {
     let owner = parent.id();
-    if i < j {
-        swap_apart(pool, owner, i, j);
-    } else if j < i {
-        swap_apart(pool, owner, j, i);
-    }
+    let first = child_id(pool, owner, i);
+    let second = child_id(pool, owner, j);
+    swap_siblings(pool, first, second);
 }
 
-/// Two children change places, the first of them given first.
-fn swap_apart(pool: &mut Pool, parent: Id, low: u16, high: u16)
+/// Two children of one node change places. No step is made over their siblings.
+pub fn swap_siblings(pool: &mut Pool, first: Id, second: Id)
     requires stands { Stands pool.old }
-    requires order { low < high }
-    requires within { high < arity (kids_of parent (forest pool.old)) }
-    ensures forest { forest pool.new ≡ with_kids parent (swapped_nth low high (kids_of parent (forest pool.old))) (forest pool.old) }
+    requires siblings { (parent : ℕ) × (i : ℕ) × (j : ℕ) × AreSiblings parent i first j second (forest pool.old) }
+    ensures forest { (parent i j : ℕ) → let old = forest pool.old in AreSiblings parent i first j second old
+        → forest pool.new ≡ with_kids parent (swapped_nth i j (kids_of parent old)) old }
+    ensures root { (parent i j : ℕ) → let old = forest pool.old in AreSiblings parent i first j second old
+        → has_root parent old ≡ true → forest pool.new ≡ put parent (swapped_nth i j (kids (root_tree parent old))) old }
     ensures kept { KeepsRefusals pool.old pool.new }
     ensures stands { Stands pool.new }
 {
-    let first = child_place(pool, parent, low);
-    let mid = behind(pool, first, 1);
-    let second = child_place(pool, parent, high);
-    let end = behind(pool, second, 1);
-    let len = end - second;
-    pool.move_block(second, len, first);
-    pool.move_block(first + len, mid - first, end);
+    let left = pool.locate(first);
+    let right = pool.locate(second);
+    if left < right {
+        swap_apart(pool, first, second);
+    } else if right < left {
+        swap_apart(pool, second, first);
+    }
+}
+
+/// Two children of one node change places, the one that stands first given first.
+fn swap_apart(pool: &mut Pool, first: Id, second: Id)
+    requires stands { Stands pool.old }
+    requires siblings { (parent : ℕ) × (i : ℕ) × (j : ℕ) × (i < j) × AreSiblings parent i first j second (forest pool.old) }
+    ensures forest { (parent i j : ℕ) → let old = forest pool.old in i < j → AreSiblings parent i first j second old
+        → forest pool.new ≡ with_kids parent (swapped_nth i j (kids_of parent old)) old }
+    ensures kept { KeepsRefusals pool.old pool.new }
+    ensures stands { Stands pool.new }
+{
+    let start = pool.locate(first);
+    let mid = behind(pool, start, 1);
+    let next = pool.locate(second);
+    let end = behind(pool, next, 1);
+    pool.swap_blocks(start, mid, next, end);
 }
 
 /// The children of a child take its place, and its node goes. No other handle holds that child.

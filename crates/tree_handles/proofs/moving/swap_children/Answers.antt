@@ -1,37 +1,30 @@
-use Rattle.std.proofs.Common.{◌≡◌, ℕ, sym, ap, ◌∙◌, arith, refl}
-use Rattle.tree_handles.specs.Forest.{Forest, swapped_nth}
-use Rattle.tree_handles.specs.Inside.{kids_of, with_kids}
+use Rattle.std.proofs.Common.{◌≡◌, ◌<◌, ap, ◌∙◌, ℕ}
+use Rattle.tree_handles.specs.Children.{AreSiblings}
+use Rattle.tree_handles.specs.Forest.{Forest, arity, root_id, tree_nth}
+use Rattle.tree_handles.specs.Inside.{kids_of}
 use Rattle.tree_handles.specs.Standing.{forest}
-use Rattle.tree_handles.proofs.AtRoots.{changed_root}
-use Rattle.tree_handles.proofs.Joins.{with_kids-same}
-use Rattle.tree_handles.proofs.Nths.{pair, swapped_nth-same}
 use Rattle.tree_handles.proofs.moving.swap_children.Goals as goal
 
-pub returns-then-i-j-clause-root : goal.returns-then-i-j-clause-root
-returns-then-i-j-clause-root c =
-    changed_root c.args.parent.now c.args.pool.now c.swap_apart.new.pool (λ k. swapped_nth c.args.i c.args.j k) c.requires.stands (c.swap_apart.ensures.forest ∙ rw c.id-owner.ensures refl)
+pub child_id-first-requires-clause-within : goal.child_id-first-requires-clause-within
+child_id-first-requires-clause-within c = rw c.id-owner.ensures c.requires.first
 
-back : (c : goal.After-swap_apart-then-j-i) → forest c.swap_apart-then-j-i.new.pool ≡ with_kids c.args.parent.now (swapped_nth c.args.i c.args.j (kids_of c.args.parent.now (forest c.args.pool.now))) (forest c.args.pool.now)
-back c =
-    let f = forest c.args.pool.now in
-    let p = pair c.args.j c.args.i (kids_of c.args.parent.now f) c.if-j-i.true c.requires.first in
-    c.swap_apart-then-j-i.ensures.forest ∙ rw c.id-owner.ensures (ap (λ (k : Forest). with_kids c.args.parent.now k f) (p.swapped ∙ sym p.back))
+pub child_id-second-requires-clause-within : goal.child_id-second-requires-clause-within
+child_id-second-requires-clause-within c = rw c.id-owner.ensures c.requires.second
 
-pub returns-then-j-i-clause-forest : goal.returns-then-j-i-clause-forest
-returns-then-j-i-clause-forest c = back c
+siblings : (p q i x j y : ℕ) (f : Forest) → p ≡ q → i < arity (kids_of q f) → j < arity (kids_of q f) → x ≡ root_id (tree_nth i (kids_of p f)) → y ≡ root_id (tree_nth j (kids_of p f)) → AreSiblings q i x j y f
+siblings p q i x j y f e hi hj ex ey = record {
+  first = record { within = hi; id-is = ex ∙ ap (λ (k : ℕ). root_id (tree_nth i (kids_of k f))) e };
+  second = record { within = hj; id-is = ey ∙ ap (λ (k : ℕ). root_id (tree_nth j (kids_of k f))) e };
+}
 
-pub returns-then-j-i-clause-root : goal.returns-then-j-i-clause-root
-returns-then-j-i-clause-root c = changed_root c.args.parent.now c.args.pool.now c.swap_apart-then-j-i.new.pool (λ k. swapped_nth c.args.i c.args.j k) c.requires.stands (back c)
+pub swap_siblings-requires-clause-siblings : goal.swap_siblings-requires-clause-siblings
+swap_siblings-requires-clause-siblings c =
+    (c.args.parent.now, c.args.i, c.args.j, siblings c.id-owner.result c.args.parent.now c.args.i c.child_id-first.result c.args.j c.child_id-second.result (forest c.args.pool.now) c.id-owner.ensures c.requires.first c.requires.second c.child_id-first.ensures.value c.child_id-second.ensures.value)
 
-same : (c : goal.Else-j-i) → forest c.args.pool.now ≡ with_kids c.args.parent.now (swapped_nth c.args.i c.args.j (kids_of c.args.parent.now (forest c.args.pool.now))) (forest c.args.pool.now)
-same c =
-    let f = forest c.args.pool.now in
-    let i = c.args.parent.now in
-    let equal : c.args.j ≡ c.args.i = omega (arith, c.if-i-j.false, c.if-j-i.false) in
-    sym (with_kids-same i f) ∙ ap (λ (k : Forest). with_kids i k f) (sym (swapped_nth-same c.args.i (kids_of i f)) ∙ ap (λ (j : ℕ). swapped_nth c.args.i j (kids_of i f)) (sym equal))
+pub returns-clause-forest : goal.returns-clause-forest
+returns-clause-forest c =
+    c.swap_siblings.ensures.forest c.args.parent.now c.args.i c.args.j (siblings c.id-owner.result c.args.parent.now c.args.i c.child_id-first.result c.args.j c.child_id-second.result (forest c.args.pool.now) c.id-owner.ensures c.requires.first c.requires.second c.child_id-first.ensures.value c.child_id-second.ensures.value)
 
-pub returns-else-j-i-clause-forest : goal.returns-else-j-i-clause-forest
-returns-else-j-i-clause-forest c = same c
-
-pub returns-else-j-i-clause-root : goal.returns-else-j-i-clause-root
-returns-else-j-i-clause-root c = changed_root c.args.parent.now c.args.pool.now c.args.pool.now (λ k. swapped_nth c.args.i c.args.j k) c.requires.stands (same c)
+pub returns-clause-root : goal.returns-clause-root
+returns-clause-root c =
+    c.swap_siblings.ensures.root c.args.parent.now c.args.i c.args.j (siblings c.id-owner.result c.args.parent.now c.args.i c.child_id-first.result c.args.j c.child_id-second.result (forest c.args.pool.now) c.id-owner.ensures c.requires.first c.requires.second c.child_id-first.ensures.value c.child_id-second.ensures.value)
