@@ -1,15 +1,13 @@
 //! Trees of lines, evaluated in the pool.
-ghost use Rattle.std.specs.Prelude.{◌≡◌, ◌+◌, ⊤, ℕ, List, [], ◌∷◌, ◌++◌, true};
+ghost use Rattle.std.specs.Prelude.{◌≡◌, ◌+◌, ⊤, ℕ, [], ◌∷◌, true};
 ghost use Rattle.breakers.specs.NeverBreaker.{state_of};
 ghost use Rattle.breakers.specs.Watch.{states};
-ghost use Rattle.calc_terms.specs.Node.{Node};
 ghost use Rattle.calc_terms.specs.Reduced.{is_reduced};
 ghost use Rattle.calc_terms.specs.Trees.{Tree, size};
 ghost use Rattle.calc_tokens.specs.Placed.{bare};
 ghost use Rattle.calc_tokens.specs.Tokens.{tokens_of};
 ghost use Rattle.calc_parser.specs.Lines.{IsTreeOf};
-ghost use Rattle.node_pool.specs.Nodes.{used};
-ghost use Rattle.node_pool.specs.State.{IsPool, free_of};
+ghost use Rattle.node_pool.specs.State.{free_of};
 ghost use Rattle.reduce_port.specs.Rewritings.{tree_of};
 ghost use Rattle.tree_handles.specs.Handed.{Gives, IsHanded, KeepsFront};
 ghost use Rattle.tree_handles.specs.Roots.{without_root};
@@ -27,6 +25,7 @@ use calc_terms::Kind;
 use calc_tokens::Tokens;
 use deep_reduce::DeepReducer;
 use node_pool::{Full, Pool};
+use pool_checkpoints::{commit, open_mark, roll_back};
 use reduce_port::{ReduceFault, Reducer};
 use tree_handles::{Handle, kind};
 
@@ -54,29 +53,21 @@ pub fn evaluate(pool: &mut Pool, tokens: &Tokens, watch: &mut Watch<NeverBreaker
     ensures no_breaker { states state_of watch.new ≡ [] }
     ensures stands { Stands pool.new }
 {
-    let begin = pool.used();
+    let mark = open_mark(pool);
     match build_and_reduce(pool, tokens, watch) {
-        Evaluation::Face(face) => Evaluation::Face(face),
+        Evaluation::Face(face) => {
+            commit(pool, mark);
+            Evaluation::Face(face)
+        }
         Evaluation::Undefined => {
-            roll_back(pool, begin);
+            roll_back(pool, mark);
             Evaluation::Undefined
         }
         Evaluation::Refused(refusal) => {
-            roll_back(pool, begin);
+            roll_back(pool, mark);
             Evaluation::Refused(refusal)
         }
     }
-}
-
-/// The nodes from a place on go.
-fn roll_back(pool: &mut Pool, begin: u32)
-    requires begin { (first placed : List Node) × (pool.old.nodes ≡ first ++ placed) × (begin ≡ used first) }
-    ensures rolled_back { (first placed : List Node) → pool.old.nodes ≡ first ++ placed → begin ≡ used first
-        → pool.new ≡ record pool.old { nodes = first } }
-    ensures pool { IsPool pool.new }
-{
-    let len = pool.used() - begin;
-    pool.remove_block(begin, len);
 }
 
 /// What the tree of a line comes to. It is built behind all others, and what it was made into

@@ -1,29 +1,28 @@
 use Rattle.std.proofs.Common.{None}
+use Rattle.tree_handles.specs.Standing.{forest}
 use Rattle.poincare_run.specs.Answers.{reply_of}
 use Rattle.poincare_run.specs.Replies.{refusal_in}
-use Rattle.poincare_run.proofs.PoolLemmas.{IsRolledBack, behind_nodes, rolled_back}
+use Rattle.poincare_run.proofs.PoolLemmas.{IsRolledBack, old_below, rolled_back}
 use Rattle.poincare_run.proofs.evaluating.evaluate.Goals as goal
 use Rattle.poincare_run.proofs.evaluating.evaluate.Goals.{After-roll_back, After-roll_back-in-Refused}
 
-pub roll_back-requires : goal.roll_back-requires
-roll_back-requires c =
-    let (placed, is) = behind_nodes c.args.pool.now c.build_and_reduce.new.pool c.requires.stands c.build_and_reduce.ensures.stands c.build_and_reduce.ensures.front in
-    record { begin = (c.args.pool.now.nodes, placed, is, c.used-begin.ensures.value) }
+pub roll_back-requires-clause-below : goal.roll_back-requires-clause-below
+roll_back-requires-clause-below c = (forest c.args.pool.now, old_below (c.open_mark-mark.ensures.trees c.requires.stands) c.build_and_reduce.ensures.front)
 
-pub roll_back-requires-in-Refused : goal.roll_back-requires-in-Refused
-roll_back-requires-in-Refused c =
-    let (placed, is) = behind_nodes c.args.pool.now c.build_and_reduce.new.pool c.requires.stands c.build_and_reduce.ensures.stands c.build_and_reduce.ensures.front in
-    record { begin = (c.args.pool.now.nodes, placed, is, c.used-begin.ensures.value) }
+pub roll_back-requires-in-Refused-clause-below : goal.roll_back-requires-in-Refused-clause-below
+roll_back-requires-in-Refused-clause-below c = (forest c.args.pool.now, old_below (c.open_mark-mark.ensures.trees c.requires.stands) c.build_and_reduce.ensures.front)
 
+-- where the line is undefined
 undefined_back : (c : After-roll_back) → IsRolledBack None c.args.pool.now c.roll_back.new.pool
 undefined_back c =
-    rolled_back None c.args.pool.now c.build_and_reduce.new.pool c.roll_back.new.pool c.used-begin.result c.requires.stands c.build_and_reduce.ensures.stands c.build_and_reduce.ensures.front c.in-Undefined.ensures.counted c.used-begin.ensures.value
-    c.roll_back.ensures.rolled_back c.roll_back.ensures.pool
+    rolled_back None c.args.pool.now c.build_and_reduce.new.pool c.roll_back.new.pool c.requires.stands c.roll_back.ensures.stands c.in-Undefined.ensures.counted c.roll_back.ensures.kept
+    (c.roll_back.ensures.forest (forest c.args.pool.now) (old_below (c.open_mark-mark.ensures.trees c.requires.stands) c.build_and_reduce.ensures.front))
 
+-- where it was refused
 refused_back : (c : After-roll_back-in-Refused) → IsRolledBack (refusal_in (reply_of c.in-Refused.refusal)) c.args.pool.now c.roll_back-in-Refused.new.pool
 refused_back c =
-    rolled_back (refusal_in (reply_of c.in-Refused.refusal)) c.args.pool.now c.build_and_reduce.new.pool c.roll_back-in-Refused.new.pool c.used-begin.result c.requires.stands c.build_and_reduce.ensures.stands c.build_and_reduce.ensures.front c.in-Refused.ensures.counted
-    c.used-begin.ensures.value c.roll_back-in-Refused.ensures.rolled_back c.roll_back-in-Refused.ensures.pool
+    rolled_back (refusal_in (reply_of c.in-Refused.refusal)) c.args.pool.now c.build_and_reduce.new.pool c.roll_back-in-Refused.new.pool c.requires.stands c.roll_back-in-Refused.ensures.stands c.in-Refused.ensures.counted
+    c.roll_back-in-Refused.ensures.kept (c.roll_back-in-Refused.ensures.forest (forest c.args.pool.now) (old_below (c.open_mark-mark.ensures.trees c.requires.stands) c.build_and_reduce.ensures.front))
 
 pub returns-in-Undefined-clause-counted : goal.returns-in-Undefined-clause-counted
 returns-in-Undefined-clause-counted c = (undefined_back (goal.at.returns-in-Undefined-clause-counted c).After-roll_back).counted
@@ -34,9 +33,6 @@ returns-in-Undefined-clause-as_before c = (undefined_back (goal.at.returns-in-Un
 pub returns-in-Undefined-clause-front : goal.returns-in-Undefined-clause-front
 returns-in-Undefined-clause-front c = (undefined_back (goal.at.returns-in-Undefined-clause-front c).After-roll_back).front
 
-pub returns-in-Undefined-clause-stands : goal.returns-in-Undefined-clause-stands
-returns-in-Undefined-clause-stands c = (undefined_back (goal.at.returns-in-Undefined-clause-stands c).After-roll_back).stands
-
 pub returns-in-Refused-clause-counted : goal.returns-in-Refused-clause-counted
 returns-in-Refused-clause-counted c = (refused_back (goal.at.returns-in-Refused-clause-counted c).After-roll_back-in-Refused).counted
 
@@ -45,6 +41,3 @@ returns-in-Refused-clause-as_before c = (refused_back (goal.at.returns-in-Refuse
 
 pub returns-in-Refused-clause-front : goal.returns-in-Refused-clause-front
 returns-in-Refused-clause-front c = (refused_back (goal.at.returns-in-Refused-clause-front c).After-roll_back-in-Refused).front
-
-pub returns-in-Refused-clause-stands : goal.returns-in-Refused-clause-stands
-returns-in-Refused-clause-stands c = (refused_back (goal.at.returns-in-Refused-clause-stands c).After-roll_back-in-Refused).stands

@@ -1,0 +1,20 @@
+-- A pool that stands for the trees of before has the bytes and the places of before.
+use Rattle.std.proofs.Common.{◌≡◌, ℕ, ◌-◌, List, ◌++◌, replicate, ap, ◌∙◌, sym}
+use Rattle.calc_terms.specs.Node.{Node}
+use Rattle.node_pool.specs.Nodes.{used, encodings, place_of}
+use Rattle.node_pool.specs.State.{State}
+use Rattle.tree_handles.specs.Forest.{flatten}
+use Rattle.tree_handles.specs.Standing.{Stands, forest}
+use Rattle.pool_checkpoints.specs.Laws.{PoolsAreRestored}
+
+same_nodes : (before now : State) → Stands before → Stands now → forest now ≡ forest before → now.nodes ≡ before.nodes
+same_nodes before now sb sn e = sn.flat ∙ ap flatten e ∙ sym sb.flat
+
+pub pools_are_restored : PoolsAreRestored
+pools_are_restored before now sb sn size e =
+    let nodes : now.nodes ≡ before.nodes = same_nodes before now sb sn e in
+    record {
+      used = ap used nodes;
+      bytes = ap (λ (ns : List Node). encodings ns ++ replicate (now.size - used ns) 0) nodes ∙ ap (λ (n : ℕ). encodings before.nodes ++ replicate (n - used before.nodes) 0) size;
+      places = λ id h. ap (place_of id) nodes;
+    }
