@@ -1,12 +1,17 @@
 -- Children that are brought into an order, one place after another.
-use Rattle.std.proofs.Common.{◌≡◌, ℕ, ◌+◌, ◌<◌, ◌≤◌, List, length, take, sym, ap, ◌∙◌, subst, arith, true, All, IsPermutation}
-use Rattle.std.specs.List.{swap}
+use Rattle.std.proofs.Common.{◌≡◌, ℕ, ◌+◌, ◌<◌, ◌≤◌, List, length, take, get_or, sym, ap, ◌∙◌, subst, arith, true, All, IsPermutation}
+use Rattle.std.specs.List.{swap, range_with_len}
 use Rattle.std.proofs.lemmas.List.{take_all}
+use Rattle.std.proofs.lemmas.List.Elements.{All-get_or}
 use Rattle.std.proofs.lemmas.List.Sorted.{All-permutation, IsPermutation-sym}
 use Rattle.node_order.specs.Picking.{picked, picked_behind}
-use Rattle.node_order.proofs.Picks.{AreInside, arity-picked, picked-swap}
+use Rattle.node_order.proofs.Listing.{ids-nth}
+use Rattle.node_order.proofs.Picks.{AreInside, arity-picked, picked-swap, nth-picked_behind}
+use Rattle.node_order.proofs.Places.{inside_range}
+use Rattle.node_order.proofs.SortLaws.{picked-range}
 use Rattle.node_pool.specs.State.{State}
-use Rattle.tree_handles.specs.Forest.{Forest, join, arity, kids, first_trees, rest_trees, swapped_nth}
+use Rattle.tree_handles.specs.Children.{root_ids, IsChildAt, AreSiblings}
+use Rattle.tree_handles.specs.Forest.{Forest, join, arity, kids, root_id, first_trees, rest_trees, tree_nth, swapped_nth}
 use Rattle.tree_handles.specs.Inside.{kids_of}
 use Rattle.tree_handles.specs.Roots.{has_root, root_tree, put}
 use Rattle.tree_handles.specs.Standing.{Stands, forest}
@@ -21,13 +26,13 @@ pub record IsArranged (i n : ℕ) (xs : List ℕ) (f g : Forest) : Type 0 where
   pub inside : AreInside (rest_trees n (kids (root_tree i f))) xs
   pub low : n ≤ arity (kids (root_tree i f))
 
-pub arranged : (i n : ℕ) (xs ys : List ℕ) (f g : Forest) → has_root i f ≡ true → n + length ys ≡ arity (kids (root_tree i f)) → All (λ k. k < length ys) ys → IsPermutation xs ys → g ≡ put i (picked_behind n xs (kids (root_tree i f))) f → IsArranged i n xs f g
-arranged i n xs ys f g root all inside moved shape =
+pub arranged : (i n : ℕ) (xs ys : List ℕ) (f g : Forest) → has_root i f ≡ true → n + length ys ≡ arity (kids (root_tree i f)) → IsPermutation (range_with_len 0 (length ys)) ys → IsPermutation xs ys → g ≡ put i (picked_behind n xs (kids (root_tree i f))) f → IsArranged i n xs f g
+arranged i n xs ys f g root all places moved shape =
     let many : length ys ≡ arity (rest_trees n (kids (root_tree i f))) = omega (arith, arity-rest_trees n (kids (root_tree i f))) in
     record {
       root = root;
       shape = shape;
-      inside = All-permutation (λ k. k < arity (rest_trees n (kids (root_tree i f)))) ys xs (IsPermutation-sym xs ys moved) (subst (λ m. All (λ k. k < m) ys) many inside);
+      inside = All-permutation (λ k. k < arity (rest_trees n (kids (root_tree i f)))) ys xs (IsPermutation-sym xs ys moved) (subst (λ m. All (λ k. k < m) ys) many (inside_range (length ys) ys places));
       low = omega arith;
     }
 
@@ -45,6 +50,26 @@ arranged_place i n at xs f s st a lt =
     let e : arity (kids_of i (forest s)) ≡ arity (picked_behind n xs k) = ap arity (kids_of_root i st root ∙ arranged_kids i n xs f (forest s) a) in
     omega (arith, arity-join (first_trees n k) (picked xs (rest_trees n k)), arity-first_trees n k a.low, arity-picked xs (rest_trees n k) a.inside)
 
+-- which child stands there, by the identifiers of the children as they stood at first
+arranged_child : (i n at x d : ℕ) (xs : List ℕ) (f : Forest) (s : State) → Stands s → IsArranged i n xs f (forest s) → at < length xs → x ≡ get_or (root_ids (rest_trees n (kids (root_tree i f)))) (get_or xs at 0) d → IsChildAt (n + at) i x (forest s)
+arranged_child i n at x d xs f s st a lt e =
+    let k = kids (root_tree i f) in
+    let same : kids_of i (forest s) ≡ picked_behind n xs k = kids_of_root i st (arranged_root i n xs f (forest s) a) ∙ arranged_kids i n xs f (forest s) a in
+    record {
+      within = arranged_place i n at xs f s st a lt;
+      id-is =
+          e ∙ ids-nth (get_or xs at 0) d (rest_trees n k) (All-get_or (λ j. j < arity (rest_trees n k)) xs at 0 lt a.inside)
+          ∙ sym (ap root_id (ap (tree_nth (n + at)) same ∙ nth-picked_behind n at xs k a.low a.inside lt));
+    }
+
+-- two of them, each found in the list of the children as they stood at first
+pub arranged_siblings : (i n at place here wanted x y : ℕ) (xs ids : List ℕ) (f : Forest) (s : State) → Stands s → IsArranged i n xs f (forest s) → ids ≡ root_ids (rest_trees n (kids (root_tree i f)))
+    → at < length xs → place < length xs → here ≡ get_or xs at 0 → wanted ≡ get_or xs place 0 → x ≡ get_or ids here x → y ≡ get_or ids wanted y → AreSiblings i (n + at) x (n + place) y (forest s)
+arranged_siblings i n at place here wanted x y xs ids f s st a whole low high e h p q = record {
+  first = arranged_child i n at x x xs f s st a low (p ∙ (λ d. get_or (whole d) (e d) x));
+  second = arranged_child i n place y y xs f s st a high (q ∙ (λ d. get_or (whole d) (h d) y));
+}
+
 -- two of them change places
 pub arranged_swap : (i n at j : ℕ) (xs : List ℕ) (f g h : Forest) → IsArranged i n xs f g → at ≤ j → j < length xs → h ≡ put i (swapped_nth (n + at) (n + j) (kids (root_tree i g))) g → h ≡ put i (picked_behind n (swap xs at j) (kids (root_tree i f))) f
 arranged_swap i n at j xs f g h a le lt e =
@@ -54,10 +79,11 @@ arranged_swap i n at j xs f g h a le lt e =
     ∙ ap (λ (x : Forest). put i x f) (picked-swap n at j xs k a.low a.inside le lt)
 
 -- before the first change
-pub arranged_start : (i n : ℕ) (xs : List ℕ) (f : Forest) → picked xs (rest_trees n (kids (root_tree i f))) ≡ rest_trees n (kids (root_tree i f)) → f ≡ put i (picked_behind n xs (kids (root_tree i f))) f
-arranged_start i n xs f e =
+pub arranged_start : (i n m : ℕ) (f : Forest) → n + m ≡ arity (kids (root_tree i f)) → f ≡ put i (picked_behind n (range_with_len 0 m) (kids (root_tree i f))) f
+arranged_start i n m f all =
     let k = kids (root_tree i f) in
-    sym (ap (λ (x : Forest). put i (join (first_trees n k) x) f) e ∙ ap (λ (x : Forest). put i x f) (first-rest n k) ∙ put-same i f)
+    let same : picked (range_with_len 0 m) (rest_trees n k) ≡ rest_trees n k = picked-range m (rest_trees n k) (omega (arith, arity-rest_trees n k)) in
+    sym (ap (λ (x : Forest). put i (join (first_trees n k) x) f) same ∙ ap (λ (x : Forest). put i x f) (first-rest n k) ∙ put-same i f)
 
 pub all_placed : (xs ys : List ℕ) (at : ℕ) → length xs ≡ length ys → length ys ≤ at → take at xs ≡ take at ys → xs ≡ ys
 all_placed xs ys at long h e = sym (take_all at xs (omega arith)) ∙ e ∙ take_all at ys h

@@ -5,6 +5,9 @@ pub mod Pairs
 pub mod KeyLaws
 pub mod RankLaws
 pub mod Places
+pub mod Inverses
+pub mod Listing
 pub mod Picks
-pub mod Arranged
 pub mod SortLaws
+pub mod Arranged
+pub mod Tested

@@ -1,13 +1,14 @@
 -- Trees that are picked by places.
-use Rattle.std.proofs.Common.{◌≡◌, ℕ, suc, ◌+◌, ◌<◌, ◌≤◌, List, [], ◌∷◌, ◌++◌, length, refl, sym, ap, ◌∙◌, subst, arith, All, ⊎_elim}
+use Rattle.std.proofs.Common.{◌≡◌, ℕ, zero, suc, ◌+◌, ◌<◌, ◌≤◌, List, [], ◌∷◌, ◌++◌, length, get_or, refl, sym, ap, ◌∙◌, subst, arith, All, ⊎_elim}
 use Rattle.std.specs.List.{swap}
 use Rattle.std.proofs.lemmas.Bool.{cases_lt}
 use Rattle.std.proofs.lemmas.List.Elements.{All-head, All-tail, All-nil, All-cons}
 use Rattle.node_order.specs.Picking.{picked, picked_behind}
+use Rattle.node_order.proofs.Listing.{nth-front}
 use Rattle.node_order.proofs.Places.{pair, swap_same}
 use Rattle.tree_handles.specs.Forest.{Forest, join, arity, first_trees, rest_trees, tree_nth, set_nth, swapped_nth}
 use Rattle.tree_handles.proofs.Forests.{join_assoc, arity-join, arity-tree_nth, arity-first_trees}
-use Rattle.tree_handles.proofs.Nths.{tree_nth-behind, set_nth-behind, swapped_nth-same}
+use Rattle.tree_handles.proofs.Nths.{first_trees-behind, tree_nth-behind, set_nth-behind, swapped_nth-same}
 
 pub picked-append : (xs ys : List ℕ) (f : Forest) → picked (xs ++ ys) f ≡ join (picked xs f) (picked ys f)
 picked-append [] ys f = refl
@@ -73,3 +74,17 @@ picked-swap n i j xs f le h lt room =
     (λ ge. let e : i ≡ j = omega arith in
     ap (λ k. swapped_nth (n + k) (n + j) (picked_behind n xs f)) e ∙ swapped_nth-same (n + j) (picked_behind n xs f)
     ∙ ap (λ (x : List ℕ). picked_behind n x f) (sym (swap_same xs j room) ∙ ap (λ k. swap xs k j) (sym e))) (cases_lt i j)
+
+-- ---- one of the picked trees
+
+nth-picked : (at : ℕ) (xs : List ℕ) (f : Forest) → AreInside f xs → at < length xs → tree_nth at (picked xs f) ≡ tree_nth (get_or xs at 0) f
+nth-picked at [] f h lt = absurd (omega arith)
+nth-picked zero (i ∷ xs) f h lt = first_trees-behind 1 (tree_nth i f) (picked xs f) (sym (arity-tree_nth i f (All-head (λ k. k < arity f) i xs h)))
+nth-picked (suc at) (i ∷ xs) f h lt =
+    let next : suc at ≡ 1 + at = omega arith in
+    ap (λ m. tree_nth m (join (tree_nth i f) (picked xs f))) next
+    ∙ nth-front 1 at (tree_nth i f) (picked xs f) (sym (arity-tree_nth i f (All-head (λ k. k < arity f) i xs h)))
+    ∙ nth-picked at xs f (All-tail (λ k. k < arity f) i xs h) (omega arith)
+
+pub nth-picked_behind : (n at : ℕ) (xs : List ℕ) (f : Forest) → n ≤ arity f → AreInside (rest_trees n f) xs → at < length xs → tree_nth (n + at) (picked_behind n xs f) ≡ tree_nth (get_or xs at 0) (rest_trees n f)
+nth-picked_behind n at xs f le h lt = nth-front n at (first_trees n f) (picked xs (rest_trees n f)) (sym (arity-first_trees n f le)) ∙ nth-picked at xs (rest_trees n f) h lt

@@ -1,33 +1,13 @@
 -- Lists whose elements change places.
-use Rattle.std.proofs.Common.{◌≡◌, ◌==◌, ℕ, zero, suc, ◌+◌, ◌<◌, ◌≤◌, List, [], ◌∷◌, ◌++◌, length, take, drop, get_or, cond, eqb, refl, sym, ap, ◌∙◌, arith, drop-cons, ⊎_elim, count_by, IsPermutation}
+use Rattle.std.proofs.Common.{◌≡◌, ℕ, zero, suc, ◌+◌, ◌<◌, ◌≤◌, List, [], ◌∷◌, ◌++◌, length, take, drop, get_or, refl, sym, ap, ◌∙◌, arith, drop-cons, ⊎_elim, All, IsPermutation}
 use Rattle.std.proofs.Math.ListN.{set}
 use Rattle.std.proofs.Math.Seq.{set-append_seam}
-use Rattle.std.specs.List.{swap}
-use Rattle.std.proofs.lemmas.Bool.{cases_lt, eq-eqb}
+use Rattle.std.specs.List.{swap, range_with_len}
+use Rattle.std.proofs.lemmas.Bool.{cases_lt}
 use Rattle.std.proofs.lemmas.List.{take-append-drop, take-set-le, take_more_set, take_more, length-take-le, set-set, set-get_or}
-use Rattle.std.proofs.lemmas.List.Sorted.{sum_by-IsPermutation}
-use Rattle.std.proofs.lemmas.List.Sums.{sum_by-append, sum_by-cons}
 use Rattle.std.proofs.lemmas.List.Edits.{swap_is}
-
--- how often an element stands in a list
-abbrev pub times_in : ℕ → List ℕ → ℕ
-times_in x xs = count_by (λ i. i == x) xs
-
-times_split : (x : ℕ) (xs : List ℕ) (at : ℕ) → at < length xs → times_in x (drop at xs) ≡ cond (eqb (get_or xs at 0) x) 1 0 + times_in x (drop (suc at) xs)
-times_split x xs at lt = ap (times_in x) (drop-cons xs at 0 lt) ∙ sum_by-cons (λ i. cond (i == x) 1 0) (get_or xs at 0) (drop (suc at) xs)
-
-pub times_here : (x : ℕ) (xs : List ℕ) (at : ℕ) → at < length xs → get_or xs at 0 ≡ x → 0 < times_in x (drop at xs)
-times_here x xs at lt here =
-    let one : cond {A = ℕ} (eqb (get_or xs at 0) x) 1 0 ≡ 1 = ap (λ b. cond {A = ℕ} b 1 0) (eq-eqb (get_or xs at 0) x here) in
-    omega (arith, times_split x xs at lt)
-
--- what is still wanted stands behind what is in place already
-pub still_there : (x : ℕ) (xs ys : List ℕ) (at : ℕ) → IsPermutation xs ys → take at xs ≡ take at ys → at < length ys → get_or ys at 0 ≡ x → 0 < times_in x (drop at xs)
-still_there x xs ys at moved same lt here =
-    let f : ℕ → ℕ = λ i. cond (i == x) 1 0 in
-    let all : times_in x ys ≡ times_in x xs = sum_by-IsPermutation f xs ys moved in
-    let split : (zs : List ℕ) → times_in x (take at zs) + times_in x (drop at zs) ≡ times_in x zs = λ zs. sym (sum_by-append f (take at zs) (drop at zs)) ∙ ap (times_in x) (take-append-drop at zs) in
-    omega (arith, all, split xs, split ys, ap (times_in x) same, times_here x ys at lt here)
+use Rattle.std.proofs.lemmas.List.Elements.{All-nil, All-cons}
+use Rattle.std.proofs.lemmas.List.Sorted.{All-permutation}
 
 -- one more is in place
 pub placed_same : (xs ys : List ℕ) (at : ℕ) → take at xs ≡ take at ys → at < length xs → at < length ys → get_or xs at 0 ≡ get_or ys at 0 → take (at + 1) xs ≡ take (at + 1) ys
@@ -95,3 +75,15 @@ placed_swap xs ys at j same m le h here =
         ∙ take_more_set xs at (get_or xs j 0) (omega arith)
         ∙ (λ i. same i ++ (here i ∷ []))
         ∙ sym (take_more ys at 0 m)
+
+-- ---- all places, in any order
+
+range_below : (n a m : ℕ) → a + n ≤ m → All (λ i. i < m) (range_with_len a n)
+range_below zero a m h = All-nil (λ i. i < m)
+range_below (suc n) a m h = All-cons (λ i. i < m) a (range_with_len (a + 1) n) (omega arith) (range_below n (a + 1) m (omega arith))
+
+pub range_inside : (n : ℕ) → All (λ i. i < n) (range_with_len 0 n)
+range_inside n = range_below n 0 n (omega arith)
+
+pub inside_range : (n : ℕ) (ys : List ℕ) → IsPermutation (range_with_len 0 n) ys → All (λ i. i < n) ys
+inside_range n ys moved = All-permutation (λ i. i < n) (range_with_len 0 n) ys moved (range_inside n)

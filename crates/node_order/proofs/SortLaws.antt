@@ -1,14 +1,12 @@
 -- Sorted children, from the order of their places.
-use Rattle.std.proofs.Common.{◌≡◌, ℕ, zero, suc, ◌+◌, ◌-◌, ◌<◌, ◌≤◌, List, [], ◌∷◌, ◌++◌, length, take, drop, get_or, map, refl, sym, ap, ◌∙◌, subst, arith, min, ◌≢◌, ⊎_elim, add-one, zero-add, All, IsPermutation, true}
+use Rattle.std.proofs.Common.{◌≡◌, ℕ, zero, suc, ◌+◌, ◌-◌, ◌<◌, ◌≤◌, List, [], ◌∷◌, ◌++◌, length, take, drop, get_or, map, refl, sym, ap, ◌∙◌, subst, arith, min, add-one, zero-add, All, IsPermutation, true}
 use Rattle.std.specs.List.{range_with_len}
 use Rattle.std.specs.List.Sorted.{IsSortedByKey}
 use Rattle.std.specs.Ordering.{is_lt}
-use Rattle.std.proofs.Math.ListN.{set}
-use Rattle.std.proofs.lemmas.Bool.{cases_lt}
 use Rattle.std.proofs.Math.Seq.{take-append_seam, drop-append_seam}
-use Rattle.std.proofs.lemmas.List.{get_or-map, length-map, drop_all, get_or-set_other, get_or-set_same}
-use Rattle.std.proofs.lemmas.List.Sorted.{IsPermutation-map, IsPermutation-refl, All-permutation}
-use Rattle.std.proofs.lemmas.List.Elements.{All-head, All-tail, All-nil, All-cons, All-get_or}
+use Rattle.std.proofs.lemmas.List.{get_or-map, length-map}
+use Rattle.std.proofs.lemmas.List.Sorted.{IsPermutation-map}
+use Rattle.std.proofs.lemmas.List.Elements.{All-head, All-tail, All-get_or}
 use Rattle.calc_terms.specs.TreeOrder.{tree_cmp}
 use Rattle.calc_terms.specs.Trees.{Tree, Trees, none, more, append, undef}
 use Rattle.node_order.specs.declared.keys.Key.{Key}
@@ -16,6 +14,7 @@ use Rattle.node_order.specs.Keys.{key_tree}
 use Rattle.node_order.specs.Ranking.{ranked_tree}
 use Rattle.node_order.specs.Picking.{picked, picked_behind}
 use Rattle.node_order.specs.Sorting.{list_of, IsSorting, SortsChildren}
+use Rattle.node_order.proofs.Places.{range_inside, inside_range}
 use Rattle.node_order.proofs.Picks.{AreInside}
 use Rattle.tree_handles.specs.Expressions.{plains, plain, nth, IsWhole, AllExpressions}
 use Rattle.tree_handles.specs.Forest.{Label, Forest, empty, tree, join, arity, first_trees, rest_trees, tree_nth, kids, AllNodes}
@@ -25,7 +24,7 @@ use Rattle.tree_handles.specs.Inside.{tree_at, kids_of, holds}
 use Rattle.tree_handles.specs.Standing.{Stands, forest}
 use Rattle.tree_handles.proofs.Lasts.{kids_of_root}
 use Rattle.tree_handles.specs.Roots.{has_root, root_tree, put}
-use Rattle.tree_handles.proofs.Roots.{put-same, root_held}
+use Rattle.tree_handles.proofs.Roots.{root_held}
 use Rattle.tree_handles.proofs.Forests.{first-rest, arity-tree_nth, arity-first_trees, arity-rest_trees, all-join, all-first_trees, all-rest_trees}
 use Rattle.tree_handles.proofs.Counted.{all-tree_nth}
 use Rattle.tree_handles.proofs.Plains.{plains-join, plain-tree_nth, alone}
@@ -74,13 +73,6 @@ range_rest (suc n) a f e = ap (λ k. join (tree_nth a f) (picked (range_with_len
 pub picked-range : (n : ℕ) (f : Forest) → n ≡ arity f → picked (range_with_len 0 n) f ≡ f
 picked-range n f e = range_rest n 0 f (omega arith)
 
-range_below : (n a m : ℕ) → a + n ≤ m → All (λ i. i < m) (range_with_len a n)
-range_below zero a m h = All-nil (λ i. i < m)
-range_below (suc n) a m h = All-cons (λ i. i < m) a (range_with_len (a + 1) n) (omega arith) (range_below n (a + 1) m (omega arith))
-
-pub range_inside : (n : ℕ) → All (λ i. i < n) (range_with_len 0 n)
-range_inside n = range_below n 0 n (omega arith)
-
 -- ---- the order of places, as one of trees
 
 nth_none : (j : ℕ) → nth j none ≡ undef
@@ -95,16 +87,19 @@ nth-rest zero j f = ap (λ k. nth k (plains f)) (zero-add j)
 nth-rest (suc n) j empty = nth_none (suc n + j) ∙ sym (nth_none j)
 nth-rest (suc n) j (tree l k r) = ap (λ i. nth i (plains (tree l k r))) (suc-add_left n j) ∙ nth-rest n j r
 
-sorted_map : (g : ℕ → Tree) (key : Tree → Tree) (ranked : ℕ → Tree) (ys : List ℕ) (m : ℕ) → IsSortedByKey ranked tree_cmp ys → All (λ j. j < m) ys → ((j : ℕ) → j < m → ranked j ≡ key (g j)) → IsSortedByKey key tree_cmp (map g ys)
-sorted_map g key ranked ys m sorted inside same = λ k d low high.
-    let long : length (map g ys) ≡ length ys = length-map ys g in
-    let room : k + 1 < length ys = omega arith in
-    let less : k < length ys = omega arith in
+-- keys that are the same at each place rise alike
+pub sorted_same : (ranked other : ℕ → Tree) (ys : List ℕ) (m : ℕ) → IsSortedByKey ranked tree_cmp ys → All (λ j. j < m) ys → ((j : ℕ) → j < m → ranked j ≡ other j) → IsSortedByKey other tree_cmp ys
+sorted_same ranked other ys m sorted inside same = λ k d low high.
+    let first = same (get_or ys k d) (All-get_or (λ j. j < m) ys k d (omega arith) inside) in
+    let second = same (get_or ys (k + 1) d) (All-get_or (λ j. j < m) ys (k + 1) d high inside) in
+    (λ i. is_lt (tree_cmp (sym second i) (sym first i))) ∙ sorted k d low high
+
+sorted_map : (g : ℕ → Tree) (key : Tree → Tree) (ys : List ℕ) → IsSortedByKey (λ i. key (g i)) tree_cmp ys → IsSortedByKey key tree_cmp (map g ys)
+sorted_map g key ys sorted = λ k d low high.
+    let room : k + 1 < length ys = omega (arith, length-map ys g) in
     let above : get_or (map g ys) (k + 1) d ≡ g (get_or ys (k + 1) 0) = get_or-map g ys (k + 1) 0 d room in
-    let below : get_or (map g ys) k d ≡ g (get_or ys k 0) = get_or-map g ys k 0 d less in
-    let first = same (get_or ys k 0) (All-get_or (λ j. j < m) ys k 0 less inside) in
-    let second = same (get_or ys (k + 1) 0) (All-get_or (λ j. j < m) ys (k + 1) 0 room inside) in
-    (λ i. is_lt (tree_cmp (key (above i)) (key (below i)))) ∙ (λ i. is_lt (tree_cmp (sym second i) (sym first i))) ∙ sorted k 0 low room
+    let below : get_or (map g ys) k d ≡ g (get_or ys k 0) = get_or-map g ys k 0 d (omega arith) in
+    (λ i. is_lt (tree_cmp (key (above i)) (key (below i)))) ∙ sorted k 0 low room
 
 all-picked : (P : Label → ℕ → Type 0) (xs : List ℕ) (f : Forest) → AllNodes P f → AllNodes P (picked xs f)
 all-picked P [] f h = tt
@@ -120,15 +115,15 @@ drop-front : (n : ℕ) (a b : Forest) → n ≡ arity a → drop n (listed (join
 drop-front n a b e = ap (drop n) (listed-join a b) ∙ ap (λ k. drop k (listed a ++ listed b)) (e ∙ sym (length-listed a)) ∙ drop-append_seam (listed a) (listed b)
 
 -- the trees at places that are in the order of their keys
-pub sorted_places : (n m : ℕ) (key : Tree → Tree) (ranked : ℕ → Tree) (ys : List ℕ) (f : Forest) → n + m ≡ arity f → IsPermutation (range_with_len 0 m) ys → IsSortedByKey ranked tree_cmp ys
-    → ((j : ℕ) → j < m → ranked j ≡ key (nth (n + j) (plains f))) → IsSorting n key (plains f) (plains (picked_behind n ys f))
-sorted_places n m key ranked ys f all moved sorted same =
+pub sorted_places : (n m : ℕ) (key : Tree → Tree) (ys : List ℕ) (f : Forest) → n + m ≡ arity f → IsPermutation (range_with_len 0 m) ys → IsSortedByKey (λ j. key (nth (n + j) (plains f))) tree_cmp ys
+    → IsSorting n key (plains f) (plains (picked_behind n ys f))
+sorted_places n m key ys f all moved sorted =
     let a = first_trees n f in
     let r = rest_trees n f in
     let count : n ≡ arity a = sym (arity-first_trees n f (omega arith)) in
     let many : m ≡ arity r = omega (arith, arity-rest_trees n f) in
     let g : ℕ → Tree = λ i. nth i (plains r) in
-    let below : All (λ j. j < m) ys = All-permutation (λ j. j < m) (range_with_len 0 m) ys moved (range_inside m) in
+    let below : All (λ j. j < m) ys = inside_range m ys moved in
     let whole : listed f ≡ listed (join a r) = ap listed (sym (first-rest n f)) in
     let old : drop n (listed f) ≡ map g (range_with_len 0 m) =
     ap (drop n) whole ∙ drop-front n a r count ∙ ap listed (sym (picked-range m r many)) ∙ listed-picked (range_with_len 0 m) r (subst (λ k. All (λ i. i < k) (range_with_len 0 m)) many (range_inside m)) in
@@ -136,46 +131,23 @@ sorted_places n m key ranked ys f all moved sorted same =
     record {
       front = take-front n a (picked ys r) count ∙ sym (ap (take n) whole ∙ take-front n a r count);
       moved = subst (λ xs. IsPermutation xs (drop n (listed (picked_behind n ys f)))) (sym old) (subst (IsPermutation (map g (range_with_len 0 m))) (sym new) (IsPermutation-map g (range_with_len 0 m) ys moved));
-      rising = subst (IsSortedByKey key tree_cmp) (sym new) (sorted_map g key ranked ys m sorted below (λ j lt. same j lt ∙ ap key (nth-rest n j f)));
+      rising = subst (IsSortedByKey key tree_cmp) (sym new) (sorted_map g key ys (sorted_same (λ j. key (nth (n + j) (plains f))) (λ j. key (g j)) ys m sorted below (λ j lt. ap key (nth-rest n j f))));
     }
 
 -- and so of a root's children
-pub sorted_children : (i n m : ℕ) (key : Tree → Tree) (ranked : ℕ → Tree) (ys : List ℕ) (f g : Forest) → AllOnce (kids (root_tree i f)) → AllExpressions (kids (root_tree i f)) → n + m ≡ arity (kids (root_tree i f)) → IsPermutation (range_with_len 0 m) ys → IsSortedByKey ranked tree_cmp ys
-    → ((j : ℕ) → j < m → ranked j ≡ key (nth (n + j) (plains (kids (root_tree i f))))) → g ≡ put i (picked_behind n ys (kids (root_tree i f))) f → SortsChildren i n key f g
-sorted_children i n m key ranked ys f g once whole all moved sorted same e = record {
+pub sorted_children : (i n m : ℕ) (key : Tree → Tree) (ys : List ℕ) (f g : Forest) → AllOnce (kids (root_tree i f)) → AllExpressions (kids (root_tree i f)) → n + m ≡ arity (kids (root_tree i f)) → IsPermutation (range_with_len 0 m) ys
+    → IsSortedByKey (λ j. key (nth (n + j) (plains (kids (root_tree i f))))) tree_cmp ys → g ≡ put i (picked_behind n ys (kids (root_tree i f))) f → SortsChildren i n key f g
+sorted_children i n m key ys f g once whole all moved sorted e = record {
   children = picked_behind n ys (kids (root_tree i f));
   whole = e;
   once = all-behind IsOnce n ys (kids (root_tree i f)) once;
   expressions = all-behind IsWhole n ys (kids (root_tree i f)) whole;
-  sorted = sorted_places n m key ranked ys (kids (root_tree i f)) all moved sorted same;
+  sorted = sorted_places n m key ys (kids (root_tree i f)) all moved sorted;
 }
-
--- where no child is to be put in order
-pub sorted_none : (i n : ℕ) (key : Tree → Tree) (f : Forest) → AllOnce (kids (root_tree i f)) → AllExpressions (kids (root_tree i f)) → n ≡ arity (kids (root_tree i f)) → SortsChildren i n key f f
-sorted_none i n key f once whole e =
-    let k = kids (root_tree i f) in
-    let none-left : drop n (listed k) ≡ [] = drop_all n (listed k) (omega (arith, length-listed k)) in
-    record {
-      children = k;
-      whole = sym (put-same i f);
-      once = once;
-      expressions = whole;
-      sorted = record {
-        front = refl;
-        moved = IsPermutation-refl (drop n (listed k));
-        rising = subst (IsSortedByKey key tree_cmp) (sym none-left) (λ j d low high. absurd (omega arith));
-      };
-    }
 
 -- the trees of listed keys
 pub ranked_is : (keys : List Key) (f : Forest) (j : ℕ) (t : Tree) → j < length keys → key_tree (get_or keys j (record { id = 0; behind = 0 })) f ≡ t → ranked_tree keys f j ≡ t
 ranked_is keys f j t h e = let same : min j (length keys - 1) ≡ j = omega arith in ap (λ k. key_tree (get_or keys k (record { id = 0; behind = 0 })) f) same ∙ e
-
--- one more key is listed
-pub listed_more : (P : ℕ → Key → Type 0) (xs : List Key) (at : ℕ) (x : Key) → at < length xs → ((n : ℕ) (d : Key) → n < at → P n (get_or xs n d)) → P at x → (n : ℕ) (d : Key) → n < at + 1 → P n (get_or (set xs at x) n d)
-listed_more P xs at x room before here n d lt =
-    ⊎_elim (λ less. let other : n ≢ at = λ e. absurd (omega arith) in subst (P n) (sym (get_or-set_other xs at n x d other)) (before n d less))
-    (λ ge. let e : at ≡ n = omega arith in subst (λ k. P k (get_or (set xs at x) k d)) e (subst (P at) (sym (get_or-set_same xs at x d room)) here)) (cases_lt n at)
 
 -- a child's plain tree
 pub child_plain : (i n id : ℕ) (f : Forest) → tree_at id f ≡ tree_nth n (kids_of i f) → plain (tree_at id f) ≡ nth n (plains (kids_of i f))

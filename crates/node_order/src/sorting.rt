@@ -1,6 +1,7 @@
 //! Children are put in order by their keys.
-ghost use Rattle.std.specs.Prelude.{◌≡◌, ◌<◌, ◌≤◌, ◌+◌, ◌^◌, All, ℕ, length, slice_index_or};
+ghost use Rattle.std.specs.Prelude.{◌≡◌, ◌<◌, ◌≤◌, ◌+◌, ◌^◌, All, IsPermutation, IsSortedByKey, ℕ, length, slice_index_or, true};
 ghost use Rattle.std.specs.List.{range_with_len};
+ghost use Rattle.calc_terms.specs.TreeOrder.{tree_cmp};
 ghost use Rattle.calc_terms.specs.Trees.{count};
 ghost use Rattle.node_order.specs.Keys.{IsKey, key_tree};
 ghost use Rattle.node_order.specs.Sorting.{SortsChildren};
@@ -8,17 +9,20 @@ ghost use Rattle.tree_handles.specs.Expressions.{IsExpression, plain, plains, nt
 ghost use Rattle.tree_handles.specs.Forest.{arity, kids};
 ghost use Rattle.tree_handles.specs.Handed.{IsHanded};
 ghost use Rattle.tree_handles.specs.Inside.{tree_at, kids_of};
-ghost use Rattle.tree_handles.specs.Roots.{root_tree};
+ghost use Rattle.tree_handles.specs.Roots.{has_root, root_tree};
 ghost use Rattle.tree_handles.specs.Standing.{Stands, forest, KeepsRefusals};
 
-use crate::arranging::arrange;
+use crate::arranging::{arrange, list_places};
 use crate::keys::Key;
 use crate::ranking::rank;
 use node_pool::{Id, Pool};
-use tree_handles::{Handle, child_id, children};
+use tree_handles::{Handle, child_ids, children};
 
-/// So many children are listed in a small list. A function pays at its entry for the size of its lists.
+/// So many children are listed in small lists. A function pays at its entry for the size of its lists.
 const FEW: usize = 64;
+
+/// So many are listed in lists of middle size.
+const SEVERAL: usize = 1_024;
 
 /// No node has more children.
 const MANY: usize = 65_535;
@@ -57,126 +61,83 @@ pub fn sort_children<K: Keys>(pool: &mut Pool, parent: &Handle, from: u16, keys:
     ensures kept { KeepsRefusals pool.old pool.new }
     ensures stands { Stands pool.new }
 {
-    if usize::from(children(pool, parent.id()) - from) <= FEW {
-        sort_few(pool, parent, from, keys);
+    let len = children_from(pool, parent, from);
+    if len <= FEW {
+        sort_up_to::<K, FEW>(pool, parent, from, keys);
+    } else if len <= SEVERAL {
+        sort_up_to::<K, SEVERAL>(pool, parent, from, keys);
     } else {
-        sort_many(pool, parent, from, keys);
+        sort_up_to::<K, MANY>(pool, parent, from, keys);
     }
 }
 
-/// The same with small lists.
-fn sort_few<K: Keys>(pool: &mut Pool, parent: &Handle, from: u16, keys: &K)
-    requires stands { Stands pool.old }
-    requires handed { IsHanded parent.now (forest pool.old) }
-    requires within { from ≤ arity (kids (root_tree parent.now (forest pool.old))) }
-    requires few { arity (kids (root_tree parent.now (forest pool.old))) ≤ from + FEW }
-    requires keyed { let ts = plains (kids (root_tree parent.now (forest pool.old))) in (n : ℕ) → from ≤ n → n < count ts → K.has_key (nth n ts) }
-    ensures sorts { SortsChildren parent.now from K.key_of (forest pool.old) (forest pool.new) }
-    ensures kept { KeepsRefusals pool.old pool.new }
-    ensures stands { Stands pool.new }
-{
-    let mut listed = [Key::default(); FEW];
-    let mut current = [0u16; FEW];
-    let mut order = [0u16; FEW];
-    sort_within(
-        pool,
-        parent,
-        from,
-        keys,
-        &mut listed,
-        &mut current,
-        &mut order,
-    );
-}
-
-/// The same with lists for all children that there can be.
+/// The same with lists that have room for so many children.
 #[inline(never)]
-fn sort_many<K: Keys>(pool: &mut Pool, parent: &Handle, from: u16, keys: &K)
+fn sort_up_to<K: Keys, const N: usize>(pool: &mut Pool, parent: &Handle, from: u16, keys: &K)
     requires stands { Stands pool.old }
     requires handed { IsHanded parent.now (forest pool.old) }
     requires within { from ≤ arity (kids (root_tree parent.now (forest pool.old))) }
-    requires many { arity (kids (root_tree parent.now (forest pool.old))) ≤ MANY }
+    requires few { N < 2 ^ 16 }
+    requires room { arity (kids (root_tree parent.now (forest pool.old))) ≤ from + N }
     requires keyed { let ts = plains (kids (root_tree parent.now (forest pool.old))) in (n : ℕ) → from ≤ n → n < count ts → K.has_key (nth n ts) }
     ensures sorts { SortsChildren parent.now from K.key_of (forest pool.old) (forest pool.new) }
     ensures kept { KeepsRefusals pool.old pool.new }
     ensures stands { Stands pool.new }
 {
-    let mut listed = [Key::default(); MANY];
-    let mut current = [0u16; MANY];
-    let mut order = [0u16; MANY];
-    sort_within(
+    let len = children_from(pool, parent, from);
+    let mut listed = [Key::default(); N];
+    let mut order = [0u16; N];
+    let order = &mut order[..len];
+    let mut ids = [Id::default(); N];
+    let mut current = [0u16; N];
+    let mut whereabouts = [0u16; N];
+    rank_children(pool, parent.id(), from, keys, &mut listed[..len], order);
+    arrange(
         pool,
         parent,
         from,
-        keys,
-        &mut listed,
-        &mut current,
-        &mut order,
-    );
-}
-
-/// The same with lists that have room for all children.
-fn sort_within<K: Keys>(
-    pool: &mut Pool,
-    parent: &Handle,
-    from: u16,
-    keys: &K,
-    listed: &mut [Key],
-    current: &mut [u16],
-    order: &mut [u16],
-)
-    requires stands { Stands pool.old }
-    requires handed { IsHanded parent.now (forest pool.old) }
-    requires within { from ≤ arity (kids (root_tree parent.now (forest pool.old))) }
-    requires listed { arity (kids (root_tree parent.now (forest pool.old))) ≤ from + length listed.old }
-    requires current { arity (kids (root_tree parent.now (forest pool.old))) ≤ from + length current.old }
-    requires order { arity (kids (root_tree parent.now (forest pool.old))) ≤ from + length order.old }
-    requires keyed { let ts = plains (kids (root_tree parent.now (forest pool.old))) in (n : ℕ) → from ≤ n → n < count ts → K.has_key (nth n ts) }
-    ensures sorts { SortsChildren parent.now from K.key_of (forest pool.old) (forest pool.new) }
-    ensures kept { KeepsRefusals pool.old pool.new }
-    ensures stands { Stands pool.new }
-{
-    let len = usize::from(children(pool, parent.id()) - from);
-    sort_listed(
-        pool,
-        parent,
-        from,
-        keys,
-        &mut listed[..len],
+        order,
+        &mut ids[..len],
         &mut current[..len],
-        &mut order[..len],
+        &mut whereabouts[..len],
     );
 }
 
-/// The same with lists that have a place for each child.
-fn sort_listed<K: Keys>(
-    pool: &mut Pool,
-    parent: &Handle,
+/// How many children a root has from a place on.
+fn children_from(pool: &Pool, parent: &Handle, from: u16) -> usize
+    requires stands { Stands pool.now }
+    requires root { has_root parent.now (forest pool.now) ≡ true }
+    requires within { from ≤ arity (kids (root_tree parent.now (forest pool.now))) }
+    ensures all { from + result ≡ arity (kids (root_tree parent.now (forest pool.now))) }
+    ensures few { from + result < 2 ^ 16 }
+{
+    usize::from(children(pool, parent.id()) - from)
+}
+
+/// The places of a node's children from a place on, in the order of their keys.
+fn rank_children<K: Keys>(
+    pool: &Pool,
+    parent: Id,
     from: u16,
     keys: &K,
     listed: &mut [Key],
-    current: &mut [u16],
     order: &mut [u16],
 )
-    requires stands { Stands pool.old }
-    requires handed { IsHanded parent.now (forest pool.old) }
-    requires all { from + length listed.old ≡ arity (kids (root_tree parent.now (forest pool.old))) }
+    requires stands { Stands pool.now }
+    requires parent { IsExpression parent (forest pool.now) }
+    requires all { from + length listed.old ≡ arity (kids_of parent (forest pool.now)) }
     requires few { from + length listed.old < 2 ^ 16 }
-    requires current { length current.old ≡ length listed.old }
     requires order { length order.old ≡ length listed.old }
-    requires keyed { let ts = plains (kids (root_tree parent.now (forest pool.old))) in (n : ℕ) → from ≤ n → n < count ts → K.has_key (nth n ts) }
-    ensures sorts { SortsChildren parent.now from K.key_of (forest pool.old) (forest pool.new) }
-    ensures kept { KeepsRefusals pool.old pool.new }
-    ensures stands { Stands pool.new }
+    requires keyed { let ts = plains (kids_of parent (forest pool.now)) in (n : ℕ) → from ≤ n → n < count ts → K.has_key (nth n ts) }
+    ensures places { IsPermutation (range_with_len 0 (length order.old)) order.new }
+    ensures rising { IsSortedByKey (λ i. K.key_of (nth (from + i) (plains (kids_of parent (forest pool.now))))) tree_cmp order.new }
 {
     if listed.is_empty() {
         return;
     }
-    list_keys(pool, parent.id(), from, keys, listed);
-    list_places(current);
+    list_keys(pool, parent, from, keys, listed);
     list_places(order);
     rank(pool, listed, order);
-    arrange(pool, parent, from, current, order);
 }
 
 /// Lists the keys of a node's children from a place on.
@@ -190,18 +151,7 @@ fn list_keys<K: Keys>(pool: &Pool, parent: Id, from: u16, keys: &K, listed: &mut
     ensures trees { (n : ℕ) (d : Key) → n < length listed.new
         → key_tree (slice_index_or listed.new n d) (forest pool.now) ≡ K.key_of (nth (from + n) (plains (kids_of parent (forest pool.now)))) }
 {
-    for at in 0..listed.len() {
-        let id = child_id(pool, parent, from + at as u16);
+    for (at, id) in child_ids(pool, parent, from).enumerate() {
         listed[at] = keys.key(pool, id);
-    }
-}
-
-/// Lists the places from 0 on.
-fn list_places(listed: &mut [u16])
-    requires { length listed.old < 2 ^ 16 }
-    ensures { listed.new ≡ range_with_len 0 (length listed.old) }
-{
-    for place in 0..listed.len() {
-        listed[place] = place as u16;
     }
 }

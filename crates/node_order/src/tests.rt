@@ -2,7 +2,11 @@ ghost use Rattle.std.specs.Prelude.{◌≡◌, IfOk, ⊤, true, []};
 ghost use Rattle.node_pool.specs.State.{IsPoolSize};
 ghost use Rattle.calc_terms.specs.Trees.{is_mult, count};
 ghost use Rattle.tree_handles.specs.Expressions.{takes_kind, children_of};
-ghost use Rattle.tree_handles.specs.Handed.{Gives};
+ghost use Rattle.calc_terms.specs.declared.kind.Kind.TheVariants.{Add};
+ghost use Rattle.calc_terms.specs.Payload.{bare};
+ghost use Rattle.tree_handles.specs.Forest.{root_payload};
+ghost use Rattle.tree_handles.specs.Handed.{Gives, IsHanded};
+ghost use Rattle.tree_handles.specs.Roots.{root_tree};
 ghost use Rattle.tree_handles.specs.Standing.{Stands, forest};
 
 use super::*;
@@ -12,7 +16,8 @@ use std::alloc::{AllocError, Global};
 use std::cmp::Ordering;
 use std::test::Fail;
 use tree_handles::{
-    Handle, child_id, children, kind, name, node_over, node_over_two, number, symbol,
+    Handle, add_child, child_id, children, kind, name, node, node_over, node_over_two, number,
+    symbol,
 };
 
 /// A pool with no tree in it.
@@ -261,6 +266,68 @@ fn children_are_put_in_order(rt: HostRuntime) -> Result<(), Fail> {
         match first_sorted(&mut pool, first, second) {
             Ok(Some(least)) => assert_eq!(rt; least.bytes(), b"a".as_slice()),
             _ => assert!(rt; false, "no room"),
+        }
+    }
+    Ok(())
+}
+
+/// A tree for each number; those of neighbours are far apart in the order, and of many sizes.
+fn scattered(number: u16) -> Shape {
+    let code = number.wrapping_mul(7919);
+    let first = b'a' + (code % 26) as u8;
+    let second = b'a' + (code / 26 % 26) as u8;
+    match code % 7 {
+        0 => Shape::Ratio((code % 100) as i8, second),
+        1 => Shape::Letter(first),
+        2 => Shape::Word("letters"),
+        3 => Shape::SumOfTwo(first, second),
+        4 => Shape::SumOfProduct((first, second), first),
+        5 => Shape::Product(second, first),
+        _ => Shape::Power(first, second),
+    }
+}
+
+/// A sum of so many trees.
+fn sum_of_many(pool: &mut Pool, trees: u16) -> Result<Handle, Full>
+    requires stands { Stands pool.old }
+    ensures handed { IfOk result (λ h. IsHanded h (forest pool.new)) }
+    ensures sum { IfOk result (λ h. root_payload (root_tree h (forest pool.new)) ≡ bare Add) }
+    ensures stands { Stands pool.new }
+{
+    let sum = node(pool, Kind::Add)?;
+    for number in 0..trees {
+        let term = build(pool, scattered(number))?;
+        add_child(pool, &sum, 0, term);
+    }
+    Ok(sum)
+}
+
+/// Whether a sum has so many trees once they are sorted, and none of them stands before a lesser one.
+fn are_sorted(pool: &mut Pool, trees: u16) -> Result<bool, Full>
+    requires { Stands pool.old }
+    ensures { Stands pool.new }
+{
+    let sum = sum_of_many(pool, trees)?;
+    sort_children(pool, &sum, 0, &Itself);
+    let id = sum.id();
+    let many = children(pool, id);
+    for at in 1..many {
+        let before = child_id(pool, id, at - 1);
+        let next = child_id(pool, id, at);
+        if compare(pool, before, next) == Ordering::Greater {
+            return Ok(false);
+        }
+    }
+    Ok(many == trees)
+}
+
+#[test]
+fn many_children_are_put_in_order(rt: HostRuntime) -> Result<(), Fail> {
+    for trees in [0, 1, 2, 63, 64, 65, 300] {
+        let mut pool = opened(rt.alloc(), 65_528)?;
+        match are_sorted(&mut pool, trees) {
+            Ok(sorted) => assert!(rt; sorted, "{trees} trees"),
+            Err(_) => assert!(rt; false, "no room"),
         }
     }
     Ok(())

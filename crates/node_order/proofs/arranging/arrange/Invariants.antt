@@ -1,5 +1,6 @@
 use Rattle.std.proofs.Common.{◌≡◌, length, take, IsPermutation}
 use Rattle.node_order.specs.Picking.{picked_behind}
+use Rattle.node_order.proofs.Inverses.{AreInverse}
 use Rattle.tree_handles.specs.Forest.{kids}
 use Rattle.tree_handles.specs.Roots.{root_tree, put}
 use Rattle.tree_handles.specs.Standing.{Stands, forest, KeepsRefusals}
@@ -11,6 +12,6 @@ invariant-loop-at l = record {
   kept : KeepsRefusals l.initial.pool l.pool;
   shape : forest l.pool ≡ put l.parent (picked_behind l.from l.current (kids (root_tree l.parent (forest l.initial.pool)))) (forest l.initial.pool);
   moved : IsPermutation l.current l.order;
-  long : length l.current ≡ length l.order;
+  inverse : AreInverse (length l.order) l.current l.whereabouts;
   same : take l.at l.current ≡ take l.at l.order;
 }

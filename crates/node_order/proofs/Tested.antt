@@ -1,0 +1,65 @@
+-- Roots that are sums, from call to call.
+use Rattle.std.proofs.Common.{◌≡◌, ℕ, eqb, cond, refl, sym, ap, ◌∙◌, subst, arith, Bool, true, false}
+use Rattle.calc_terms.specs.declared.kind.Kind.TheVariants as kind
+use Rattle.calc_terms.specs.Payload.{Payload, bare}
+use Rattle.calc_terms.specs.Trees.{Tree}
+use Rattle.node_order.specs.Sorting.{SortsChildren}
+use Rattle.node_pool.specs.State.{State}
+use Rattle.tree_handles.specs.Expressions.{takes, IsWhole, AllExpressions}
+use Rattle.tree_handles.specs.Forest.{Forest, empty, tree, arity, kids, root_payload, with_root_kids, with_nth}
+use Rattle.tree_handles.specs.Handed.{IsOnce, AllOnce, IsHanded, Gives}
+use Rattle.tree_handles.specs.Inside.{holds}
+use Rattle.tree_handles.specs.Roots.{has_root, root_tree, without_root, put}
+use Rattle.tree_handles.specs.Standing.{Stands, forest}
+use Rattle.tree_handles.proofs.Counted.{all-kids, all-with_nth}
+use Rattle.tree_handles.proofs.Given.{given_root, given_handed, given_other, given_rest, given_apart}
+use Rattle.tree_handles.proofs.Lasts.{apart}
+use Rattle.tree_handles.proofs.Outcomes.{by_test, eqb-sym}
+use Rattle.tree_handles.proofs.Plains.{whole_kids}
+use Rattle.tree_handles.proofs.Roots.{root_arity, root-put}
+
+pub record IsSum (i : ℕ) (f : Forest) : Type 0 where
+  pub handed : IsHanded i f
+  pub payload : root_payload (root_tree i f) ≡ bare kind.Add
+
+tree-put : (i : ℕ) (n f : Forest) → has_root i f ≡ true → root_tree i (put i n f) ≡ with_root_kids n (root_tree i f)
+tree-put i n empty h = absurd cc
+tree-put i n (tree l k r) h =
+    by_test (λ t. eqb l.id i ≡ t → cond t true (has_root i r) ≡ true → root_tree i (cond t (tree l n r) (tree l k (put i n r))) ≡ with_root_kids n (cond t (tree l k empty) (root_tree i r))) (eqb l.id i)
+    (λ e q h. ap (λ (t : Bool). cond t (tree l n empty) (root_tree i r)) q) (λ e q h. ap (λ (t : Bool). cond t (tree l k empty) (root_tree i (put i n r))) q ∙ tree-put i n r h) refl h
+
+record IsGrown (t : Forest) : Type 0 where
+  once : AllOnce t
+  whole : AllExpressions t
+  payload : root_payload t ≡ bare kind.Add
+
+grown : (n t : Forest) → arity t ≡ 1 → root_payload t ≡ bare kind.Add → AllOnce t → AllOnce n → AllExpressions n → IsGrown (with_root_kids n t)
+grown n empty e p once new whole = absurd (omega arith)
+grown n (tree l k empty) e p once new whole = record { once = (once.0, new, tt); whole = (ap (λ (x : Payload). takes x (arity n)) p, whole, tt); payload = p }
+grown n (tree l k (tree m j s)) e p once new whole = absurd (omega arith)
+
+-- with other children
+pub sum_put : (i : ℕ) (n f : Forest) → IsSum i f → AllOnce n → AllExpressions n → IsSum i (put i n f)
+sum_put i n f h once whole =
+    let g = subst IsGrown (sym (tree-put i n f h.handed.root)) (grown n (root_tree i f) (root_arity i f h.handed.root) h.payload h.handed.once once whole) in
+    record {
+      handed = record { root = root-put i i n f ∙ h.handed.root; once = g.once; whole = g.whole };
+      payload = g.payload;
+    }
+
+-- a new tree becomes its first child
+pub sum_takes : {others f : Forest} {i : ℕ} {Told : Tree → Type 0} (sum : ℕ) (new : Forest) → IsSum sum others → Gives others f i Told → new ≡ put sum (with_nth 0 (root_tree i f) (kids (root_tree sum f))) (without_root i f) → IsSum sum new
+sum_takes {others = others} {f = f} {i = i} sum new h g e =
+    let k = kids (root_tree sum f) in
+    let c = root_tree i f in
+    let term = given_handed g in
+    let beside = given_other g h.handed in
+    let n = with_nth 0 c k in
+    subst (IsSum sum) (sym (e ∙ ap (put sum n) (given_rest g))) (sum_put sum n others h (all-with_nth IsOnce 0 c k term.once (all-kids IsOnce (root_tree sum f) beside.once)) (all-with_nth IsWhole 0 c k term.whole (whole_kids (root_tree sum f) beside.whole)))
+
+pub sum_apart : {others : Forest} {i : ℕ} {s : State} {Told : Tree → Type 0} (sum : ℕ) → Stands s → IsSum sum others → Gives others (forest s) i Told → holds sum (root_tree i (forest s)) ≡ false
+sum_apart {i = i} sum st h g = apart sum i st (eqb-sym i sum (given_apart g h.handed)) (given_other g h.handed).root (given_root g)
+
+-- put in order
+pub sum_sorted : {i n : ℕ} {key : Tree → Tree} {f g : Forest} → IsSum i f → SortsChildren i n key f g → IsSum i g
+sum_sorted {i = i} {f = f} h s = subst (IsSum i) (sym s.whole) (sum_put i s.children f h s.once s.expressions)

@@ -1,0 +1,11 @@
+use Rattle.std.proofs.Common.{◌≡◌, ◌<◌, ℕ, length, get_or}
+use Rattle.tree_handles.specs.Forest.{root_id, rest_trees, tree_nth}
+use Rattle.tree_handles.specs.Inside.{kids_of}
+use Rattle.tree_handles.specs.Standing.{forest}
+use Rattle.node_order.proofs.arranging.list_children.Given as goal
+
+abbrev pub invariant-loop-at : goal.invariant-loop-at
+invariant-loop-at l = record {
+  long : length l.listed ≡ length l.fn.listed;
+  same : (n d : ℕ) → n < length l.yielded → get_or l.listed n d ≡ root_id (tree_nth n (rest_trees l.fn.from (kids_of l.fn.parent (forest l.fn.pool))));
+}

@@ -1,0 +1,18 @@
+use Rattle.std.proofs.Common.{◌≡◌, ◌+◌, List, ℕ, length, subst, arith, IsPermutation}
+use Rattle.node_order.specs.Ranking.{ranked_tree}
+use Rattle.node_order.proofs.Places.{inside_range}
+use Rattle.node_order.proofs.SortLaws.{sorted_same, ranked_is}
+use Rattle.tree_handles.specs.Expressions.{plains, nth}
+use Rattle.tree_handles.specs.Inside.{kids_of}
+use Rattle.tree_handles.specs.Standing.{forest}
+use Rattle.node_order.proofs.sorting.rank_children.Goals as goal
+
+pub returns-clause-rising : goal.returns-clause-rising
+returns-clause-rising g c =
+    let n = length c.args.order.now in
+    let f = forest c.args.pool.now in
+    let keys = c.list_keys.new.listed in
+    let moved = subst (λ (xs : List ℕ). IsPermutation xs c.rank.new.order) c.list_places.ensures c.rank.ensures.moved in
+    let long : length keys ≡ n = omega (arith, c.requires.order, c.list_keys.auto.listed) in
+    sorted_same (ranked_tree keys f) (λ j. g.K.Keys.key_of (nth (c.args.from + j) (plains (kids_of c.args.parent f)))) c.rank.new.order n c.rank.ensures.rising (inside_range n c.rank.new.order moved)
+    (λ j lt. ranked_is keys f j _ (omega arith) (c.list_keys.ensures.trees j _ (omega arith)))

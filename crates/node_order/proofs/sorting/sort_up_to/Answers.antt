@@ -1,0 +1,37 @@
+use Rattle.std.proofs.Common.{◌+◌, ◌<◌, ◌≤◌, ℕ, sym, ap, subst, arith, replicate}
+use Rattle.std.proofs.lemmas.List.{length-take-le, length-replicate}
+use Rattle.std.specs.List.Sorted.{IsSortedByKey}
+use Rattle.calc_terms.specs.TreeOrder.{tree_cmp}
+use Rattle.calc_terms.specs.Trees.{count}
+use Rattle.node_order.proofs.SortLaws.{sorted_children, handle_kids}
+use Rattle.tree_handles.specs.Expressions.{plains, nth, IsWhole, IsExpression}
+use Rattle.tree_handles.specs.Forest.{Forest, kids, arity}
+use Rattle.tree_handles.specs.Handed.{IsOnce}
+use Rattle.tree_handles.specs.Roots.{root_tree}
+use Rattle.tree_handles.specs.Standing.{forest}
+use Rattle.tree_handles.proofs.Counted.{all-kids}
+use Rattle.tree_handles.proofs.Lasts.{expression_root}
+use Rattle.node_order.proofs.sorting.sort_up_to.Goals as goal
+
+pub rank_children-requires-clause-parent : goal.rank_children-requires-clause-parent
+rank_children-requires-clause-parent g c = subst (λ i. IsExpression i (forest c.args.pool.now)) (sym c.id.ensures) (expression_root c.requires.stands c.requires.handed)
+
+pub rank_children-requires-clause-keyed : goal.rank_children-requires-clause-keyed
+rank_children-requires-clause-keyed g c =
+    subst (λ (k : Forest). (n : ℕ) → c.args.from ≤ n → n < count (plains k) → g.K.Keys.has_key (nth n (plains k))) (sym (handle_kids c.args.parent.now c.id.result c.args.pool.now c.requires.stands c.requires.handed.root c.id.ensures)) c.requires.keyed
+
+pub rank_children-requires-clause-all : goal.rank_children-requires-clause-all
+rank_children-requires-clause-all g c = omega (arith, length-take-le c.children_from-len.result (replicate g.row.N c.default-listed.result) (omega (arith, length-replicate g.row.N c.default-listed.result, c.children_from-len.ensures.all, c.requires.room)), c.children_from-len.ensures.all, ap arity (handle_kids c.args.parent.now c.id.result c.args.pool.now c.requires.stands c.requires.handed.root c.id.ensures))
+
+pub returns-clause-sorts : goal.returns-clause-sorts
+returns-clause-sorts g c =
+    let i = c.args.parent.now in
+    let n = c.args.from in
+    let f = forest c.args.pool.now in
+    let key = g.K.Keys.key_of in
+    let k = kids (root_tree i f) in
+    let same = handle_kids i c.id.result c.args.pool.now c.requires.stands c.requires.handed.root c.id.ensures in
+    sorted_children i n _ key c.rank_children.new.order f (forest c.arrange.new.pool) (all-kids IsOnce (root_tree i f) c.requires.handed.once) (all-kids IsWhole (root_tree i f) c.requires.handed.whole)
+    (omega (arith, length-take-le {A = ℕ} c.children_from-len.result (replicate g.row.N 0) (omega (arith, length-replicate {A = ℕ} g.row.N 0, c.children_from-len.ensures.all, c.requires.room)), c.children_from-len.ensures.all)) c.rank_children.ensures.places
+    (subst (λ (ts : Forest). IsSortedByKey (λ j. key (nth (n + j) (plains ts))) tree_cmp c.rank_children.new.order) same c.rank_children.ensures.rising)
+    c.arrange.ensures.forest

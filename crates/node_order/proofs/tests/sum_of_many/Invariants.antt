@@ -1,0 +1,9 @@
+use Rattle.node_order.proofs.Tested.{IsSum}
+use Rattle.tree_handles.specs.Standing.{Stands, forest}
+use Rattle.node_order.proofs.tests.sum_of_many.Given as goal
+
+abbrev pub invariant-loop-number : goal.invariant-loop-number
+invariant-loop-number l = record {
+  stands : Stands l.pool;
+  sum : IsSum l.sum (forest l.pool);
+}
