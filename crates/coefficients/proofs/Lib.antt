@@ -15,3 +15,4 @@ pub mod Loops
 pub mod LedFactors
 pub mod Rewritten
 pub mod Puttings
+pub mod Openings

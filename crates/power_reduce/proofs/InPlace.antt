@@ -1,26 +1,25 @@
 -- A power is rewritten where it stands: the node of its base goes, and the exponent is replaced.
-use Rattle.std.proofs.Common.{◌≡◌, ℕ, ◌+◌, ◌≤◌, ◌<◌, List, [], ◌∷◌, eqb, inl, refl, sym, ap, ◌∙◌, subst, arith, true, false}
+use Rattle.std.proofs.Common.{◌≡◌, ℕ, ◌≤◌, [], ◌∷◌, refl, sym, ap, ◌∙◌, subst, arith, true, false}
 use Rattle.calc_terms.specs.declared.kind.Kind.{Kind}
 use Rattle.calc_terms.specs.declared.kind.Kind.TheVariants as kind
-use Rattle.calc_terms.specs.Payload.{bare}
-use Rattle.calc_terms.specs.Trees.{Tree, mult, power, root, num, Trees, none, more, append, count, is_root, is_num, size}
+use Rattle.calc_terms.specs.Trees.{Tree, root, num, Trees, none, more, append, is_root, is_num, size}
 use Rattle.coefficients.proofs.Places.{IsOver, IsTaken, taken, over_put, over_same, over_end, cut, cut_rest, once_count, represents_count, without_put}
-use Rattle.coefficients.proofs.Steps.{IsAdded, added_as, children_in, gives_put}
+use Rattle.coefficients.proofs.Steps.{IsAdded, gives_put}
 use Rattle.node_pool.specs.State.{State, free_of}
-use Rattle.number_forms.proofs.Room.{released_free}
+use Rattle.reduce_port.proofs.Room.{released_free}
 use Rattle.power_reduce.specs.PowerAnswers.{is_power, base_in, exponent_in}
-use Rattle.power_reduce.proofs.Powers.{over_power, power_is}
+use Rattle.power_reduce.proofs.Powers.{over_power}
 use Rattle.reduce_port.specs.Rewritings.{tree_of}
-use Rattle.tree_handles.specs.Expressions.{nth, plain, compound, inserted, takes_kind, children_of}
-use Rattle.tree_handles.specs.Forest.{Forest, empty, arity, kids, root_count, one_tree, with_root_kids, tree_nth, with_nth, without_nth, merged_nth}
+use Rattle.tree_handles.specs.Expressions.{nth, children_of}
+use Rattle.tree_handles.specs.Forest.{Forest, arity, kids, root_count, tree_nth, without_nth, merged_nth}
 use Rattle.tree_handles.specs.Handed.{IsOnce, IsHanded, Represents, Ends, Gives, KeepsFront}
 use Rattle.tree_handles.specs.Inside.{holds, kids_of}
-use Rattle.tree_handles.specs.Roots.{has_root, root_tree, without_root, put}
+use Rattle.tree_handles.specs.Roots.{root_tree, without_root, put}
 use Rattle.tree_handles.specs.Standing.{Stands, forest, KeepsRefusals}
 use Rattle.tree_handles.proofs.Counted.{all-kids}
-use Rattle.tree_handles.proofs.Fronts.{behind_first, front_same, front_at, front_end, front_put, front_without}
-use Rattle.tree_handles.proofs.Given.{gives, gives_as, given_handed, given_rest, given_root, given_told, owned, represents_handed, represents_join, represents_node, represents_none, represents_with}
-use Rattle.tree_handles.proofs.Lasts.{apart, ends_as, kids_of_root, other_apart}
+use Rattle.tree_handles.proofs.Fronts.{behind_first, front_same, front_at, front_put}
+use Rattle.tree_handles.proofs.Given.{gives_as, given_root, represents_join}
+use Rattle.tree_handles.proofs.Lasts.{apart, kids_of_root, other_apart}
 use Rattle.tree_handles.proofs.Outcomes.{eqb-sym}
 use Rattle.tree_handles.proofs.Plains.{children_of-plain, whole_kids}
 use Rattle.tree_handles.proofs.Roots.{put-put}

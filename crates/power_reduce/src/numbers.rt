@@ -15,11 +15,12 @@ ghost use Rattle.tree_handles.specs.Handed.{IsHanded, Gives, KeepsFront};
 ghost use Rattle.tree_handles.specs.Roots.{without_root};
 ghost use Rattle.tree_handles.specs.Standing.{Stands, forest, KeepsRefusals};
 
-use crate::sides::{base_id, take_base, undefined, with_number};
+use crate::sides::{base_id, take_base, with_number};
 use calc_terms::Rat;
 use node_pool::Pool;
 use number_forms::{Inverse, classes, invert_number, power_number};
 use rational128::{Overflow, invert, pow};
+use reduce_port::undefined;
 use tree_handles::{Handle, NumberFault, move_last};
 
 /// A whole power of the rational q: of 0 it is Undef where the exponent is at most 0.

@@ -1,10 +1,10 @@
 //! The base and the exponent of a power: read, taken out, and the power replaced.
-ghost use Rattle.std.specs.Prelude.{◌≡◌, IfOk, IfErr, OnOk, [], ◌∷◌, true, false};
+ghost use Rattle.std.specs.Prelude.{◌≡◌, [], ◌∷◌, true};
 ghost use Rattle.calc_terms.specs.Rat.{value_of};
 ghost use Rattle.calc_terms.specs.Reduced.{is_reduced, is_opaque_exponent, is_num_one};
-ghost use Rattle.calc_terms.specs.Trees.{num, undef, is_num};
+ghost use Rattle.calc_terms.specs.Trees.{num, is_num};
 ghost use Rattle.coefficients.specs.Pairs.{GivesTwo};
-ghost use Rattle.power_reduce.specs.PowerAnswers.{is_power, base_in, exponent_in, HasReducedSides};
+ghost use Rattle.power_reduce.specs.PowerAnswers.{is_power, base_in, exponent_in};
 ghost use Rattle.reduce_port.specs.Rewritings.{tree_of};
 ghost use Rattle.tree_handles.specs.Expressions.{IsExpression, plain};
 ghost use Rattle.tree_handles.specs.Handed.{IsHanded, Gives, KeepsFront};
@@ -12,10 +12,10 @@ ghost use Rattle.tree_handles.specs.Inside.{tree_at};
 ghost use Rattle.tree_handles.specs.Roots.{without_root};
 ghost use Rattle.tree_handles.specs.Standing.{Stands, forest, KeepsRefusals};
 
-use calc_terms::{Kind, Rat};
+use calc_terms::Rat;
 use node_pool::{Id, Pool};
 use number_forms::{is_reduced_number, whole};
-use tree_handles::{Handle, child_id, node, number, release, take_child};
+use tree_handles::{Handle, child_id, number, release, take_child};
 
 /// The base of a power.
 pub(crate) fn base_id(pool: &Pool, power: &Handle) -> Id
@@ -96,22 +96,6 @@ pub(crate) fn take_sides(pool: &mut Pool, power: Handle) -> (Handle, Handle)
     let exponent = take_child(pool, &power, 0);
     release(pool, power);
     (base, exponent)
-}
-
-/// Undef in the place of a power, whose bytes suffice for it.
-pub(crate) fn undefined(pool: &mut Pool, power: Handle) -> Handle
-    requires stands { Stands pool.old }
-    requires handed { IsHanded power (forest pool.old) }
-    ensures gives { Gives (without_root power (forest pool.old)) (forest pool.new) result (λ t. t ≡ undef) }
-    ensures front { KeepsFront (power ∷ []) (forest pool.old) (forest pool.new) }
-    ensures kept { KeepsRefusals pool.old pool.new }
-    ensures stands { Stands pool.new }
-{
-    release(pool, power);
-    match node(pool, Kind::Undef) {
-        Ok(undef) => undef,
-        Err(_) => unreachable!(),
-    }
 }
 
 /// A rational in the place of a power whose exponent is one, whose bytes suffice for it.

@@ -19,13 +19,11 @@ ghost use Rattle.tree_handles.specs.Standing.{Stands, forest, KeepsRefusals};
 
 use crate::numbers::{irrational_power, rational_power};
 use crate::rewriting::{halve_root, join_exponents, raise_factors};
-use crate::sides::{
-    base_id, exponent_id, first_exponent_is_opaque, take_base, undefined, with_number,
-};
+use crate::sides::{base_id, exponent_id, first_exponent_is_opaque, take_base, with_number};
 use calc_terms::{Kind, Rat};
 use node_pool::{Id, Pool};
 use number_forms::{is_reduced_number, whole};
-use reduce_port::Step;
+use reduce_port::{Step, is_undefined, undefined};
 use tree_handles::{Handle, NumberFault, kind, move_last, rational};
 
 /// One step on a power of reduced trees: a reduced tree, or one rewriting, whose new powers and product are
@@ -46,24 +44,12 @@ pub fn power_step(pool: &mut Pool, power: Handle) -> Result<Step, NumberFault>
     ensures stands { Stands pool.new }
 {
     let exponent = exponent_id(pool, &power);
-    if is_undef(pool, base_id(pool, &power)) || is_undef(pool, exponent) {
+    if is_undefined(pool, base_id(pool, &power)) || is_undefined(pool, exponent) {
         return Ok(Step::Done(undefined(pool, power)));
     }
     match whole(pool, exponent) {
         Some(n) => whole_power(pool, power, n),
         None => other_power(pool, power),
-    }
-}
-
-/// Whether a tree is Undef.
-fn is_undef(pool: &Pool, id: Id) -> bool
-    requires stands { Stands pool.now }
-    requires expression { IsExpression id (forest pool.now) }
-    ensures { result ≡ is_undef (plain (tree_at id (forest pool.now))) }
-{
-    match kind(pool, id) {
-        Kind::Undef => true,
-        _ => false,
     }
 }
 

@@ -1,14 +1,13 @@
 //! The root of a reduced tree.
-ghost use Rattle.std.specs.Prelude.{◌≡◌, ◌↔◌, ◌≤◌, ◌<◌, true, false, IfOk, IfErr, OnOk, [], ◌∷◌};
+ghost use Rattle.std.specs.Prelude.{◌≡◌, ◌↔◌, ◌<◌, true, IfOk, IfErr, OnOk, [], ◌∷◌};
 ghost use Rattle.calc_terms.specs.Rat.{value_of};
 ghost use Rattle.calc_terms.specs.Reduced.{is_reduced};
-ghost use Rattle.calc_terms.specs.Trees.{num, undef, root as root_tree_of, is_root, is_num};
+ghost use Rattle.calc_terms.specs.Trees.{num, root as root_tree_of, is_root, is_num};
 ghost use Rattle.node_pool.specs.State.{free_of};
 ghost use Rattle.radical_forms.specs.Refusals.{HasWideRoot, NamesProduct, IsOverflow, IfOverflow, IsFull};
 ghost use Rattle.radical_forms.specs.RootAnswers.{argument_of, IsRootAnswer};
 ghost use Rattle.reduce_port.specs.Causes.{IsCaused};
 ghost use Rattle.reduce_port.specs.Rewritings.{tree_of};
-ghost use Rattle.tree_handles.specs.Expressions.{nth, children_of};
 ghost use Rattle.tree_handles.specs.Faults.{Faults};
 ghost use Rattle.tree_handles.specs.Handed.{IsHanded, Gives, KeepsFront};
 ghost use Rattle.tree_handles.specs.Roots.{without_root};
@@ -17,10 +16,9 @@ ghost use Rattle.tree_handles.specs.Standing.{Stands, forest, KeepsRefusals};
 use calc_terms::{Kind, Rat};
 use node_pool::Pool;
 use number_forms::place_term;
+use reduce_port::undefined;
 use surd_terms::square_root;
-use tree_handles::{
-    Handle, NumberFault, child_id, kind, move_last, node, number, rational, release,
-};
+use tree_handles::{Handle, NumberFault, child_id, kind, move_last, number, rational, release};
 
 /// The root of a reduced tree: of a rational it is a Number, or Undef below 0; the root of Undef is Undef, and
 /// any other is kept.
@@ -87,20 +85,4 @@ fn root_of_rational(pool: &mut Pool, root: Handle, q: Rat) -> Result<Handle, Num
     release(pool, root);
     let value = place_term(pool, term)?;
     Ok(value)
-}
-
-/// Undef in the place of a tree, whose bytes suffice for it.
-fn undefined(pool: &mut Pool, tree: Handle) -> Handle
-    requires stands { Stands pool.old }
-    requires handed { IsHanded tree (forest pool.old) }
-    ensures gives { Gives (without_root tree (forest pool.old)) (forest pool.new) result (λ t. t ≡ undef) }
-    ensures front { KeepsFront (tree ∷ []) (forest pool.old) (forest pool.new) }
-    ensures kept { KeepsRefusals pool.old pool.new }
-    ensures stands { Stands pool.new }
-{
-    release(pool, tree);
-    match node(pool, Kind::Undef) {
-        Ok(undef) => undef,
-        Err(_) => unreachable!(),
-    }
 }

@@ -2,7 +2,7 @@
 use Rattle.std.specs.Prelude.{Bool, true, false, ◌&&◌, ◌||◌}
 use Rattle.calc_terms.specs.Numbers.{is_number}
 use Rattle.calc_terms.specs.Reduced.{is_reduced}
-use Rattle.calc_terms.specs.Trees.{Trees, none, more, is_num, is_undef}
+use Rattle.calc_terms.specs.Trees.{Tree, Trees, none, more, append, is_num, is_undef}
 
 -- some child is Undef
 abbrev pub has_undef : Trees → Bool
@@ -23,3 +23,8 @@ are_rationals (more t ts) = is_num t && are_rationals ts
 abbrev pub are_reduced : Trees → Bool
 are_reduced none = true
 are_reduced (more t ts) = is_reduced t && are_reduced ts
+
+-- the parts of each child in its place
+abbrev pub opened_into : (Tree → Trees) → Trees → Trees
+opened_into parts none = none
+opened_into parts (more t ts) = append (parts t) (opened_into parts ts)

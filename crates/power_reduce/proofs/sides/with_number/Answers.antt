@@ -1,6 +1,6 @@
 use Rattle.std.proofs.Common.{arith, ◌≤◌}
 use Rattle.node_pool.specs.State.{free_of}
-use Rattle.number_forms.proofs.Room.{released_free}
+use Rattle.reduce_port.proofs.Room.{released_free}
 use Rattle.reduce_port.specs.Rewritings.{tree_of}
 use Rattle.tree_handles.proofs.Fronts.{behind_first, front_same, front_at, front_without, front_after}
 use Rattle.tree_handles.proofs.Given.{owned}

@@ -3,8 +3,8 @@ use Rattle.tree_handles.proofs.Fronts.{behind_first, front_same, front_at, front
 use Rattle.tree_handles.proofs.Given.{owned}
 use Rattle.node_pool.specs.State.{free_of}
 use Rattle.reduce_port.specs.Rewritings.{tree_of}
-use Rattle.number_forms.proofs.Room.{released_free, least_size}
-use Rattle.radical_forms.proofs.roots.undefined.Goals as goal
+use Rattle.reduce_port.proofs.Room.{released_free, least_size}
+use Rattle.reduce_port.proofs.nodes.undefined.Goals as goal
 
 pub unreachable-requires : goal.unreachable-requires
 unreachable-requires c =

@@ -1,0 +1,48 @@
+-- Free bytes from call to call.
+use Rattle.std.proofs.Common.{◌≡◌, ℕ, ◌+◌, ◌≤◌, true, ap, arith}
+use Rattle.calc_terms.specs.Trees.{Tree, num, symbol, undef, add, mult, power, root, neg, sub, div, size}
+use Rattle.node_pool.specs.State.{State, free_of}
+use Rattle.tree_handles.specs.Expressions.{plain}
+use Rattle.tree_handles.specs.Forest.{Forest, tree, bytes_in}
+use Rattle.tree_handles.specs.Handed.{Gives, IsHanded}
+use Rattle.tree_handles.specs.Roots.{root_tree, without_root, has_root}
+use Rattle.tree_handles.specs.Standing.{Stands, forest, KeepsRefusals}
+use Rattle.tree_handles.proofs.Forests.{bytes_in-join}
+use Rattle.tree_handles.proofs.Given.{given_told}
+use Rattle.tree_handles.proofs.Lasts.{last_tree}
+use Rattle.tree_handles.proofs.Places.{used_forest}
+use Rattle.tree_handles.proofs.Plains.{size-plain}
+use Rattle.tree_handles.proofs.Roots.{top, root_arity}
+
+-- a new tree takes its bytes
+pub given_free : {s t : State} {i : ℕ} {Told : Tree → Type 0} → Stands s → Stands t → KeepsRefusals s t → Gives (forest s) (forest t) i Told → free_of s ≡ free_of t + size (plain (root_tree i (forest t)))
+given_free {s = s} {t = t} {i = i} h k r g =
+    omega (arith, used_forest s h, used_forest t k, r.size, h.pool.fits, k.pool.fits, ap bytes_in g.ends.whole, bytes_in-join (forest s) g.tree, size-plain g.tree g.ends.alone g.whole, ap (λ (x : Forest). size (plain x)) (last_tree g.ends))
+
+-- what is left behind a new tree
+pub left_after : {s t : State} {i : ℕ} {u : Tree} (n : ℕ) → Stands s → Stands t → KeepsRefusals s t → Gives (forest s) (forest t) i (λ x. x ≡ u) → n + size u ≤ free_of s → n ≤ free_of t
+left_after n h k r g room = omega (arith, given_free h k r g, ap size (given_told g))
+
+-- the bytes of a forest are those of a root's tree and of the others
+bytes_in-root : (i : ℕ) (f : Forest) → has_root i f ≡ true → bytes_in f ≡ bytes_in (root_tree i f) + bytes_in (without_root i f)
+bytes_in-root i f h =
+    let p = top i f h in
+    omega (arith, ap bytes_in p.whole, bytes_in-join p.left (tree p.label p.kids-are p.right), ap bytes_in p.tree-is, ap bytes_in p.without, bytes_in-join p.left p.right)
+
+-- a tree that goes gives its bytes back
+pub released_free : {s t : State} {i : ℕ} → Stands s → Stands t → KeepsRefusals s t → IsHanded i (forest s) → forest t ≡ without_root i (forest s) → free_of t ≡ free_of s + size (plain (root_tree i (forest s)))
+released_free {s = s} {t = t} {i = i} h k r o e =
+    omega (arith, used_forest s h, used_forest t k, r.size, h.pool.fits, k.pool.fits, ap bytes_in e, bytes_in-root i (forest s) o.root, size-plain (root_tree i (forest s)) (root_arity i (forest s) o.root) o.whole)
+
+-- each tree has the bytes of its root
+pub least_size : (t : Tree) → 8 ≤ size t
+least_size (num q) = omega arith
+least_size (symbol x) = omega arith
+least_size undef = omega arith
+least_size (add ts) = omega arith
+least_size (mult ts) = omega arith
+least_size (power b e) = omega arith
+least_size (root a) = omega arith
+least_size (neg a) = omega arith
+least_size (sub a b) = omega arith
+least_size (div a b) = omega arith
