@@ -6,6 +6,7 @@ pub mod Faces
 pub mod NodeKinds
 pub mod Showables
 pub mod Suffixes
+pub mod Marking
 pub mod Bounds
 pub mod Factors
 pub mod Children

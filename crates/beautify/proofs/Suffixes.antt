@@ -18,12 +18,9 @@ use Rattle.beautify.specs.Lists.{behind}
 use Rattle.beautify.specs.Showing.{unsigned_faces, IsShowable, HoldsFaces}
 use Rattle.beautify.proofs.Factors.{count-faces}
 use Rattle.beautify.proofs.Sizes.{sizes-append}
-use Rattle.tree_handles.proofs.Measures.{one_at, IsBefore}
+use Rattle.tree_handles.proofs.Measures.{one_at}
 use Rattle.beautify.proofs.Bounds.{bounds, needs}
 use Rattle.beautify.specs.Room.{node_room}
-use Rattle.node_pool.specs.State.{State}
-use Rattle.tree_handles.specs.Standing.{forest}
-use Rattle.std.proofs.lemmas.List.{append-nil}
 use Rattle.beautify.proofs.Trees.{behind-append, count-append}
 
 -- ---- one node of a list by its identifier
@@ -50,7 +47,7 @@ pub record IsNext (f : Forest) (n : ℕ) : Type 0 where
   pub here : forest_of (drop n (flatten f)) ≡ tree label below others
   pub next : forest_of (drop (suc n) (flatten f)) ≡ join below others
 
-split_at : (n : ℕ) (ns : List Node) → n < length ns → (take n ns ++ (first_of (drop n ns) ∷ drop (suc n) ns) ≡ ns) × (drop n ns ≡ first_of (drop n ns) ∷ drop (suc n) ns)
+pub split_at : (n : ℕ) (ns : List Node) → n < length ns → (take n ns ++ (first_of (drop n ns) ∷ drop (suc n) ns) ≡ ns) × (drop n ns ≡ first_of (drop n ns) ∷ drop (suc n) ns)
 split_at n [] h = absurd (omega (arith, h))
 split_at zero (m ∷ ns) h = (refl, refl)
 split_at (suc n) (m ∷ ns) h = let r = split_at n ns (omega (arith, h)) in (ap (λ (x : List Node). m ∷ x) (r.0), r.1)
@@ -236,9 +233,6 @@ room_left {i = i} {g = g} {n = n} free start {t = t} {ts = ts} s e z q u l =
     omega (arith, e, ap sizes z, ap sizes q, ap sizes u, ap count u, bounds rest s.rest, needs t s.parts, s.bytes, s.own, s.few, count-faces rest, l)
 
 -- ---- from a node's place on
-
-pub behind_start : (i at : ℕ) (s : State) → IsBefore i at s → IsBehind at 0 (flatten (tree_at i (forest s))) s.nodes
-behind_start i at s b = record { others = b.behind; nodes = b.nodes ∙ ap (λ (x : List Node). node_of b.label b.below ∷ (x ++ b.behind)) (sym (append-nil (flatten b.below))) ∙ ap (λ (f : Forest). flatten f ++ b.behind) (sym b.tree-is) }
 
 pub node_there : (at n : ℕ) (ns all : List Node) → IsBoundary at all → IsBehind at n ns all → n < length ns → at < used all
 node_there at n ns all b h w = is_before at all (drop (suc n) ns ++ h.others) (first_of (drop n ns)) b (h.nodes ∙ ap (λ (x : List Node). x ++ h.others) (split_at n ns w).1)

@@ -2,3 +2,4 @@ pub mod Lists
 pub mod Stacks
 pub mod Showing
 pub mod Room
+pub mod Marks

@@ -1,21 +1,20 @@
 //! The face of a reduced tree.
-ghost use Rattle.std.specs.Prelude.{◌≡◌, ◌<◌, ◌≤◌, ◌+◌, ◌*◌, true, false, IfErr, IfOk, IsOk, OnOk, [], ◌∷◌, drop};
+ghost use Rattle.std.specs.Prelude.{◌≡◌, ◌<◌, ◌≤◌, ◌+◌, ◌*◌, true, false, IfErr, IfOk, IsOk, OnOk, [], ◌∷◌};
 ghost use Rattle.calc_terms.specs.Faces.{face};
 ghost use Rattle.calc_terms.specs.Reduced.{is_reduced};
 ghost use Rattle.beautify.specs.Showing.{IsShowable};
 ghost use Rattle.beautify.specs.Stacks.{stacked, IsStack, Restacks, FailsAbove};
 ghost use Rattle.calc_terms.specs.Trees.{none, more, is_undef, size, AllParts};
-ghost use Rattle.node_pool.specs.Nodes.{first_of};
 ghost use Rattle.node_pool.specs.State.{free_of};
 ghost use Rattle.reduce_port.specs.Causes.{LacksBytes};
 ghost use Rattle.reduce_port.specs.Rewritings.{KeepsMeanings, tree_of};
 ghost use Rattle.tree_handles.specs.Expressions.{IsExpression, plain};
-ghost use Rattle.tree_handles.specs.Forest.{flatten, nodes_in};
 ghost use Rattle.tree_handles.specs.Handed.{IsHanded, Gives, KeepsFront};
-ghost use Rattle.tree_handles.specs.Inside.{holds, tree_at};
+ghost use Rattle.tree_handles.specs.Inside.{tree_at};
 ghost use Rattle.tree_handles.specs.Roots.{without_root};
 ghost use Rattle.tree_handles.specs.Standing.{Stands, forest, KeepsRefusals, Refuses};
 
+use crate::marks::{mark_before, node_at, root_mark};
 use crate::nodes::show_node;
 use crate::stack::pop;
 use crate::sums::sign;
@@ -70,24 +69,12 @@ fn show_tree(pool: &mut Pool, stack: &Handle, tree: Id) -> Result<(), Full>
     ensures stands { Stands pool.new }
 {
     let mut left = tree_nodes(pool, tree);
+    let mut mark = root_mark(tree);
     while left > 0 {
         left -= 1;
-        let id = node_at(pool, tree, left);
+        mark = mark_before(pool, &mark, left);
+        let id = node_at(pool, &mark, left);
         show_node(pool, stack, id)?;
     }
     sign(pool, stack, 0, tree)
-}
-
-/// The node of a tree that stands behind so many others of it.
-fn node_at(pool: &Pool, tree: Id, others: u32) -> Id
-    requires stands { Stands pool.now }
-    requires live { holds tree (forest pool.now) ≡ true }
-    requires within { others < nodes_in (tree_at tree (forest pool.now)) }
-    ensures { result ≡ (first_of (drop others (flatten (tree_at tree (forest pool.now))))).id }
-{
-    let mut at = pool.locate(tree);
-    for _place in 0..others {
-        at += pool.header(at).size();
-    }
-    Id::of(pool.header(at).id)
 }

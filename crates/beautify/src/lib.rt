@@ -3,6 +3,7 @@
 
 mod face;
 mod fractions;
+mod marks;
 mod nodes;
 mod products;
 mod reading;

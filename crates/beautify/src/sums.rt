@@ -13,11 +13,12 @@ ghost use Rattle.tree_handles.specs.Inside.{tree_at};
 ghost use Rattle.tree_handles.specs.Roots.{without_root};
 ghost use Rattle.tree_handles.specs.Standing.{Stands, forest};
 
+use crate::marks::{first_child, next_child};
 use crate::reading::is_negative;
 use crate::stack::{extend, gather};
 use calc_terms::Kind;
 use node_pool::{Full, Id, Pool};
-use tree_handles::{Handle, child_id, children};
+use tree_handles::{Handle, children};
 
 /// A minus sign comes before a tree of the stack, the face without sign of the given tree, where
 /// that has one.
@@ -83,13 +84,13 @@ pub(crate) fn show_sum(pool: &mut Pool, stack: &Handle, id: Id) -> Result<(), Fu
     ensures stands { Stands pool.new }
 {
     let terms = children(pool, id);
-    let first = child_id(pool, id, 0);
-    sign(pool, stack, 0, first)?;
+    let mut term = first_child(pool, id);
+    sign(pool, stack, 0, term.node)?;
     let mut summed = false;
     let mut place = 1;
     while place < terms {
-        let term = child_id(pool, id, place);
-        let negative = is_negative(pool, term);
+        term = next_child(pool, &term);
+        let negative = is_negative(pool, term.node);
         summed = next_term_of(pool, stack, negative, summed)?;
         place += 1;
     }

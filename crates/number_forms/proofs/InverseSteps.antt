@@ -1,5 +1,5 @@
 -- Inverses by terms.
-use Rattle.std.proofs.Common.{◌≡◌, ℕ, zero, suc, [], ◌∷◌, Some, length, true, false, refl, sym, ap, ◌∙◌, subst, arith}
+use Rattle.std.proofs.Common.{◌≡◌, [], ◌∷◌, Some, length, true, false, sym, ap, subst, arith}
 use Rattle.std.specs.Prelude.{slice_get}
 use Rattle.calc_terms.specs.Numbers.{is_number, is_term, term_of, value, Rises}
 use Rattle.calc_terms.specs.SquareClasses.{are_alike, Same, Inverts}
@@ -12,7 +12,7 @@ use Rattle.calc_terms.proofs.SquareClassLaws.{Same-trans}
 use Rattle.calc_terms.proofs.TermLaws.{Same-eq, Same-cons}
 use Rattle.number_forms.specs.Answers.{IsNumberOf}
 use Rattle.number_forms.specs.Inverses.{IsInverseOf}
-use Rattle.number_forms.specs.Sums.{IsSum, IsSumOf}
+use Rattle.number_forms.specs.Sums.{IsSumOf}
 use Rattle.number_forms.proofs.Shaped.{single_number}
 use Rattle.number_forms.proofs.Worth.{Same-sym}
 

@@ -1,7 +1,7 @@
 pub mod ByKind
+pub mod Children
 pub mod Joined
 pub mod LastSums
-pub mod Refused
 pub mod Worth
 pub mod Shaped
 pub mod ReducedNumbers
@@ -13,7 +13,6 @@ pub mod RationalCalls
 pub mod PowerSteps
 pub mod InverseSteps
 pub mod Pairs
-pub mod Room
 pub mod Rising
 pub mod Recognized
 pub mod SquareFreeSums

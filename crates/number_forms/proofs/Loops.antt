@@ -22,7 +22,7 @@ use Rattle.tree_handles.specs.Inside.{tree_at}
 use Rattle.tree_handles.specs.Roots.{has_root, root_tree, without_root}
 use Rattle.tree_handles.specs.Standing.{Stands, forest, KeepsRefusals, Refuses}
 use Rattle.tree_handles.proofs.Fronts.{behind_first, front_after_one, front_same}
-use Rattle.tree_handles.proofs.Given.{given_root, given_told, given_rest, given_other, given_same, gives_as}
+use Rattle.tree_handles.proofs.Given.{given_told, given_rest, given_other, given_same, gives_as}
 use Rattle.tree_handles.proofs.Lasts.{last_tree, ends_at, ends_without, expression_root, plain_root}
 
 -- a sum, and with what is left of a list it is worth the whole

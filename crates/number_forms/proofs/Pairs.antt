@@ -1,5 +1,5 @@
 -- Two trees that were made one after the other.
-use Rattle.std.proofs.Common.{◌≡◌, ℕ, eqb, true, false, sym, ap, ◌∙◌}
+use Rattle.std.proofs.Common.{◌≡◌, ℕ, eqb, true, false, ap, ◌∙◌}
 use Rattle.calc_terms.specs.Fractions.{Fraction}
 use Rattle.calc_terms.specs.Numbers.{is_number, is_term}
 use Rattle.calc_terms.specs.Trees.{Tree, num}
@@ -10,7 +10,7 @@ use Rattle.tree_handles.specs.Expressions.{plain}
 use Rattle.tree_handles.specs.Forest.{Forest}
 use Rattle.tree_handles.specs.Handed.{IsHanded, Gives}
 use Rattle.tree_handles.specs.Roots.{root_tree, without_root}
-use Rattle.tree_handles.proofs.Given.{given_handed, given_root, given_told, given_other, given_apart, given_rest, given_without}
+use Rattle.tree_handles.proofs.Given.{given_handed, given_root, given_other, given_apart, given_rest, given_without}
 use Rattle.tree_handles.proofs.Outcomes.{eqb-sym}
 
 pub first_handed : {f g h : Forest} {a b : ℕ} {P Q : Tree → Type 0} → Gives f g a P → Gives g h b Q → IsHanded a h

@@ -1,5 +1,5 @@
 -- Powers by squares.
-use Rattle.std.proofs.Common.{◌≡◌, ◌≢◌, ℕ, suc, ◌*◌, ◌/◌, ◌%◌, ◌≤◌, sym, ap, ◌∙◌, subst, arith}
+use Rattle.std.proofs.Common.{◌≡◌, ◌≢◌, ℕ, suc, ◌*◌, ◌/◌, ◌%◌, ◌≤◌, subst, arith}
 use Rattle.calc_terms.specs.SquareClasses.{Same}
 use Rattle.calc_terms.specs.Surds.{Surd, surd_times, surd_power}
 use Rattle.calc_terms.proofs.PowerLaws.{surd_power-squared, surd_power-multiplied}

@@ -1,5 +1,5 @@
 -- Rationals in place of others.
-use Rattle.std.proofs.Common.{◌≡◌, ℕ, ◌+◌, ◌≤◌, ◌-◌, [], ◌++◌, Result, Bool, true, false, cond, eqb, if◌then◌else◌, refl, sym, ap, ◌∙◌, subst, arith}
+use Rattle.std.proofs.Common.{◌≡◌, ℕ, ◌+◌, ◌≤◌, [], ◌++◌, Result, Bool, true, false, cond, eqb, if◌then◌else◌, refl, sym, ap, ◌∙◌, subst, arith}
 use Rattle.calc_terms.specs.Fits.{Operation, operation_fits, result_of, fraction_power}
 use Rattle.calc_terms.specs.Numbers.{value}
 use Rattle.calc_terms.specs.SquareClasses.{Same}
@@ -13,9 +13,9 @@ use Rattle.number_forms.specs.Answers.{IsNumberOf, AnswersRationals}
 use Rattle.number_forms.proofs.Worth.{Same-sym}
 use Rattle.tree_handles.specs.declared.fault.NumberFault.{NumberFault}
 use Rattle.calc_terms.specs.Fractions.{Fraction, plus, times, is_zero_fraction}
-use Rattle.calc_terms.specs.PlainValues.{PlainValue, calculated, exactly, overflow}
+use Rattle.calc_terms.specs.PlainValues.{calculated, exactly, overflow}
 use Rattle.calc_terms.specs.Rat.{value_of}
-use Rattle.calc_terms.specs.Trees.{Tree, num, symbol, undef, add, mult, power, root, neg, sub, div, is_num, size}
+use Rattle.calc_terms.specs.Trees.{Tree, num, is_num, size}
 use Rattle.node_pool.specs.Nodes.{used}
 use Rattle.node_pool.specs.State.{State, free_of}
 use Rattle.rational128.specs.Refusals.{operation_of}

@@ -4,7 +4,7 @@ use Rattle.std.proofs.lemmas.Bool.{and_parts}
 use Rattle.calc_terms.specs.Numbers.{is_term, are_terms, is_below_all, rises, terms_of, term_of}
 use Rattle.calc_terms.specs.SquareClasses.{are_alike}
 use Rattle.calc_terms.specs.Surds.{Term}
-use Rattle.calc_terms.specs.Trees.{Tree, Trees, none, more, count}
+use Rattle.calc_terms.specs.Trees.{Trees, none, more, count}
 use Rattle.number_forms.specs.Sums.{trees_from}
 use Rattle.tree_handles.specs.Expressions.{nth}
 

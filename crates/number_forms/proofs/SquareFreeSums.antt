@@ -2,7 +2,7 @@
 use Rattle.std.proofs.Common.{◌≡◌, ℕ, zero, suc, ◌-◌, ◌<◌, ◌≤◌, ◌^◌, ◌⊎◌, inl, inr, false, refl, sym, ap, ◌∙◌, subst, arith}
 use Rattle.std.proofs.lemmas.Bool.{false_from_ne_true}
 use Rattle.calc_terms.specs.Clean.{IsClean}
-use Rattle.calc_terms.specs.Numbers.{AreTerms, IsBelowAll, Rises, term_of, terms_of}
+use Rattle.calc_terms.specs.Numbers.{IsBelowAll, Rises, term_of, terms_of}
 use Rattle.calc_terms.specs.SquareClasses.{are_alike}
 use Rattle.calc_terms.specs.Surds.{Term}
 use Rattle.calc_terms.specs.Trees.{Tree, Trees, none, more, add, count}
@@ -27,6 +27,9 @@ read_apart j s x u v e h f g =
     let apart : are_alike s.radicand x.radicand ≡ false = subst (λ (k : Joined). Joins k s x) e h in
     let same : s.radicand ≡ (term_of v).radicand = read_radicand s.radicand s u v refl f g in
     apart_turned (term_of v).radicand x.radicand (subst (λ (n : ℕ). are_alike n x.radicand ≡ false) same apart)
+
+pub read_joined : (j k : Joined) (s x : Term) (u v : Tree) → j ≡ k → Joins j s x → s ≡ term_of u → u ≡ v → Joins k (term_of v) x
+read_joined j k s x u v e h f g = subst (λ (i : Joined). Joins i (term_of v) x) e (subst (λ (t : Term). Joins j t x) (f ∙ ap term_of g) h)
 
 -- ---- radicands by place
 

@@ -1,5 +1,5 @@
 -- A sum that stands last: as it is read, with a term more, and with a term less.
-use Rattle.std.proofs.Common.{◌≡◌, ℕ, ◌+◌, ◌<◌, ◌≤◌, [], ◌∷◌, ◌++◌, true, false, refl, sym, ap, ◌∙◌, subst, arith}
+use Rattle.std.proofs.Common.{◌≡◌, ℕ, ◌<◌, [], ◌∷◌, ◌++◌, true, refl, sym, ap, ◌∙◌, subst}
 use Rattle.calc_terms.specs.Numbers.{IsTerm, AreTerms, Rises, is_term, term_of, terms_of, value}
 use Rattle.calc_terms.specs.SquareClasses.{Same, are_alike}
 use Rattle.calc_terms.specs.Surds.{Term, Surd}
@@ -17,13 +17,13 @@ use Rattle.number_forms.proofs.Joined.{are_inserted, rises_inserted, same_insert
 use Rattle.number_forms.proofs.LastSums.{kids_represented, represents_without, sum_is, resum, gives_at}
 use Rattle.number_forms.proofs.Shaped.{nth_is_term}
 use Rattle.number_forms.proofs.TermTrees.{term_test}
-use Rattle.tree_handles.specs.Expressions.{nth, plain, plains, children_of, inserted, IsExpression}
+use Rattle.tree_handles.specs.Expressions.{nth, plain, children_of, inserted, IsExpression}
 use Rattle.tree_handles.specs.Forest.{Forest, arity, kids, with_nth, without_nth, tree_nth}
 use Rattle.tree_handles.specs.Handed.{IsHanded, Represents, Ends, Gives}
 use Rattle.tree_handles.specs.Inside.{tree_at, kids_of}
 use Rattle.tree_handles.specs.Roots.{has_root, root_tree, without_root, put}
 use Rattle.tree_handles.specs.Standing.{Stands, forest}
-use Rattle.tree_handles.proofs.Given.{represents_handed, represents_with, gives_as, given_root, given_handed, given_told, given_rest, given_same}
+use Rattle.tree_handles.proofs.Given.{represents_handed, represents_with, given_root, given_handed, given_told, given_rest, given_same}
 use Rattle.tree_handles.proofs.Lasts.{last_tree, last_rest, expression_root, plain_root}
 
 -- ---- as it is read

@@ -19,7 +19,9 @@ use crate::term::term_at;
 use node_pool::{Full, Id, Pool};
 use rational128::Overflow;
 use surd_terms::{Joined, Term, join};
-use tree_handles::{Handle, NumberFault, add_child, child_id, children, release, take_child};
+use tree_handles::{
+    Handle, NumberFault, add_child, child_id, child_ids, children, release, take_child,
+};
 
 /// A clean number below this one is square-free, so that each class has one.
 const SQUARE_FREE_BELOW: u128 = 1_000_000_000_000;
@@ -117,16 +119,17 @@ fn match_anywhere(pool: &Pool, sum: Id, term: Term) -> Result<Match, Overflow>
     ensures ok { IfOk result (IsMatch (term_of term) (children_of (plain (tree_at sum (forest pool.now))))) }
     ensures caused { IfErr result Overflows }
 {
-    for at in 0..children(pool, sum) {
-        let other = term_at(pool, child_id(pool, sum, at));
+    let mut at = 0;
+    for child in child_ids(pool, sum, 0) {
+        let other = term_at(pool, child);
         match join(other, term)? {
-            Joined::Apart => {}
+            Joined::Apart => at += 1,
             Joined::Zero => return Ok(Match::Zero(at)),
             Joined::Term(joined) => return Ok(Match::Term(at, joined)),
         }
     }
-    let at = place_of(pool, sum, term.radicand());
-    Ok(Match::Apart(at))
+    let place = place_of(pool, sum, term.radicand());
+    Ok(Match::Apart(place))
 }
 
 /// Puts a term into a sum at its place, where none is alike with it.

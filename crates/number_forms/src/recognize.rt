@@ -1,5 +1,5 @@
 //! Whether an expression is a Number.
-ghost use Rattle.std.specs.Prelude.{◌≡◌, ◌<◌, ◌+◌, ◌&&◌, true, not, nat_lt};
+ghost use Rattle.std.specs.Prelude.{◌≡◌, ◌<◌, ◌≤◌, ◌&&◌, true, not, nat_lt};
 ghost use Rattle.calc_terms.specs.Fractions.{is_one_fraction, is_zero_fraction};
 ghost use Rattle.calc_terms.specs.Numbers.{is_number, is_term, is_radicand, is_below_all, are_terms, rises, terms_of, term_of as term_of_tree};
 ghost use Rattle.calc_terms.specs.Rat.{value_of};
@@ -19,7 +19,7 @@ use calc_terms::{Kind, Rat};
 use node_pool::{Id, Pool};
 use square_parts::alike;
 use surd_terms::Term;
-use tree_handles::{child_id, children, kind};
+use tree_handles::{child_id, child_ids, children, kind};
 
 /// Whether an expression is a Number: a rational, a rational multiple of a root whose radicand is clean, or a
 /// sum of two terms or more whose radicands rise, no two alike. Of a sum of n terms each two are compared.
@@ -57,8 +57,8 @@ fn are_terms(pool: &Pool, id: Id) -> bool
     requires expression { IsExpression id (forest pool.now) }
     ensures { result ≡ are_terms (children_of (plain (tree_at id (forest pool.now)))) }
 {
-    for at in 0..children(pool, id) {
-        if !is_term(pool, child_id(pool, id, at)) {
+    for child in child_ids(pool, id, 0) {
+        if !is_term(pool, child) {
             return false;
         }
     }
@@ -128,26 +128,24 @@ fn rises(pool: &Pool, id: Id) -> bool
     ensures { result ≡ rises (terms_of (children_of (plain (tree_at id (forest pool.now))))) }
 {
     for at in 0..children(pool, id) {
-        if !is_below_rest(pool, id, at) {
+        let term = child_term(pool, id, at);
+        if !is_below_rest(pool, term, id, at + 1) {
             return false;
         }
     }
     true
 }
 
-/// Whether a term's radicand is below those behind it, and alike with none.
-fn is_below_rest(pool: &Pool, id: Id, at: u16) -> bool
+/// Whether a term's radicand is below those of the terms below a root from a place on, and alike with none.
+fn is_below_rest(pool: &Pool, term: Term, id: Id, from: u16) -> bool
     requires stands { Stands pool.now }
     requires expression { IsExpression id (forest pool.now) }
     requires terms { are_terms (children_of (plain (tree_at id (forest pool.now)))) ≡ true }
-    requires within { at < count (children_of (plain (tree_at id (forest pool.now)))) }
-    ensures { result ≡ is_below_all (term_of_tree (nth at (children_of (plain (tree_at id (forest pool.now)))))) (terms_of (trees_from (at + 1) (children_of (plain (tree_at id (forest pool.now)))))) }
+    requires within { from ≤ count (children_of (plain (tree_at id (forest pool.now)))) }
+    ensures { result ≡ is_below_all (term_of term) (terms_of (trees_from from (children_of (plain (tree_at id (forest pool.now)))))) }
 {
-    let many = children(pool, id);
-    let term = child_term(pool, id, at);
-    let behind = at + 1;
-    for next in behind..many {
-        if !is_below(term, child_term(pool, id, next)) {
+    for child in child_ids(pool, id, from) {
+        if !is_below(term, term_at(pool, child)) {
             return false;
         }
     }

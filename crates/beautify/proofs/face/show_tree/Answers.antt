@@ -5,7 +5,7 @@ use Rattle.node_pool.specs.Nodes.{first_of}
 use Rattle.node_pool.specs.State.{free_of}
 use Rattle.tree_handles.specs.Expressions.{plain, plains, nth, children_of, IsExpression}
 use Rattle.tree_handles.specs.Forest.{Forest, flatten, forest_of, nodes_in}
-use Rattle.tree_handles.specs.Inside.{tree_at}
+use Rattle.tree_handles.specs.Inside.{holds, tree_at}
 use Rattle.tree_handles.specs.Roots.{without_root}
 use Rattle.tree_handles.specs.Standing.{forest}
 use Rattle.tree_handles.proofs.Forests.{nodes-flatten}
@@ -17,6 +17,7 @@ use Rattle.beautify.specs.Showing.{unsigned_faces, IsShowable, HoldsFaces}
 use Rattle.beautify.specs.Stacks.{stacked}
 use Rattle.beautify.proofs.Bounds.{bound_tree}
 use Rattle.beautify.proofs.Children.{base_distinct}
+use Rattle.beautify.proofs.Marking.{at_root, same_tree, still_marked}
 use Rattle.beautify.proofs.Sizes.{some_size}
 use Rattle.beautify.proofs.Stacking.{in_base, same_base, is_stack, stacked_is, on_ok, if_err, restacks_as, nothing_done, then, fails_then, passed_on, free_after}
 use Rattle.beautify.proofs.Suffixes.{show_next, all_shown, none_shown, own_part, room_left}
@@ -39,16 +40,34 @@ loop-left-init c =
     record {
       holds = restacks_as (nothing_done c.requires.stack) (c.requires.empty ∙ sym (none_shown c.tree_nodes-left.result (flatten (tree_at c.args.tree base)) many));
       within = omega (arith, many);
+      tree = c.root_mark-mark.ensures.tree;
+      mark = at_root c.root_mark-mark.result c.args.tree base c.root_mark-mark.ensures.tree c.root_mark-mark.ensures.node c.root_mark-mark.ensures.before c.requires.expression.live;
       stands = c.requires.stands;
     }
 
+pub mark_before-mark-requires-clause-live : goal.mark_before-mark-requires-clause-live
+mark_before-mark-requires-clause-live c = ap (λ (k : ℕ). holds k (forest c.loop-left.pool)) c.loop-left.invariant.tree ∙ (in_base c.loop-left.invariant.holds.gives c.requires.expression).0.live
+
+pub mark_before-mark-requires-clause-mark : goal.mark_before-mark-requires-clause-mark
+mark_before-mark-requires-clause-mark c =
+    let base = without_root c.args.stack.now (forest c.args.pool.now) in
+    let same = same_tree c.loop-left.mark.tree c.args.tree (forest c.loop-left.pool) base c.loop-left.invariant.tree (in_base c.loop-left.invariant.holds.gives c.requires.expression).1 in
+    still_marked c.loop-left.mark base (forest c.loop-left.pool) (sym same) c.loop-left.invariant.mark
+
+pub mark_before-mark-requires-clause-within : goal.mark_before-mark-requires-clause-within
+mark_before-mark-requires-clause-within c =
+    let base = without_root c.args.stack.now (forest c.args.pool.now) in
+    let same = ap (λ (k : ℕ). nodes_in (tree_at k (forest c.loop-left.pool))) c.loop-left.invariant.tree in
+    omega (arith, less _ _ c.loop-left-test.true c.loop-left.invariant.within, nodes-flatten (tree_at c.args.tree base), ap nodes_in (in_base c.loop-left.invariant.holds.gives c.requires.expression).1, same)
+
 pub node_at-id-requires-clause-live : goal.node_at-id-requires-clause-live
-node_at-id-requires-clause-live c = (in_base c.loop-left.invariant.holds.gives c.requires.expression).0.live
+node_at-id-requires-clause-live c = ap (λ (k : ℕ). holds k (forest c.loop-left.pool)) (c.mark_before-mark.ensures.tree ∙ c.loop-left.invariant.tree) ∙ (in_base c.loop-left.invariant.holds.gives c.requires.expression).0.live
 
 pub node_at-id-requires-clause-within : goal.node_at-id-requires-clause-within
 node_at-id-requires-clause-within c =
     let base = without_root c.args.stack.now (forest c.args.pool.now) in
-    omega (arith, less _ _ c.loop-left-test.true c.loop-left.invariant.within, nodes-flatten (tree_at c.args.tree base), ap nodes_in (in_base c.loop-left.invariant.holds.gives c.requires.expression).1)
+    let same = ap (λ (k : ℕ). nodes_in (tree_at k (forest c.loop-left.pool))) (c.mark_before-mark.ensures.tree ∙ c.loop-left.invariant.tree) in
+    omega (arith, less _ _ c.loop-left-test.true c.loop-left.invariant.within, nodes-flatten (tree_at c.args.tree base), ap nodes_in (in_base c.loop-left.invariant.holds.gives c.requires.expression).1, same)
 
 pub show_node-requires-clause-stack : goal.show_node-requires-clause-stack
 show_node-requires-clause-stack c = is_stack c.loop-left.invariant.holds.gives
@@ -61,7 +80,7 @@ show_node-requires-clause-expression c =
     let ns = flatten (tree_at c.args.tree base) in
     let tops = stacked_is i.holds.gives ∙ ap (λ (k : ℕ). unsigned_faces (plains (forest_of (drop k ns)))) (before c.loop-left.left c.loop-left-test.true) in
     let s = show_next c.args.tree base n _ (base_distinct c.args.pool.now c.requires.stands c.requires.stack.last) c.requires.expression c.requires.showable (less _ _ c.loop-left-test.true i.within) tops in
-    let id : c.node_at-id.result ≡ (first_of (drop n ns)).id = c.node_at-id.ensures ∙ ap (λ (f : Forest). (first_of (drop n (flatten f))).id) (in_base i.holds.gives c.requires.expression).1 in
+    let id : c.node_at-id.result ≡ (first_of (drop n ns)).id = c.node_at-id.ensures ∙ ap (λ (k : ℕ). (first_of (drop n (flatten (tree_at k (forest c.loop-left.pool))))).id) (c.mark_before-mark.ensures.tree ∙ i.tree) ∙ ap (λ (f : Forest). (first_of (drop n (flatten f))).id) (in_base i.holds.gives c.requires.expression).1 in
     let expression = subst (λ (k : ℕ). IsExpression k base) (sym id) (s.1).expression in
     let is : plain (tree_at c.node_at-id.result (without_root c.args.stack.now (forest c.loop-left.pool))) ≡ s.0 = ap (λ (f : Forest). plain (tree_at c.node_at-id.result f)) (given_rest i.holds.gives) ∙ ap (λ (k : ℕ). plain (tree_at k base)) id ∙ (s.1).is in
     same_base i.holds expression
@@ -74,7 +93,7 @@ show_node-requires-clause-showable c =
     let ns = flatten (tree_at c.args.tree base) in
     let tops = stacked_is i.holds.gives ∙ ap (λ (k : ℕ). unsigned_faces (plains (forest_of (drop k ns)))) (before c.loop-left.left c.loop-left-test.true) in
     let s = show_next c.args.tree base n _ (base_distinct c.args.pool.now c.requires.stands c.requires.stack.last) c.requires.expression c.requires.showable (less _ _ c.loop-left-test.true i.within) tops in
-    let id : c.node_at-id.result ≡ (first_of (drop n ns)).id = c.node_at-id.ensures ∙ ap (λ (f : Forest). (first_of (drop n (flatten f))).id) (in_base i.holds.gives c.requires.expression).1 in
+    let id : c.node_at-id.result ≡ (first_of (drop n ns)).id = c.node_at-id.ensures ∙ ap (λ (k : ℕ). (first_of (drop n (flatten (tree_at k (forest c.loop-left.pool))))).id) (c.mark_before-mark.ensures.tree ∙ i.tree) ∙ ap (λ (f : Forest). (first_of (drop n (flatten f))).id) (in_base i.holds.gives c.requires.expression).1 in
     let expression = subst (λ (k : ℕ). IsExpression k base) (sym id) (s.1).expression in
     let is : plain (tree_at c.node_at-id.result (without_root c.args.stack.now (forest c.loop-left.pool))) ≡ s.0 = ap (λ (f : Forest). plain (tree_at c.node_at-id.result f)) (given_rest i.holds.gives) ∙ ap (λ (k : ℕ). plain (tree_at k base)) id ∙ (s.1).is in
     subst IsShowable (sym is) (own_part (s.0) (s.1).parts)
@@ -87,7 +106,7 @@ show_node-requires-clause-shown c =
     let ns = flatten (tree_at c.args.tree base) in
     let tops = stacked_is i.holds.gives ∙ ap (λ (k : ℕ). unsigned_faces (plains (forest_of (drop k ns)))) (before c.loop-left.left c.loop-left-test.true) in
     let s = show_next c.args.tree base n _ (base_distinct c.args.pool.now c.requires.stands c.requires.stack.last) c.requires.expression c.requires.showable (less _ _ c.loop-left-test.true i.within) tops in
-    let id : c.node_at-id.result ≡ (first_of (drop n ns)).id = c.node_at-id.ensures ∙ ap (λ (f : Forest). (first_of (drop n (flatten f))).id) (in_base i.holds.gives c.requires.expression).1 in
+    let id : c.node_at-id.result ≡ (first_of (drop n ns)).id = c.node_at-id.ensures ∙ ap (λ (k : ℕ). (first_of (drop n (flatten (tree_at k (forest c.loop-left.pool))))).id) (c.mark_before-mark.ensures.tree ∙ i.tree) ∙ ap (λ (f : Forest). (first_of (drop n (flatten f))).id) (in_base i.holds.gives c.requires.expression).1 in
     let expression = subst (λ (k : ℕ). IsExpression k base) (sym id) (s.1).expression in
     let is : plain (tree_at c.node_at-id.result (without_root c.args.stack.now (forest c.loop-left.pool))) ≡ s.0 = ap (λ (f : Forest). plain (tree_at c.node_at-id.result f)) (given_rest i.holds.gives) ∙ ap (λ (k : ℕ). plain (tree_at k base)) id ∙ (s.1).is in
     subst (λ (t : Tree). HoldsFaces (children_of t) (stacked c.args.stack.now (forest c.loop-left.pool))) (sym is) (s.1).faces
@@ -103,7 +122,7 @@ returns-in_err-show_node-clause-room c =
     let ns = flatten (tree_at c.args.tree base) in
     let tops = stacked_is i.holds.gives ∙ ap (λ (k : ℕ). unsigned_faces (plains (forest_of (drop k ns)))) (before c.loop-left.left c.loop-left-test.true) in
     let s = show_next c.args.tree base n _ (base_distinct c.args.pool.now c.requires.stands c.requires.stack.last) c.requires.expression c.requires.showable (less _ _ c.loop-left-test.true i.within) tops in
-    let id : c.node_at-id.result ≡ (first_of (drop n ns)).id = c.node_at-id.ensures ∙ ap (λ (f : Forest). (first_of (drop n (flatten f))).id) (in_base i.holds.gives c.requires.expression).1 in
+    let id : c.node_at-id.result ≡ (first_of (drop n ns)).id = c.node_at-id.ensures ∙ ap (λ (k : ℕ). (first_of (drop n (flatten (tree_at k (forest c.loop-left.pool))))).id) (c.mark_before-mark.ensures.tree ∙ i.tree) ∙ ap (λ (f : Forest). (first_of (drop n (flatten f))).id) (in_base i.holds.gives c.requires.expression).1 in
     let expression = subst (λ (k : ℕ). IsExpression k base) (sym id) (s.1).expression in
     let is : plain (tree_at c.node_at-id.result (without_root c.args.stack.now (forest c.loop-left.pool))) ≡ s.0 = ap (λ (f : Forest). plain (tree_at c.node_at-id.result f)) (given_rest i.holds.gives) ∙ ap (λ (k : ℕ). plain (tree_at k base)) id ∙ (s.1).is in
     passed_on c.from_residual.result c.in_err-show_node.field-0.0 _ c.from_residual.ensures.0 c.from_residual.ensures.1
@@ -117,12 +136,14 @@ loop-left-preserved c =
     let ns = flatten (tree_at c.args.tree base) in
     let tops = stacked_is i.holds.gives ∙ ap (λ (k : ℕ). unsigned_faces (plains (forest_of (drop k ns)))) (before c.loop-left.left c.loop-left-test.true) in
     let s = show_next c.args.tree base n _ (base_distinct c.args.pool.now c.requires.stands c.requires.stack.last) c.requires.expression c.requires.showable (less _ _ c.loop-left-test.true i.within) tops in
-    let id : c.node_at-id.result ≡ (first_of (drop n ns)).id = c.node_at-id.ensures ∙ ap (λ (f : Forest). (first_of (drop n (flatten f))).id) (in_base i.holds.gives c.requires.expression).1 in
+    let id : c.node_at-id.result ≡ (first_of (drop n ns)).id = c.node_at-id.ensures ∙ ap (λ (k : ℕ). (first_of (drop n (flatten (tree_at k (forest c.loop-left.pool))))).id) (c.mark_before-mark.ensures.tree ∙ i.tree) ∙ ap (λ (f : Forest). (first_of (drop n (flatten f))).id) (in_base i.holds.gives c.requires.expression).1 in
     let expression = subst (λ (k : ℕ). IsExpression k base) (sym id) (s.1).expression in
     let is : plain (tree_at c.node_at-id.result (without_root c.args.stack.now (forest c.loop-left.pool))) ≡ s.0 = ap (λ (f : Forest). plain (tree_at c.node_at-id.result f)) (given_rest i.holds.gives) ∙ ap (λ (k : ℕ). plain (tree_at k base)) id ∙ (s.1).is in
     record {
       holds = restacks_as (then i.holds c.in_ok-show_node.ensures.ok) (ap (λ (t : Tree). more (unsigned_face t) (behind (count (children_of t)) (stacked c.args.stack.now (forest c.loop-left.pool)))) is ∙ (s.1).made);
       within = omega (arith, i.within);
+      tree = c.mark_before-mark.ensures.tree ∙ i.tree;
+      mark = still_marked c.mark_before-mark.result (forest c.loop-left.pool) base (same_tree c.mark_before-mark.result.tree c.args.tree (forest c.loop-left.pool) base (c.mark_before-mark.ensures.tree ∙ i.tree) (in_base i.holds.gives c.requires.expression).1) c.mark_before-mark.ensures.mark;
       stands = c.show_node.ensures.stands;
     }
 

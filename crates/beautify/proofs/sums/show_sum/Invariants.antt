@@ -7,6 +7,7 @@ use Rattle.tree_handles.specs.Inside.{tree_at}
 use Rattle.tree_handles.specs.Roots.{without_root}
 use Rattle.tree_handles.specs.Standing.{Stands, forest}
 use Rattle.beautify.specs.Lists.{behind}
+use Rattle.beautify.specs.Marks.{IsChildMark}
 use Rattle.beautify.specs.Showing.{is_summed}
 use Rattle.beautify.specs.Stacks.{stacked, Restacks}
 use Rattle.beautify.proofs.Terms.{so_far}
@@ -22,6 +23,8 @@ invariant-loop-place l =
       cost : free_of l.fn.pool ≤ free_of l.pool + 8 * l.place;
       from_one : 1 ≤ l.place;
       within : l.place ≤ l.terms;
+      tree : l.term.tree ≡ l.fn.id;
+      child : IsChildMark (l.place - 1) l.term base;
       stands : Stands l.pool;
     }
 

@@ -1,4 +1,4 @@
-use Rattle.std.proofs.Common.{◌≡◌, Ok, sym, ap, ◌∙◌}
+use Rattle.std.proofs.Common.{Ok, ap, ◌∙◌}
 use Rattle.calc_terms.specs.Fits.{add_op}
 use Rattle.calc_terms.specs.Trees.{num}
 use Rattle.number_forms.proofs.RationalCalls.{plain_answer, rational_of, rational_sum, at_rationals}

@@ -1,14 +1,10 @@
-use Rattle.std.proofs.Common.{◌≡◌, ℕ, ◌++◌, inl, sym, ap, ◌∙◌, subst}
+use Rattle.std.proofs.Common.{◌≡◌, ℕ, inl, sym, ap, ◌∙◌, subst}
 use Rattle.calc_terms.specs.Numbers.{is_number, value}
-use Rattle.calc_terms.specs.SquareClasses.{Same}
-use Rattle.calc_terms.specs.Surds.{Surd}
-use Rattle.calc_terms.specs.Trees.{Tree}
 use Rattle.calc_terms.proofs.SquareClassLaws.{Same-trans}
 use Rattle.calc_terms.proofs.TermLaws.{Same-append, Same-eq}
 use Rattle.number_forms.proofs.Loops.{other_plain, gives_without, gives_rest, number_as}
 use Rattle.reduce_port.specs.Rewritings.{tree_of}
 use Rattle.tree_handles.specs.Expressions.{plain}
-use Rattle.tree_handles.specs.Forest.{Forest}
 use Rattle.tree_handles.specs.Handed.{IsHanded}
 use Rattle.tree_handles.specs.Roots.{without_root}
 use Rattle.tree_handles.specs.Standing.{forest}

@@ -1,7 +1,6 @@
 use Rattle.std.proofs.Common.{◌≡◌, ℕ, ◌≤◌, ◌∷◌, Some, length, sym, ap, ◌∙◌, arith, add-one}
 use Rattle.std.specs.Prelude.{slice_get}
 use Rattle.calc_terms.specs.Numbers.{is_number, value, classes}
-use Rattle.calc_terms.specs.Surds.{Surd}
 use Rattle.calc_terms.specs.Trees.{Tree}
 use Rattle.calc_terms.proofs.TermLaws.{Same-refl}
 use Rattle.number_forms.proofs.Loops.{joined_none, joined_more, joined_all, from_all, other_plain, other_read, other_expression, gives_rest}

@@ -1,4 +1,4 @@
-use Rattle.std.proofs.Common.{◌≡◌, ◌<◌, ◌≤◌, ℕ, inl, sym, ap, ◌∙◌, refl, arith, subst}
+use Rattle.std.proofs.Common.{◌≡◌, ◌≤◌, inl, sym, ap, ◌∙◌, refl, arith, subst}
 use Rattle.std.specs.Prelude.{pos}
 use Rattle.calc_terms.specs.Numbers.{value}
 use Rattle.number_forms.specs.Answers.{IsNumberOf}

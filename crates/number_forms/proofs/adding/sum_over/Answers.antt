@@ -1,4 +1,4 @@
-use Rattle.std.proofs.Common.{◌≡◌, sym, ap, ◌∙◌, refl}
+use Rattle.std.proofs.Common.{sym, ap, ◌∙◌}
 use Rattle.calc_terms.specs.Trees.{root_kind}
 use Rattle.number_forms.proofs.ByKind.{sum_of_number}
 use Rattle.number_forms.proofs.ReducedNumbers.{no_add}

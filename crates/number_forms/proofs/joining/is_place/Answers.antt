@@ -1,4 +1,4 @@
-use Rattle.std.proofs.Common.{◌≡◌, ◌-◌, ◌≤◌, arith}
+use Rattle.std.proofs.Common.{◌≡◌, ◌≤◌, arith}
 use Rattle.calc_terms.specs.Trees.{count}
 use Rattle.number_forms.proofs.SquareFreeSums.{place_between}
 use Rattle.tree_handles.specs.Expressions.{plain, children_of}

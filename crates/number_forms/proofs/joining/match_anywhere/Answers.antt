@@ -1,23 +1,71 @@
-use Rattle.std.proofs.Common.{◌≡◌, ℕ, ◌<◌, subst, arith}
+use Rattle.std.proofs.Common.{◌≡◌, ℕ, false, refl, sym, ◌∙◌, subst, arith, below_more}
+use Rattle.std.proofs.lemmas.List.{length_push}
+use Rattle.calc_terms.specs.Numbers.{term_of as term_of_tree}
+use Rattle.calc_terms.specs.SquareClasses.{are_alike}
 use Rattle.calc_terms.specs.Trees.{count}
+use Rattle.number_forms.proofs.Children.{IsNextChild, left_more, next_child, none_left, few_children}
+use Rattle.number_forms.proofs.ByKind.{children_number}
+use Rattle.number_forms.proofs.Joined.{apart_each}
+use Rattle.number_forms.proofs.SquareFreeSums.{read_apart, read_joined}
+use Rattle.number_forms.proofs.SumChanges.{term_of_sum}
 use Rattle.number_forms.specs.Sums.{IsPlace}
-use Rattle.tree_handles.specs.Expressions.{plain, children_of}
+use Rattle.surd_terms.specs.Terms.{term_of}
+use Rattle.surd_terms.specs.declared.sums.Joined.TheVariants as joined
+use Rattle.tree_handles.specs.Expressions.{plain, children_of, nth}
 use Rattle.tree_handles.specs.Inside.{tree_at}
 use Rattle.tree_handles.specs.Standing.{forest}
-use Rattle.number_forms.proofs.Joined.{apart_each}
-use Rattle.number_forms.proofs.SumChanges.{term_of_sum}
 use Rattle.number_forms.proofs.joining.match_anywhere.Goals as goal
+use Rattle.number_forms.proofs.joining.match_anywhere.Goals.{In-Some}
+
+next : (c : In-Some) → IsNextChild c.loop-child.at c.args.sum c.in-Some.child c.args.pool.now
+next c = next_child 0 c.loop-child.at c.args.sum c.loop-child.yielded _ c.in-Some.child _ c.args.pool.now c.requires.stands c.requires.expression (omega arith) (omega (arith, c.loop-child.invariant.place)) c.loop-child.invariant.left c.in-Some.ensures.steps
+
+pub loop-child-init : goal.loop-child-init
+loop-child-init c = record {
+  left = record { ids = sym c.child_ids-child-items.ensures ∙ sym c.into_iter-child-iterator.ensures.into_iter_gives };
+  place = refl;
+  apart = λ k l. absurd (omega (arith, l));
+}
+
+pub term_at-other-requires-clause-expression : goal.term_at-other-requires-clause-expression
+term_at-other-requires-clause-expression c = (next (goal.at.term_at-other-requires-clause-expression c).In-Some).expression
 
 pub term_at-other-requires-clause-term : goal.term_at-other-requires-clause-term
 term_at-other-requires-clause-term c =
-    let t = plain (tree_at c.args.sum (forest c.args.pool.now)) in
-    let many : c.children-at-end.result ≡ count (children_of t) = c.children-at-end.ensures.plain c.requires.expression in
-    let within : c.loop-at.at < count (children_of t) = omega (arith, many, c.loop-at-test.true) in
-    term_of_sum t _ c.loop-at.at c.requires.sum within (c.child_id.ensures.plain c.requires.expression)
+    let n = next (goal.at.term_at-other-requires-clause-term c).In-Some in
+    term_of_sum (plain (tree_at c.args.sum (forest c.args.pool.now))) _ c.loop-child.at c.requires.sum n.within n.is
+
+pub overflow_add-at : goal.overflow_add-at
+overflow_add-at c =
+    let n = next (goal.at.overflow_add-at c).In-Some in
+    record { fits = omega (arith, n.within, children_number c.args.sum (forest c.args.pool.now) c.requires.expression, few_children c.args.sum c.args.pool.now c.requires.stands) }
+
+pub loop-child-preserved : goal.loop-child-preserved
+loop-child-preserved c =
+    let i = c.loop-child.invariant in
+    let n = next (goal.at.loop-child-preserved c).In-Some in
+    let ts = children_of (plain (tree_at c.args.sum (forest c.args.pool.now))) in
+    record {
+      left = left_more c.loop-child.yielded _ c.in-Some.child _ i.left c.in-Some.ensures.steps;
+      place = omega (arith, i.place, length_push c.loop-child.yielded c.in-Some.child);
+      apart = below_more (λ (k : ℕ). are_alike (term_of c.args.term).radicand (term_of_tree (nth k ts)).radicand ≡ false) c.loop-child.at i.apart
+          (read_apart c.in_ok-join.field-0 (term_of c.term_at-other.result) (term_of c.args.term) _ _ c.in-Apart.is c.in_ok-join.ensures.joins c.term_at-other.ensures n.is);
+    }
+
+pub returns-in-Zero-clause-ok : goal.returns-in-Zero-clause-ok
+returns-in-Zero-clause-ok c =
+    let n = next (goal.at.returns-in-Zero-clause-ok c).In-Some in
+    (n.within, read_joined c.in_ok-join.field-0 joined.Zero (term_of c.term_at-other.result) (term_of c.args.term) _ _ c.in-Zero.is c.in_ok-join.ensures.joins c.term_at-other.ensures n.is)
+
+pub returns-in-Term-clause-ok : goal.returns-in-Term-clause-ok
+returns-in-Term-clause-ok c =
+    let n = next (goal.at.returns-in-Term-clause-ok c).In-Some in
+    (n.within, read_joined c.in_ok-join.field-0 (joined.Term c.in-Term.joined) (term_of c.term_at-other.result) (term_of c.args.term) _ _ c.in-Term.is c.in_ok-join.ensures.joins c.term_at-other.ensures n.is)
 
 pub returns-clause-ok : goal.returns-clause-ok
 returns-clause-ok c =
-    let t = plain (tree_at c.args.sum (forest c.args.pool.now)) in
-    let many : c.children-at-end.result ≡ count (children_of t) = c.children-at-end.ensures.plain c.requires.expression in
-    let place = subst (λ (r : ℕ). IsPlace c.place_of-at.result r (children_of t)) c.radicand.ensures.value c.place_of-at.ensures in
-    (apart_each _ (children_of t) (λ k l. c.loop-at.invariant k (omega (arith, many, l, c.loop-at-test.false))), place)
+    let i = c.loop-child.invariant in
+    let ts = children_of (plain (tree_at c.args.sum (forest c.args.pool.now))) in
+    let all : c.loop-child.at ≡ count ts = none_left 0 c.loop-child.at c.args.sum c.loop-child.yielded _ c.args.pool.now c.requires.expression (omega arith) (omega (arith, i.place)) i.left c.in-None.ensures.steps.0 in
+    let place = subst (λ (r : ℕ). IsPlace c.place_of-place.result r ts) c.radicand.ensures.value c.place_of-place.ensures in
+    (apart_each _ ts (λ k l. i.apart k (omega (arith, all, l))), place)

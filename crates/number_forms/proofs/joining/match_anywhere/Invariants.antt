@@ -1,11 +1,16 @@
-use Rattle.std.proofs.Common.{◌≡◌, ℕ, ◌<◌, false}
+use Rattle.std.proofs.Common.{◌≡◌, ℕ, ◌<◌, length, false}
 use Rattle.calc_terms.specs.Numbers.{term_of as term_of_tree}
 use Rattle.calc_terms.specs.SquareClasses.{are_alike}
+use Rattle.number_forms.proofs.Children.{AreLeft}
 use Rattle.surd_terms.specs.Terms.{term_of}
 use Rattle.tree_handles.specs.Expressions.{nth, plain, children_of}
 use Rattle.tree_handles.specs.Inside.{tree_at}
 use Rattle.tree_handles.specs.Standing.{forest}
 use Rattle.number_forms.proofs.joining.match_anywhere.Given as goal
 
-abbrev pub invariant-loop-at : goal.invariant-loop-at
-invariant-loop-at l = (k : ℕ) → k < l.at → are_alike (term_of l.term).radicand (term_of_tree (nth k (children_of (plain (tree_at l.sum (forest l.pool)))))).radicand ≡ false
+abbrev pub invariant-loop-child : goal.invariant-loop-child
+invariant-loop-child l = record {
+  left : AreLeft 0 l.sum l.yielded l.child-iterator (forest l.pool);
+  place : l.at ≡ length l.yielded;
+  apart : (k : ℕ) → k < l.at → are_alike (term_of l.term).radicand (term_of_tree (nth k (children_of (plain (tree_at l.sum (forest l.pool)))))).radicand ≡ false;
+}

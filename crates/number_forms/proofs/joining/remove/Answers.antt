@@ -1,4 +1,4 @@
-use Rattle.std.proofs.Common.{◌≡◌, inl, sym, ap, ◌∙◌, subst, arith}
+use Rattle.std.proofs.Common.{inl, sym, ◌∙◌, subst, arith}
 use Rattle.number_forms.proofs.LastSums.{kids_represented, once_nth}
 use Rattle.number_forms.proofs.SumChanges.{many_kids, removed_sum}
 use Rattle.tree_handles.specs.Forest.{kids}

@@ -1,8 +1,7 @@
-use Rattle.std.proofs.Common.{inl, ap, ◌∙◌}
-use Rattle.tree_handles.specs.Roots.{without_root}
+use Rattle.std.proofs.Common.{inl}
 use Rattle.number_forms.proofs.Loops.{gives_without}
 use Rattle.tree_handles.proofs.Fronts.{behind_first, behind_later, front_same, front_at, front_without, front_after}
-use Rattle.tree_handles.proofs.Given.{given_other, gives_as, handed_beside, handed_at, owned}
+use Rattle.tree_handles.proofs.Given.{given_other, handed_beside, handed_at, owned}
 use Rattle.number_forms.proofs.multiplying.multiply_terms.Goals as goal
 
 pub release-requires-clause-releasable : goal.release-requires-clause-releasable

@@ -1,7 +1,6 @@
 use Rattle.std.proofs.Common.{◌≡◌, ℕ, ◌++◌, refl, sym, ap, ◌∙◌, subst}
 use Rattle.calc_terms.specs.Numbers.{is_number, value}
 use Rattle.calc_terms.specs.Surds.{surd_times}
-use Rattle.calc_terms.specs.Trees.{Tree}
 use Rattle.calc_terms.proofs.SquareClassLaws.{Same-trans}
 use Rattle.calc_terms.proofs.TermLaws.{Same-eq}
 use Rattle.number_forms.specs.Sums.{IsSum}

@@ -1,10 +1,14 @@
-use Rattle.std.proofs.Common.{◌≡◌}
+use Rattle.std.proofs.Common.{◌≡◌, length}
 use Rattle.calc_terms.specs.Numbers.{are_terms}
+use Rattle.number_forms.proofs.Children.{AreLeft}
 use Rattle.number_forms.specs.Sums.{trees_from}
 use Rattle.tree_handles.specs.Expressions.{plain, children_of}
 use Rattle.tree_handles.specs.Inside.{tree_at}
 use Rattle.tree_handles.specs.Standing.{forest}
 use Rattle.number_forms.proofs.recognize.are_terms.Given as goal
 
-abbrev pub invariant-loop-at : goal.invariant-loop-at
-invariant-loop-at l = are_terms (trees_from l.at (children_of (plain (tree_at l.id (forest l.pool))))) ≡ are_terms (children_of (plain (tree_at l.id (forest l.pool))))
+abbrev pub invariant-loop-child : goal.invariant-loop-child
+invariant-loop-child l = record {
+  left : AreLeft 0 l.fn.id l.yielded l.child-iterator (forest l.pool);
+  terms : are_terms (trees_from (length l.yielded) (children_of (plain (tree_at l.fn.id (forest l.pool))))) ≡ are_terms (children_of (plain (tree_at l.fn.id (forest l.pool))));
+}

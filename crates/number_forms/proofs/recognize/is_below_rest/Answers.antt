@@ -1,35 +1,66 @@
-use Rattle.std.proofs.Common.{◌≡◌, ◌<◌, ◌&&◌, not, nat_lt, true, false, sym, ◌∙◌, arith}
-use Rattle.calc_terms.specs.Numbers.{term_of as term_of_tree}
+use Rattle.std.proofs.Common.{◌≡◌, ℕ, ◌+◌, ◌++◌, ◌∷◌, [], ◌&&◌, length, not, nat_lt, refl, sym, ap, ◌∙◌, arith}
+use Rattle.std.proofs.lemmas.List.{length_push}
+use Rattle.calc_terms.specs.Numbers.{is_below_all, is_term, terms_of, term_of as term_of_tree}
 use Rattle.calc_terms.specs.SquareClasses.{are_alike}
-use Rattle.calc_terms.specs.Trees.{count}
-use Rattle.number_forms.proofs.Rising.{below_next, not_below, below_end}
-use Rattle.tree_handles.specs.Expressions.{nth, plain, children_of}
+use Rattle.calc_terms.specs.Surds.{Term}
+use Rattle.number_forms.proofs.ByKind.{children_number}
+use Rattle.number_forms.proofs.Children.{IsNextChild, left_more, next_child, none_left}
+use Rattle.number_forms.proofs.Rising.{below_next, not_below, below_end, nth_term}
+use Rattle.number_forms.specs.Sums.{trees_from}
+use Rattle.surd_terms.specs.Terms.{term_of}
+use Rattle.tree_handles.specs.Expressions.{plain, children_of}
 use Rattle.tree_handles.specs.Inside.{tree_at}
 use Rattle.tree_handles.specs.Standing.{forest}
 use Rattle.number_forms.proofs.recognize.is_below_rest.Goals as goal
+use Rattle.number_forms.proofs.recognize.is_below_rest.Goals.{In-Some}
+
+next : (c : In-Some) → IsNextChild (c.args.from + length c.loop-child.yielded) c.args.id c.in-Some.child c.args.pool.now
+next c = next_child c.args.from _ c.args.id c.loop-child.yielded _ c.in-Some.child _ c.args.pool.now c.requires.stands c.requires.expression c.requires.within refl c.loop-child.invariant.left c.in-Some.ensures.steps
+
+pub child_ids-child-items-requires-clause-within : goal.child_ids-child-items-requires-clause-within
+child_ids-child-items-requires-clause-within c = omega (arith, c.requires.within, children_number c.args.id (forest c.args.pool.now) c.requires.expression)
+
+pub loop-child-init : goal.loop-child-init
+loop-child-init c =
+    let ts = children_of (plain (tree_at c.args.id (forest c.args.pool.now))) in
+    let start : c.args.from + length {A = ℕ} [] ≡ c.args.from = omega arith in
+    record {
+      left = record { ids = sym c.child_ids-child-items.ensures ∙ sym c.into_iter-child-iterator.ensures.into_iter_gives };
+      below = ap (λ (k : ℕ). is_below_all (term_of c.args.term) (terms_of (trees_from k ts))) start;
+    }
+
+pub term_at-requires-clause-expression : goal.term_at-requires-clause-expression
+term_at-requires-clause-expression c = (next (goal.at.term_at-requires-clause-expression c).In-Some).expression
+
+pub term_at-requires-clause-term : goal.term_at-requires-clause-term
+term_at-requires-clause-term c =
+    let n = next (goal.at.term_at-requires-clause-term c).In-Some in
+    ap is_term n.is ∙ nth_term (children_of (plain (tree_at c.args.id (forest c.args.pool.now)))) _ c.requires.terms n.within
 
 pub returns-then-not-is_below : goal.returns-then-not-is_below
 returns-then-not-is_below c =
     let ts = children_of (plain (tree_at c.args.id (forest c.args.pool.now))) in
-    let many : c.children-many.result ≡ count ts = c.children-many.ensures.plain c.requires.expression in
-    let within : c.loop-next.next < count ts = omega (arith, many, c.loop-next-test.true) in
-    let t = c.child_term-term.ensures in
-    let u = c.child_term.ensures in
-    let same = sym (λ i. nat_lt (t i).radicand (u i).radicand && not (are_alike (t i).radicand (u i).radicand)) in
-    sym (not_below (term_of_tree (nth c.args.at ts)) ts c.loop-next.next within (same ∙ sym c.is_below.ensures ∙ c.if-not-is_below.true)) ∙ c.loop-next.invariant
+    let n = next (goal.at.returns-then-not-is_below c).In-Some in
+    let t = term_of c.args.term in
+    let other = c.term_at.ensures ∙ ap term_of_tree n.is in
+    let same = sym (ap (λ (u : Term). nat_lt t.radicand u.radicand && not (are_alike t.radicand u.radicand)) other) ∙ sym c.is_below.ensures in
+    sym (not_below t ts _ n.within (same ∙ c.if-not-is_below.true)) ∙ c.loop-child.invariant.below
 
-pub loop-next-preserved : goal.loop-next-preserved
-loop-next-preserved c =
+pub loop-child-preserved : goal.loop-child-preserved
+loop-child-preserved c =
     let ts = children_of (plain (tree_at c.args.id (forest c.args.pool.now))) in
-    let many : c.children-many.result ≡ count ts = c.children-many.ensures.plain c.requires.expression in
-    let within : c.loop-next.next < count ts = omega (arith, many, c.loop-next-test.true) in
-    let t = c.child_term-term.ensures in
-    let u = c.child_term.ensures in
-    let same = sym (λ i. nat_lt (t i).radicand (u i).radicand && not (are_alike (t i).radicand (u i).radicand)) in
-    sym (below_next (term_of_tree (nth c.args.at ts)) ts c.loop-next.next within (same ∙ sym c.is_below.ensures ∙ c.if-not-is_below.false)) ∙ c.loop-next.invariant
+    let n = next (goal.at.loop-child-preserved c).In-Some in
+    let t = term_of c.args.term in
+    let other = c.term_at.ensures ∙ ap term_of_tree n.is in
+    let same = sym (ap (λ (u : Term). nat_lt t.radicand u.radicand && not (are_alike t.radicand u.radicand)) other) ∙ sym c.is_below.ensures in
+    let more : c.args.from + length (c.loop-child.yielded ++ (c.in-Some.child ∷ [])) ≡ c.args.from + length c.loop-child.yielded + 1 = omega (arith, length_push c.loop-child.yielded c.in-Some.child) in
+    record {
+      left = left_more c.loop-child.yielded _ c.in-Some.child _ c.loop-child.invariant.left c.in-Some.ensures.steps;
+      below = ap (λ (k : ℕ). is_below_all t (terms_of (trees_from k ts))) more ∙ sym (below_next t ts _ n.within (same ∙ c.if-not-is_below.false)) ∙ c.loop-child.invariant.below;
+    }
 
 pub returns : goal.returns
 returns c =
     let ts = children_of (plain (tree_at c.args.id (forest c.args.pool.now))) in
-    let many : c.children-many.result ≡ count ts = c.children-many.ensures.plain c.requires.expression in
-    sym (below_end (term_of_tree (nth c.args.at ts)) ts c.loop-next.next (omega (arith, many, c.loop-next-test.false))) ∙ c.loop-next.invariant
+    let all = none_left c.args.from _ c.args.id c.loop-child.yielded _ c.args.pool.now c.requires.expression c.requires.within refl c.loop-child.invariant.left c.in-None.ensures.steps.0 in
+    sym (below_end (term_of c.args.term) ts _ (omega (arith, all))) ∙ c.loop-child.invariant.below

@@ -1,4 +1,4 @@
-use Rattle.std.proofs.Common.{◌∙◌, refl}
+use Rattle.std.proofs.Common.{refl}
 use Rattle.calc_terms.specs.declared.kind.Kind.TheVariants as kind
 use Rattle.std.specs.Prelude.{⊤}
 use Rattle.calc_terms.specs.Payload.{bare}
