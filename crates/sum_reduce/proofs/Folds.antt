@@ -13,7 +13,8 @@ use Rattle.reduce_port.specs.PlainTrees.{IsPlainAnswer, IsPlainOverflow}
 use Rattle.tree_handles.specs.Expressions.{nth}
 use Rattle.tree_handles.proofs.Outcomes.{by_test}
 use Rattle.sum_reduce.specs.Arranging.{IsTotal}
-use Rattle.sum_reduce.specs.Terms.{removed, NoNumberBefore, IsFirstNumber, opened}
+use Rattle.number_forms.specs.Sums.{removed}
+use Rattle.sum_reduce.specs.Terms.{NoNumberBefore, IsFirstNumber, opened}
 
 -- ---- Numbers by their places
 

@@ -24,10 +24,13 @@ use Rattle.reduce_port.proofs.Rewritings.{keeps, kept}
 use Rattle.tree_handles.specs.Expressions.{nth, inserted}
 use Rattle.sum_reduce.specs.Joining.{IsJoining}
 use Rattle.sum_reduce.specs.Stages.{IsStage, widths}
-use Rattle.sum_reduce.specs.Terms.{AreFormed, removed, is_loose, is_partner, IsPair}
+use Rattle.number_forms.specs.Sums.{removed}
+use Rattle.sum_reduce.specs.Terms.{AreFormed, is_loose, is_partner, IsPair}
 use Rattle.number_forms.specs.Answers.{IsNumberOf}
-use Rattle.sum_reduce.proofs.Names.{Within, no_new_name, within_of, within_same, within_both, within_beside, within_trans, within_right, within_none, within_eq, names_permuted, number_names, names_of_part}
-use Rattle.sum_reduce.proofs.Nests.{nest_permuted, nest_number, nest_of_part}
+use Rattle.reduce_port.proofs.Names.{Within, no_new_name, within_of, within_same, within_both, within_beside, within_trans, within_right, within_none, within_eq, names_permuted, number_names}
+use Rattle.sum_reduce.proofs.Names.{names_of_part}
+use Rattle.reduce_port.proofs.Nests.{nest_permuted, nest_number}
+use Rattle.sum_reduce.proofs.Nests.{nest_of_part}
 use Rattle.sum_reduce.proofs.Places.{taken_permuted, inserted_permuted, count_inserted, count_removed, nth_inserted, nth_behind_inserted, removed_inserted, nth_removed, nth_behind_removed, removed_two}
 use Rattle.sum_reduce.proofs.Stages.{none_permuted, formed_permuted, stage_after, stage_permuted}
 use Rattle.sum_reduce.proofs.Widths.{widths_permuted, width_other, coefficient_width}
@@ -182,6 +185,17 @@ joining_done c p ts rest less at j l =
       stage = stage_after w.stage (stage_permuted perm w.stage.formed w.stage.some);
       fewer = omega (arith, w.fewer, widths_permuted perm);
     }
+
+-- the other terms are as before it
+pub joined_others : (at : ℕ) (t : Tree) (us vs : Trees) → at < count us → NoneIs is_loose (removed at us) → vs ≡ inserted at (more t none) (removed at us) → NoneIs is_loose (removed at vs)
+joined_others at t us vs l s e = subst (NoneIs is_loose) (sym (ap (removed at) e ∙ removed_inserted at t (removed at us) (omega (arith, count_removed at us l, l)))) s
+
+pub joined_within : (at : ℕ) (t : Tree) (us vs : Trees) → at < count us → vs ≡ inserted at (more t none) (removed at us) → at < count vs
+joined_within at t us vs l e = omega (arith, ap count e, count_inserted at t (removed at us), count_removed at us l, l)
+
+-- no term is a sum where neither this one nor another is
+pub none_anywhere : (p : Tree → Bool) (at : ℕ) (ts : Trees) → at < count ts → p (nth at ts) ≡ false → NoneIs p (removed at ts) → NoneIs p ts
+none_anywhere p at ts l h s = none_permuted p (Permuted-sym (taken_permuted at ts l)) (h, s)
 
 -- ---- by their places
 

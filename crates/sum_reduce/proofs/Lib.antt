@@ -10,6 +10,7 @@ pub mod WrittenSums
 pub mod Settled
 pub mod Folds
 pub mod Sorted
+pub mod Items
 pub mod Parts
 pub mod Results
 pub mod Numbered

@@ -22,7 +22,8 @@ use Rattle.sum_reduce.proofs.Sums.{takes_rest}
 use Rattle.sum_reduce.specs.Arranging.{IsGathered, IsNumbered, IsTotal, IsFolded, AnswersTotal, AnswersFold}
 use Rattle.sum_reduce.specs.Stages.{IsStage}
 use Rattle.sum_reduce.specs.Sums.{Takes}
-use Rattle.sum_reduce.specs.Terms.{AreFormed, removed, IsFirstNumber, NoNumberBefore, is_loose}
+use Rattle.number_forms.specs.Sums.{removed}
+use Rattle.sum_reduce.specs.Terms.{AreFormed, IsFirstNumber, NoNumberBefore, is_loose}
 use Rattle.sum_reduce.proofs.Folds.{AreFolded, first_of, fold_overflowed, fold_never_full, no_numbers}
 use Rattle.sum_reduce.proofs.Opened.{number_tight}
 use Rattle.sum_reduce.proofs.Places.{taken_permuted}

@@ -1,5 +1,5 @@
 -- What is known of a result, in other words.
-use Rattle.std.specs.Prelude.{Result, Ok, Err, IfOk, OnOk, IsErr, IsErrAnd}
+use Rattle.std.specs.Prelude.{Result, Ok, Err, Option, Some, None, IfOk, IfSome, MatchOption, OnOk, IsErr, IsErrAnd}
 use Rattle.std.proofs.Common.{◌≡◌, true, false, sym, subst}
 
 pub if_ok_map : {A E : Type 0} {P Q : A → Type 0} (r : Result A E) → IfOk r P → ((x : A) → P x → Q x) → IfOk r Q
@@ -9,6 +9,14 @@ if_ok_map (Err e) h f = tt
 pub on_ok_map : {A E P Q : Type 0} (r : Result A E) → OnOk r P → (P → Q) → OnOk r Q
 on_ok_map (Ok x) h f = f h
 on_ok_map (Err e) h f = tt
+
+pub if_some_given : {A P : Type 0} (r : Option A) → P → IfSome r (λ x. P)
+if_some_given (Some x) h = h
+if_some_given None h = tt
+
+pub match_option_given : {A : Type 0} (P R : Type 0) (Q S : A → Type 0) (r : Option A) → R → ((x : A) → Q x → S x) → MatchOption r P Q → MatchOption r R S
+match_option_given P R Q S (Some x) g f h = f x h
+match_option_given P R Q S None g f h = g
 
 -- what a `?` passes on
 pub passed_on : {A E : Type 0} (r : Result A E) (e : E) (P : Result A E → Type 0) → IsErr r → IsErrAnd r (λ x. x ≡ e) → P (Err e) → P r

@@ -10,7 +10,7 @@ use Rattle.calc_terms.specs.Loads.{nest, nest_of}
 use Rattle.calc_terms.specs.Numbers.{is_number}
 use Rattle.calc_terms.specs.Reduced.{part_of, NoneIs, RisesBy, HasForm, is_reduced}
 use Rattle.calc_terms.specs.TreeOrder.{tree_cmp}
-use Rattle.calc_terms.specs.Trees.{Tree, num, undef, add, Trees, none, more, append, count, names, names_of, is_add, is_undef, AllParts, itself, in_add, IsPartOf, first, later}
+use Rattle.calc_terms.specs.Trees.{Tree, num, undef, add, Trees, none, more, append, count, names, names_of, is_add, is_undef, AllParts, in_add}
 use Rattle.calc_terms.proofs.MeaningRewrites.{KeepsMeanings, KeepsMeanings-refl, single_sum}
 use Rattle.calc_terms.proofs.NumberLaws.{number_test}
 use Rattle.calc_terms.proofs.TreeOrderLaws.{tree_cmp_total}
@@ -22,9 +22,10 @@ use Rattle.reduce_port.proofs.Rewritings.{keeps, reduces_after}
 use Rattle.sum_reduce.specs.Arranging.{IsLead, IsSettled}
 use Rattle.sum_reduce.specs.Stages.{IsStage}
 use Rattle.sum_reduce.specs.SumAnswers.{IsSumAnswer}
-use Rattle.sum_reduce.specs.Terms.{AreFormed, is_loose, is_partner, NoPairBefore, terms_of_number, sum_tree, written_tree}
-use Rattle.sum_reduce.proofs.Names.{Within, no_new_name, within_left, within_same, within_none}
+use Rattle.sum_reduce.specs.Terms.{AreFormed, is_loose, is_partner, NoPairBetween, terms_of_number, sum_tree, written_tree}
+use Rattle.reduce_port.proofs.Names.{Within, no_new_name, within_left, within_same, within_none}
 use Rattle.sum_reduce.proofs.WrittenSums.{AreOthers, zero_terms, written_sum, written_formed, written_keeps, written_names, written_nest}
+use Rattle.reduce_port.proofs.Children.{undef_inside, numbers_defined}
 
 -- ---- reduced terms
 
@@ -40,24 +41,6 @@ reduced_formed (more t ts) h d =
     (reduced_parts t a x, reduced_formed ts b y)
 
 -- ---- Undef
-
-undef_inside : (ts : Trees) → has_undef ts ≡ true → IsPartOf undef ts
-undef_inside none h = cc
-undef_inside (more t ts) h = by (undef_inside ts) t h
-  where
-    by : (has_undef ts ≡ true → IsPartOf undef ts) → (u : Tree) → (is_undef u || has_undef ts) ≡ true → IsPartOf undef (more u ts)
-    by go undef h = first itself
-    by go u h = later (go h)
-
--- Undef is no Number
-numbers_defined : (ts : Trees) → are_numbers ts ≡ true → has_undef ts ≡ false
-unfolding is_number
-numbers_defined none h = refl
-numbers_defined (more t ts) h = let (a, b) = and_parts (is_number t) (are_numbers ts) h in by (numbers_defined ts b) t a
-  where
-    by : has_undef ts ≡ false → (u : Tree) → is_number u ≡ true → (is_undef u || has_undef ts) ≡ false
-    by go undef e = absurd cc
-    by go u e = go
 
 pub undef_answer : (ts : Trees) → has_undef ts ≡ true → IsSumAnswer ts undef
 unfolding is_reduced
@@ -77,10 +60,10 @@ abbrev pub AreApart : Trees → Type 0
 AreApart (more t (more u ts)) = (is_partner t u ≡ false) × AreApart (more u ts)
 AreApart _ = ⊤
 
-pub apart_words : (ts : Trees) → NoPairBefore (count ts) ts → AreApart ts
+pub apart_words : (ts : Trees) → NoPairBetween 0 (count ts) ts → AreApart ts
 apart_words none h = tt
 apart_words (more t none) h = tt
-apart_words (more t (more u ts)) h = (h 0 (omega arith), apart_words (more u ts) (λ k l. h (suc k) (omega arith)))
+apart_words (more t (more u ts)) h = (h 0 (omega arith) (omega arith), apart_words (more u ts) (λ k f l. h (suc k) (omega arith) (omega arith)))
 
 pub apart_behind : (t : Tree) (ts : Trees) → AreApart (more t ts) → AreApart ts
 apart_behind t none h = tt

@@ -13,8 +13,8 @@ use Rattle.reduce_port.specs.Children.{are_numbers}
 use Rattle.reduce_port.proofs.Rewritings.{keeps, Rewrites-trans}
 use Rattle.sum_reduce.specs.Stages.{IsStage}
 use Rattle.sum_reduce.specs.Terms.{AreFormed, opened}
-use Rattle.sum_reduce.proofs.Names.{no_new_name, within_both, within_trans, within_right, within_none, within_eq, names_permuted, number_names}
-use Rattle.sum_reduce.proofs.Nests.{nest_permuted, nest_number}
+use Rattle.reduce_port.proofs.Names.{no_new_name, within_both, within_trans, within_right, within_none, within_eq, names_permuted, number_names}
+use Rattle.reduce_port.proofs.Nests.{nest_permuted, nest_number}
 use Rattle.sum_reduce.proofs.Opened.{opened_keeps, names_opened, nest_opened, widths_opened, opened_formed, opened_some, opened_numbers}
 use Rattle.sum_reduce.proofs.Widths.{widths_permuted, width_number}
 

@@ -22,7 +22,7 @@ use Rattle.tree_handles.proofs.Outcomes.{eqb-sym}
 use Rattle.tree_handles.proofs.Plains.{plain-tree_nth, children_of-plain, whole_kids, alone}
 use Rattle.tree_handles.proofs.Roots.{root-put, put-put, put-same, tree-put, without-put}
 use Rattle.sum_reduce.specs.Sums.{terms_in, IsSum, Changes, Takes}
-use Rattle.sum_reduce.specs.Terms.{removed}
+use Rattle.number_forms.specs.Sums.{removed}
 
 -- ---- children by their places
 

@@ -1,9 +1,9 @@
 -- Trees that the tests build.
-use Rattle.std.proofs.Common.{ℕ, zero, suc, ◌≡◌, ◌≤◌, ◌+◌, List, inr, Bool, true, false, ◌&&◌, not, refl, sym, ap, ◌∙◌, subst, arith}
+use Rattle.std.proofs.Common.{ℕ, zero, suc, ◌≡◌, List, inr, Bool, true, false, ◌&&◌, not, refl, sym, ap}
 use Rattle.std.proofs.lemmas.Bool.{and_parts, and_from}
 use Rattle.calc_terms.specs.Numbers.{is_number}
 use Rattle.calc_terms.specs.Reduced.{is_reduced}
-use Rattle.calc_terms.specs.Trees.{Tree, symbol, add, Trees, none, more, count, is_add}
+use Rattle.calc_terms.specs.Trees.{Tree, symbol, add, Trees, none, more, is_add}
 use Rattle.calc_terms.proofs.NumberLaws.{number_words}
 use Rattle.coefficients.specs.Coefficients.{IsMonic}
 use Rattle.coefficients.proofs.Forms.{parts_reduced, number_parts}
@@ -16,7 +16,7 @@ use Rattle.tree_handles.proofs.Given.{gives, gives_as, given_handed, given_told,
 use Rattle.tree_handles.proofs.Lasts.{last_tree}
 use Rattle.tree_handles.proofs.Roots.{put-same}
 use Rattle.coefficients.proofs.Places.{over_end}
-use Rattle.sum_reduce.specs.Sums.{IsSum, Takes, terms_in}
+use Rattle.sum_reduce.specs.Sums.{IsSum, terms_in}
 use Rattle.sum_reduce.specs.Terms.{is_loose}
 use Rattle.sum_reduce.proofs.Sums.{IsRewritten, sum_over, over_is_sum, over_terms}
 

@@ -6,7 +6,8 @@ use Rattle.calc_terms.specs.Numbers.{is_number}
 use Rattle.calc_terms.specs.Trees.{Tree, num, add, Trees, none, more, append, count, is_add}
 use Rattle.number_forms.specs.Readers.{is_zero}
 use Rattle.tree_handles.specs.Expressions.{nth, children_of}
-use Rattle.sum_reduce.specs.Terms.{removed, terms_of_number, sum_tree, leads_number, written_tree}
+use Rattle.number_forms.specs.Sums.{removed}
+use Rattle.sum_reduce.specs.Terms.{terms_of_number, sum_tree, leads_number, written_tree}
 
 pub spread_zero : (t : Tree) (us : Trees) → is_zero t ≡ true → us ≡ append (terms_of_number t) us
 spread_zero (num q) us h = sym (ap (λ (b : Bool). append (if b then none else more (num q) none) us) h)

@@ -11,8 +11,8 @@ use Rattle.calc_terms.proofs.NumberLaws.{number_words}
 use Rattle.calc_terms.proofs.NumberShapes.{AsNumber, as_number}
 use Rattle.coefficients.proofs.Forms.{term_test, no_term, AllPartsOf-append, terms_parts}
 use Rattle.sum_reduce.specs.Terms.{terms_of_number, sum_tree}
-use Rattle.sum_reduce.proofs.Names.{Within, within_same, within_both, within_beside, within_trans, within_left, within_none, within_eq, names_of-append}
-use Rattle.sum_reduce.proofs.Nests.{nest-append}
+use Rattle.reduce_port.proofs.Names.{Within, within_same, within_both, within_beside, within_trans, within_left, within_none, within_eq, names_of-append}
+use Rattle.reduce_port.proofs.Nests.{nest-append}
 
 -- a Number's terms, and then the other terms
 abbrev pub written_sum : Tree → Trees → Tree

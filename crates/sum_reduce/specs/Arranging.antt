@@ -13,7 +13,7 @@ use Rattle.reduce_port.specs.Rewritings.{tree_of}
 use Rattle.tree_handles.specs.declared.fault.NumberFault.{NumberFault}
 use Rattle.tree_handles.specs.declared.fault.NumberFault.TheVariants as fault
 use Rattle.sum_reduce.specs.Stages.{IsStage}
-use Rattle.sum_reduce.specs.Terms.{is_loose, NoPairBefore}
+use Rattle.sum_reduce.specs.Terms.{is_loose, NoPairBetween}
 
 -- no tree, or one Number
 abbrev pub IsLead : Trees → Type 0
@@ -55,7 +55,7 @@ pub record IsArranged (ts : Trees) : Type 0 where
 -- terms in order, no two with identical parts
 pub record IsSettled (ts : Trees) : Type 0 where
   pub arranged : IsArranged ts
-  pub apart : NoPairBefore (count ts) ts
+  pub apart : NoPairBetween 0 (count ts) ts
 
 -- one rational, which is that plain value
 pub record IsFolded (v : PlainValue) (ts : Trees) : Type 0 where

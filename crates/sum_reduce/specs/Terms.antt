@@ -1,26 +1,32 @@
 -- The terms of a sum: sums in it opened, and terms with identical parts.
-use Rattle.std.specs.Prelude.{ℕ, zero, suc, ◌≡◌, ◌<◌, Bool, true, false, ◌&&◌, not, if◌then◌else◌}
+use Rattle.std.specs.Prelude.{ℕ, suc, ◌≡◌, ◌<◌, ◌≤◌, Bool, true, false, ◌&&◌, not, if◌then◌else◌}
 use Rattle.std.specs.Ordering.{is_eq}
 use Rattle.calc_terms.specs.Fractions.{zero_fraction, is_zero_fraction}
 use Rattle.calc_terms.specs.Numbers.{is_number}
 use Rattle.calc_terms.specs.Reduced.{part_of, HasForm}
 use Rattle.calc_terms.specs.TreeOrder.{tree_cmp}
 use Rattle.calc_terms.specs.Trees.{Tree, num, add, Trees, none, more, append, count, is_add, AllPartsOf}
+use Rattle.number_forms.specs.Sums.{removed}
+use Rattle.reduce_port.specs.Children.{opened_into}
 use Rattle.tree_handles.specs.Expressions.{nth}
 
 -- reduced terms, none of them Undef
 abbrev pub AreFormed : Trees → Type 0
 AreFormed ts = AllPartsOf HasForm ts
 
--- trees without the one at a place, counted from 0
-abbrev pub removed : ℕ → Trees → Trees
-removed n none = none
-removed zero (more t ts) = ts
-removed (suc n) (more t ts) = more t (removed n ts)
-
 -- a sum that is no Number
 abbrev pub is_loose : Tree → Bool
 is_loose t = is_add t && not (is_number t)
+
+-- no term from one place to before another is such a sum
+abbrev pub IsTightBetween : ℕ → ℕ → Trees → Type 0
+IsTightBetween from to ts = (k : ℕ) → from ≤ k → k < to → is_loose (nth k ts) ≡ false
+
+-- the last such sum before a place stands there
+pub record IsLastLoose (n to : ℕ) (ts : Trees) : Type 0 where
+  pub before : n < to
+  pub loose : is_loose (nth n ts) ≡ true
+  pub last : IsTightBetween (suc n) to ts
 
 -- the terms of a sum that is no Number, and any other tree as its own term
 abbrev pub terms_of_loose : Tree → Trees
@@ -29,8 +35,7 @@ terms_of_loose t = more t none
 
 -- the terms of a sum in a sum stand in its place
 abbrev pub opened : Trees → Trees
-opened none = none
-opened (more t ts) = append (terms_of_loose t) (opened ts)
+opened ts = opened_into terms_of_loose ts
 
 -- two terms have identical parts
 abbrev pub is_partner : Tree → Tree → Bool
@@ -46,14 +51,20 @@ pub record IsFirstNumber (n : ℕ) (ts : Trees) : Type 0 where
   pub number : is_number (nth n ts) ≡ true
   pub before : NoNumberBefore n ts
 
--- no term up to a place is a partner of the one before it
-abbrev pub NoPairBefore : ℕ → Trees → Type 0
-NoPairBefore n ts = (k : ℕ) → suc k < n → is_partner (nth k ts) (nth (suc k) ts) ≡ false
+-- no two neighbours from one place to before another are partners
+abbrev pub NoPairBetween : ℕ → ℕ → Trees → Type 0
+NoPairBetween from to ts = (k : ℕ) → from ≤ k → suc k < to → is_partner (nth k ts) (nth (suc k) ts) ≡ false
 
 -- the term at a place and the next one are partners
 pub record IsPair (n : ℕ) (ts : Trees) : Type 0 where
   pub within : suc n < count ts
   pub partner : is_partner (nth n ts) (nth (suc n) ts) ≡ true
+
+-- the first such pair from a place on stands there
+pub record IsFirstPair (from n : ℕ) (ts : Trees) : Type 0 where
+  pub behind : from ≤ n
+  pub before : NoPairBetween from (suc n) ts
+  pub pair : IsPair n ts
 
 -- the terms of a Number as terms of a sum: none for 0
 abbrev pub terms_of_number : Tree → Trees

@@ -1,14 +1,16 @@
 //! The terms of a sum are opened, joined and put in order.
-ghost use Rattle.std.specs.Prelude.{◌≡◌, ◌≤◌, true, false, IfErr, OnOk, [], ◌∷◌};
+ghost use Rattle.std.specs.Prelude.{◌≡◌, ◌<◌, ◌≤◌, ◌+◌, ◌^◌, true, false, IfErr, IfSome, MatchOption, OnOk, [], ◌∷◌};
 ghost use Rattle.calc_terms.specs.PlainValues.{plain_value};
 ghost use Rattle.calc_terms.specs.Trees.{add, count};
 ghost use Rattle.reduce_port.specs.Causes.{IsCaused};
 ghost use Rattle.reduce_port.specs.Children.{are_rationals};
 ghost use Rattle.sum_reduce.specs.Arranging.{IsLed, IsArranged, IsSettled, AnswersFold};
-ghost use Rattle.sum_reduce.specs.Stages.{IsStage};
+ghost use Rattle.sum_reduce.specs.Stages.{IsStage, widths};
 ghost use Rattle.sum_reduce.specs.Sums.{IsSum, Changes, terms_in};
-ghost use Rattle.sum_reduce.specs.Terms.{AreFormed, is_loose};
+ghost use Rattle.sum_reduce.specs.Terms.{AreFormed, is_loose, IsPair, IsFirstPair, NoPairBetween};
 ghost use Rattle.calc_terms.specs.Reduced.{NoneIs};
+ghost use Rattle.number_forms.specs.Sums.{removed};
+ghost use Rattle.tree_handles.specs.Expressions.{nth};
 ghost use Rattle.tree_handles.specs.Faults.{Faults};
 ghost use Rattle.tree_handles.specs.Handed.{KeepsFront};
 ghost use Rattle.tree_handles.specs.Standing.{Stands, forest, KeepsRefusals};
@@ -16,7 +18,7 @@ ghost use Rattle.tree_handles.specs.Standing.{Stands, forest, KeepsRefusals};
 use crate::joining::join_terms;
 use crate::numbers::join_numbers;
 use crate::partners::{Parts, first_pair};
-use crate::terms::{open_sums, term};
+use crate::terms::{is_loose, open_sums, term};
 use node_order::sort_children;
 use node_pool::Pool;
 use number_forms::is_reduced_number;
@@ -79,6 +81,50 @@ fn arrange(pool: &mut Pool, sum: &Handle) -> Result<(), NumberFault>
     Ok(())
 }
 
+/// The first pair behind a joined term. None where that term is a sum, which has to be opened first.
+fn pair_behind(pool: &Pool, sum: &Handle, at: u16) -> Option<u16>
+    requires stands { Stands pool.now }
+    requires sum { IsSum sum.now (forest pool.now) }
+    requires formed { AreFormed (terms_in sum.now (forest pool.now)) }
+    requires within { at < count (terms_in sum.now (forest pool.now)) }
+    requires others { NoneIs is_loose (removed at (terms_in sum.now (forest pool.now))) }
+    requires fits { at + 1 < 2 ^ 16 }
+    ensures pair { let ts = terms_in sum.now (forest pool.now) in
+        MatchOption result (is_loose (nth at ts) ≡ false → NoPairBetween (at + 1) (count ts) ts) (λ next. IsFirstPair (at + 1) next ts) }
+    ensures flat { IfSome result (λ _. NoneIs is_loose (terms_in sum.now (forest pool.now))) }
+    ensures fits { IfSome result (λ next. next + 1 < 2 ^ 16) }
+{
+    if is_loose(pool, term(pool, sum, at)) {
+        return None;
+    }
+    first_pair(pool, sum, at + 1)
+}
+
+/// From a pair on, each term and its partners become one, up to the first that becomes a sum.
+fn join_pairs(pool: &mut Pool, sum: &Handle, first: u16) -> Result<(), NumberFault>
+    requires stands { Stands pool.old }
+    requires sum { IsSum sum.now (forest pool.old) }
+    requires formed { AreFormed (terms_in sum.now (forest pool.old)) }
+    requires flat { NoneIs is_loose (terms_in sum.now (forest pool.old)) }
+    requires pair { IsPair first (terms_in sum.now (forest pool.old)) }
+    requires fits { first + 1 < 2 ^ 16 }
+    ensures ok { OnOk result (Changes sum.now (forest pool.old) (forest pool.new)) }
+    ensures stage { OnOk result (IsStage (terms_in sum.now (forest pool.old)) (terms_in sum.now (forest pool.new))) }
+    ensures fewer { OnOk result (widths (terms_in sum.now (forest pool.new)) < widths (terms_in sum.now (forest pool.old))) }
+    ensures front { KeepsFront (sum.now ∷ []) (forest pool.old) (forest pool.new) }
+    ensures kept { OnOk result (KeepsRefusals pool.old pool.new) }
+    ensures faults { IfErr result (Faults pool.old pool.new) }
+    ensures caused { IfErr result (IsCaused pool.new) }
+    ensures stands { Stands pool.new }
+{
+    let mut next = Some(first);
+    while let Some(at) = next {
+        join_terms(pool, sum, at)?;
+        next = pair_behind(pool, sum, at);
+    }
+    Ok(())
+}
+
 /// Terms with identical parts are joined until there are none. A joined term that is a sum is opened again.
 pub fn settle(pool: &mut Pool, sum: &Handle) -> Result<(), NumberFault>
     requires stands { Stands pool.old }
@@ -97,8 +143,8 @@ pub fn settle(pool: &mut Pool, sum: &Handle) -> Result<(), NumberFault>
     ensures stands { Stands pool.new }
 {
     arrange(pool, sum)?;
-    while let Some(at) = first_pair(pool, sum) {
-        join_terms(pool, sum, at)?;
+    while let Some(at) = first_pair(pool, sum, 0) {
+        join_pairs(pool, sum, at)?;
         arrange(pool, sum)?;
     }
     Ok(())

@@ -1,37 +1,20 @@
-//! What is answered for a settled sum, or for one with Undef in it.
-ghost use Rattle.std.specs.Prelude.{◌≡◌, ◌≤◌, ◌<◌, true, false, IfOk, IfErr, OnOk, [], ◌∷◌};
-ghost use Rattle.calc_terms.specs.Trees.{undef, count, append, is_add};
-ghost use Rattle.reduce_port.specs.Causes.{LacksBytes};
+//! What is answered for a settled sum.
+ghost use Rattle.std.specs.Prelude.{◌≡◌, ◌≤◌};
+ghost use Rattle.calc_terms.specs.Trees.{count, append, is_add};
+ghost use Rattle.number_forms.specs.Sums.{removed};
 ghost use Rattle.sum_reduce.specs.Sums.{IsSum, Changes, terms_in};
-ghost use Rattle.sum_reduce.specs.Terms.{AreFormed, removed, terms_of_number, sum_tree, leads_number, written_tree};
+ghost use Rattle.sum_reduce.specs.Terms.{AreFormed, terms_of_number, sum_tree, leads_number, written_tree};
 ghost use Rattle.tree_handles.specs.Expressions.{IsExpression, plain, nth};
-ghost use Rattle.tree_handles.specs.Handed.{IsHanded, Gives, KeepsFront};
+ghost use Rattle.tree_handles.specs.Handed.{Gives};
 ghost use Rattle.tree_handles.specs.Inside.{tree_at};
 ghost use Rattle.tree_handles.specs.Roots.{without_root};
-ghost use Rattle.tree_handles.specs.Standing.{Stands, forest, KeepsRefusals, Refuses};
+ghost use Rattle.tree_handles.specs.Standing.{Stands, forest, KeepsRefusals};
 
 use crate::terms::{term, term_count};
 use calc_terms::Kind;
-use node_pool::{Full, Id, Pool};
+use node_pool::{Id, Pool};
 use number_forms::{is_reduced_number, is_zero};
-use tree_handles::{Handle, kind, merge_children, move_last, node, release, take_child};
-
-/// Undef in the place of a tree.
-#[tactic(auto, using(number_forms::proofs::Refused::lacks))]
-pub fn undefined(pool: &mut Pool, tree: Handle) -> Result<Handle, Full>
-    requires stands { Stands pool.old }
-    requires handed { IsHanded tree (forest pool.old) }
-    ensures ok { IfOk result (λ h. Gives (without_root tree (forest pool.old)) (forest pool.new) h (λ t. t ≡ undef)) }
-    ensures front { KeepsFront (tree ∷ []) (forest pool.old) (forest pool.new) }
-    ensures kept { OnOk result (KeepsRefusals pool.old pool.new) }
-    ensures full { IfErr result (Refuses pool.old pool.new) }
-    ensures caused { IfErr result (LacksBytes pool.new) }
-    ensures stands { Stands pool.new }
-{
-    release(pool, tree);
-    let undef = node(pool, Kind::Undef)?;
-    Ok(undef)
-}
+use tree_handles::{Handle, kind, merge_children, move_last, release, take_child};
 
 fn is_sum(pool: &Pool, id: Id) -> bool
     requires stands { Stands pool.now }

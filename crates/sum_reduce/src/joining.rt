@@ -10,7 +10,8 @@ ghost use Rattle.reduce_port.specs.Rewritings.{tree_of};
 ghost use Rattle.sum_reduce.specs.Joining.{IsJoining};
 ghost use Rattle.sum_reduce.specs.Stages.{IsStage, widths};
 ghost use Rattle.sum_reduce.specs.Sums.{IsSum, Changes, Takes, terms_in};
-ghost use Rattle.sum_reduce.specs.Terms.{AreFormed, IsPair, is_loose, removed};
+ghost use Rattle.number_forms.specs.Sums.{removed};
+ghost use Rattle.sum_reduce.specs.Terms.{AreFormed, IsPair, is_loose};
 ghost use Rattle.tree_handles.specs.Expressions.{nth, inserted};
 ghost use Rattle.tree_handles.specs.Faults.{Faults};
 ghost use Rattle.tree_handles.specs.Forest.{Forest};
@@ -164,6 +165,8 @@ pub fn join_terms(pool: &mut Pool, sum: &Handle, at: u16) -> Result<(), NumberFa
     ensures ok { OnOk result (Changes sum.now (forest pool.old) (forest pool.new)) }
     ensures stage { OnOk result (IsStage (terms_in sum.now (forest pool.old)) (terms_in sum.now (forest pool.new))) }
     ensures fewer { OnOk result (widths (terms_in sum.now (forest pool.new)) < widths (terms_in sum.now (forest pool.old))) }
+    ensures within { OnOk result (at < count (terms_in sum.now (forest pool.new))) }
+    ensures others { OnOk result (NoneIs is_loose (removed at (terms_in sum.now (forest pool.new)))) }
     ensures front { KeepsFront (sum.now ∷ []) (forest pool.old) (forest pool.new) }
     ensures kept { OnOk result (KeepsRefusals pool.old pool.new) }
     ensures faults { IfErr result (Faults pool.old pool.new) }

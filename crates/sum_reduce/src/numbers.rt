@@ -1,5 +1,5 @@
 //! The Numbers among the terms, added from left to right.
-ghost use Rattle.std.specs.Prelude.{◌≡◌, ◌==◌, ◌<◌, ◌≤◌, ◌++◌, true, false, MatchOption, IfOk, IfErr, OnOk, ⊤, [], ◌∷◌};
+ghost use Rattle.std.specs.Prelude.{◌≡◌, ◌==◌, ◌<◌, ◌≤◌, ◌++◌, true, false, MatchOption, IfOk, IfErr, OnOk, [], ◌∷◌};
 ghost use Rattle.calc_terms.specs.Fits.{add_op};
 ghost use Rattle.calc_terms.specs.Fractions.{Fraction};
 ghost use Rattle.calc_terms.specs.Numbers.{is_number, value};
@@ -10,9 +10,9 @@ ghost use Rattle.reduce_port.specs.Causes.{IsCaused};
 ghost use Rattle.reduce_port.specs.Children.{are_rationals};
 ghost use Rattle.reduce_port.specs.Rewritings.{tree_of};
 ghost use Rattle.sum_reduce.specs.Arranging.{IsGathered, IsNumbered, AnswersTotal, AnswersFold};
-ghost use Rattle.sum_reduce.specs.Stages.{IsStage};
 ghost use Rattle.sum_reduce.specs.Sums.{IsSum, Changes, Takes, terms_in};
-ghost use Rattle.sum_reduce.specs.Terms.{AreFormed, NoNumberBefore, IsFirstNumber, removed};
+ghost use Rattle.number_forms.specs.Sums.{removed};
+ghost use Rattle.sum_reduce.specs.Terms.{AreFormed, NoNumberBefore, IsFirstNumber};
 ghost use Rattle.tree_handles.specs.Expressions.{nth};
 ghost use Rattle.tree_handles.specs.Faults.{Faults};
 ghost use Rattle.tree_handles.specs.Forest.{Forest};
@@ -20,10 +20,10 @@ ghost use Rattle.tree_handles.specs.Handed.{IsHanded, KeepsFront};
 ghost use Rattle.tree_handles.specs.Roots.{without_root};
 ghost use Rattle.tree_handles.specs.Standing.{Stands, forest, KeepsRefusals};
 
-use crate::terms::{term, term_count};
+use crate::terms::term_count;
 use node_pool::Pool;
 use number_forms::{add_numbers, is_reduced_number};
-use tree_handles::{Handle, NumberFault, add_child, take_child};
+use tree_handles::{Handle, NumberFault, add_child, child_ids, take_child};
 
 /// The place of the first Number among the terms.
 fn first_number(pool: &Pool, sum: &Handle) -> Option<u16>
@@ -33,8 +33,9 @@ fn first_number(pool: &Pool, sum: &Handle) -> Option<u16>
     ensures { let ts = terms_in sum.now (forest pool.now) in
         MatchOption result (NoNumberBefore (count ts) ts) (λ at. IsFirstNumber at ts) }
 {
+    let mut ids = child_ids(pool, sum.id(), 0);
     for at in 0..term_count(pool, sum) {
-        if is_reduced_number(pool, term(pool, sum, at)) {
+        if is_reduced_number(pool, ids.next()?) {
             return Some(at);
         }
     }

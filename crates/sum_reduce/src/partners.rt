@@ -1,11 +1,11 @@
 //! Terms with identical parts.
-ghost use Rattle.std.specs.Prelude.{◌≡◌, ◌<◌, ◌+◌, ◌^◌, true, false, MatchOption, IfSome};
+ghost use Rattle.std.specs.Prelude.{◌≡◌, ◌<◌, ◌≤◌, ◌+◌, ◌^◌, true, false, MatchOption, IfSome};
 ghost use Rattle.calc_terms.specs.Numbers.{is_number};
 ghost use Rattle.calc_terms.specs.Reduced.{is_reduced, part_of};
 ghost use Rattle.calc_terms.specs.Trees.{count};
 ghost use Rattle.node_order.specs.Keys.{IsKey, key_tree};
 ghost use Rattle.sum_reduce.specs.Sums.{IsSum, terms_in};
-ghost use Rattle.sum_reduce.specs.Terms.{AreFormed, is_partner, IsPair, NoPairBefore};
+ghost use Rattle.sum_reduce.specs.Terms.{AreFormed, is_partner, IsPair, IsFirstPair, NoPairBetween};
 ghost use Rattle.tree_handles.specs.Expressions.{IsExpression, plain, nth};
 ghost use Rattle.tree_handles.specs.Inside.{tree_at};
 ghost use Rattle.tree_handles.specs.Standing.{Stands, forest};
@@ -17,7 +17,7 @@ use node_order::{Key, Keys, compare_keys};
 use node_pool::{Id, Pool};
 use number_forms::is_reduced_number;
 use std::cmp::Ordering;
-use tree_handles::{Handle, kind};
+use tree_handles::{Handle, child_ids, kind};
 
 /// Reduced terms that are no Numbers are in the order of their parts.
 pub struct Parts;
@@ -54,17 +54,15 @@ fn part(pool: &Pool, id: Id) -> Key
     }
 }
 
-/// Whether the terms at two places have identical parts.
-pub fn are_partners(pool: &Pool, sum: &Handle, first: u16, second: u16) -> bool
+/// Whether two terms have identical parts.
+fn are_partners(pool: &Pool, left: Id, right: Id) -> bool
     requires stands { Stands pool.now }
-    requires sum { IsSum sum.now (forest pool.now) }
-    requires formed { AreFormed (terms_in sum.now (forest pool.now)) }
-    requires first { first < count (terms_in sum.now (forest pool.now)) }
-    requires second { second < count (terms_in sum.now (forest pool.now)) }
-    ensures { let ts = terms_in sum.now (forest pool.now) in result ≡ is_partner (nth first ts) (nth second ts) }
+    requires first { IsExpression left (forest pool.now) }
+    requires second { IsExpression right (forest pool.now) }
+    requires first_reduced { is_reduced (plain (tree_at left (forest pool.now))) ≡ true }
+    requires second_reduced { is_reduced (plain (tree_at right (forest pool.now))) ≡ true }
+    ensures { result ≡ is_partner (plain (tree_at left (forest pool.now))) (plain (tree_at right (forest pool.now))) }
 {
-    let left = term(pool, sum, first);
-    let right = term(pool, sum, second);
     if is_reduced_number(pool, left) || is_reduced_number(pool, right) {
         return false;
     }
@@ -74,19 +72,24 @@ pub fn are_partners(pool: &Pool, sum: &Handle, first: u16, second: u16) -> bool
     )
 }
 
-/// The first term that has a partner just behind it.
-pub fn first_pair(pool: &Pool, sum: &Handle) -> Option<u16>
+/// The first term from a place on that has a partner just behind it.
+pub fn first_pair(pool: &Pool, sum: &Handle, from: u16) -> Option<u16>
     requires stands { Stands pool.now }
     requires sum { IsSum sum.now (forest pool.now) }
     requires formed { AreFormed (terms_in sum.now (forest pool.now)) }
+    requires within { from ≤ count (terms_in sum.now (forest pool.now)) }
     ensures pair { let ts = terms_in sum.now (forest pool.now) in
-        MatchOption result (NoPairBefore (count ts) ts) (λ at. IsPair at ts) }
+        MatchOption result (NoPairBetween from (count ts) ts) (λ at. IsFirstPair from at ts) }
     ensures fits { IfSome result (λ at. at + 1 < 2 ^ 16) }
 {
-    for second in 1..term_count(pool, sum) {
-        if are_partners(pool, sum, second - 1, second) {
-            return Some(second - 1);
+    let mut ids = child_ids(pool, sum.id(), from);
+    let mut left = ids.next()?;
+    for at in from..term_count(pool, sum) - 1 {
+        let right = ids.next()?;
+        if are_partners(pool, left, right) {
+            return Some(at);
         }
+        left = right;
     }
     None
 }
@@ -101,5 +104,6 @@ pub fn leads_pair(pool: &Pool, sum: &Handle, at: u16) -> bool
     ensures each { IsPair at (terms_in sum.now (forest pool.now)) → result ≡ true }
     ensures fits { result ≡ true → at + 1 < 2 ^ 16 }
 {
-    at < term_count(pool, sum) - 1 && are_partners(pool, sum, at, at + 1)
+    at < term_count(pool, sum) - 1
+        && are_partners(pool, term(pool, sum, at), term(pool, sum, at + 1))
 }

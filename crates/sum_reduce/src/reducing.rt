@@ -14,9 +14,10 @@ ghost use Rattle.tree_handles.specs.Roots.{without_root};
 ghost use Rattle.tree_handles.specs.Standing.{Stands, forest, KeepsRefusals};
 
 use crate::arranging::settle;
-use crate::endings::{undefined, written};
+use crate::endings::written;
 use crate::terms::has_undef_term;
 use node_pool::Pool;
+use reduce_port::undefined;
 use tree_handles::{Handle, NumberFault};
 
 /// A sum of reduced terms, at least one, becomes one reduced tree. Sums in it are opened, Numbers are
@@ -38,7 +39,7 @@ pub fn reduce_sum(pool: &mut Pool, sum: Handle) -> Result<Handle, NumberFault>
     ensures stands { Stands pool.new }
 {
     if has_undef_term(pool, &sum) {
-        return Ok(undefined(pool, sum)?);
+        return Ok(undefined(pool, sum));
     }
     settle(pool, &sum)?;
     Ok(written(pool, sum))

@@ -1,9 +1,9 @@
 //! The terms of a sum by their places; sums among them are opened.
-ghost use Rattle.std.specs.Prelude.{◌≡◌, ◌<◌, true};
-ghost use Rattle.calc_terms.specs.Trees.{count, is_undef};
+ghost use Rattle.std.specs.Prelude.{◌≡◌, ◌<◌, ◌≤◌, ℕ, MatchOption, true};
+ghost use Rattle.calc_terms.specs.Trees.{count};
 ghost use Rattle.reduce_port.specs.Children.{has_undef};
 ghost use Rattle.sum_reduce.specs.Sums.{IsSum, Changes, terms_in};
-ghost use Rattle.sum_reduce.specs.Terms.{AreFormed, is_loose, opened};
+ghost use Rattle.sum_reduce.specs.Terms.{AreFormed, is_loose, IsTightBetween, IsLastLoose, opened};
 ghost use Rattle.calc_terms.specs.Reduced.{is_reduced};
 ghost use Rattle.tree_handles.specs.Expressions.{IsExpression, plain, nth};
 ghost use Rattle.tree_handles.specs.Inside.{tree_at};
@@ -12,7 +12,8 @@ ghost use Rattle.tree_handles.specs.Standing.{Stands, forest, KeepsRefusals};
 use calc_terms::Kind;
 use node_pool::{Id, Pool};
 use number_forms::is_reduced_number;
-use tree_handles::{Handle, child_id, children, kind, merge_children};
+use reduce_port::has_undefined_child;
+use tree_handles::{Handle, child_id, child_ids, children, kind, merge_children};
 
 /// How many terms a sum has.
 pub fn term_count(pool: &Pool, sum: &Handle) -> u16
@@ -34,26 +35,13 @@ pub fn term(pool: &Pool, sum: &Handle, at: u16) -> Id
     child_id(pool, sum.id(), at)
 }
 
-fn is_undef(pool: &Pool, id: Id) -> bool
-    requires stands { Stands pool.now }
-    requires expression { IsExpression id (forest pool.now) }
-    ensures { result ≡ is_undef (plain (tree_at id (forest pool.now))) }
-{
-    matches!(kind(pool, id), Kind::Undef)
-}
-
 /// Whether some term is Undef.
 pub fn has_undef_term(pool: &Pool, sum: &Handle) -> bool
     requires stands { Stands pool.now }
     requires sum { IsSum sum.now (forest pool.now) }
     ensures { result ≡ has_undef (terms_in sum.now (forest pool.now)) }
 {
-    for at in 0..term_count(pool, sum) {
-        if is_undef(pool, term(pool, sum, at)) {
-            return true;
-        }
-    }
-    false
+    has_undefined_child(pool, sum.id())
 }
 
 /// Whether a reduced tree is a sum, and no Number.
@@ -69,6 +57,25 @@ pub fn is_loose(pool: &Pool, id: Id) -> bool
     }
 }
 
+/// The place of the last sum, and no Number, among the first terms.
+fn last_loose(pool: &Pool, sum: &Handle, first: u16) -> Option<u16>
+    requires stands { Stands pool.now }
+    requires sum { IsSum sum.now (forest pool.now) }
+    requires within { first ≤ count (terms_in sum.now (forest pool.now)) }
+    requires reduced { (n : ℕ) → n < first → is_reduced (nth n (terms_in sum.now (forest pool.now))) ≡ true }
+    ensures { let ts = terms_in sum.now (forest pool.now) in
+        MatchOption result (IsTightBetween 0 first ts) (λ at. IsLastLoose at first ts) }
+{
+    let mut ids = child_ids(pool, sum.id(), 0);
+    let mut last = None;
+    for at in 0..first {
+        if is_loose(pool, ids.next()?) {
+            last = Some(at);
+        }
+    }
+    last
+}
+
 /// The terms of each sum in a sum take its place. A Number stays as it is.
 pub fn open_sums(pool: &mut Pool, sum: &Handle)
     requires stands { Stands pool.old }
@@ -79,11 +86,9 @@ pub fn open_sums(pool: &mut Pool, sum: &Handle)
     ensures kept { KeepsRefusals pool.old pool.new }
     ensures stands { Stands pool.new }
 {
-    let mut at = term_count(pool, sum);
-    while at > 0 {
-        at -= 1;
-        if is_loose(pool, term(pool, sum, at)) {
-            merge_children(pool, sum, at);
-        }
+    let mut first = term_count(pool, sum);
+    while let Some(at) = last_loose(pool, sum, first) {
+        merge_children(pool, sum, at);
+        first = at;
     }
 }

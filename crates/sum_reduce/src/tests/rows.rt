@@ -67,6 +67,28 @@ fn sums_are_reduced(rt: HostRuntime) -> Result<(), Fail> {
 }
 
 #[test]
+fn many_pairs_are_joined(rt: HostRuntime) -> Result<(), Fail> {
+    let letters: [&'static str; 20] = [
+        "a", "b", "c", "d", "e", "f", "g", "h", "i", "j", "k", "l", "m", "n", "o", "p", "q", "r",
+        "s", "t",
+    ];
+    // Each letter comes once among each 20 terms.
+    let mut terms = [Term::Whole(0); 60];
+    for place in 0..60 {
+        let coefficient = [4, -1, 3][place / 20];
+        terms[place] = Term::Multiple(coefficient, letters[place * 7 % 20]);
+    }
+    let mut expected = [Term::Whole(0); 20];
+    for place in 0..20 {
+        expected[place] = Term::Multiple(6, letters[place]);
+    }
+    let mut pool = opened(rt.alloc(), 8192)?;
+    let right = becomes(&mut pool, &terms, &expected)?;
+    assert!(rt; right, "60 terms");
+    Ok(())
+}
+
+#[test]
 fn sums_in_sums_are_opened(rt: HostRuntime) -> Result<(), Fail> {
     use Term::*;
     let rows: [(&[Term], &[Term]); 7] = [
@@ -109,5 +131,31 @@ fn sums_in_sums_are_opened(rt: HostRuntime) -> Result<(), Fail> {
         let right = becomes(&mut pool, terms, expected)?;
         assert!(rt; right, "{terms:?}");
     }
+    Ok(())
+}
+
+#[test]
+fn sums_come_of_pairs_among_others(rt: HostRuntime) -> Result<(), Fail> {
+    use Term::*;
+    let terms = [
+        SumMultiple(0, 2, (1, "y")),
+        Name("z"),
+        SumMultiple(0, 3, (1, "x")),
+        Name("a"),
+        SumMultiple(1, -3, (1, "x")),
+        Name("z"),
+        SumMultiple(1, -2, (1, "y")),
+        Name("a"),
+    ];
+    let expected = [
+        Whole(2),
+        Multiple(2, "a"),
+        Name("x"),
+        Name("y"),
+        Multiple(2, "z"),
+    ];
+    let mut pool = opened(rt.alloc(), 2048)?;
+    let right = becomes(&mut pool, &terms, &expected)?;
+    assert!(rt; right, "{terms:?}");
     Ok(())
 }

@@ -5,20 +5,20 @@ use Rattle.sum_reduce.proofs.Stages.{stage_after}
 use Rattle.sum_reduce.proofs.Sums.{changes_after}
 use Rattle.sum_reduce.proofs.arranging.settle.Goals as goal
 
-pub join_terms-requires-clause-flat : goal.join_terms-requires-clause-flat
-join_terms-requires-clause-flat c = arranged_flat _ c.loop-at.invariant.arranged
+pub join_pairs-requires-clause-flat : goal.join_pairs-requires-clause-flat
+join_pairs-requires-clause-flat c = arranged_flat _ c.loop-at.invariant.arranged
 
 pub loop-at-preserved : goal.loop-at-preserved
 loop-at-preserved c =
     let i = c.loop-at.invariant in
-    let j = c.in_ok-join_terms.ensures in
+    let j = c.in_ok-join_pairs.ensures in
     let a = c.in_ok-arrange-2.ensures in
     record {
       changes = changes_after (changes_after i.changes j.ok) a.ok;
       stage = stage_after (stage_after i.stage j.stage) a.stage;
       arranged = a.arranged;
-      folded = λ q. absurd (folded_alone _ _ c.in-Some.at (i.folded q) c.in-Some.ensures.pair);
-      front = front_after_one behind_first (front_after_one behind_first i.front c.join_terms.ensures.front) c.arrange-in-Some.ensures.front;
+      folded = λ q. absurd (folded_alone _ _ c.in-Some.at (i.folded q) c.in-Some.ensures.pair.pair);
+      front = front_after_one behind_first (front_after_one behind_first i.front c.join_pairs.ensures.front) c.arrange-in-Some.ensures.front;
       kept = keeps_after _ _ _ (keeps_after _ _ _ i.kept j.kept) a.kept;
       stands = a.stands;
     }

@@ -5,7 +5,7 @@ use Rattle.tree_handles.specs.Expressions.{nth}
 use Rattle.tree_handles.specs.Standing.{forest}
 use Rattle.tree_handles.proofs.Given.{owned}
 use Rattle.sum_reduce.specs.Sums.{terms_in}
-use Rattle.sum_reduce.specs.Terms.{removed}
+use Rattle.number_forms.specs.Sums.{removed}
 use Rattle.sum_reduce.proofs.Sums.{changes_same, sum_within, sum_once, merged, released, takes_handed, term_out}
 use Rattle.sum_reduce.proofs.Written.{spread_zero, spread_sum, spread_one}
 use Rattle.sum_reduce.proofs.endings.spread_number.Goals as goal

@@ -7,7 +7,7 @@ use Rattle.tree_handles.specs.Forest.{Forest}
 use Rattle.tree_handles.specs.Standing.{Stands, forest, KeepsRefusals}
 use Rattle.sum_reduce.specs.Joining.{IsJoining}
 use Rattle.sum_reduce.specs.Sums.{Takes, terms_in}
-use Rattle.sum_reduce.specs.Terms.{removed}
+use Rattle.number_forms.specs.Sums.{removed}
 use Rattle.sum_reduce.proofs.joining.add_partners.Given as goal
 
 abbrev pub invariant-loop-pool : goal.invariant-loop-pool

@@ -5,7 +5,7 @@ use Rattle.tree_handles.specs.Standing.{forest}
 use Rattle.tree_handles.proofs.Fronts.{behind_first, front_after_two}
 use Rattle.sum_reduce.specs.Stages.{IsStage, widths}
 use Rattle.sum_reduce.specs.Sums.{terms_in}
-use Rattle.sum_reduce.proofs.Joins.{joining_start, pair_start, joining_formed, next_partner, first_partner, partner_step, partner_within, joining_done, pair_here, here_reduced, here_defined}
+use Rattle.sum_reduce.proofs.Joins.{joining_start, pair_start, joining_formed, next_partner, first_partner, partner_step, partner_within, joining_done, joined_within, joined_others, pair_here, here_reduced, here_defined}
 use Rattle.sum_reduce.proofs.Results.{on_ok_map}
 use Rattle.sum_reduce.proofs.Sums.{takes_handed, takes_apart, takes_after, takes_behind, takes_front, takes_changes}
 use Rattle.sum_reduce.proofs.Widths.{some_node}
@@ -126,6 +126,19 @@ returns-clause-fewer c =
     let k = partner_step ts _ _ us (terms_in c.args.sum.now (forest c.add_partner.new.pool)) c.args.at 0 j p (rw add-one at c.in_ok-both.ensures.terms) (rw add-one at c.in_ok-both.ensures.number) in
     let d = joining_done _ _ ts _ _ c.args.at (c.in_ok-total.ensures.joining ts _ k) (omega (arith, some_node (nth c.args.at us))) in
     on_ok_map c.put_back.result c.put_back.ensures.terms (λ e. subst (λ (x : Trees). widths x < widths ts) (sym e) d.fewer)
+
+pub returns-clause-within : goal.returns-clause-within
+returns-clause-within c =
+    on_ok_map c.put_back.result c.put_back.ensures.terms (joined_within c.args.at _ (terms_in c.args.sum.now (forest c.add_partners.new.pool)) _ c.in_ok-total.ensures.within)
+
+pub returns-clause-others : goal.returns-clause-others
+returns-clause-others c =
+    let ts = terms_in c.args.sum.now (forest c.args.pool.now) in
+    let us = terms_in c.args.sum.now (forest c.take_coefficient_at.new.pool) in
+    let p = pair_start ts us c.args.at c.requires.formed c.requires.pair c.in_ok-coefficient.ensures.terms in
+    let j = joining_start ts us _ c.args.at c.requires.formed c.requires.flat c.requires.pair c.in_ok-coefficient.ensures.terms c.in_ok-coefficient.ensures.coefficient in
+    let k = partner_step ts _ _ us (terms_in c.args.sum.now (forest c.add_partner.new.pool)) c.args.at 0 j p (rw add-one at c.in_ok-both.ensures.terms) (rw add-one at c.in_ok-both.ensures.number) in
+    on_ok_map c.put_back.result c.put_back.ensures.terms (joined_others c.args.at _ (terms_in c.args.sum.now (forest c.add_partners.new.pool)) _ c.in_ok-total.ensures.within (c.in_ok-total.ensures.joining ts _ k).no_sum)
 
 pub returns-clause-front : goal.returns-clause-front
 returns-clause-front c =

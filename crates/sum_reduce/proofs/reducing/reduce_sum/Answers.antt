@@ -13,14 +13,10 @@ use Rattle.sum_reduce.proofs.Settled.{reduced_formed, undef_answer, settled_answ
 use Rattle.sum_reduce.proofs.Sums.{changes_rest}
 use Rattle.sum_reduce.proofs.reducing.reduce_sum.Goals as goal
 
-pub returns-in_err-undefined-clause-rationals : goal.returns-in_err-undefined-clause-rationals
-returns-in_err-undefined-clause-rationals c =
-    λ q. absurd (undef_rationals (terms_in c.args.sum (forest c.args.pool.now)) q (sym c.has_undef_term.ensures ∙ c.if-has_undef_term.true))
-
 pub returns-then-has_undef_term-clause-ok : goal.returns-then-has_undef_term-clause-ok
 returns-then-has_undef_term-clause-ok c =
     let ts = terms_in c.args.sum (forest c.args.pool.now) in
-    gives_as c.in_ok-undefined.ensures.ok refl (λ t e. subst (IsSumAnswer ts) (sym e) (undef_answer ts (sym c.has_undef_term.ensures ∙ c.if-has_undef_term.true)))
+    gives_as c.undefined.ensures.gives refl (λ t e. subst (IsSumAnswer ts) (sym e) (undef_answer ts (sym c.has_undef_term.ensures ∙ c.if-has_undef_term.true)))
 
 pub returns-then-has_undef_term-clause-rationals : goal.returns-then-has_undef_term-clause-rationals
 returns-then-has_undef_term-clause-rationals c =
@@ -43,8 +39,8 @@ returns-clause-rationals c =
 
 pub returns-in_err-settle-clause-rationals : goal.returns-in_err-settle-clause-rationals
 returns-in_err-settle-clause-rationals c =
-    λ q. passed_on c.from_residual-in_err-settle.result c.in_err-settle.field-0.0 (AnswersRationals (plain_value (tree_of c.args.sum c.args.pool.now)) c.settle.new.pool)
-    c.from_residual-in_err-settle.ensures.0 c.from_residual-in_err-settle.ensures.1
+    λ q. passed_on c.from_residual.result c.in_err-settle.field-0.0 (AnswersRationals (plain_value (tree_of c.args.sum c.args.pool.now)) c.settle.new.pool)
+    c.from_residual.ensures.0 c.from_residual.ensures.1
     (rationals_fault (tree_of c.args.sum c.args.pool.now) (terms_in c.args.sum (forest c.settle.new.pool)) c.settle.new.pool _ c.requires.sum (c.in_err-settle.ensures.rationals q))
 
 pub returns-clause-front : goal.returns-clause-front

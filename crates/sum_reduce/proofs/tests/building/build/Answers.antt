@@ -1,4 +1,4 @@
-use Rattle.std.proofs.Common.{◌∙◌, ap, refl}
+use Rattle.std.proofs.Common.{refl}
 use Rattle.tree_handles.proofs.Given.{gives_as, given_handed, given_told, given_rest}
 use Rattle.sum_reduce.proofs.Results.{if_ok_map}
 use Rattle.sum_reduce.proofs.Tested.{number_reduced}

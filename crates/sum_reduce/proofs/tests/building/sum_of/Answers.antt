@@ -1,6 +1,5 @@
-use Rattle.std.proofs.Common.{◌≡◌, ◌≤◌, ◌∙◌, ap, sym, subst, refl, arith}
-use Rattle.calc_terms.specs.Reduced.{is_reduced}
-use Rattle.calc_terms.specs.Trees.{Trees, count, is_add}
+use Rattle.std.proofs.Common.{◌∙◌, ap, refl, arith}
+use Rattle.calc_terms.specs.Trees.{count}
 use Rattle.reduce_port.specs.Children.{are_reduced}
 use Rattle.reduce_port.specs.Rewritings.{tree_of}
 use Rattle.tree_handles.specs.Standing.{forest}

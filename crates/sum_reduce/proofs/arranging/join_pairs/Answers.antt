@@ -1,0 +1,45 @@
+use Rattle.std.proofs.Common.{◌<◌, ◌+◌, ◌≡◌, false, arith}
+use Rattle.calc_terms.specs.Trees.{count}
+use Rattle.sum_reduce.specs.Stages.{widths}
+use Rattle.sum_reduce.specs.Sums.{terms_in}
+use Rattle.sum_reduce.specs.Terms.{is_loose, IsPair, IsFirstPair, NoPairBetween}
+use Rattle.tree_handles.specs.Expressions.{nth}
+use Rattle.tree_handles.specs.Standing.{forest}
+use Rattle.tree_handles.proofs.Forests.{keeps_none, keeps_after}
+use Rattle.tree_handles.proofs.Fronts.{behind_first, front_same, front_after_one}
+use Rattle.sum_reduce.proofs.Results.{match_option_given}
+use Rattle.sum_reduce.proofs.Stages.{stage_after, stage_same}
+use Rattle.sum_reduce.proofs.Sums.{changes_same, changes_after}
+use Rattle.sum_reduce.proofs.arranging.join_pairs.Goals as goal
+
+pub loop-next-init : goal.loop-next-init
+loop-next-init c =
+    let w = c.requires.pair.within in
+    record {
+      changes = changes_same c.requires.sum;
+      stage = stage_same _ c.requires.formed (omega (arith, w));
+      fewer = c.requires.pair;
+      flat = c.requires.flat;
+      fits = c.requires.fits;
+      front = front_same;
+      kept = keeps_none c.args.pool.now;
+      stands = c.requires.stands;
+    }
+
+pub loop-next-preserved : goal.loop-next-preserved
+loop-next-preserved c =
+    let i = c.loop-next.invariant in
+    let j = c.in_ok-join_terms.ensures in
+    let p = c.pair_behind-next.ensures in
+    let us = terms_in c.args.sum.now (forest c.join_terms.new.pool) in
+    let fewer : widths us < widths (terms_in c.args.sum.now (forest c.args.pool.now)) = omega (arith, j.fewer, i.stage.width) in
+    record {
+      changes = changes_after i.changes j.ok;
+      stage = stage_after i.stage j.stage;
+      fewer = match_option_given (is_loose (nth c.in-Some.at us) ≡ false → NoPairBetween (c.in-Some.at + 1) (count us) us) _ (λ n. IsFirstPair (c.in-Some.at + 1) n us) (λ n. IsPair n us) c.pair_behind-next.result fewer (λ n x. x.pair) p.pair;
+      flat = p.flat;
+      fits = p.fits;
+      front = front_after_one behind_first i.front c.join_terms.ensures.front;
+      kept = keeps_after _ _ _ i.kept j.kept;
+      stands = j.stands;
+    }

@@ -1,0 +1,17 @@
+use Rattle.std.proofs.Common.{◌∙◌, ap, sym}
+use Rattle.calc_terms.specs.Reduced.{is_reduced}
+use Rattle.tree_handles.specs.Standing.{forest}
+use Rattle.sum_reduce.specs.Sums.{terms_in}
+use Rattle.sum_reduce.specs.Terms.{is_loose}
+use Rattle.sum_reduce.proofs.Joins.{none_anywhere}
+use Rattle.sum_reduce.proofs.Results.{if_some_given}
+use Rattle.sum_reduce.proofs.Sorted.{formed_nth}
+use Rattle.sum_reduce.proofs.arranging.pair_behind.Goals as goal
+
+pub is_loose-requires-clause-reduced : goal.is_loose-requires-clause-reduced
+is_loose-requires-clause-reduced c = ap is_reduced c.term.ensures.tree ∙ formed_nth c.args.at (terms_in c.args.sum.now (forest c.args.pool.now)) c.requires.within c.requires.formed
+
+pub returns-clause-flat : goal.returns-clause-flat
+returns-clause-flat c =
+    let tight = ap is_loose (sym c.term.ensures.tree) ∙ sym c.is_loose.ensures ∙ c.if-is_loose.false in
+    if_some_given c.first_pair.result (none_anywhere is_loose c.args.at (terms_in c.args.sum.now (forest c.args.pool.now)) c.requires.within tight c.requires.others)
