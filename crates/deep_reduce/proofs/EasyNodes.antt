@@ -23,6 +23,7 @@ use Rattle.reduce_port.proofs.Rewritings.{kept}
 use Rattle.reduce_port.specs.Children.{has_undef, are_numbers}
 use Rattle.reduce_port.specs.EasyTrees.{Evaluates}
 use Rattle.reduce_port.specs.Rewritings.{KeepsMeanings}
+use Rattle.reduce_port.proofs.Children.{numbers_defined}
 
 -- ---- tests
 
@@ -136,10 +137,6 @@ children_numbers none (more u us) h e n = absurd h
 children_numbers (more t ts) none h e n = absurd h
 children_numbers (more t ts) (more u us) h e n =
     and_true (is_number u) (are_numbers us) (child_number t u h.0 (e t (first itself)) (λ b. n (inl b))) (children_numbers ts us h.1 (λ p k. e p (later k)) (λ b. n (inr b)))
-
-numbers_defined : (us : Trees) → are_numbers us ≡ true → has_undef us ≡ false
-numbers_defined none e = refl
-numbers_defined (more u us) e = or_none (is_undef u) (has_undef us) (number_defined u (and_first (is_number u) (are_numbers us) e)) (numbers_defined us (and_second (is_number u) (are_numbers us) e))
 
 -- ---- whether the node has a value
 

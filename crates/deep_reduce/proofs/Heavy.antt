@@ -1,11 +1,11 @@
 -- Reduced trees weigh 2 at least, and so do their bases.
 use Rattle.std.proofs.Common.{◌≡◌, ℕ, suc, ◌+◌, ◌≤◌, inl, inr, Bool, true, false, ◌||◌, if◌then◌else◌, refl, arith}
 use Rattle.calc_terms.specs.Loads.{load, weight, weight_of_factors, load_of_factor, has_coefficient}
-use Rattle.calc_terms.specs.Numbers.{is_number, IsNumber}
-use Rattle.calc_terms.specs.Reduced.{is_reduced, is_opaque_exponent, base_of, HasForm}
-use Rattle.calc_terms.specs.Trees.{Tree, num, symbol, undef, add, mult, power, root, neg, sub, div, Trees, none, more, is_mult, is_undef, AllParts}
+use Rattle.calc_terms.specs.Numbers.{is_number}
+use Rattle.calc_terms.specs.Reduced.{is_reduced, is_opaque_exponent, base_of}
+use Rattle.calc_terms.specs.Trees.{Tree, num, symbol, undef, add, mult, power, root, neg, sub, div, none, more, is_undef}
 use Rattle.coefficients.proofs.Forms.{reduced_parts, parts_reduced}
-use Rattle.deep_reduce.proofs.Nests.{number_load}
+use Rattle.product_reduce.proofs.Bounds.{load_number}
 
 some_root : (x : Bool) (w : ℕ) → 1 ≤ (if x then 2 else suc w)
 some_root true w = omega arith
@@ -97,6 +97,6 @@ factor_load u n two h = by (is_number u) (is_undef u) refl refl h
     undefined (div a c) e = cc
 
     by : (x y : Bool) → is_number u ≡ x → is_undef u ≡ y → (if x || y then 0 else load_of_factor u) ≤ n → load_of_factor u ≤ n
-    by true y p q k = omega (arith, number_load u p)
+    by true y p q k = omega (arith, load_number u p)
     by false true p q k = undefined u q
     by false false p q k = k

@@ -1,87 +1,38 @@
 -- Factors of reduced trees before and after a joining: their loads and nests.
-use Rattle.std.proofs.Common.{◌≡◌, ℕ, suc, ◌+◌, ◌≤◌, ◌<◌, inl, inr, Bool, true, false, ◌&&◌, ◌||◌, if◌then◌else◌, refl, sym, ap, ◌∙◌, subst, arith}
+use Rattle.std.proofs.Common.{◌≡◌, ℕ, ◌+◌, ◌≤◌, inl, inr, Bool, true, false, if◌then◌else◌, refl, sym, ap, ◌∙◌, subst, arith}
 use Rattle.std.specs.Prelude.{max}
 use Rattle.std.proofs.lemmas.Bool.{and_parts}
 use Rattle.calc_terms.specs.Loads.{nest, nest_of, weight, load_of_factor, load_of_factors}
 use Rattle.calc_terms.specs.Numbers.{is_number, IsNumber}
-use Rattle.calc_terms.specs.Reduced.{is_reduced, is_num_one, base_of, HasForm, NoneIs, IsNodeForm, IsProductForm}
-use Rattle.calc_terms.specs.Trees.{Tree, num, symbol, undef, add, mult, power, root, neg, sub, div, Trees, none, more, append, count, is_mult, AllPartsOf}
+use Rattle.calc_terms.specs.Reduced.{is_reduced, is_num_one, base_of, HasForm, NoneIs}
+use Rattle.calc_terms.specs.Trees.{Tree, num, symbol, undef, add, mult, power, root, neg, sub, div, Trees, none, more, append, is_mult, AllPartsOf}
 use Rattle.calc_terms.proofs.NumberLaws.{number_test, number_words}
 use Rattle.coefficients.specs.Coefficients.{factors_of}
 use Rattle.coefficients.proofs.Forms.{reduced_parts, parts_reduced}
 use Rattle.deep_reduce.specs.Unfinished.{nest_of_joint}
 use Rattle.deep_reduce.proofs.Heavy.{heavy_base}
 use Rattle.deep_reduce.proofs.Joints.{same_base, transparent_exponent, joint_load, joint_nest, joint_below}
-use Rattle.deep_reduce.proofs.Nests.{number_load, number_nest}
 use Rattle.product_reduce.specs.Factors.{opened, others_in, coefficient_before}
 use Rattle.product_reduce.specs.Joining.{exponent_of, is_partner, has_partner, first_partner, without_partner, joint, have_partners, joined}
 use Rattle.reduce_port.specs.Children.{are_numbers, are_reduced}
-
--- ---- lists
-
-loads_append : (ts us : Trees) → load_of_factors (append ts us) ≡ load_of_factors ts + load_of_factors us
-loads_append none us = omega arith
-loads_append (more t ts) us = omega (arith, loads_append ts us)
-
-nests_append : (ts us : Trees) → nest_of (append ts us) ≡ max (nest_of ts) (nest_of us)
-nests_append none us = omega arith
-nests_append (more t ts) us = omega (arith, nests_append ts us)
-
-factors_load : (t : Tree) → load_of_factors (factors_of t) ≡ load_of_factor t
-factors_load (mult ts) = refl
-factors_load (num q) = omega arith
-factors_load (symbol x) = omega arith
-factors_load undef = omega arith
-factors_load (add ts) = omega arith
-factors_load (power b e) = omega arith
-factors_load (root a) = omega arith
-factors_load (neg a) = omega arith
-factors_load (sub a b) = omega arith
-factors_load (div a b) = omega arith
-
-factors_nest : (t : Tree) → nest_of (factors_of t) ≡ nest t
-factors_nest (mult ts) = refl
-factors_nest (num q) = omega arith
-factors_nest (symbol x) = omega arith
-factors_nest undef = omega arith
-factors_nest (add ts) = omega arith
-factors_nest (power b e) = omega arith
-factors_nest (root a) = omega arith
-factors_nest (neg a) = omega arith
-factors_nest (sub a b) = omega arith
-factors_nest (div a b) = omega arith
+use Rattle.product_reduce.proofs.Bounds.{nest_factors, nest_opened, nest_others, load-append, load_number, load_factors, load_opened}
+use Rattle.reduce_port.proofs.Nests.{nest_number}
 
 -- ---- factors opened, without their Numbers
-
-opened_load : (ts : Trees) → load_of_factors (opened ts) ≡ load_of_factors ts
-opened_load none = refl
-opened_load (more t ts) = omega (arith, loads_append (factors_of t) (opened ts), factors_load t, opened_load ts)
-
-opened_nest : (ts : Trees) → nest_of (opened ts) ≡ nest_of ts
-opened_nest none = refl
-opened_nest (more t ts) = omega (arith, nests_append (factors_of t) (opened ts), factors_nest t, opened_nest ts)
 
 others_load : (ts : Trees) → load_of_factors (others_in ts) ≡ load_of_factors ts
 others_load none = refl
 others_load (more t ts) = by (is_number t) refl (others_load ts)
   where
     by : (x : Bool) → is_number t ≡ x → load_of_factors (others_in ts) ≡ load_of_factors ts → load_of_factors (if x then others_in ts else more t (others_in ts)) ≡ load_of_factor t + load_of_factors ts
-    by true e rest = omega (arith, number_load t e)
+    by true e rest = omega (arith, load_number t e)
     by false e rest = omega arith
 
-others_nest : (ts : Trees) → nest_of (others_in ts) ≤ nest_of ts
-others_nest none = omega arith
-others_nest (more t ts) = by (is_number t) (others_nest ts)
-  where
-    by : (x : Bool) → nest_of (others_in ts) ≤ nest_of ts → nest_of (if x then others_in ts else more t (others_in ts)) ≤ max (nest t) (nest_of ts)
-    by true rest = omega arith
-    by false rest = omega arith
-
 pub open_load : (ts : Trees) → load_of_factors (others_in (opened ts)) ≡ load_of_factors ts
-open_load ts = others_load (opened ts) ∙ opened_load ts
+open_load ts = others_load (opened ts) ∙ load_opened ts
 
 pub open_nest : (ts : Trees) → nest_of (others_in (opened ts)) ≤ nest_of ts
-open_nest ts = omega (arith, others_nest (opened ts), opened_nest ts)
+open_nest ts = omega (arith, nest_others (opened ts), nest_opened ts)
 
 -- where all are Numbers no factor is left
 number_opened : (t : Tree) (us : Trees) → is_number t ≡ true → others_in (append (factors_of t) us) ≡ others_in us
@@ -263,14 +214,14 @@ before_load c ts h = by (is_num_one c)
   where
     by : (x : Bool) → load_of_factors (if x then ts else append (factors_of c) ts) ≡ load_of_factors ts
     by true = refl
-    by false = omega (arith, loads_append (factors_of c) ts, factors_load c, number_load c h)
+    by false = omega (arith, load-append (factors_of c) ts, load_factors c, load_number c h)
 
 before_below : (n : ℕ) (c : Tree) (ts : Trees) → is_number c ≡ true → JointsBelow n ts → JointsBelow n (coefficient_before c ts)
 before_below n c ts h k = by (is_num_one c)
   where
     by : (x : Bool) → JointsBelow n (if x then ts else append (factors_of c) ts)
     by true = k
-    by false = below_append n (factors_of c) ts (all_below n (factors_of c) (omega (arith, factors_nest c, number_nest c h))) k
+    by false = below_append n (factors_of c) ts (all_below n (factors_of c) (omega (arith, nest_factors c, nest_number c h))) k
 
 -- the factors of a joined product
 pub product_less : (ts : Trees) (c : Tree) → are_reduced ts ≡ true → is_number c ≡ true → have_partners (others_in (opened ts)) ≡ true

@@ -5,6 +5,7 @@ use Rattle.calc_terms.specs.Numbers.{is_number}
 use Rattle.calc_terms.specs.Reduced.{is_opaque_exponent}
 use Rattle.calc_terms.specs.Trees.{Tree, undef, mult, power, Trees}
 use Rattle.power_reduce.specs.PowerAnswers.{has_no_power, has_number_power}
+use Rattle.product_reduce.specs.Answers.{AreJoinable, IsWrittenProduct}
 use Rattle.reduce_port.specs.Children.{has_undef, are_numbers}
 use Rattle.reduce_port.specs.Rewritings.{Reduces}
 
@@ -15,6 +16,10 @@ pub record IsReducedProduct (ts : Trees) (t : Tree) : Type 0 where
   pub number : are_numbers ts ≡ true → is_number t ≡ true
   pub nest : nest t ≤ nest (mult ts)
   pub load : load t ≤ load (mult ts)
+
+-- where no two of the factors are to be joined, their product is the coefficient times the others in order
+abbrev pub IsWrittenApart : Trees → Tree → Type 0
+IsWrittenApart ts t = has_undef ts ≡ false → ((c : Tree) → ¬ (AreJoinable c ts)) → IsWrittenProduct ts t
 
 -- b to the power e, reduced
 pub record IsReducedPower (b e t : Tree) : Type 0 where

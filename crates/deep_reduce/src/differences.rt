@@ -1,25 +1,26 @@
 //! Opposites, differences and quotients, as sums, products and powers.
-ghost use Rattle.std.specs.Prelude.{◌≡◌, ◌==◌, true, false, IfOk, IfErr, OnOk, [], ◌∷◌};
+ghost use Rattle.std.specs.Prelude.{◌≡◌, true, false, IfOk, IfErr, OnOk, [], ◌∷◌};
 ghost use Rattle.calc_terms.specs.Fractions.{minus_one_fraction};
 ghost use Rattle.calc_terms.specs.Reduced.{is_reduced};
-ghost use Rattle.calc_terms.specs.Trees.{num, neg, power, none, more, count, is_undef, is_sub, is_div};
+ghost use Rattle.calc_terms.specs.Trees.{num, neg, power, count, is_undef, is_sub, is_div};
 ghost use Rattle.deep_reduce.specs.Nodes.{IsNodeAnswer, IsNodeOverflow, is_neg};
 ghost use Rattle.deep_reduce.specs.Pairs.{GivesSides};
 ghost use Rattle.radical_forms.specs.Refusals.{IfOverflow};
-ghost use Rattle.reduce_port.specs.Causes.{IsCaused, LacksBytes};
+ghost use Rattle.reduce_port.specs.Causes.{IsCaused};
 ghost use Rattle.reduce_port.specs.Children.{are_reduced, has_undef};
 ghost use Rattle.reduce_port.specs.Rewritings.{tree_of};
-ghost use Rattle.tree_handles.specs.Expressions.{children_of, compound, takes_kind};
+ghost use Rattle.tree_handles.specs.Expressions.{children_of};
 ghost use Rattle.tree_handles.specs.Faults.{Faults};
 ghost use Rattle.tree_handles.specs.Handed.{IsHanded, Gives, KeepsFront};
 ghost use Rattle.tree_handles.specs.Roots.{without_root};
-ghost use Rattle.tree_handles.specs.Standing.{Stands, forest, KeepsRefusals, Refuses};
+ghost use Rattle.tree_handles.specs.Standing.{Stands, forest, KeepsRefusals};
 
-use crate::nodes::{add_up, is_undefined, multiply};
+use crate::nodes::{add_up, multiply};
 use crate::whole::reduce_power;
 use calc_terms::{Kind, Rat};
-use node_pool::{Full, Pool};
-use tree_handles::{Handle, NumberFault, add_child, node, number, release, take_child};
+use node_pool::Pool;
+use reduce_port::{is_undefined, over_two};
+use tree_handles::{Handle, NumberFault, number, release, take_child};
 
 /// -1 times the argument.
 pub(crate) fn negate(pool: &mut Pool, opposite: Handle) -> Result<Handle, NumberFault>
@@ -63,7 +64,7 @@ pub(crate) fn subtract(pool: &mut Pool, difference: Handle) -> Result<Handle, Nu
         release(pool, left);
         return Ok(term);
     }
-    let sum = pair(pool, Kind::Add, left, term)?;
+    let sum = over_two(pool, Kind::Add, left, term)?;
     add_up(pool, sum)
 }
 
@@ -89,7 +90,7 @@ pub(crate) fn divide(pool: &mut Pool, quotient: Handle) -> Result<Handle, Number
         release(pool, dividend);
         return Ok(factor);
     }
-    let product = pair(pool, Kind::Mult, dividend, factor)?;
+    let product = over_two(pool, Kind::Mult, dividend, factor)?;
     multiply(pool, product)
 }
 
@@ -108,7 +109,7 @@ fn minus(pool: &mut Pool, argument: Handle) -> Result<Handle, NumberFault>
     ensures stands { Stands pool.new }
 {
     let minus_one = number(pool, Rat::whole(-1))?;
-    let product = pair(pool, Kind::Mult, minus_one, argument)?;
+    let product = over_two(pool, Kind::Mult, minus_one, argument)?;
     multiply(pool, product)
 }
 
@@ -127,29 +128,8 @@ fn inverse(pool: &mut Pool, base: Handle) -> Result<Handle, NumberFault>
     ensures stands { Stands pool.new }
 {
     let exponent = number(pool, Rat::whole(-1))?;
-    let power = pair(pool, Kind::Pow, base, exponent)?;
+    let power = over_two(pool, Kind::Pow, base, exponent)?;
     reduce_power(pool, power)
-}
-
-/// A new last tree of two children.
-fn pair(pool: &mut Pool, kind: Kind, left: Handle, right: Handle) -> Result<Handle, Full>
-    requires stands { Stands pool.old }
-    requires takes { takes_kind kind 2 ≡ true }
-    requires first { IsHanded left (forest pool.old) }
-    requires second { IsHanded right (forest pool.old) }
-    requires apart { (left == right) ≡ false }
-    ensures ok { IfOk result (λ h. Gives (without_root right (without_root left (forest pool.old))) (forest pool.new) h
-        (λ t. t ≡ compound kind (more (tree_of left pool.old) (more (tree_of right pool.old) none)))) }
-    ensures front { KeepsFront (left ∷ right ∷ []) (forest pool.old) (forest pool.new) }
-    ensures kept { OnOk result (KeepsRefusals pool.old pool.new) }
-    ensures refused { IfErr result (Refuses pool.old pool.new) }
-    ensures caused { IfErr result (LacksBytes pool.new) }
-    ensures stands { Stands pool.new }
-{
-    let over = node(pool, kind)?;
-    add_child(pool, &over, 0, left);
-    add_child(pool, &over, 1, right);
-    Ok(over)
 }
 
 /// The two children of a node, which goes.

@@ -1,7 +1,7 @@
 //! One node whose children are reduced.
 ghost use Rattle.std.specs.Prelude.{◌≡◌, ◌<◌, ◌^◌, nat_abs, true, false, IfOk, IfErr, OnOk, [], ◌∷◌};
 ghost use Rattle.calc_terms.specs.Fractions.{whole_fraction};
-ghost use Rattle.calc_terms.specs.Trees.{num, undef, is_add, is_mult, is_undef};
+ghost use Rattle.calc_terms.specs.Trees.{num, is_add, is_mult};
 ghost use Rattle.deep_reduce.specs.Nodes.{IsNodeAnswer, IsNodeOverflow};
 ghost use Rattle.radical_forms.specs.Refusals.{IfOverflow};
 ghost use Rattle.reduce_port.specs.Causes.{IsCaused};
@@ -19,10 +19,9 @@ use crate::whole::{reduce_power, reduce_product};
 use calc_terms::{Kind, Rat};
 use node_pool::{Id, Pool};
 use radical_forms::reduce_root;
+use reduce_port::{has_undefined_child, undefined};
 use sum_reduce::reduce_sum;
-use tree_handles::{
-    Handle, NumberFault, child_id, children, kind, move_last, node, number, release,
-};
+use tree_handles::{Handle, NumberFault, children, kind, move_last, number, release};
 
 /// A node over reduced children, as the rules of its kind reduce it.
 pub(crate) fn reduce_node(pool: &mut Pool, tree: Handle) -> Result<Handle, NumberFault>
@@ -38,7 +37,7 @@ pub(crate) fn reduce_node(pool: &mut Pool, tree: Handle) -> Result<Handle, Numbe
     ensures stands { Stands pool.new }
 {
     // A node with an Undef child is Undef, whatever the others are.
-    if has_undefined(pool, tree.id()) {
+    if has_undefined_child(pool, tree.id()) {
         return Ok(undefined(pool, tree));
     }
     match kind(pool, tree.id()) {
@@ -113,46 +112,4 @@ fn whole(pool: &mut Pool, tree: Handle, n: i128) -> Result<Handle, NumberFault>
 {
     release(pool, tree);
     Ok(number(pool, Rat::whole(n))?)
-}
-
-/// Undef in the place of a tree, whose bytes suffice for it.
-fn undefined(pool: &mut Pool, tree: Handle) -> Handle
-    requires stands { Stands pool.old }
-    requires handed { IsHanded tree (forest pool.old) }
-    ensures gives { Gives (without_root tree (forest pool.old)) (forest pool.new) result (λ t. t ≡ undef) }
-    ensures front { KeepsFront (tree ∷ []) (forest pool.old) (forest pool.new) }
-    ensures kept { KeepsRefusals pool.old pool.new }
-    ensures stands { Stands pool.new }
-{
-    release(pool, tree);
-    match node(pool, Kind::Undef) {
-        Ok(undef) => undef,
-        Err(_) => unreachable!(),
-    }
-}
-
-/// Whether a child of a node is Undef.
-fn has_undefined(pool: &Pool, id: Id) -> bool
-    requires stands { Stands pool.now }
-    requires expression { IsExpression id (forest pool.now) }
-    ensures { result ≡ has_undef (children_of (plain (tree_at id (forest pool.now)))) }
-{
-    for at in 0..children(pool, id) {
-        if is_undefined(pool, child_id(pool, id, at)) {
-            return true;
-        }
-    }
-    false
-}
-
-/// Whether a node is Undef.
-pub(crate) fn is_undefined(pool: &Pool, id: Id) -> bool
-    requires stands { Stands pool.now }
-    requires expression { IsExpression id (forest pool.now) }
-    ensures { result ≡ is_undef (plain (tree_at id (forest pool.now))) }
-{
-    match kind(pool, id) {
-        Kind::Undef => true,
-        _ => false,
-    }
 }

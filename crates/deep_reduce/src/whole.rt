@@ -4,7 +4,7 @@ ghost use Rattle.std.specs.Prelude.{◌≡◌, ◌≤◌, IfOk, IfErr, OnOk, [],
 ghost use Rattle.calc_terms.specs.PlainValues.{plain_value};
 ghost use Rattle.calc_terms.specs.Reduced.{is_reduced};
 ghost use Rattle.calc_terms.specs.Trees.{count, is_mult, is_num, power as power_tree};
-ghost use Rattle.deep_reduce.specs.Answers.{IsReducedProduct, IsReducedPower};
+ghost use Rattle.deep_reduce.specs.Answers.{IsReducedProduct, IsWrittenApart, IsReducedPower};
 ghost use Rattle.deep_reduce.specs.Unfinished.{AreTransparent, Finishes, IsLifted, IsProductOfPowers, IsSettled, IsUnfinished};
 ghost use Rattle.number_forms.specs.Answers.{AnswersRationals};
 ghost use Rattle.power_reduce.specs.PowerAnswers.{base_in, exponent_in};
@@ -39,6 +39,7 @@ pub fn reduce_product(pool: &mut Pool, product: Handle) -> Result<Handle, Number
     requires reduced { are_reduced (children_of (tree_of product pool.old)) ≡ true }
     ensures ok { IfOk result (λ h. Gives (without_root product (forest pool.old)) (forest pool.new) h
         (IsReducedProduct (children_of (tree_of product pool.old)))) }
+    ensures written { IfOk result (λ h. IsWrittenApart (children_of (tree_of product pool.old)) (tree_of h pool.new)) }
     ensures rationals { are_rationals (children_of (tree_of product pool.old)) ≡ true
         → AnswersRationals (plain_value (tree_of product pool.old)) pool.new result }
     ensures front { KeepsFront (product ∷ []) (forest pool.old) (forest pool.new) }

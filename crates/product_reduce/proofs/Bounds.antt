@@ -2,38 +2,15 @@
 use Rattle.std.proofs.Common.{ℕ, ◌+◌, ◌≤◌, max, ◌≡◌, Bool, true, false, ◌||◌, refl, if◌then◌else◌, sym, ap, ◌∙◌, arith}
 use Rattle.coefficients.specs.Coefficients.{factors_of}
 use Rattle.calc_terms.specs.Loads.{nest, nest_of, weight, load, load_of_factor, load_of_factors}
-use Rattle.calc_terms.specs.Numbers.{is_number, IsNumber, IsTerm, AreTerms}
+use Rattle.calc_terms.specs.Numbers.{is_number, IsNumber}
 use Rattle.calc_terms.specs.Reduced.{is_num_one, product_tree}
 use Rattle.calc_terms.specs.Trees.{Tree, num, add, mult, root, Trees, none, more, append, is_undef}
 use Rattle.calc_terms.proofs.MeaningRewrites.{Permuted, permuted_none, permuted_more, permuted_swap, permuted_trans}
 use Rattle.calc_terms.proofs.NumberLaws.{number_words, number_test}
 use Rattle.product_reduce.specs.Factors.{opened, others_in, coefficient_before}
+use Rattle.reduce_port.proofs.Nests.{nest-append, nest_number}
 
 -- ---- Nest
-
-pub nest-append : (ts us : Trees) → nest_of (append ts us) ≡ max (nest_of ts) (nest_of us)
-nest-append none us = omega arith
-nest-append (more t ts) us = omega (arith, nest-append ts us)
-
-nest_term : (t : Tree) → IsTerm t → nest t ≡ 0
-nest_term (num q) h = refl
-nest_term (root (num r)) h = refl
-nest_term (mult (more (num q) (more (root (num r)) none))) h = refl
-nest_term t h = absurd h
-
-nest_terms : (ts : Trees) → AreTerms ts → nest_of ts ≡ 0
-nest_terms none h = refl
-nest_terms (more t ts) h = omega (arith, nest_term t h.0, nest_terms ts h.1)
-
-nest_is : (t : Tree) → IsNumber t → nest t ≡ 0
-nest_is (num q) h = refl
-nest_is (add ts) h = nest_terms ts h.1
-nest_is (root a) h = nest_term (root a) h
-nest_is (mult ts) h = nest_term (mult ts) h
-nest_is t h = absurd h
-
-pub nest_number : (t : Tree) → is_number t ≡ true → nest t ≡ 0
-nest_number t h = nest_is t (number_words t h)
 
 pub nest_factors : (t : Tree) → nest_of (factors_of t) ≡ nest t
 nest_factors (mult ts) = refl
@@ -57,12 +34,6 @@ nest_with c ts h = by (is_num_one c)
     by : (k : Bool) → nest_of (if k then ts else append (factors_of c) ts) ≤ nest_of ts
     by true = omega arith
     by false = omega (arith, nest-append (factors_of c) ts, nest_factors c, nest_number c h)
-
-pub nest_permuted : {ts us : Trees} → Permuted ts us → nest_of ts ≡ nest_of us
-nest_permuted permuted_none = refl
-nest_permuted (permuted_more {t} h) = ap (max (nest t)) (nest_permuted h)
-nest_permuted (permuted_swap {t} {u} {ts}) = omega arith
-nest_permuted (permuted_trans h k) = nest_permuted h ∙ nest_permuted k
 
 pub nest_tree : (ts : Trees) → nest (product_tree ts) ≤ nest_of ts
 nest_tree none = omega arith

@@ -1,14 +1,14 @@
 -- The trees that a step on a product gives.
-use Rattle.std.proofs.Common.{◌≡◌, ◌≤◌, inl, inr, Bool, true, false, ◌&&◌, ◌||◌, refl, if◌then◌else◌, sym, ap, ◌∙◌, subst, arith, [], ℕ, zero, suc, ◌<◌, not}
+use Rattle.std.proofs.Common.{◌≡◌, inl, inr, Bool, true, false, ◌&&◌, ◌||◌, refl, if◌then◌else◌, sym, ap, ◌∙◌, subst, arith, [], ℕ, zero, suc, ◌<◌, not}
 use Rattle.reduce_port.specs.Children.{has_undef, are_numbers, are_rationals, are_reduced}
 use Rattle.coefficients.specs.Coefficients.{factors_of}
 use Rattle.number_forms.specs.Readers.{is_zero}
 use Rattle.std.proofs.lemmas.Bool.{and_parts, and_from, or_right}
-use Rattle.calc_terms.specs.Fractions.{zero_fraction, is_one_fraction, lowest}
+use Rattle.calc_terms.specs.Fractions.{zero_fraction, lowest}
 use Rattle.calc_terms.specs.Gcd.{gcd}
-use Rattle.calc_terms.specs.Loads.{nest, nest_of, load, load_of_factor, load_of_factors}
+use Rattle.calc_terms.specs.Loads.{load, load_of_factor}
 use Rattle.calc_terms.specs.Numbers.{is_number, is_radicand, value}
-use Rattle.calc_terms.specs.Reduced.{split, product_tree, is_reduced, has_form, all_parts, NoneIs, RisesBy, base_of, is_undistributed, HasForm}
+use Rattle.calc_terms.specs.Reduced.{is_reduced, has_form, all_parts}
 use Rattle.calc_terms.specs.Surds.{surd_of}
 use Rattle.calc_terms.proofs.TermLaws.{Same-eq}
 use Rattle.calc_terms.specs.declared.kind.Kind.TheVariants as kind
@@ -19,13 +19,12 @@ use Rattle.calc_terms.specs.Fractions.{whole_fraction}
 use Rattle.calc_terms.specs.Reduced.{is_whole_num, is_opaque_exponent}
 use Rattle.calc_terms.proofs.FractionFacts.{whole_denominator}
 use Rattle.std.proofs.lemmas.Bool.{eq-eqb}
-use Rattle.calc_terms.specs.Trees.{Tree, num, symbol, undef, add, mult, power, root, neg, sub, div, Trees, none, more, append, names, names_of, is_undef, is_mult, itself, in_mult, IsPartOf, first, later, root_kind, count}
+use Rattle.calc_terms.specs.Trees.{Tree, num, symbol, undef, add, mult, power, root, neg, sub, div, Trees, none, more, append, names, names_of, is_undef, in_mult, root_kind, count}
 use Rattle.calc_terms.proofs.FractionFacts.{zero_is}
 use Rattle.calc_terms.proofs.MeaningLaws.{Same-sym}
-use Rattle.calc_terms.proofs.MeaningRewrites.{KeepsMeanings, KeepsMeanings-refl, KeepsMeanings-eq, KeepsMeanings-trans, Permuted, permuted_none, permuted_more, permuted_swap, permuted_trans, permuted_product, KeepsMeanings-product_more, zero_product}
+use Rattle.calc_terms.proofs.MeaningRewrites.{KeepsMeanings, KeepsMeanings-refl, KeepsMeanings-eq, KeepsMeanings-trans, KeepsMeanings-product_more, zero_product}
 use Rattle.calc_terms.proofs.NumberClasses.{number_zero}
 use Rattle.calc_terms.proofs.NumberLaws.{number_words}
-use Rattle.calc_terms.proofs.NumberRewrites.{product_tree_keeps}
 use Rattle.calc_terms.proofs.SquareClassLaws.{Same-trans}
 use Rattle.calc_terms.proofs.UndefRewrites.{undef_part}
 use Rattle.reduce_port.proofs.Rewritings.{keeps, reduces_after}
@@ -34,10 +33,12 @@ use Rattle.product_reduce.specs.Factors.{opened, others_in, IsCoefficient, coeff
 use Rattle.product_reduce.specs.Joining.{have_partners, joined}
 use Rattle.product_reduce.proofs.Opened.{opened_keeps, collected, coefficient_in_front}
 use Rattle.product_reduce.proofs.Joined.{joined_keeps}
-use Rattle.product_reduce.proofs.NoNewNames.{Within, within_eq, within_none, within_both, within_left, within_same, within_trans, names_opened, names_others, names_with_coefficient, names_joined, names_permuted, number_names, no_new_name}
-use Rattle.product_reduce.proofs.Forms.{IsFormed, AllFormed, IsSorted, formed, number_formed, formed_with, product_formed, product_tree_formed, opened_formed, others_formed, others_no_numbers, opened_flat, others_none}
-use Rattle.product_reduce.proofs.Sorted.{none_permuted}
-use Rattle.product_reduce.proofs.Bounds.{nest_opened, nest_others, nest_with, nest_permuted, nest_tree, nest_number, load_opened, load_others, load_with, load_permuted, load_tree, load_product}
+use Rattle.reduce_port.proofs.Names.{Within, within_eq, within_none, within_both, within_trans, number_names, no_new_name}
+use Rattle.product_reduce.proofs.NoNewNames.{names_opened, names_others, names_with_coefficient, names_joined}
+use Rattle.product_reduce.proofs.Forms.{IsFormed, AllFormed, formed, number_formed, opened_formed}
+use Rattle.reduce_port.proofs.Nests.{nest_number}
+use Rattle.product_reduce.proofs.Bounds.{nest_opened, nest_others, load_opened, load_others, load_product}
+use Rattle.reduce_port.proofs.Children.{undef_inside, numbers_defined}
 
 -- ---- reduced factors
 
@@ -97,29 +98,12 @@ joined_product c ts h =
 
 -- ---- Done: Undef
 
-undef_inside : (ts : Trees) → has_undef ts ≡ true → IsPartOf undef ts
-undef_inside none h = cc
-undef_inside (more t ts) h = by (undef_inside ts) t h
-  where
-    by : (has_undef ts ≡ true → IsPartOf undef ts) → (u : Tree) → (is_undef u || has_undef ts) ≡ true → IsPartOf undef (more u ts)
-    by go undef h = first itself
-    by go u h = later (go h)
-
--- Undef is no Number
-numbers_defined : (ts : Trees) → are_numbers ts ≡ true → has_undef ts ≡ false
-unfolding is_number
-numbers_defined none h = refl
-numbers_defined (more t ts) h = let (a, b) = and_parts (is_number t) (are_numbers ts) h in by (numbers_defined ts b) t a
-  where
-    by : has_undef ts ≡ false → (u : Tree) → is_number u ≡ true → (is_undef u || has_undef ts) ≡ false
-    by go undef e = absurd cc
-    by go u e = go
-
 pub undef_finished : (ts : Trees) → has_undef ts ≡ true → IsFinished ts undef
 unfolding is_reduced is_number
 undef_finished ts h = record {
   reduces = record { reduced = refl; no_new_name = no_new_name (within_none (names_of ts)); meanings = keeps (undef_part (mult ts) (in_mult (undef_inside ts h))) };
   undefined = sym h;
+  written = λ d. absurd (cc (d, h));
   nest = omega arith;
   load = omega arith;
   number = λ e. absurd (let d = numbers_defined ts e in cc);
@@ -155,6 +139,7 @@ zero_finished c ts d h z =
         meanings = keeps (KeepsMeanings-trans (split_keeps c ts h) (KeepsMeanings-trans (KeepsMeanings-eq (ap (λ (x : Tree). mult (more x (others_in (opened ts)))) e)) (KeepsMeanings-trans (zero_product (others_in (opened ts))) (KeepsMeanings-eq (sym e)))));
       };
       undefined = formed_defined c f ∙ sym d;
+      written = λ e. record { coefficient = c; is_coefficient = h; zero = λ y. refl; written = λ y. absurd (cc (y, z)) };
       nest = omega (arith, nest_number c h.number);
       load = omega (arith, load_of_number c h.number);
       number = λ x. h.number;
@@ -217,13 +202,14 @@ opaque_unless_whole t (Some n) h w = rw h (ap not (ap is_whole_num w ∙ eq-eqb 
 
 -- ---- Done, from what a reduced ending tells
 
-pub ending_finished : (c : Tree) (ts : Trees) (new : Tree) → has_undef ts ≡ false → IsCoefficient c (opened ts) → have_partners (others_in (opened ts)) ≡ false → IsEnding c (others_in (opened ts)) new → IsFinished ts new
-ending_finished c ts new d k a e =
+pub ending_finished : (c : Tree) (ts : Trees) (new : Tree) → has_undef ts ≡ false → IsCoefficient c (opened ts) → is_zero c ≡ false → have_partners (others_in (opened ts)) ≡ false → IsEnding c (others_in (opened ts)) new → IsFinished ts new
+ending_finished c ts new d k z a e =
     let os = others_in (opened ts) in
     let names = within_both (names_of ts) (names c) (names_of os) (within_trans (within_none (names_of ts)) (within_eq (number_names c k.number))) (others_within ts) in
     record {
       reduces = reduces_after (record { no_new_name = no_new_name names; meanings = keeps (split_keeps c ts k) }) e.reduces;
       undefined = e.defined ∙ sym d;
+      written = λ y. record { coefficient = c; is_coefficient = k; zero = λ x. absurd (cc (x, z)); written = λ x. e.written };
       nest = omega (arith, e.nest, nest_others (opened ts), nest_opened ts);
       load = omega (arith, e.load, load_others (opened ts), load_opened ts, load_product ts);
       number = λ h. e.number (no_others (opened ts) (numbers_opened ts h));
@@ -234,7 +220,7 @@ ending_finished c ts new d k a e =
 
 pub stopped : (c : Tree) (ts us : Trees) (new : Tree) → has_undef ts ≡ false → IsCoefficient c (opened ts) → us ≡ others_in (opened ts) → IsStop c us new → IsFinished ts new
 stopped c ts us new d k e (at_zero z q) = subst (IsFinished ts) (sym q) (zero_finished c ts d k z)
-stopped c ts us new d k e (at_end z p x) = ending_finished c ts new d k (ap have_partners (sym e) ∙ p) (subst (λ (y : Trees). IsEnding c y new) e x)
+stopped c ts us new d k e (at_end z p x) = ending_finished c ts new d k z (ap have_partners (sym e) ∙ p) (subst (λ (y : Trees). IsEnding c y new) e x)
 
 pub rejoined : (c : Tree) (ts us : Trees) (new : Tree) → has_undef ts ≡ false → IsCoefficient c (opened ts) → us ≡ others_in (opened ts) → IsRejoined c us new → IsJoined ts new
 rejoined c ts us new d k e r =

@@ -13,8 +13,9 @@ use Rattle.reduce_port.specs.Children.{are_numbers, are_reduced}
 use Rattle.tree_handles.specs.Expressions.{nth, children_of}
 use Rattle.product_reduce.specs.Answers.{IsJoined}
 use Rattle.product_reduce.specs.Factors.{opened, others_in, coefficient_before}
-use Rattle.product_reduce.specs.Joining.{exponent_of, is_partner, has_partner, first_partner, without_partner, joint, have_partners, joined}
-use Rattle.product_reduce.proofs.Bounds.{nest-append, nest_factors, nest_number, nest_others, nest_opened, nest_permuted, load_with, load_others, load_opened, load_product, load_permuted}
+use Rattle.product_reduce.specs.Joining.{exponent_of, has_partner, first_partner, without_partner, joint, have_partners, joined}
+use Rattle.reduce_port.proofs.Nests.{nest_number, nest_permuted}
+use Rattle.product_reduce.proofs.Bounds.{nest_factors, nest_others, nest_opened, load_with, load_others, load_opened, load_product, load_permuted}
 use Rattle.product_reduce.proofs.Finished.{reduced_formed}
 use Rattle.product_reduce.proofs.Forms.{AllFormed, opened_formed, others_formed, opened_flat, others_none, others_no_numbers}
 use Rattle.product_reduce.proofs.Joined.{one_base, partner_is, partner_first}

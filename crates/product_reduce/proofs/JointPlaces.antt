@@ -1,5 +1,5 @@
 -- The place of a joint behind a coefficient.
-use Rattle.std.proofs.Common.{ℕ, zero, suc, ◌+◌, ◌<◌, ◌≤◌, ◌≡◌, Bool, true, false, ◌&&◌, if◌then◌else◌, refl, sym, ap, ◌∙◌, arith}
+use Rattle.std.proofs.Common.{ℕ, zero, suc, ◌+◌, ◌<◌, ◌≤◌, ◌≡◌, Bool, true, false, if◌then◌else◌, refl, ap, ◌∙◌, arith}
 use Rattle.std.proofs.lemmas.Bool.{and_parts, and_from}
 use Rattle.calc_terms.specs.Numbers.{is_number}
 use Rattle.calc_terms.specs.Reduced.{is_num_one, is_reduced}
@@ -9,7 +9,7 @@ use Rattle.number_forms.specs.Sums.{removed}
 use Rattle.reduce_port.specs.Children.{are_reduced}
 use Rattle.tree_handles.specs.Expressions.{nth, inserted}
 use Rattle.product_reduce.specs.Factors.{coefficient_before}
-use Rattle.product_reduce.specs.Joining.{joint, joined, IsFirstPair, IsJointAt}
+use Rattle.product_reduce.specs.Joining.{joint, joined, IsFirstPair, IsFirstJoint, IsJointAt}
 use Rattle.product_reduce.proofs.Finished.{formed_reduced, reduced_nth}
 use Rattle.product_reduce.proofs.Forms.{AllFormed, formed_factors, number_formed}
 use Rattle.product_reduce.proofs.Joins.{count_removed}
@@ -95,6 +95,24 @@ joined_count i j us h =
     omega (arith, e, few)
 
 -- the joint stands as far behind the coefficient as the first factor of the pair stood among the others
+joint_there : (i j at : ℕ) (c : Tree) (us : Trees) → IsFirstPair i j us → at + count (joined us) ≡ count (coefficient_before c (joined us)) + i
+    → nth at (coefficient_before c (joined us)) ≡ joint (nth i us) (nth j us)
+joint_there i j at c us h e =
+    let ps = in_front c in
+    let rest = removed i (removed j us) in
+    let t = joint (nth i us) (nth j us) in
+    let a = count_removed j us h.pair.within in
+    let b : i < count (removed j us) = omega (arith, a, h.pair.order, h.pair.within) in
+    let d = count_removed i (removed j us) b in
+    let few : i ≤ count rest = omega (arith, b, d) in
+    let whole : coefficient_before c (joined us) ≡ append ps (inserted i (more t none) rest) = before_is c (joined us) ∙ ap (append ps) (joined_at i j us h) in
+    let all : count (coefficient_before c (joined us)) ≡ count ps + count (joined us) = ap count (before_is c (joined us)) ∙ count-append ps (joined us) in
+    ap (nth at) whole ∙ nth_behind ps (inserted i (more t none) rest) i at (omega (arith, e, all)) ∙ nth_inserted i t rest few
+
+pub first_joint_at : (i j at : ℕ) (c : Tree) (us : Trees) → IsFirstPair i j us → at + count (joined us) ≡ count (coefficient_before c (joined us)) + i
+    → IsFirstJoint at us (coefficient_before c (joined us))
+first_joint_at i j at c us h e = record { first = i; second = j; pair = h; is = joint_there i j at c us h e; place = e }
+
 pub joint_at : (i j at : ℕ) (c : Tree) (us : Trees) → is_number c ≡ true → are_reduced us ≡ true → IsFirstPair i j us → at + count (joined us) ≡ count (coefficient_before c (joined us)) + i
     → IsJointAt at (coefficient_before c (joined us))
 joint_at i j at c us n r h e =
@@ -116,7 +134,7 @@ joint_at i j at c us n r h e =
       second_reduced = reduced_nth j us h.pair.within r;
       partners = h.pair.partner;
       within = omega (arith, place, all, l);
-      is = ap (nth at) whole ∙ nth_behind ps (inserted i (more t none) rest) i at place ∙ nth_inserted i t rest few;
+      is = joint_there i j at c us h e;
       others =
           ap are_reduced (ap (removed at) whole ∙ removed_behind ps (inserted i (more t none) rest) i at place ∙ ap (append ps) (removed_inserted i t rest few))
           ∙ reduced-append ps rest (front_reduced c n) (reduced_removed i (removed j us) (reduced_removed j us r));

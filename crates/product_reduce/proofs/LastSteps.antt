@@ -1,9 +1,8 @@
 -- A coefficient and sorted factors whose bases differ make a reduced tree.
-use Rattle.std.proofs.Common.{◌≡◌, ◌≤◌, [], true, false, refl, sym, ap, ◌∙◌, arith}
-use Rattle.calc_terms.specs.Loads.{nest, nest_of, load, load_of_factors}
+use Rattle.std.proofs.Common.{◌≡◌, ◌≤◌, [], true, false, refl, ap, arith}
 use Rattle.calc_terms.specs.Numbers.{is_number}
 use Rattle.calc_terms.specs.Reduced.{is_reduced, product_tree, RisesBy, HasForm, base_of}
-use Rattle.calc_terms.specs.Trees.{Tree, mult, Trees, none, more, count, names, names_of, is_mult, is_undef, AllParts, AllPartsOf}
+use Rattle.calc_terms.specs.Trees.{Tree, mult, Trees, none, more, count, names, names_of, is_mult, is_undef, AllPartsOf}
 use Rattle.calc_terms.proofs.MeaningRewrites.{KeepsMeanings, KeepsMeanings-refl, KeepsMeanings-trans, KeepsMeanings-product_more, Permuted, permuted_none, permuted_more, permuted_swap, permuted_trans, permuted_product, single_product, to_single_product}
 use Rattle.calc_terms.proofs.NumberLaws.{number_words}
 use Rattle.calc_terms.proofs.NumberRewrites.{product_tree_keeps}
@@ -12,24 +11,31 @@ use Rattle.coefficients.proofs.Bounds.{coefficient_nest, coefficient_load}
 use Rattle.coefficients.proofs.Coefficients.{put_formed, put_reduces}
 use Rattle.coefficients.proofs.Factors.{AreFactors, factors_monic}
 use Rattle.coefficients.proofs.Forms.{reduced_parts, parts_defined}
-use Rattle.number_forms.specs.Readers.{is_zero}
 use Rattle.reduce_port.specs.Children.{has_undef, are_reduced}
 use Rattle.reduce_port.proofs.Rewritings.{keeps, reduces_after}
 use Rattle.std.proofs.lemmas.Bool.{and_parts}
+use Rattle.std.proofs.lemmas.List.Sorted.{IsPermutation-refl}
+use Rattle.node_order.specs.Sorting.{IsSorting}
 use Rattle.product_reduce.specs.Answers.{AreOthers, IsEnding}
-use Rattle.product_reduce.proofs.Bounds.{nest_number, nest_tree, nest_permuted, load_tree, load_permuted}
+use Rattle.product_reduce.specs.Factors.{coefficient_times}
+use Rattle.reduce_port.proofs.Nests.{nest_number, nest_permuted}
+use Rattle.product_reduce.proofs.Bounds.{nest_tree, load_tree, load_permuted}
 use Rattle.product_reduce.proofs.Finished.{or_none, formed_reduced, formed_defined, load_of_number}
 use Rattle.product_reduce.proofs.Forms.{number_formed}
-use Rattle.product_reduce.proofs.NoNewNames.{Within, within_left, within_same, within_trans, within_both, within_beside, within_none, names_permuted, no_new_name}
+use Rattle.reduce_port.proofs.Names.{Within, within_left, within_same, within_trans, within_both, within_beside, within_none, names_permuted, no_new_name}
 use Rattle.product_reduce.proofs.Sorted.{none_permuted}
 
 -- ---- the coefficient alone
+
+none_sorted : IsSorting 0 base_of none none
+none_sorted = record { front = refl; moved = IsPermutation-refl []; rising = λ k d l m. absurd (omega arith) }
 
 pub coefficient_alone : (c : Tree) → is_number c ≡ true → IsEnding c none c
 coefficient_alone c h =
     let f = number_formed c h in
     record {
       reduces = record { reduced = formed_reduced c f; no_new_name = no_new_name (within_left (names c) []); meanings = keeps (single_product c) };
+      written = record { us = none; sorted = none_sorted; is = refl };
       defined = formed_defined c f;
       nest = omega (arith, nest_number c h);
       load = omega (arith, load_of_number c h);
@@ -76,8 +82,12 @@ permuted_none_is permuted_swap e = cc
 permuted_none_is (permuted_trans h k) e = permuted_none_is k (permuted_none_is h e)
 
 -- the coefficient in front
-pub ending : (c : Tree) (ts us : Trees) → AreOthers ts → is_number c ≡ true → Permuted ts us → RisesBy base_of us → 1 ≤ count us → IsEnding c ts (with_coefficient c (product_tree us))
-ending c ts us o h m r l =
+times_written : (c : Tree) (us : Trees) → 1 ≤ count us → with_coefficient c (product_tree us) ≡ coefficient_times c us
+times_written c none l = absurd (omega arith)
+times_written c (more t us) l = refl
+
+pub ending : (c : Tree) (ts us : Trees) → AreOthers ts → is_number c ≡ true → IsSorting 0 base_of ts us → Permuted ts us → RisesBy base_of us → 1 ≤ count us → IsEnding c ts (with_coefficient c (product_tree us))
+ending c ts us o h s m r l =
     let p = product_tree us in
     let monic = factors_monic us (sorted_factors ts us o m r l) in
     let n = number_words c h in
@@ -85,6 +95,7 @@ ending c ts us o h m r l =
     (within_both (names_of ts) (names p) [] (within_trans (names_permuted m) (tree_names us)) (within_none (names_of ts))) in
     record {
       reduces = reduces_after (record { no_new_name = no_new_name within; meanings = keeps (as_one c m) }) (put_reduces c p n monic);
+      written = record { us = us; sorted = s; is = times_written c us l };
       defined = parts_defined (with_coefficient c p) (put_formed c p n monic);
       nest = omega (arith, coefficient_nest c p, nest_number c h, nest_tree us, nest_permuted m);
       load = omega (arith, coefficient_load c p n monic, load_tree us, load_permuted m);

@@ -14,6 +14,7 @@ pub mod Fronts
 pub mod Progress
 pub mod Multiplied
 pub mod Sorted
+pub mod OneOrder
 pub mod Products
 pub mod Joints
 pub mod JointBounds

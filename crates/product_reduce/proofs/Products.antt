@@ -23,7 +23,9 @@ use Rattle.node_pool.specs.State.{State}
 use Rattle.tree_handles.proofs.Lasts.{kids_of_root, plain_root, expression_root}
 use Rattle.tree_handles.proofs.Roots.{root_arity, root-put, root_held, tree-without}
 use Rattle.product_reduce.specs.Products.{factors_in, IsProduct, Becomes}
-use Rattle.product_reduce.proofs.Places.{opened_from, count_opened, nth_opened, opened_at, opened_beside}
+use Rattle.coefficients.specs.Coefficients.{factors_of}
+use Rattle.coefficients.proofs.Openings.{opened_from, count_opened, nth_opened, opened_at, opened_beside}
+use Rattle.product_reduce.proofs.Places.{product_is, no_product_is}
 
 -- ---- children by their places
 
@@ -170,27 +172,27 @@ becomes_as b e = record { product = product_at b.product refl e; others = b.othe
 -- ---- products in it are opened, from the last factor to the first
 
 -- the factor at the place before, in what is opened so far
-pub opened_factor : {i : ℕ} {f g : Forest} (ts : Trees) (n at : ℕ) → at ≡ suc n → at ≤ count ts → Becomes i f g (opened_from at ts) → n < count (factors_in i g)
+pub opened_factor : {i : ℕ} {f g : Forest} (ts : Trees) (n at : ℕ) → at ≡ suc n → at ≤ count ts → Becomes i f g (opened_from factors_of at ts) → n < count (factors_in i g)
 opened_factor {i = i} {g = g} ts n at e l b =
-    let k : n < count (opened_from (suc n) ts) = count_opened n ts (omega (arith, l, e)) in
-    let q : count (factors_in i g) ≡ count (opened_from (suc n) ts) = ap count (factors_are b.product ∙ ap (λ (m : ℕ). opened_from m ts) e) in
+    let k : n < count (opened_from factors_of (suc n) ts) = count_opened factors_of n ts (omega (arith, l, e)) in
+    let q : count (factors_in i g) ≡ count (opened_from factors_of (suc n) ts) = ap count (factors_are b.product ∙ ap (λ (m : ℕ). opened_from factors_of m ts) e) in
     omega (arith, k, q)
 
-seen : {i : ℕ} {f g : Forest} (ts : Trees) (n at : ℕ) → at ≡ suc n → at ≤ count ts → Becomes i f g (opened_from at ts) → nth n (factors_in i g) ≡ nth n ts
-seen ts n at e l b = ap (nth n) (factors_are b.product ∙ ap (λ (m : ℕ). opened_from m ts) e) ∙ nth_opened n ts (omega (arith, l, e))
+seen : {i : ℕ} {f g : Forest} (ts : Trees) (n at : ℕ) → at ≡ suc n → at ≤ count ts → Becomes i f g (opened_from factors_of at ts) → nth n (factors_in i g) ≡ nth n ts
+seen ts n at e l b = ap (nth n) (factors_are b.product ∙ ap (λ (m : ℕ). opened_from factors_of m ts) e) ∙ nth_opened factors_of n ts (omega (arith, l, e))
 
-pub opened_more : {i : ℕ} {f g h : Forest} (ts : Trees) (n at : ℕ) → at ≡ suc n → at ≤ count ts → Becomes i f g (opened_from at ts) → is_mult (nth n (factors_in i g)) ≡ true
-    → h ≡ put i (merged_nth n (kids (root_tree i g))) g → Becomes i f h (opened_from n ts)
+pub opened_more : {i : ℕ} {f g h : Forest} (ts : Trees) (n at : ℕ) → at ≡ suc n → at ≤ count ts → Becomes i f g (opened_from factors_of at ts) → is_mult (nth n (factors_in i g)) ≡ true
+    → h ≡ put i (merged_nth n (kids (root_tree i g))) g → Becomes i f h (opened_from factors_of n ts)
 opened_more {i = i} {f = f} {g = g} ts n at e l b m q =
-    let b' : Becomes i f g (opened_from (suc n) ts) = becomes_as b (ap (λ (k : ℕ). opened_from k ts) e) in
+    let b' : Becomes i f g (opened_from factors_of (suc n) ts) = becomes_as b (ap (λ (k : ℕ). opened_from factors_of k ts) e) in
     let same = seen ts n at e l b in
     let small : n < count ts = omega (arith, l, e) in
-    becomes_as (becomes_after b' (becomes_merged n b'.product (count_opened n ts small) q))
-    (ap (λ (t : Tree). inserted n (children_of t) (removed n (opened_from (suc n) ts))) (nth_opened n ts small) ∙ opened_at n ts small (ap is_mult (sym same) ∙ m))
+    becomes_as (becomes_after b' (becomes_merged n b'.product (count_opened factors_of n ts small) q))
+    (ap (λ (t : Tree). inserted n (children_of t) (removed n (opened_from factors_of (suc n) ts))) (nth_opened factors_of n ts small) ∙ opened_at factors_of n ts small (product_is (nth n ts) (ap is_mult (sym same) ∙ m)))
 
-pub opened_still : {i : ℕ} {f g : Forest} (ts : Trees) (n at : ℕ) → at ≡ suc n → at ≤ count ts → Becomes i f g (opened_from at ts) → is_mult (nth n (factors_in i g)) ≡ false → Becomes i f g (opened_from n ts)
+pub opened_still : {i : ℕ} {f g : Forest} (ts : Trees) (n at : ℕ) → at ≡ suc n → at ≤ count ts → Becomes i f g (opened_from factors_of at ts) → is_mult (nth n (factors_in i g)) ≡ false → Becomes i f g (opened_from factors_of n ts)
 opened_still ts n at e l b m =
-    becomes_as b (ap (λ (k : ℕ). opened_from k ts) e ∙ opened_beside n ts (omega (arith, l, e)) (ap is_mult (sym (seen ts n at e l b)) ∙ m))
+    becomes_as b (ap (λ (k : ℕ). opened_from factors_of k ts) e ∙ opened_beside factors_of n ts (omega (arith, l, e)) (no_product_is (nth n ts) (ap is_mult (sym (seen ts n at e l b)) ∙ m)))
 
 -- beside a root that goes
 pub product_beside : {i : ℕ} {f : Forest} {ts : Trees} (j : ℕ) → eqb j i ≡ false → IsProduct i f ts → IsProduct i (without_root j f) ts

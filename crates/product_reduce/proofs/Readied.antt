@@ -1,18 +1,19 @@
 -- Factors that were sorted beside their coefficient.
-use Rattle.std.proofs.Common.{ℕ, ◌≤◌, ◌≡◌, eqb, true, false, refl, sym, ap, ◌∙◌, subst, arith}
+use Rattle.std.proofs.Common.{ℕ, ◌≤◌, ◌≡◌, eqb, true, false, refl, sym, ap, ◌∙◌, subst}
 use Rattle.calc_terms.specs.Numbers.{is_number}
 use Rattle.calc_terms.specs.Reduced.{is_reduced, product_tree, RisesBy, base_of}
 use Rattle.calc_terms.specs.Trees.{Tree, Trees, none, count}
 use Rattle.calc_terms.proofs.MeaningRewrites.{Permuted, Permuted-sym}
 use Rattle.coefficients.specs.Coefficients.{with_coefficient}
 use Rattle.coefficients.proofs.Factors.{factors_monic}
+use Rattle.node_order.specs.Sorting.{IsSorting}
 use Rattle.node_pool.specs.State.{State}
 use Rattle.tree_handles.specs.Expressions.{plain, children_of}
 use Rattle.tree_handles.specs.Forest.{Forest}
 use Rattle.tree_handles.specs.Handed.{IsHanded, Ends, Gives}
 use Rattle.tree_handles.specs.Roots.{root_tree, without_root}
 use Rattle.tree_handles.specs.Standing.{Stands, forest}
-use Rattle.tree_handles.proofs.Given.{gives, gives_as, given_other, given_rest, given_same, given_told, handed_beside, represents_handed}
+use Rattle.tree_handles.proofs.Given.{gives, gives_as, given_rest, given_same, given_told, handed_beside, represents_handed}
 use Rattle.tree_handles.proofs.Lasts.{ends_as}
 use Rattle.tree_handles.proofs.Outcomes.{eqb-sym}
 use Rattle.tree_handles.proofs.Roots.{tree-without, without-swap}
@@ -33,6 +34,7 @@ pub record AreReadied (i c : ℕ) (old now : Forest) : Type 0 where
   pub others : without_root i now ≡ without_root i old
   pub handed : IsHanded c now
   pub tree : plain (root_tree c now) ≡ plain (root_tree c old)
+  pub sorted : IsSorting 0 base_of (factors_in i old) us
   pub permuted : Permuted (factors_in i old) us
   pub rising : RisesBy base_of us
 
@@ -44,8 +46,9 @@ readied {s = s} i c ss st p h d n x = record {
   others = x.becomes.others;
   handed = beside_becomes c ss st p x.becomes h d;
   tree = ap plain (tree_becomes c ss st p x.becomes h d);
-  permuted = permuted_lists (factors_in i (forest s)) x.us x.moved;
-  rising = sorted_rising (factors_in i (forest s)) x.us n x.moved x.rising;
+  sorted = x.sorted;
+  permuted = permuted_lists (factors_in i (forest s)) x.us x.sorted.moved;
+  rising = sorted_rising (factors_in i (forest s)) x.us n x.sorted.moved x.sorted.rising;
 }
 
 -- the other trees, where both are gone
@@ -95,7 +98,7 @@ put_given i c p h old now f new d o n r l g k =
     let same : plain (root_tree c f) ≡ plain (root_tree c old) = ap plain (given_same c g (alone_handed i c old now d r).root) ∙ alone_tree i c old now d r in
     gives_as k (ap (without_root c) (given_rest g) ∙ rest_readied i c old now d r)
     (λ t e. subst (λ (u : Tree). IsEnding (plain (root_tree c old)) (factors_in i old) u) (sym (e ∙ (λ j. with_coefficient (same j) (given_told g j))))
-    (ending (plain (root_tree c old)) (factors_in i old) r.us o n r.permuted r.rising l))
+    (ending (plain (root_tree c old)) (factors_in i old) r.us o n r.sorted r.permuted r.rising l))
 
 -- ---- a coefficient comes before a product that has become another one
 

@@ -3,11 +3,12 @@ use Rattle.std.specs.Prelude.{ℕ, ◌≡◌, ◌≤◌, ⊤, true, false, Resul
 use Rattle.calc_terms.specs.Loads.{nest, nest_of, load, load_of_factors}
 use Rattle.calc_terms.specs.Numbers.{is_number}
 use Rattle.calc_terms.specs.PlainValues.{PlainValue}
-use Rattle.calc_terms.specs.Reduced.{NoneIs}
+use Rattle.calc_terms.specs.Reduced.{NoneIs, base_of}
 use Rattle.calc_terms.specs.Trees.{Tree, mult, Trees, none, more, is_mult, is_undef}
+use Rattle.node_order.specs.Sorting.{IsSorting}
 use Rattle.node_pool.specs.State.{State}
 use Rattle.number_forms.specs.Readers.{is_zero}
-use Rattle.product_reduce.specs.Factors.{opened, others_in, IsCoefficient, coefficient_before}
+use Rattle.product_reduce.specs.Factors.{opened, others_in, IsCoefficient, coefficient_before, coefficient_times}
 use Rattle.product_reduce.specs.Joining.{have_partners, joined}
 use Rattle.product_reduce.specs.declared.steps.Joining.{Joining}
 use Rattle.product_reduce.specs.declared.steps.Joining.TheVariants as joining
@@ -31,10 +32,24 @@ pub record IsJoined (ts : Trees) (new : Tree) : Type 0 where
   pub is : new ≡ mult (coefficient_before coefficient (joined (others_in (opened ts))))
   pub rewrites : Rewrites (mult ts) new
 
+-- a coefficient times factors in the order of their bases, as it is written
+pub record IsWritten (c : Tree) (ts : Trees) (new : Tree) : Type 0 where
+  pub us : Trees
+  pub sorted : IsSorting 0 base_of ts us
+  pub is : new ≡ coefficient_times c us
+
+-- the coefficient of these factors where that is 0, and else the coefficient times the others
+pub record IsWrittenProduct (ts : Trees) (new : Tree) : Type 0 where
+  pub coefficient : Tree
+  pub is_coefficient : IsCoefficient coefficient (opened ts)
+  pub zero : is_zero coefficient ≡ true → new ≡ coefficient
+  pub written : is_zero coefficient ≡ false → IsWritten coefficient (others_in (opened ts)) new
+
 -- the reduced product of these factors
 pub record IsFinished (ts : Trees) (new : Tree) : Type 0 where
   pub reduces : Reduces (mult ts) new
   pub undefined : is_undef new ≡ has_undef ts
+  pub written : has_undef ts ≡ false → IsWrittenProduct ts new
   pub nest : nest new ≤ nest (mult ts)
   pub load : load new ≤ load (mult ts)
   pub number : are_numbers ts ≡ true → is_number new ≡ true
@@ -69,6 +84,7 @@ pub record AreOthers (ts : Trees) : Type 0 where
 -- a coefficient and factors whose bases differ, as a reduced tree
 pub record IsEnding (c : Tree) (ts : Trees) (new : Tree) : Type 0 where
   pub reduces : Reduces (mult (more c ts)) new
+  pub written : IsWritten c ts new
   pub defined : is_undef new ≡ false
   pub nest : nest new ≤ nest_of ts
   pub load : load new ≤ load_of_factors ts

@@ -1,16 +1,16 @@
 -- The factors of a product: products in it opened, its Numbers as one coefficient, and the others.
 use Rattle.std.specs.Prelude.{◌≡◌, true, if◌then◌else◌}
 use Rattle.calc_terms.specs.Numbers.{is_number, value}
-use Rattle.calc_terms.specs.Reduced.{is_num_one}
+use Rattle.calc_terms.specs.Reduced.{is_num_one, product_tree}
 use Rattle.calc_terms.specs.SquareClasses.{Same}
 use Rattle.calc_terms.specs.Surds.{Surd, surd_one, surd_times}
 use Rattle.calc_terms.specs.Trees.{Tree, Trees, none, more, append}
-use Rattle.coefficients.specs.Coefficients.{factors_of}
+use Rattle.coefficients.specs.Coefficients.{factors_of, with_coefficient}
+use Rattle.reduce_port.specs.Children.{opened_into}
 
 -- the factors of a product in a product stand in its place
 abbrev pub opened : Trees → Trees
-opened none = none
-opened (more t ts) = append (factors_of t) (opened ts)
+opened ts = opened_into factors_of ts
 
 -- the factors that are Numbers
 abbrev pub numbers_in : Trees → Trees
@@ -35,3 +35,8 @@ pub record IsCoefficient (c : Tree) (ts : Trees) : Type 0 where
 -- a coefficient before the other factors, as a product is written: 1 is left out, and one of a single class is spliced
 abbrev pub coefficient_before : Tree → Trees → Trees
 coefficient_before c ts = if is_num_one c then ts else append (factors_of c) ts
+
+-- a coefficient times other factors as one tree: it alone where there are none, and else as it is written before their product
+abbrev pub coefficient_times : Tree → Trees → Tree
+coefficient_times c none = c
+coefficient_times c (more t ts) = with_coefficient c (product_tree (more t ts))

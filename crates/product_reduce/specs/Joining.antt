@@ -1,5 +1,5 @@
 -- Factors with identical bases, joined.
-use Rattle.std.specs.Prelude.{ℕ, ◌≡◌, ◌<◌, Bool, true, false, if◌then◌else◌}
+use Rattle.std.specs.Prelude.{ℕ, ◌≡◌, ◌+◌, ◌<◌, Bool, true, false, if◌then◌else◌}
 use Rattle.std.specs.Ordering.{is_eq}
 use Rattle.calc_terms.specs.Reduced.{is_opaque_exponent, is_reduced, base_of, num_one}
 use Rattle.calc_terms.specs.TreeOrder.{tree_cmp}
@@ -74,3 +74,11 @@ pub record IsNearest (i j : ℕ) (ts : Trees) : Type 0 where
 pub record IsFirstPair (i j : ℕ) (ts : Trees) : Type 0 where
   pub pair : IsNearest i j ts
   pub first : (k : ℕ) → k < i → HasNoPartner k (count ts) ts
+
+-- the joint of the first pair of ts stands at a place among us: where the first of the pair stood, behind a coefficient
+pub record IsFirstJoint (at : ℕ) (ts us : Trees) : Type 0 where
+  pub first : ℕ
+  pub second : ℕ
+  pub pair : IsFirstPair first second ts
+  pub is : nth at us ≡ joint (nth first ts) (nth second ts)
+  pub place : at + count (joined ts) ≡ count us + first

@@ -1,9 +1,8 @@
 -- Factors in the order of their bases.
-use Rattle.std.specs.Prelude.{ℕ, IsPermutation, IsSortedByKey}
+use Rattle.std.specs.Prelude.{ℕ}
 use Rattle.calc_terms.specs.Reduced.{base_of}
-use Rattle.calc_terms.specs.TreeOrder.{tree_cmp}
 use Rattle.calc_terms.specs.Trees.{Trees}
-use Rattle.node_order.specs.Sorting.{list_of}
+use Rattle.node_order.specs.Sorting.{IsSorting}
 use Rattle.product_reduce.specs.Products.{Becomes, factors_in}
 use Rattle.tree_handles.specs.Forest.{Forest}
 
@@ -11,5 +10,4 @@ use Rattle.tree_handles.specs.Forest.{Forest}
 pub record SortsFactors (i : ℕ) (old new : Forest) : Type 0 where
   pub us : Trees
   pub becomes : Becomes i old new us
-  pub moved : IsPermutation (list_of (factors_in i old)) (list_of us)
-  pub rising : IsSortedByKey base_of tree_cmp (list_of us)
+  pub sorted : IsSorting 0 base_of (factors_in i old) us

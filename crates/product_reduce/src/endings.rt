@@ -1,11 +1,11 @@
-//! The last part of a step: Undef, a product with a pair joined, or a reduced tree.
+//! The last part of a step: a product with a pair joined, or a reduced tree.
 ghost use Rattle.std.specs.Prelude.{◌≡◌, ◌==◌, true, false, IfOk, IfErr, OnOk, [], ◌∷◌};
 ghost use Rattle.calc_terms.specs.Numbers.{is_number};
-ghost use Rattle.calc_terms.specs.Trees.{undef, mult, none};
+ghost use Rattle.calc_terms.specs.Trees.{mult, none};
 ghost use Rattle.number_forms.specs.Readers.{is_zero};
 ghost use Rattle.product_reduce.specs.Answers.{AreOthers, IsEnding, IsAlone};
 ghost use Rattle.product_reduce.specs.Factors.{coefficient_before};
-ghost use Rattle.product_reduce.specs.Joining.{IsFirstPair, IsJointAt, have_partners, joined};
+ghost use Rattle.product_reduce.specs.Joining.{IsFirstPair, IsFirstJoint, IsJointAt, have_partners, joined};
 ghost use Rattle.product_reduce.specs.Products.{IsProduct, factors_in};
 ghost use Rattle.reduce_port.specs.Causes.{IsCaused, LacksBytes};
 ghost use Rattle.reduce_port.specs.Children.{are_reduced};
@@ -20,27 +20,9 @@ use crate::factors::factor_count;
 use crate::fronting::put_in_front;
 use crate::joining::join_pair;
 use crate::sorting::sort_factors;
-use calc_terms::Kind;
 use coefficients::{put_coefficient, unwrapped};
 use node_pool::{Full, Pool};
-use tree_handles::{Handle, NumberFault, move_last, node, release};
-
-/// Undef in the place of a tree.
-#[tactic(auto, using(number_forms::proofs::Refused::lacks))]
-pub fn undefined(pool: &mut Pool, tree: Handle) -> Result<Handle, Full>
-    requires stands { Stands pool.old }
-    requires handed { IsHanded tree (forest pool.old) }
-    ensures ok { IfOk result (λ h. Gives (without_root tree (forest pool.old)) (forest pool.new) h (λ t. t ≡ undef)) }
-    ensures front { KeepsFront (tree ∷ []) (forest pool.old) (forest pool.new) }
-    ensures kept { OnOk result (KeepsRefusals pool.old pool.new) }
-    ensures full { IfErr result (Refuses pool.old pool.new) }
-    ensures caused { IfErr result (LacksBytes pool.new) }
-    ensures stands { Stands pool.new }
-{
-    release(pool, tree);
-    let undef = node(pool, Kind::Undef)?;
-    Ok(undef)
-}
+use tree_handles::{Handle, NumberFault, move_last, release};
 
 /// The first pair joined with the coefficient in front, and the place of the joint.
 pub fn joined(
@@ -60,6 +42,7 @@ pub fn joined(
     ensures ok { IfOk result (λ r. Gives (without_root product (without_root coefficient (forest pool.old))) (forest pool.new) r.0
         (λ t. t ≡ mult (coefficient_before (tree_of coefficient pool.old) (joined (factors_in product (forest pool.old)))))) }
     ensures place { IfOk result (λ r. IsJointAt r.1 (children_of (tree_of r.0 pool.new))) }
+    ensures of_first_pair { IfOk result (λ r. IsFirstJoint r.1 (factors_in product (forest pool.old)) (children_of (tree_of r.0 pool.new))) }
     ensures front { KeepsFront (product ∷ coefficient ∷ []) (forest pool.old) (forest pool.new) }
     ensures kept { OnOk result (KeepsRefusals pool.old pool.new) }
     ensures full { IfErr result (Refuses pool.old pool.new) }

@@ -1,8 +1,8 @@
 //! Worked examples of the definitions, each the contract of a function without a body.
 ghost use Rattle.std.specs.Prelude.{◌≡◌, pos, negsuc, false};
-ghost use Rattle.calc_terms.specs.Trees.{power, none, more, whole_num};
+ghost use Rattle.calc_terms.specs.Trees.{mult, power, none, more, whole_num};
 ghost use Rattle.calc_terms.specs.Examples.{x, y, z, ratio, root_of, two, three, sum, product};
-ghost use Rattle.product_reduce.specs.Factors.{opened, others_in, coefficient_before};
+ghost use Rattle.product_reduce.specs.Factors.{opened, others_in, coefficient_before, coefficient_times};
 ghost use Rattle.product_reduce.specs.Joining.{have_partners, joined};
 
 /// The first factor that has a partner is joined with the first of its partners.
@@ -23,6 +23,17 @@ pub fn coefficients_in_front()
         ≡ more (whole_num 2) (three (root_of 3) x y) }
     ensures two_classes { coefficient_before (sum (whole_num 1) (root_of 2)) (two x y)
         ≡ three (sum (whole_num 1) (root_of 2)) x y }
+{}
+
+/// A coefficient times other factors as one tree.
+pub fn coefficients_times_factors()
+    ensures alone { coefficient_times (whole_num 6) none ≡ whole_num 6 }
+    ensures one_is_left_out { coefficient_times (whole_num 1) (more x none) ≡ x }
+    ensures a_lone_factor { coefficient_times (whole_num 2) (more x none) ≡ product (whole_num 2) x }
+    ensures a_lone_sum { coefficient_times (whole_num 2) (more (sum x y) none) ≡ sum (product (whole_num 2) x) (product (whole_num 2) y) }
+    ensures two_sums { coefficient_times (whole_num 2) (two (sum (whole_num 1) x) (sum x y))
+        ≡ mult (three (whole_num 2) (sum (whole_num 1) x) (sum x y)) }
+    ensures a_root_before_a_sum { coefficient_times (root_of 2) (more (sum x y) none) ≡ product (root_of 2) (sum x y) }
 {}
 
 /// Products among the factors are opened, and their Numbers are none of the others.

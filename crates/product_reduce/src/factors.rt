@@ -1,8 +1,8 @@
 //! The factors of a product by their places; products among them are opened.
 ghost use Rattle.std.specs.Prelude.{◌≡◌, ◌<◌, true};
-ghost use Rattle.reduce_port.specs.Children.{has_undef};
-ghost use Rattle.calc_terms.specs.Trees.{count, is_mult, is_undef};
+ghost use Rattle.calc_terms.specs.Trees.{count, is_mult};
 ghost use Rattle.product_reduce.specs.Factors.{opened};
+ghost use Rattle.reduce_port.specs.Children.{has_undef};
 ghost use Rattle.product_reduce.specs.Products.{IsProduct, Becomes, factors_in};
 ghost use Rattle.tree_handles.specs.Expressions.{IsExpression, plain, nth};
 ghost use Rattle.tree_handles.specs.Inside.{tree_at};
@@ -10,6 +10,7 @@ ghost use Rattle.tree_handles.specs.Standing.{Stands, forest, KeepsRefusals};
 
 use calc_terms::Kind;
 use node_pool::{Id, Pool};
+use reduce_port::has_undefined_child;
 use tree_handles::{Handle, child_id, children, kind, merge_children};
 
 /// How many factors a product has.
@@ -32,14 +33,6 @@ pub fn factor(pool: &Pool, product: &Handle, at: u16) -> Id
     child_id(pool, product.id(), at)
 }
 
-fn is_undef(pool: &Pool, id: Id) -> bool
-    requires stands { Stands pool.now }
-    requires expression { IsExpression id (forest pool.now) }
-    ensures { result ≡ is_undef (plain (tree_at id (forest pool.now))) }
-{
-    matches!(kind(pool, id), Kind::Undef)
-}
-
 pub fn is_product(pool: &Pool, id: Id) -> bool
     requires stands { Stands pool.now }
     requires expression { IsExpression id (forest pool.now) }
@@ -54,12 +47,7 @@ pub fn has_undef_factor(pool: &Pool, product: &Handle) -> bool
     requires product { IsProduct product.now (forest pool.now) (factors_in product.now (forest pool.now)) }
     ensures { result ≡ has_undef (factors_in product.now (forest pool.now)) }
 {
-    for at in 0..factor_count(pool, product) {
-        if is_undef(pool, factor(pool, product, at)) {
-            return true;
-        }
-    }
-    false
+    has_undefined_child(pool, product.id())
 }
 
 /// The factors of each factor that is a product take its place.

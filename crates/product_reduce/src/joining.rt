@@ -13,10 +13,11 @@ ghost use Rattle.tree_handles.specs.Handed.{IsHanded, Gives, KeepsFront};
 ghost use Rattle.tree_handles.specs.Roots.{without_root};
 ghost use Rattle.tree_handles.specs.Standing.{Stands, forest, KeepsRefusals, Refuses};
 
-use crate::nodes::{one, over_two};
+use crate::nodes::one;
 use crate::partners::is_transparent_power;
 use calc_terms::Kind;
 use node_pool::{Full, Pool};
+use reduce_port::over_two;
 use tree_handles::{Handle, add_child, release, take_child};
 
 /// A factor as its base and its exponent, which is 1 where none is written.

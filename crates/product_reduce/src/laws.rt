@@ -1,11 +1,11 @@
-//! Laws of two factors joined, each the contract of a function without a body.
+//! Laws of products finished and of two factors joined, each the contract of a function without a body.
 ghost use Rattle.std.specs.Prelude.{ℕ, ◌≡◌, ◌≤◌, ◌<◌, ◌+◌, true, false};
 ghost use Rattle.calc_terms.specs.Loads.{nest, nest_of, load, load_of_factors, weight};
 ghost use Rattle.calc_terms.specs.Reduced.{is_reduced, base_of};
 ghost use Rattle.calc_terms.specs.Trees.{Tree, add, mult, Trees, none, more, count};
 ghost use Rattle.number_forms.specs.Sums.{removed};
-ghost use Rattle.product_reduce.specs.Answers.{IsJoined};
-ghost use Rattle.product_reduce.specs.Joining.{exponent_of, joint};
+ghost use Rattle.product_reduce.specs.Answers.{IsJoined, IsWritten};
+ghost use Rattle.product_reduce.specs.Joining.{exponent_of, have_partners, joint};
 ghost use Rattle.reduce_port.specs.Children.{are_numbers, are_reduced};
 ghost use Rattle.tree_handles.specs.Expressions.{nth, children_of};
 
@@ -32,4 +32,9 @@ pub fn joints_lower_the_load()
     ensures { (ts : Trees) (t a b : Tree) (at : ℕ) → are_reduced ts ≡ true → IsJoined ts t → at < count (children_of t)
         → nth at (children_of t) ≡ joint a b
         → load_of_factors (removed at (children_of t)) + (1 + weight (base_of a)) < load (mult ts) }
+{}
+
+/// A coefficient times factors, no two of which have identical bases, is written as one tree only.
+pub fn products_are_written_once()
+    ensures { (c t u : Tree) (ts : Trees) → have_partners ts ≡ false → IsWritten c ts t → IsWritten c ts u → t ≡ u }
 {}

@@ -4,7 +4,8 @@ ghost use Rattle.calc_terms.specs.Numbers.{is_number};
 ghost use Rattle.calc_terms.specs.PlainValues.{plain_value};
 ghost use Rattle.calc_terms.specs.Trees.{count, is_mult, none};
 ghost use Rattle.product_reduce.specs.Answers.{AreOthers, IfFinished, IfJoined, IsFinished, IsJoined, IsStop, IsRejoined, IsAnswered, AnswersRationalFactors};
-ghost use Rattle.product_reduce.specs.Joining.{IsJointAt};
+ghost use Rattle.product_reduce.specs.Factors.{opened, others_in};
+ghost use Rattle.product_reduce.specs.Joining.{IsFirstJoint, IsJointAt};
 ghost use Rattle.product_reduce.specs.Products.{IsProduct, factors_in};
 ghost use Rattle.reduce_port.specs.Causes.{IsCaused};
 ghost use Rattle.reduce_port.specs.Children.{are_reduced, are_rationals};
@@ -16,13 +17,13 @@ ghost use Rattle.tree_handles.specs.Handed.{IsHanded, Gives, KeepsFront};
 ghost use Rattle.tree_handles.specs.Roots.{without_root};
 ghost use Rattle.tree_handles.specs.Standing.{Stands, forest, KeepsRefusals};
 
-use crate::endings::{joined, sorted, undefined};
+use crate::endings::{joined, sorted};
 use crate::factors::{has_undef_factor, open_products};
 use crate::numbers::take_coefficient;
 use crate::partners::first_pair;
 use node_pool::Pool;
 use number_forms::is_zero;
-use reduce_port::Step;
+use reduce_port::{Step, undefined};
 use tree_handles::{Handle, NumberFault, move_last, release};
 
 /// What a step on a product made of it.
@@ -73,6 +74,8 @@ pub fn joining_step(pool: &mut Pool, product: Handle) -> Result<Joining, NumberF
     ensures joined { IfOk result (λ s. IfJoined s (λ h _. Gives (without_root product (forest pool.old)) (forest pool.new) h
         (IsJoined (children_of (tree_of product pool.old))))) }
     ensures place { IfOk result (λ s. IfJoined s (λ h at. IsJointAt at (children_of (tree_of h pool.new)))) }
+    ensures of_first_pair { IfOk result (λ s. IfJoined s (λ h at.
+        IsFirstJoint at (others_in (opened (children_of (tree_of product pool.old)))) (children_of (tree_of h pool.new)))) }
     ensures rationals { are_rationals (children_of (tree_of product pool.old)) ≡ true
         → AnswersRationalFactors (plain_value (tree_of product pool.old)) pool.new result }
     ensures front { KeepsFront (product ∷ []) (forest pool.old) (forest pool.new) }
@@ -82,7 +85,7 @@ pub fn joining_step(pool: &mut Pool, product: Handle) -> Result<Joining, NumberF
     ensures stands { Stands pool.new }
 {
     if has_undef_factor(pool, &product) {
-        return Ok(Joining::Done(undefined(pool, product)?));
+        return Ok(Joining::Done(undefined(pool, product)));
     }
     open_products(pool, &product);
     let coefficient = take_coefficient(pool, &product)?;
@@ -106,6 +109,7 @@ fn join_or_end(
     ensures joined { IfOk result (λ s. IfJoined s (λ h _. Gives (without_root product (without_root coefficient (forest pool.old))) (forest pool.new) h
         (IsRejoined (tree_of coefficient pool.old) (factors_in product (forest pool.old))))) }
     ensures place { IfOk result (λ s. IfJoined s (λ h at. IsJointAt at (children_of (tree_of h pool.new)))) }
+    ensures of_first_pair { IfOk result (λ s. IfJoined s (λ h at. IsFirstJoint at (factors_in product (forest pool.old)) (children_of (tree_of h pool.new)))) }
     ensures alone { factors_in product (forest pool.old) ≡ none → IsAnswered (tree_of coefficient pool.old) pool.new result }
     ensures front { KeepsFront (product ∷ coefficient ∷ []) (forest pool.old) (forest pool.new) }
     ensures kept { OnOk result (KeepsRefusals pool.old pool.new) }

@@ -74,17 +74,17 @@ returns-then-is_undefined-clause-front c =
     let m = c.in_ok-factor.ensures.ok in
     gone_front s m (c.release.ensures.owned (owned (left_beside s m).handed))
 
-pub pair-requires-clause-first : goal.pair-requires-clause-first
-pair-requires-clause-first c = (left_beside c.take_sides-dividend.ensures.sides c.in_ok-factor.ensures.ok).handed
+pub over_two-requires-clause-first : goal.over_two-requires-clause-first
+over_two-requires-clause-first c = (left_beside c.take_sides-dividend.ensures.sides c.in_ok-factor.ensures.ok).handed
 
-pub pair-requires-clause-second : goal.pair-requires-clause-second
-pair-requires-clause-second c = given_handed c.in_ok-factor.ensures.ok
+pub over_two-requires-clause-second : goal.over_two-requires-clause-second
+over_two-requires-clause-second c = given_handed c.in_ok-factor.ensures.ok
 
-pub pair-requires-clause-apart : goal.pair-requires-clause-apart
-pair-requires-clause-apart c = (left_beside c.take_sides-dividend.ensures.sides c.in_ok-factor.ensures.ok).apart
+pub over_two-requires-clause-apart : goal.over_two-requires-clause-apart
+over_two-requires-clause-apart c = (left_beside c.take_sides-dividend.ensures.sides c.in_ok-factor.ensures.ok).apart
 
 pub returns-in_err-product-clause-front : goal.returns-in_err-product-clause-front
-returns-in_err-product-clause-front c = paired_front c.take_sides-dividend.ensures.sides c.inverse.ensures.front c.in_ok-factor.ensures.ok c.pair.ensures.front
+returns-in_err-product-clause-front c = paired_front c.take_sides-dividend.ensures.sides c.inverse.ensures.front c.in_ok-factor.ensures.ok c.over_two.ensures.front
 
 pub multiply-requires-clause-handed : goal.multiply-requires-clause-handed
 multiply-requires-clause-handed c = given_handed c.in_ok-product.ensures.ok
@@ -158,4 +158,4 @@ pub returns-clause-front : goal.returns-clause-front
 returns-clause-front c =
     let s = c.take_sides-dividend.ensures.sides in
     let m = c.in_ok-factor.ensures.ok in
-    reduced_front (paired_front s c.inverse.ensures.front m c.pair.ensures.front) c.in_ok-product.ensures.ok (left_beside s m).rest c.multiply.ensures.front
+    reduced_front (paired_front s c.inverse.ensures.front m c.over_two.ensures.front) c.in_ok-product.ensures.ok (left_beside s m).rest c.multiply.ensures.front

@@ -18,19 +18,19 @@ use Rattle.deep_reduce.proofs.differences.minus.Goals as goal
 pub returns-in_err-minus_one-clause-front : goal.returns-in_err-minus_one-clause-front
 returns-in_err-minus_one-clause-front c = front_after front_same c.number.ensures.front
 
-pub pair-requires-clause-first : goal.pair-requires-clause-first
-pair-requires-clause-first c = given_handed c.in_ok-minus_one.ensures.given
+pub over_two-requires-clause-first : goal.over_two-requires-clause-first
+over_two-requires-clause-first c = given_handed c.in_ok-minus_one.ensures.given
 
-pub pair-requires-clause-second : goal.pair-requires-clause-second
-pair-requires-clause-second c = given_other c.in_ok-minus_one.ensures.given c.requires.handed
+pub over_two-requires-clause-second : goal.over_two-requires-clause-second
+over_two-requires-clause-second c = given_other c.in_ok-minus_one.ensures.given c.requires.handed
 
-pub pair-requires-clause-apart : goal.pair-requires-clause-apart
-pair-requires-clause-apart c = apart_first c.in_ok-minus_one.ensures.given c.requires.handed
+pub over_two-requires-clause-apart : goal.over_two-requires-clause-apart
+over_two-requires-clause-apart c = apart_first c.in_ok-minus_one.ensures.given c.requires.handed
 
 pub returns-in_err-product-clause-front : goal.returns-in_err-product-clause-front
 returns-in_err-product-clause-front c =
     let n = c.in_ok-minus_one.ensures.given in
-    front_after_two (behind_new n.ends front_same) behind_first (front_end n.ends front_same) c.pair.ensures.front
+    front_after_two (behind_new n.ends front_same) behind_first (front_end n.ends front_same) c.over_two.ensures.front
 
 pub multiply-requires-clause-handed : goal.multiply-requires-clause-handed
 multiply-requires-clause-handed c = given_handed c.in_ok-product.ensures.ok
@@ -69,5 +69,5 @@ returns-clause-overflow c =
 pub returns-clause-front : goal.returns-clause-front
 returns-clause-front c =
     let n = c.in_ok-minus_one.ensures.given in
-    let paired = front_after_two (behind_new n.ends front_same) behind_first (front_end n.ends front_same) c.pair.ensures.front in
+    let paired = front_after_two (behind_new n.ends front_same) behind_first (front_end n.ends front_same) c.over_two.ensures.front in
     reduced_front paired c.in_ok-product.ensures.ok (ap (without_root c.args.argument) (given_rest n)) c.multiply.ensures.front

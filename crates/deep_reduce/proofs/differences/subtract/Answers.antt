@@ -71,17 +71,17 @@ returns-then-is_undefined-clause-front c =
     let m = c.in_ok-term.ensures.ok in
     gone_front s m (c.release.ensures.owned (owned (left_beside s m).handed))
 
-pub pair-requires-clause-first : goal.pair-requires-clause-first
-pair-requires-clause-first c = (left_beside c.take_sides-left.ensures.sides c.in_ok-term.ensures.ok).handed
+pub over_two-requires-clause-first : goal.over_two-requires-clause-first
+over_two-requires-clause-first c = (left_beside c.take_sides-left.ensures.sides c.in_ok-term.ensures.ok).handed
 
-pub pair-requires-clause-second : goal.pair-requires-clause-second
-pair-requires-clause-second c = given_handed c.in_ok-term.ensures.ok
+pub over_two-requires-clause-second : goal.over_two-requires-clause-second
+over_two-requires-clause-second c = given_handed c.in_ok-term.ensures.ok
 
-pub pair-requires-clause-apart : goal.pair-requires-clause-apart
-pair-requires-clause-apart c = (left_beside c.take_sides-left.ensures.sides c.in_ok-term.ensures.ok).apart
+pub over_two-requires-clause-apart : goal.over_two-requires-clause-apart
+over_two-requires-clause-apart c = (left_beside c.take_sides-left.ensures.sides c.in_ok-term.ensures.ok).apart
 
 pub returns-in_err-sum-clause-front : goal.returns-in_err-sum-clause-front
-returns-in_err-sum-clause-front c = paired_front c.take_sides-left.ensures.sides c.minus.ensures.front c.in_ok-term.ensures.ok c.pair.ensures.front
+returns-in_err-sum-clause-front c = paired_front c.take_sides-left.ensures.sides c.minus.ensures.front c.in_ok-term.ensures.ok c.over_two.ensures.front
 
 pub add_up-requires-clause-handed : goal.add_up-requires-clause-handed
 add_up-requires-clause-handed c = given_handed c.in_ok-sum.ensures.ok
@@ -149,4 +149,4 @@ pub returns-clause-front : goal.returns-clause-front
 returns-clause-front c =
     let s = c.take_sides-left.ensures.sides in
     let m = c.in_ok-term.ensures.ok in
-    reduced_front (paired_front s c.minus.ensures.front m c.pair.ensures.front) c.in_ok-sum.ensures.ok (left_beside s m).rest c.add_up.ensures.front
+    reduced_front (paired_front s c.minus.ensures.front m c.over_two.ensures.front) c.in_ok-sum.ensures.ok (left_beside s m).rest c.add_up.ensures.front

@@ -14,25 +14,25 @@ use Rattle.deep_reduce.proofs.Results.{answered, answer_as, overflowed, overflow
 use Rattle.deep_reduce.proofs.Steps.{undefined_answer}
 use Rattle.deep_reduce.proofs.Told.{sum_kind, product_kind, power_kind, root_kind_is, neg_kind, sub_kind, div_kind, power_told, power_sides, power_reduced, root_told, root_overflow, argument_reduced, leaf_told}
 use Rattle.deep_reduce.proofs.nodes.reduce_node.Goals as goal
-use Rattle.deep_reduce.proofs.nodes.reduce_node.Goals.{After-kind, After-has_undefined}
+use Rattle.deep_reduce.proofs.nodes.reduce_node.Goals.{After-kind, After-has_undefined_child}
 
 -- what the readers tell
-has-is : (c : After-has_undefined) → c.has_undefined.result ≡ has_undef (children_of (tree_of c.args.tree c.args.pool.now))
-has-is c = c.has_undefined.ensures ∙ ap (λ (t : Tree). has_undef (children_of t)) (seen c.id.ensures c.requires.stands c.requires.handed)
+has-is : (c : After-has_undefined_child) → c.has_undefined_child.result ≡ has_undef (children_of (tree_of c.args.tree c.args.pool.now))
+has-is c = c.has_undefined_child.ensures ∙ ap (λ (t : Tree). has_undef (children_of t)) (seen c.id.ensures c.requires.stands c.requires.handed)
 
 kind-is : (c : After-kind) → c.kind.result ≡ root_kind (tree_of c.args.tree c.args.pool.now)
 kind-is c = kind_of_root c.id-2.ensures c.requires.stands c.requires.handed c.kind.ensures.plain
 
 defined : (c : After-kind) → has_undef (children_of (tree_of c.args.tree c.args.pool.now)) ≡ false
-defined c = sym (c.has_undefined.ensures ∙ ap (λ (t : Tree). has_undef (children_of t)) (seen c.id.ensures c.requires.stands c.requires.handed)) ∙ c.if-has_undefined.false
+defined c = sym (c.has_undefined_child.ensures ∙ ap (λ (t : Tree). has_undef (children_of t)) (seen c.id.ensures c.requires.stands c.requires.handed)) ∙ c.if-has_undefined_child.false
 
-pub has_undefined-requires-clause-expression : goal.has_undefined-requires-clause-expression
-has_undefined-requires-clause-expression c = expression c.id.ensures c.requires.stands c.requires.handed
+pub has_undefined_child-requires-clause-expression : goal.has_undefined_child-requires-clause-expression
+has_undefined_child-requires-clause-expression c = expression c.id.ensures c.requires.stands c.requires.handed
 
-pub returns-then-has_undefined-clause-ok : goal.returns-then-has_undefined-clause-ok
-returns-then-has_undefined-clause-ok c =
+pub returns-then-has_undefined_child-clause-ok : goal.returns-then-has_undefined_child-clause-ok
+returns-then-has_undefined_child-clause-ok c =
     let t : Tree = tree_of c.args.tree c.args.pool.now in
-    let some = sym (has-is (goal.at.returns-then-has_undefined-clause-ok c).After-has_undefined) ∙ c.if-has_undefined.true in
+    let some = sym (has-is (goal.at.returns-then-has_undefined_child-clause-ok c).After-has_undefined_child) ∙ c.if-has_undefined_child.true in
     gives_as c.undefined.ensures.gives refl (λ u e. subst (IsNodeAnswer t) (sym e) (undefined_answer t some))
 
 pub kind-requires-clause-live : goal.kind-requires-clause-live

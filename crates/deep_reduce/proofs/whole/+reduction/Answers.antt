@@ -32,6 +32,11 @@ use Rattle.deep_reduce.proofs.whole.+reduction.Goals as goal
 pub reduce_product-returns-in-Done-clause-ok : goal.reduce_product-returns-in-Done-clause-ok
 reduce_product-returns-in-Done-clause-ok t c = gives_as (is_finished c.args.product c.args.pool.now c.joining_step.new.pool c.in-Done.is c.in_ok-answer.ensures.done) refl (λ u f. product_finished _ u f)
 
+pub reduce_product-returns-in-Done-clause-written : goal.reduce_product-returns-in-Done-clause-written
+reduce_product-returns-in-Done-clause-written t c = λ d n.
+    let f = given_told (is_finished c.args.product c.args.pool.now c.joining_step.new.pool c.in-Done.is c.in_ok-answer.ensures.done) in
+    f.written d
+
 pub reduce_product-reduce_joint-requires : goal.reduce_product-reduce_joint-requires
 reduce_product-reduce_joint-requires t c =
     let g = is_joined c.args.product c.args.pool.now c.joining_step.new.pool c.in-Joined.is c.in_ok-answer.ensures.joined in
@@ -54,6 +59,11 @@ reduce_product-returns-in_ok-settled-in-Joined-clause-ok t c =
     let j = given_told (is_joined c.args.product c.args.pool.now c.joining_step.new.pool c.in-Joined.is c.in_ok-answer.ensures.joined) in
     let l = settled_less _ _ _ _ c.requires.reduced j (is_at c.args.product c.args.pool.now c.joining_step.new.pool c.in-Joined.is c.in_ok-answer.ensures.place) (given_told g) in
     if_map c.reduce_product.result _ _ c.reduce_product.ensures.ok (λ h x. gives_next (gives_next (is_joined c.args.product c.args.pool.now c.joining_step.new.pool c.in-Joined.is c.in_ok-answer.ensures.joined) g (λ u y. y)) x (λ r a. product_after _ _ _ r j l a))
+
+pub reduce_product-returns-in_ok-settled-in-Joined-clause-written : goal.reduce_product-returns-in_ok-settled-in-Joined-clause-written
+reduce_product-returns-in_ok-settled-in-Joined-clause-written t c =
+    let j = given_told (is_joined c.args.product c.args.pool.now c.joining_step.new.pool c.in-Joined.is c.in_ok-answer.ensures.joined) in
+    if_map c.reduce_product.result _ _ c.reduce_product.ensures.written (λ h x d n. absurd (n j.coefficient j.joinable))
 
 pub reduce_product-returns-in_ok-settled-in-Joined-clause-front : goal.reduce_product-returns-in_ok-settled-in-Joined-clause-front
 reduce_product-returns-in_ok-settled-in-Joined-clause-front t c =

@@ -1,4 +1,4 @@
-use Rattle.std.proofs.Common.{◌≡◌, ◌≤◌, ◌<◌, ◌+◌, ◌-◌, ◌∙◌, ap, sym, refl, false, subst, arith}
+use Rattle.std.proofs.Common.{◌≡◌, ◌≤◌, ◌<◌, ◌+◌, ◌-◌, ◌∙◌, ap, sym, refl, subst, arith}
 use Rattle.calc_terms.specs.Trees.{Tree, Trees, mult, count}
 use Rattle.reduce_port.specs.Rewritings.{tree_of}
 use Rattle.tree_handles.specs.Expressions.{plain, children_of}
@@ -11,13 +11,14 @@ use Rattle.tree_handles.proofs.Lasts.{ends_as, last_tree}
 use Rattle.tree_handles.proofs.Roots.{without-swap}
 use Rattle.tree_handles.proofs.Outcomes.{eqb-sym}
 use Rattle.product_reduce.specs.Factors.{coefficient_before}
-use Rattle.product_reduce.specs.Joining.{joined, IsJointAt}
+use Rattle.product_reduce.specs.Joining.{joined, IsFirstJoint, IsJointAt}
 use Rattle.product_reduce.specs.Products.{factors_in}
 use Rattle.product_reduce.proofs.Beside.{beside_becomes, tree_becomes}
 use Rattle.product_reduce.proofs.Products.{factors_are, product_at}
-use Rattle.product_reduce.proofs.JointPlaces.{joint_at, joined_count, count_before}
+use Rattle.product_reduce.proofs.JointPlaces.{joint_at, first_joint_at, joined_count, count_before}
 use Rattle.product_reduce.proofs.Readied.{factors_before}
 use Rattle.product_reduce.proofs.endings.joined.Goals as goal
+use Rattle.product_reduce.proofs.endings.joined.Goals.{After-move_last}
 
 pub returns-in_err-join_pair-clause-front : goal.returns-in_err-join_pair-clause-front
 returns-in_err-join_pair-clause-front c = front_after_one behind_first front_same c.join_pair.ensures.front
@@ -76,8 +77,14 @@ overflow_add-result c =
     let inside : c.args.first < count (joined us) = joined_count c.args.first c.args.second us c.requires.pair in
     omega (arith, c.factor_count-joined.ensures, c.factor_count.ensures, n, m, least, inside)
 
-pub returns-clause-place : goal.returns-clause-place
-returns-clause-place c =
+-- the joint's place, counted from the end of the factors, and the factors
+pub record IsPlaced (c : After-move_last) : Type 0 where
+  pub factors : children_of (tree_of c.args.product c.move_last.new.pool) ≡ coefficient_before (tree_of c.args.coefficient c.args.pool.now) (joined (factors_in c.args.product (forest c.args.pool.now)))
+  pub place : c.factor_count.result - c.factor_count-joined.result + c.args.first + count (joined (factors_in c.args.product (forest c.args.pool.now)))
+      ≡ count (coefficient_before (tree_of c.args.coefficient c.args.pool.now) (joined (factors_in c.args.product (forest c.args.pool.now)))) + c.args.first
+
+placed : (c : After-move_last) → IsPlaced c
+placed c =
     let us = factors_in c.args.product (forest c.args.pool.now) in
     let k = tree_of c.args.coefficient c.args.pool.now in
     let joints : factors_in c.args.product (forest c.join_pair.new.pool) ≡ joined us = factors_are c.in_ok-join_pair.ensures.ok.product in
@@ -85,7 +92,21 @@ returns-clause-place c =
     let n : count (factors_in c.args.product (forest c.join_pair.new.pool)) ≡ count (joined us) = ap count joints in
     let m : count (factors_in c.args.product (forest c.put_in_front.new.pool)) ≡ count (coefficient_before k (joined us)) = ap count before in
     let least : count (joined us) ≤ count (coefficient_before k (joined us)) = count_before k (joined us) in
-    let last : children_of (tree_of c.args.product c.move_last.new.pool) ≡ coefficient_before k (joined us) = ap (λ (t : Forest). children_of (plain t)) (last_tree c.move_last.ensures.last) ∙ before in
+    record {
+      factors = ap (λ (t : Forest). children_of (plain t)) (last_tree c.move_last.ensures.last) ∙ before;
+      place = omega (arith, c.factor_count-joined.ensures, c.factor_count.ensures, n, m, least);
+    }
+
+pub returns-clause-place : goal.returns-clause-place
+returns-clause-place c =
+    let us = factors_in c.args.product (forest c.args.pool.now) in
     let at = c.factor_count.result - c.factor_count-joined.result + c.args.first in
-    let behind : at + count (joined us) ≡ count (coefficient_before k (joined us)) + c.args.first = omega (arith, c.factor_count-joined.ensures, c.factor_count.ensures, n, m, least) in
-    subst (λ (ts : Trees). IsJointAt at ts) (sym last) (joint_at c.args.first c.args.second at k us c.requires.number c.requires.reduced c.requires.pair behind)
+    let p = placed (goal.at.returns-clause-place c).After-move_last in
+    subst (λ (ts : Trees). IsJointAt at ts) (sym p.factors) (joint_at c.args.first c.args.second at (tree_of c.args.coefficient c.args.pool.now) us c.requires.number c.requires.reduced c.requires.pair p.place)
+
+pub returns-clause-of_first_pair : goal.returns-clause-of_first_pair
+returns-clause-of_first_pair c =
+    let us = factors_in c.args.product (forest c.args.pool.now) in
+    let at = c.factor_count.result - c.factor_count-joined.result + c.args.first in
+    let p = placed (goal.at.returns-clause-of_first_pair c).After-move_last in
+    subst (λ (ts : Trees). IsFirstJoint at us ts) (sym p.factors) (first_joint_at c.args.first c.args.second at (tree_of c.args.coefficient c.args.pool.now) us c.requires.pair p.place)

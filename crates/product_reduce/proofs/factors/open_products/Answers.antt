@@ -3,14 +3,15 @@ use Rattle.calc_terms.specs.Trees.{is_mult}
 use Rattle.tree_handles.specs.Standing.{forest}
 use Rattle.tree_handles.proofs.Forests.{keeps_none, keeps_after}
 use Rattle.product_reduce.specs.Products.{factors_in}
-use Rattle.product_reduce.proofs.Places.{opened_from_end}
+use Rattle.coefficients.specs.Coefficients.{factors_of}
+use Rattle.coefficients.proofs.Openings.{opened_from_end}
 use Rattle.product_reduce.proofs.Products.{becomes_same, becomes_as, factors_are, product_at, product_within, product_once, opened_factor, opened_more, opened_still}
 use Rattle.product_reduce.proofs.factors.open_products.Goals as goal
 
 pub loop-at-init : goal.loop-at-init
 loop-at-init c = record {
   few = omega (arith, c.factor_count-at.ensures);
-  opened = becomes_as (becomes_same c.requires.product) (sym (opened_from_end c.factor_count-at.result (factors_in c.args.product.now (forest c.args.pool.now)) (omega (arith, c.factor_count-at.ensures))));
+  opened = becomes_as (becomes_same c.requires.product) (sym (opened_from_end factors_of c.factor_count-at.result (factors_in c.args.product.now (forest c.args.pool.now)) (omega (arith, c.factor_count-at.ensures))));
   kept = keeps_none c.args.pool.now;
   stands = c.requires.stands;
 }

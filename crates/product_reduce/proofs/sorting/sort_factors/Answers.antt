@@ -1,8 +1,7 @@
-use Rattle.std.proofs.Common.{ℕ, ◌<◌, ◌≤◌, ◌≡◌, ap, ◌∙◌, subst, refl}
-use Rattle.std.specs.Prelude.{IsPermutation}
-use Rattle.calc_terms.specs.Reduced.{is_reduced}
+use Rattle.std.proofs.Common.{◌<◌, ap, ◌∙◌, subst, refl}
+use Rattle.calc_terms.specs.Reduced.{is_reduced, base_of}
 use Rattle.calc_terms.specs.Trees.{Trees, count}
-use Rattle.node_order.specs.Sorting.{list_of}
+use Rattle.node_order.specs.Sorting.{IsSorting}
 use Rattle.tree_handles.specs.Expressions.{nth, plains}
 use Rattle.tree_handles.specs.Standing.{forest}
 use Rattle.product_reduce.specs.Products.{factors_in}
@@ -22,6 +21,5 @@ returns-clause-sorts c =
     record {
       us = plains x.children;
       becomes = becomes_put c.requires.product (record { once = x.once; whole = x.expressions; plain_trees = refl }) x.whole;
-      moved = subst (λ (ts : Trees). IsPermutation (list_of ts) (list_of (plains x.children))) e x.sorted.moved;
-      rising = x.sorted.rising;
+      sorted = subst (λ (ts : Trees). IsSorting 0 base_of ts (plains x.children)) e x.sorted;
     }

@@ -1,18 +1,20 @@
-use Rattle.std.proofs.Common.{◌≡◌, ◌≤◌, ◌∙◌, Err, ap, sym, refl, subst, arith, true, false}
+use Rattle.std.proofs.Common.{◌≡◌, ◌≤◌, ◌∙◌, Err, ap, sym, refl, subst, true, false}
 use Rattle.calc_terms.specs.PlainValues.{PlainValue, plain_value}
-use Rattle.calc_terms.specs.Trees.{Tree, Trees, mult, count}
+use Rattle.calc_terms.specs.Trees.{Trees, mult, count}
 use Rattle.number_forms.specs.Answers.{AnswersRationals}
-use Rattle.reduce_port.specs.Children.{are_reduced, are_rationals, has_undef}
+use Rattle.reduce_port.specs.Children.{are_reduced, are_rationals}
 use Rattle.reduce_port.specs.PlainTrees.{IsPlainAnswer}
 use Rattle.reduce_port.specs.Rewritings.{tree_of}
+use Rattle.tree_handles.specs.Expressions.{children_of}
 use Rattle.tree_handles.specs.Standing.{forest}
 use Rattle.tree_handles.proofs.Fronts.{behind_first, front_after_one}
 use Rattle.tree_handles.proofs.Given.{gives_as}
 use Rattle.product_reduce.specs.Answers.{AreOthers, IsFinished}
-use Rattle.product_reduce.specs.Factors.{IsCoefficient, opened}
+use Rattle.product_reduce.specs.Factors.{IsCoefficient}
+use Rattle.product_reduce.specs.Joining.{IsFirstJoint}
 use Rattle.product_reduce.specs.Products.{factors_in}
 use Rattle.product_reduce.proofs.Finished.{reduced_opened, undef_finished, rationals_defined}
-use Rattle.product_reduce.proofs.Products.{product_at, factors_are}
+use Rattle.product_reduce.proofs.Products.{factors_are}
 use Rattle.product_reduce.proofs.Stepped.{handed_product, others_are, parted, finished_map, joined_map, stop_given, rejoin_given, answered, refused_as, opened_value, none_beside}
 use Rattle.product_reduce.proofs.steps.joining_step.Goals as goal
 
@@ -58,6 +60,12 @@ returns-clause-joined c =
     joined_map c.join_or_end.result c.join_or_end.ensures.joined
     (λ h at x. rejoin_given c.args.product c.in_ok-coefficient.coefficient h (factors_in c.args.product (forest c.args.pool.now)) _ _ _ d p k x)
 
+pub returns-clause-of_first_pair : goal.returns-clause-of_first_pair
+returns-clause-of_first_pair c =
+    let p = parted c.args.product c.in_ok-coefficient.coefficient (factors_in c.args.product (forest c.args.pool.now)) _ _ _ c.open_products.ensures.opened c.in_ok-coefficient.ensures.taken in
+    joined_map c.join_or_end.result c.join_or_end.ensures.of_first_pair
+    (λ h at x. subst (λ (ts : Trees). IsFirstJoint at ts (children_of (tree_of h c.join_or_end.new.pool))) p.factors x)
+
 pub returns-clause-rationals : goal.returns-clause-rationals
 returns-clause-rationals c = λ r.
     let b = c.open_products.ensures.opened in
@@ -84,13 +92,10 @@ pub returns-then-has_undef_factor-clause-done : goal.returns-then-has_undef_fact
 returns-then-has_undef_factor-clause-done c =
     let ts = factors_in c.args.product (forest c.args.pool.now) in
     let h = undef_finished ts (sym c.has_undef_factor.ensures ∙ c.if-has_undef_factor.true) in
-    gives_as c.in_ok-undefined.ensures.ok refl (λ t e. subst (IsFinished ts) (sym e) h)
+    gives_as c.undefined.ensures.gives refl (λ t e. subst (IsFinished ts) (sym e) h)
 
 pub returns-then-has_undef_factor-clause-rationals : goal.returns-then-has_undef_factor-clause-rationals
 returns-then-has_undef_factor-clause-rationals c = λ r. absurd (clash (sym c.if-has_undef_factor.true ∙ c.has_undef_factor.ensures ∙ rationals_defined (factors_in c.args.product (forest c.args.pool.now)) r))
-
-pub returns-in_err-undefined-clause-rationals : goal.returns-in_err-undefined-clause-rationals
-returns-in_err-undefined-clause-rationals c = λ r. absurd (clash (sym c.if-has_undef_factor.true ∙ c.has_undef_factor.ensures ∙ rationals_defined (factors_in c.args.product (forest c.args.pool.now)) r))
 
 -- ---- Numbers that do not fit
 
@@ -103,4 +108,4 @@ returns-in_err-coefficient-clause-rationals c = λ r.
     let told : AnswersRationals (plain_value (tree_of c.args.product c.args.pool.now)) c.take_coefficient.new.pool (Err fault) =
     subst (λ (v : PlainValue). AnswersRationals v c.take_coefficient.new.pool (Err fault)) value
     (c.in_err-coefficient.ensures.rationals (ap are_rationals same ∙ r) (subst (λ (us : Trees). 1 ≤ count us) (sym same) c.requires.some)) in
-    refused_as (plain_value (tree_of c.args.product c.args.pool.now)) c.take_coefficient.new.pool c.from_residual-in_err-coefficient.result fault c.from_residual-in_err-coefficient.ensures.1 told
+    refused_as (plain_value (tree_of c.args.product c.args.pool.now)) c.take_coefficient.new.pool c.from_residual.result fault c.from_residual.ensures.1 told

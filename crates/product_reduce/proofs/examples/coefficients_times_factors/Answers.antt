@@ -1,0 +1,31 @@
+use Rattle.std.proofs.Common.{refl}
+use Rattle.calc_terms.specs.Clean.{is_clean, left_of}
+use Rattle.calc_terms.specs.Fractions.{lowest, one_fraction, zero_fraction, times}
+use Rattle.calc_terms.specs.Gcd.{gcd}
+use Rattle.calc_terms.specs.Numbers.{is_number}
+use Rattle.calc_terms.specs.SquareRoots.{square_root}
+use Rattle.product_reduce.proofs.examples.coefficients_times_factors.Goals as goal
+
+pub returns-clause-alone : goal.returns-clause-alone
+unfolding is_number is_clean left_of square_root gcd lowest one_fraction zero_fraction times
+returns-clause-alone c = refl
+
+pub returns-clause-one_is_left_out : goal.returns-clause-one_is_left_out
+unfolding is_number is_clean left_of square_root gcd lowest one_fraction zero_fraction times
+returns-clause-one_is_left_out c = refl
+
+pub returns-clause-a_lone_factor : goal.returns-clause-a_lone_factor
+unfolding is_number is_clean left_of square_root gcd lowest one_fraction zero_fraction times
+returns-clause-a_lone_factor c = refl
+
+pub returns-clause-a_lone_sum : goal.returns-clause-a_lone_sum
+unfolding is_number is_clean left_of square_root gcd lowest one_fraction zero_fraction times
+returns-clause-a_lone_sum c = refl
+
+pub returns-clause-two_sums : goal.returns-clause-two_sums
+unfolding is_number is_clean left_of square_root gcd lowest one_fraction zero_fraction times
+returns-clause-two_sums c = refl
+
+pub returns-clause-a_root_before_a_sum : goal.returns-clause-a_root_before_a_sum
+unfolding is_number is_clean left_of square_root gcd lowest one_fraction zero_fraction times
+returns-clause-a_root_before_a_sum c = refl
