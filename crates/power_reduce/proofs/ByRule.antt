@@ -1,19 +1,19 @@
 -- By which rule a power was rewritten, and what falls.
-use Rattle.std.proofs.Common.{◌≡◌, ◌+◌, ◌≤◌, ◌<◌, suc, ◌⊎◌, inl, inr, Bool, true, false, ◌&&◌, ◌||◌, not, if◌then◌else◌, Some, None, refl, sym, ap, ◌∙◌, subst, arith}
+use Rattle.std.proofs.Common.{◌≡◌, ◌+◌, ◌≤◌, ◌<◌, suc, inl, inr, Bool, true, false, ◌&&◌, ◌||◌, not, if◌then◌else◌, Some, refl, sym, subst, arith}
 use Rattle.std.specs.Prelude.{max, ◌==◌}
-use Rattle.std.proofs.lemmas.Bool.{and_parts, eqb-true, eq-eqb}
+use Rattle.std.proofs.lemmas.Bool.{and_parts}
 use Rattle.calc_terms.specs.Fractions.{Fraction, whole_fraction}
-use Rattle.calc_terms.specs.Loads.{nest, nest_of, load, weight, load_of_factor, load_of_factors}
-use Rattle.calc_terms.specs.Numbers.{is_number, IsNumber}
-use Rattle.calc_terms.specs.Reduced.{is_reduced, is_whole_num, is_opaque_exponent, HasForm}
-use Rattle.calc_terms.specs.Trees.{Tree, num, symbol, undef, add, mult, power, root, neg, sub, div, Trees, none, more, AllParts, is_undef}
+use Rattle.calc_terms.specs.Loads.{nest, load, weight, load_of_factor}
+use Rattle.calc_terms.specs.Numbers.{is_number}
+use Rattle.calc_terms.specs.Reduced.{is_reduced, is_whole_num, is_opaque_exponent}
+use Rattle.calc_terms.specs.Trees.{Tree, num, mult, power, root, Trees, none, more, is_undef}
 use Rattle.calc_terms.proofs.FractionFacts.{whole_denominator}
 use Rattle.calc_terms.proofs.NumberLaws.{number_test, number_words}
 use Rattle.coefficients.proofs.Forms.{reduced_parts, parts_reduced}
 use Rattle.number_forms.specs.Readers.{is_zero}
 use Rattle.power_reduce.specs.PowerAnswers.{has_no_power, has_number_power}
 use Rattle.power_reduce.specs.PowerRules.{EachTree, HalvesRoot, JoinsExponents, IsLighterPart, RaisesParts, IsByRule, IsRewritable}
-use Rattle.power_reduce.specs.PowerSteps.{goes_inside, is_zero_or_one, is_even_whole, half, parts_of, raised, rewritten}
+use Rattle.power_reduce.specs.PowerSteps.{goes_inside, is_even_whole, half, parts_of, raised, rewritten}
 use Rattle.power_reduce.proofs.Answered.{number_plain}
 use Rattle.power_reduce.proofs.Bounds.{number_load}
 use Rattle.power_reduce.proofs.Rules.{chosen, nothing}

@@ -4,14 +4,14 @@ use Rattle.std.proofs.lemmas.Bool.{and_parts, eqb-true, eq-eqb}
 use Rattle.std.proofs.lemmas.Int.{ints, rem_is, fits_signed_from_abs}
 use Rattle.std.specs.Int.{w128}
 use Rattle.std.specs.Result.{IsErrAnd}
-use Rattle.std.specs.Prelude.{nat_abs, int_rem, ◌==◌, nat_eq}
+use Rattle.std.specs.Prelude.{nat_abs, int_rem, ◌==◌}
 use Rattle.calc_terms.specs.declared.kind.Kind.TheVariants as kind
-use Rattle.calc_terms.specs.Fractions.{Fraction, whole_fraction, zero_fraction, one_fraction, is_zero_fraction, is_one_fraction}
+use Rattle.calc_terms.specs.Fractions.{Fraction, whole_fraction, zero_fraction, is_zero_fraction, is_one_fraction}
 use Rattle.calc_terms.specs.Integers.{int_is_zero, int_is_one, int_is_even}
 use Rattle.calc_terms.specs.Numbers.{is_number}
 use Rattle.calc_terms.specs.PlainValues.{PlainValue, plain_value, powered, nothing}
-use Rattle.calc_terms.specs.Reduced.{is_reduced, is_whole_num, is_opaque_exponent}
-use Rattle.calc_terms.specs.Trees.{Tree, num, symbol, undef, add, mult, power, root, neg, sub, div, none, more, root_kind, is_num, is_undef, is_mult, is_root}
+use Rattle.calc_terms.specs.Reduced.{is_whole_num, is_opaque_exponent}
+use Rattle.calc_terms.specs.Trees.{Tree, num, symbol, undef, add, mult, power, root, neg, sub, div, none, more, root_kind, is_num, is_undef, is_root}
 use Rattle.calc_terms.proofs.FractionFacts.{whole_numerator, whole_denominator, zero_is}
 use Rattle.calc_terms.proofs.NumberLaws.{number_test, number_words}
 use Rattle.node_pool.specs.State.{State}
@@ -24,7 +24,7 @@ use Rattle.power_reduce.proofs.ByRule.{has_power}
 use Rattle.power_reduce.proofs.Kept.{reduced_power, kept_form, whole_inside, other_inside}
 use Rattle.power_reduce.proofs.Powers.{power_is}
 use Rattle.power_reduce.proofs.Rules.{rewriting}
-use Rattle.power_reduce.proofs.Whole.{whole_is, opaque_is}
+use Rattle.power_reduce.proofs.Whole.{opaque_is}
 use Rattle.rational128.proofs.Signed.{told}
 use Rattle.rational128.specs.declared.overflow.Overflow.{Overflow}
 use Rattle.reduce_port.specs.PlainTrees.{IsPlainAnswer, IsPlainOverflow}

@@ -1,5 +1,5 @@
 -- Half of an even exponent.
-use Rattle.std.proofs.Common.{◌≡◌, ◌<◌, ◌^◌, ◌/◌, ℤ, pos, negsuc, zero, suc, neg_ℤ, Some, refl, sym, ap, ◌∙◌, arith, to_z, of_z, true, false, FitsSigned}
+use Rattle.std.proofs.Common.{◌≡◌, ◌<◌, ◌^◌, ℤ, pos, negsuc, Some, refl, sym, ap, ◌∙◌, arith, to_z, of_z, true, false, FitsSigned}
 use Rattle.std.proofs.lemmas.Int.{ints, quot_is, quot_fits, fits_signed_from_abs}
 use Rattle.std.specs.Int.{w128}
 use Rattle.std.specs.Prelude.{nat_abs, int_div}

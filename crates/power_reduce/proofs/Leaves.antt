@@ -1,5 +1,5 @@
 -- Trees that the tests build.
-use Rattle.std.proofs.Common.{◌≡◌, ◌≢◌, ℕ, List, true, false, pos, Result, Ok, Err, inl, inr, refl, sym, ap, ◌∙◌, subst}
+use Rattle.std.proofs.Common.{◌≡◌, ℕ, List, true, pos, Result, Ok, Err, inl, inr, refl, ap, ◌∙◌, subst}
 use Rattle.std.specs.Prelude.{IfOk}
 use Rattle.calc_terms.specs.Clean.{is_clean, left_of}
 use Rattle.calc_terms.specs.Fractions.{Fraction, lowest, whole_fraction, zero_fraction, one_fraction}
@@ -9,7 +9,7 @@ use Rattle.calc_terms.specs.Rat.{ratio_of, value_of}
 use Rattle.calc_terms.specs.Ratio.{Ratio, whole}
 use Rattle.calc_terms.specs.Reduced.{is_reduced}
 use Rattle.calc_terms.specs.SquareRoots.{square_root}
-use Rattle.calc_terms.specs.Trees.{Tree, num, symbol, mult, power, root, none, more}
+use Rattle.calc_terms.specs.Trees.{Tree, num, symbol, mult, root, none, more}
 use Rattle.calc_terms.specs.declared.rat.Rat.{Rat}
 use Rattle.calc_terms.proofs.NumberLaws.{number_words}
 use Rattle.calc_terms.proofs.ReducedLaws.{reduced_test}

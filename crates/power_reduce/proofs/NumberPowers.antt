@@ -1,16 +1,16 @@
 -- Whole powers of Numbers that are no rationals.
-use Rattle.std.proofs.Common.{◌≡◌, ◌≢◌, ℕ, ◌≤◌, ◌<◌, ◌≤ℤ◌, ◌<ℤ◌, ℤ, pos, negsuc, neg_ℤ, zero, suc, Bool, true, false, ◌&&◌, refl, sym, ap, ◌∙◌, subst, arith}
+use Rattle.std.proofs.Common.{◌≡◌, ℕ, ◌≤◌, ◌≤ℤ◌, ◌<ℤ◌, ℤ, pos, negsuc, neg_ℤ, zero, suc, true, false, refl, sym, ap, ◌∙◌, subst, arith}
 use Rattle.std.proofs.lemmas.Int.{ints}
 use Rattle.std.specs.Prelude.{nat_abs}
 use Rattle.calc_terms.specs.Fractions.{whole_fraction, zero_fraction, one_fraction}
 use Rattle.calc_terms.specs.Integers.{int_is_negative}
-use Rattle.calc_terms.specs.Numbers.{is_number, classes, value, terms_of, IsNumber}
-use Rattle.calc_terms.specs.SquareClasses.{Same, Inverts}
+use Rattle.calc_terms.specs.Numbers.{is_number, classes, value, IsNumber}
+use Rattle.calc_terms.specs.SquareClasses.{Inverts}
 use Rattle.calc_terms.specs.Surds.{Surd, surd_power}
 use Rattle.calc_terms.specs.Reduced.{is_reduced, num_one}
-use Rattle.calc_terms.specs.Trees.{Tree, num, symbol, undef, add, mult, power, root, neg, sub, div, is_num, is_undef}
+use Rattle.calc_terms.specs.Trees.{Tree, num, undef, add, power, is_num, is_undef}
 use Rattle.calc_terms.proofs.FractionFacts.{whole_numerator}
-use Rattle.calc_terms.proofs.NumberLaws.{number_words, number_test}
+use Rattle.calc_terms.proofs.NumberLaws.{number_words}
 use Rattle.calc_terms.proofs.NumberRewrites.{power_of_number, power_of_inverse}
 use Rattle.number_forms.specs.Answers.{IsNumberOf}
 use Rattle.number_forms.specs.Inverses.{IsInverseOf, AnswersInverse}

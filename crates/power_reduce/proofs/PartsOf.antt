@@ -2,13 +2,12 @@
 use Rattle.std.proofs.Common.{◌≡◌, ℕ, ◌≤◌, Bool, true, false, Some, if◌then◌else◌, refl, sym, ap, ◌∙◌, subst, arith}
 use Rattle.calc_terms.specs.Numbers.{is_number}
 use Rattle.calc_terms.specs.Reduced.{is_reduced, is_num_one, split_product}
-use Rattle.calc_terms.specs.Trees.{Tree, mult, power, Trees, more, count, is_mult}
+use Rattle.calc_terms.specs.Trees.{Tree, mult, Trees, more, count, is_mult}
 use Rattle.coefficients.specs.Pairs.{GivesTwo}
 use Rattle.coefficients.proofs.Lengths.{some_factors}
 use Rattle.coefficients.proofs.Steps.{seen}
 use Rattle.node_pool.specs.State.{State}
 use Rattle.power_reduce.specs.PowerSteps.{goes_inside, parts_of, raised, rewritten}
-use Rattle.reduce_port.specs.Rewritings.{tree_of}
 use Rattle.tree_handles.specs.Expressions.{plain, children_of}
 use Rattle.tree_handles.specs.Forest.{Forest}
 use Rattle.tree_handles.specs.Handed.{IsHanded, Gives}

@@ -1,26 +1,26 @@
 -- A root of the pool that is a power: its sides, and what is left when they are taken.
-use Rattle.std.proofs.Common.{◌≡◌, ℕ, ◌+◌, ◌≤◌, ◌<◌, [], ◌∷◌, inl, refl, sym, ap, ◌∙◌, subst, arith, true, false}
+use Rattle.std.proofs.Common.{◌≡◌, ℕ, ◌≤◌, [], ◌∷◌, refl, sym, ap, ◌∙◌, arith, true}
 use Rattle.calc_terms.specs.declared.kind.Kind.TheVariants as kind
-use Rattle.calc_terms.specs.Payload.{Payload, rational, named, bare}
-use Rattle.calc_terms.specs.Trees.{Tree, num, symbol, undef, add, mult, power, root, neg, sub, div, Trees, none, more, is_num, size}
+use Rattle.calc_terms.specs.Payload.{Payload, bare}
+use Rattle.calc_terms.specs.Trees.{Tree, num, power, Trees, none, more, is_num, size}
 use Rattle.coefficients.specs.Pairs.{GivesTwo}
 use Rattle.coefficients.proofs.Places.{IsOver, IsTaken, taken, over_put, once_count, without_put}
-use Rattle.coefficients.proofs.Steps.{children_at, children_in, seen, expression, gives_without, gives_put}
+use Rattle.coefficients.proofs.Steps.{children_at, seen, expression, gives_without}
 use Rattle.node_pool.specs.State.{State}
 use Rattle.power_reduce.specs.PowerAnswers.{is_power, base_in, exponent_in}
 use Rattle.reduce_port.specs.Rewritings.{tree_of}
 use Rattle.tree_handles.specs.Expressions.{nth, grown, plains, plain, IsExpression, children_of}
 use Rattle.tree_handles.specs.Forest.{Forest, empty, tree, arity, kids, root_payload, root_count, tree_nth, without_nth}
-use Rattle.tree_handles.specs.Handed.{IsOnce, AllOnce, IsOwned, IsHanded, Represents, Ends, Gives, KeepsFront}
+use Rattle.tree_handles.specs.Handed.{IsOnce, AllOnce, IsOwned, IsHanded, Ends, Gives, KeepsFront}
 use Rattle.tree_handles.specs.Inside.{tree_at, kids_of}
-use Rattle.tree_handles.specs.Roots.{has_root, root_tree, without_root, put}
+use Rattle.tree_handles.specs.Roots.{root_tree, without_root, put}
 use Rattle.tree_handles.specs.Standing.{Stands, forest}
 use Rattle.tree_handles.proofs.Counted.{all-kids}
 use Rattle.tree_handles.proofs.Fronts.{behind_first, front_same, front_at, front_end, front_put, front_without}
-use Rattle.tree_handles.proofs.Given.{gives_as, given_root}
+use Rattle.tree_handles.proofs.Given.{gives_as}
 use Rattle.tree_handles.proofs.Lasts.{ends_without, ends_as, ends_at}
 use Rattle.tree_handles.proofs.Plains.{children_of-plain, whole_kids}
-use Rattle.tree_handles.proofs.Roots.{root_arity, put-put}
+use Rattle.tree_handles.proofs.Roots.{root_arity}
 
 -- ---- powers
 

@@ -1,18 +1,18 @@
 -- The factors of a product are raised to an exponent, one by one.
-use Rattle.std.proofs.Common.{◌≡◌, ℕ, zero, suc, ◌+◌, ◌≤◌, ◌<◌, List, [], ◌∷◌, eqb, refl, sym, ap, ◌∙◌, subst, arith, true, false}
+use Rattle.std.proofs.Common.{◌≡◌, ℕ, zero, suc, ◌+◌, ◌≤◌, ◌<◌, List, [], ◌∷◌, eqb, refl, sym, ap, ◌∙◌, subst, arith, false}
 use Rattle.calc_terms.specs.declared.kind.Kind.TheVariants as kind
 use Rattle.calc_terms.specs.Payload.{bare}
-use Rattle.calc_terms.specs.Trees.{Tree, mult, power, Trees, none, more, append, count, is_mult}
-use Rattle.coefficients.proofs.Places.{IsOver, IsTaken, taken, over_product, over_put, over_beside, over_same, over_end, over_gives, over_handed, over_plain, inserted_behind, represents_count, without_put}
-use Rattle.coefficients.proofs.Steps.{IsAdded, added_as}
+use Rattle.calc_terms.specs.Trees.{Tree, mult, power, Trees, none, more, append, count}
+use Rattle.coefficients.proofs.Places.{IsOver, IsTaken, taken, over_put, over_beside, over_same, over_gives, over_handed, over_plain, inserted_behind, without_put}
+use Rattle.coefficients.proofs.Steps.{IsAdded}
 use Rattle.power_reduce.specs.PowerSteps.{raised}
 use Rattle.power_reduce.specs.Raising.{raised_at, HasKids}
 use Rattle.tree_handles.specs.Expressions.{plain, inserted, children_of}
 use Rattle.tree_handles.specs.Forest.{Forest, empty, kids, one_tree, with_root_kids, tree_nth, with_nth, without_nth}
 use Rattle.tree_handles.specs.Handed.{IsHanded, Represents, Ends, Gives, KeepsFront}
-use Rattle.tree_handles.specs.Roots.{has_root, root_tree, without_root, put}
+use Rattle.tree_handles.specs.Roots.{root_tree, without_root, put}
 use Rattle.tree_handles.proofs.Fronts.{behind_first, behind_later, front_same, front_at, front_end, front_put, front_without}
-use Rattle.tree_handles.proofs.Given.{gives, gives_as, given_handed, given_other, given_rest, given_root, given_told, handed_at, handed_by_put, append-none, represents_handed, represents_node, represents_none, represents_with}
+use Rattle.tree_handles.proofs.Given.{gives, gives_as, given_handed, given_other, given_rest, given_told, handed_at, handed_by_put, represents_handed, represents_node, represents_none, represents_with}
 use Rattle.tree_handles.proofs.Lasts.{other_tree}
 use Rattle.tree_handles.proofs.Outcomes.{eqb-sym}
 use Rattle.tree_handles.proofs.Roots.{put-put, put-same, tree-put, without-put}

@@ -1,14 +1,13 @@
 -- Whole powers of rationals.
 use Rattle.std.proofs.Common.{◌≡◌, ◌≢◌, ℕ, ◌<◌, ◌^◌, ◌≤ℤ◌, ◌<ℤ◌, ℤ, pos, negsuc, neg_ℤ, ◌-ℤ◌, zero, suc, Bool, true, false, ◌&&◌, ◌||◌, if◌then◌else◌, Result, Ok, Err, refl, sym, ap, ◌∙◌, subst, arith, to_z, of_z}
-use Rattle.std.proofs.lemmas.Bool.{eq-eqb, not_from_false}
+use Rattle.std.proofs.lemmas.Bool.{not_from_false}
 use Rattle.std.proofs.lemmas.Int.{ints}
 use Rattle.std.specs.Int.{w128}
-use Rattle.std.specs.Prelude.{nat_abs, ◌==◌, IfErr}
+use Rattle.std.specs.Prelude.{nat_abs, IfErr}
 use Rattle.std.specs.Result.{IsErrAnd}
 use Rattle.calc_terms.specs.Fits.{Operation, pow_op, fraction_power, operation_fits, result_of}
 use Rattle.calc_terms.specs.Fractions.{Fraction, lowest, whole_fraction, zero_fraction, one_fraction, inverse, is_zero_fraction}
 use Rattle.calc_terms.specs.Integers.{int_is_zero, int_is_negative}
-use Rattle.calc_terms.specs.Numbers.{is_number}
 use Rattle.calc_terms.specs.PlainValues.{PlainValue, calculated, powered, exactly, undefined, overflow, plain_value}
 use Rattle.calc_terms.specs.declared.rat.Rat.{Rat}
 use Rattle.calc_terms.specs.Rat.{ratio_of, value_of}

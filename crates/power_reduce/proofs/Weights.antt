@@ -3,7 +3,7 @@ use Rattle.std.proofs.Common.{◌≡◌, ℕ, suc, ◌+◌, ◌≤◌, ◌<◌, 
 use Rattle.std.specs.Prelude.{max}
 use Rattle.calc_terms.specs.Loads.{nest, nest_of, load, weight, weight_of_factors, load_of_factor, load_of_factors, has_coefficient}
 use Rattle.calc_terms.specs.Numbers.{is_number, IsNumber}
-use Rattle.calc_terms.specs.Reduced.{Split, is_reduced, is_num_one, num_one, split_product, NoneIs, HasForm, IsProductForm}
+use Rattle.calc_terms.specs.Reduced.{Split, is_reduced, is_num_one, num_one, NoneIs, HasForm, IsProductForm}
 use Rattle.calc_terms.specs.Trees.{Tree, num, symbol, undef, add, mult, power, root, neg, sub, div, Trees, none, more, append, AllParts, AllPartsOf, is_mult, is_undef}
 use Rattle.calc_terms.proofs.FractionFacts.{one_test}
 use Rattle.calc_terms.proofs.NumberLaws.{number_test, number_words}

@@ -1,16 +1,15 @@
 -- Whole exponents, as the program tests them.
-use Rattle.std.proofs.Common.{◌≡◌, ◌≢◌, ℕ, ◌<◌, ◌^◌, ℤ, pos, negsuc, zero, suc, Bool, true, false, ◌&&◌, not, refl, sym, ap, ◌∙◌, arith, to_z, of_z, nat_eq}
+use Rattle.std.proofs.Common.{◌≡◌, ◌≢◌, ◌<◌, ◌^◌, ℤ, pos, negsuc, zero, suc, Bool, true, false, ◌&&◌, refl, sym, ap, ◌∙◌, to_z, of_z, nat_eq}
 use Rattle.std.specs.Int.{w128}
-use Rattle.std.specs.Prelude.{nat_abs, ◌==◌}
+use Rattle.std.specs.Prelude.{nat_abs}
 use Rattle.std.proofs.lemmas.Bool.{eqb-true, eq-eqb}
-use Rattle.calc_terms.specs.Fractions.{Fraction, whole_fraction}
+use Rattle.calc_terms.specs.Fractions.{whole_fraction}
 use Rattle.calc_terms.specs.Integers.{int_is_one}
 use Rattle.calc_terms.specs.Numbers.{is_number}
 use Rattle.calc_terms.specs.Reduced.{is_reduced, is_num_one, is_whole_num, is_opaque_exponent}
 use Rattle.calc_terms.specs.Trees.{Tree, num, power}
 use Rattle.calc_terms.proofs.FractionFacts.{whole_numerator, whole_denominator}
 use Rattle.coefficients.proofs.Forms.{reduced_parts, parts_reduced}
-use Rattle.number_forms.proofs.CodeTests.{unequal}
 use Rattle.power_reduce.specs.PowerAnswers.{is_power, exponent_in}
 use Rattle.power_reduce.proofs.ByRule.{transparent_whole}
 use Rattle.power_reduce.proofs.Powers.{power_children}

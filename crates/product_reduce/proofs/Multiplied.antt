@@ -7,9 +7,9 @@ use Rattle.calc_terms.specs.Reduced.{num_one}
 use Rattle.calc_terms.specs.Trees.{Tree, Trees, count}
 use Rattle.tree_handles.specs.Expressions.{nth, plain}
 use Rattle.tree_handles.specs.Forest.{Forest}
-use Rattle.tree_handles.specs.Handed.{Gives, IsHanded}
+use Rattle.tree_handles.specs.Handed.{Gives}
 use Rattle.tree_handles.specs.Roots.{has_root, root_tree, without_root, put}
-use Rattle.tree_handles.proofs.Given.{given_rest, given_told}
+use Rattle.tree_handles.proofs.Given.{given_told}
 use Rattle.tree_handles.proofs.Outcomes.{eqb-sym}
 use Rattle.tree_handles.proofs.Roots.{tree-put, without-put}
 use Rattle.product_reduce.specs.Multiplying.{IsProgress, IsUnderway, IsFirstNumber, NoNumberBefore}

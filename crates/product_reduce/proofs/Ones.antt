@@ -1,5 +1,5 @@
 -- The rational 1 by its parts.
-use Rattle.std.proofs.Common.{◌≡◌, ℕ, ℤ, pos, negsuc, zero, suc, Bool, true, false, ◌&&◌, ◌==◌, ◌↔◌, refl, sym, ap, ◌∙◌, FitsSigned, of_z, to_z, nat_eq}
+use Rattle.std.proofs.Common.{◌≡◌, ℕ, ℤ, pos, negsuc, zero, suc, Bool, true, false, ◌&&◌, ◌↔◌, refl, sym, ap, ◌∙◌, FitsSigned, of_z, to_z, nat_eq}
 use Rattle.std.specs.Int.{w128}
 use Rattle.std.specs.Prelude.{IsTrue}
 use Rattle.std.proofs.lemmas.Bool.{eqb-true, eq-eqb}

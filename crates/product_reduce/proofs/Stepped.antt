@@ -1,25 +1,20 @@
 -- From the handed product to a coefficient beside the other factors, and from their answer to that of the step.
-use Rattle.std.proofs.Common.{ℕ, ◌≤◌, ◌≡◌, ◌||◌, Result, Ok, Err, Bool, true, false, [], ◌∷◌, eqb, refl, sym, ap, ◌∙◌, subst, arith}
-use Rattle.std.specs.Prelude.{IfOk, IfErr, IsErrAnd, ⊤}
+use Rattle.std.proofs.Common.{ℕ, ◌≡◌, ◌||◌, Result, Ok, Err, Bool, true, false, [], ◌∷◌, eqb, refl, sym, ap, ◌∙◌, subst}
+use Rattle.std.specs.Prelude.{IfOk, IsErrAnd}
 use Rattle.std.proofs.lemmas.Bool.{and_from}
-use Rattle.calc_terms.specs.Numbers.{is_number}
-use Rattle.calc_terms.specs.PlainValues.{PlainValue, plain_value}
-use Rattle.calc_terms.specs.Trees.{Tree, mult, Trees, none, more, count, is_mult, is_undef}
+use Rattle.calc_terms.specs.PlainValues.{PlainValue}
+use Rattle.calc_terms.specs.Trees.{Tree, mult, Trees, none, more, is_mult}
 use Rattle.node_pool.specs.State.{State}
 use Rattle.number_forms.specs.Answers.{AnswersRationals}
 use Rattle.reduce_port.specs.Children.{has_undef, are_rationals, are_reduced}
-use Rattle.reduce_port.specs.PlainTrees.{IsPlainAnswer, IsPlainOverflow}
-use Rattle.reduce_port.specs.Rewritings.{tree_of}
-use Rattle.reduce_port.specs.Steps.{IfDone, IfAgain, AnswersRationalStep}
-use Rattle.reduce_port.specs.declared.step.Step.{Step}
-use Rattle.reduce_port.specs.declared.step.Step.TheVariants as step
+use Rattle.reduce_port.specs.PlainTrees.{IsPlainAnswer}
+use Rattle.reduce_port.specs.Steps.{AnswersRationalStep}
 use Rattle.tree_handles.specs.declared.fault.NumberFault.{NumberFault}
 use Rattle.tree_handles.specs.declared.fault.NumberFault.TheVariants as fault
 use Rattle.tree_handles.specs.Expressions.{plain, children_of}
 use Rattle.tree_handles.specs.Forest.{Forest}
 use Rattle.tree_handles.specs.Handed.{IsHanded, Gives, KeepsFront}
 use Rattle.tree_handles.specs.Roots.{root_tree, without_root}
-use Rattle.tree_handles.specs.Standing.{forest}
 use Rattle.tree_handles.proofs.Fronts.{behind_first, front_after_one, front_after_two}
 use Rattle.tree_handles.proofs.Given.{gives_as}
 use Rattle.product_reduce.specs.declared.steps.Joining.{Joining}

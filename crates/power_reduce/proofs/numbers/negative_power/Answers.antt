@@ -1,10 +1,10 @@
-use Rattle.std.proofs.Common.{◌≡◌, ◌≤◌, false, refl, sym, ap, ◌∙◌, arith, subst, pos, ◌≤ℤ◌}
+use Rattle.std.proofs.Common.{◌≡◌, refl, sym, ap, ◌∙◌, arith, subst, pos, ◌≤ℤ◌}
 use Rattle.calc_terms.specs.Numbers.{is_number, classes}
 use Rattle.coefficients.proofs.Steps.{if_map}
 use Rattle.reduce_port.specs.Rewritings.{tree_of}
 use Rattle.tree_handles.proofs.Fronts.{behind_first, behind_new, front_same, front_at, front_end, front_without, front_after_one}
 use Rattle.tree_handles.proofs.Given.{gives, gives_as, given_handed, given_rest, given_told, represents_handed}
-use Rattle.power_reduce.specs.PowerAnswers.{base_in, exponent_in, has_no_power}
+use Rattle.power_reduce.specs.PowerAnswers.{base_in}
 use Rattle.power_reduce.proofs.NumberPowers.{irrational_power, wide_answer, inverse_answer, inverse_given, has_inverse}
 use Rattle.power_reduce.proofs.RationalPowers.{opposite, opposite_above}
 use Rattle.power_reduce.proofs.numbers.negative_power.Goals as goal

@@ -1,6 +1,5 @@
-use Rattle.std.proofs.Common.{◌≡◌, ◌≤◌, inl, refl, sym, ap, ◌∙◌, arith, true}
-use Rattle.calc_terms.specs.declared.kind.Kind.TheVariants as kind
-use Rattle.calc_terms.specs.Trees.{Tree, num, power, is_num}
+use Rattle.std.proofs.Common.{◌≤◌, inl, refl, ap, ◌∙◌, arith}
+use Rattle.calc_terms.specs.Trees.{is_num}
 use Rattle.coefficients.proofs.Places.{over_put, over_same, over_end, without_put}
 use Rattle.coefficients.proofs.Steps.{children_in, added_as, moved}
 use Rattle.node_pool.specs.State.{free_of}

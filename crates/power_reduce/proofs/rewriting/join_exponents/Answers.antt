@@ -1,10 +1,9 @@
-use Rattle.std.proofs.Common.{refl, sym, ap, ◌∙◌, arith}
+use Rattle.std.proofs.Common.{refl, ◌∙◌, arith}
 use Rattle.coefficients.proofs.Places.{over_end, without_put}
 use Rattle.coefficients.proofs.Steps.{children_in, added_as, moved}
 use Rattle.power_reduce.proofs.InPlace.{first_alone, merged_front, apart_last, without_added}
 use Rattle.power_reduce.proofs.Joining.{sides_merged, first_taken, then_taken, first_on, product_given, alone_over, joined}
 use Rattle.power_reduce.proofs.Powers.{over_power}
-use Rattle.tree_handles.specs.Roots.{without_root}
 use Rattle.tree_handles.proofs.Fronts.{behind_first, front_after, front_at, front_end, front_put, front_without}
 use Rattle.tree_handles.proofs.Given.{gives_as, given_rest, given_root}
 use Rattle.tree_handles.proofs.Lasts.{ends_as, last_apart, last_held, other_root}

@@ -1,6 +1,6 @@
-use Rattle.std.proofs.Common.{◌≡◌, refl, inl, sym, ap, ◌∙◌, true, false}
-use Rattle.calc_terms.specs.Reduced.{is_num_one, split_product}
-use Rattle.calc_terms.specs.Trees.{Trees, is_mult, mult, more}
+use Rattle.std.proofs.Common.{refl, inl, sym, ap, ◌∙◌}
+use Rattle.calc_terms.specs.Reduced.{is_num_one}
+use Rattle.calc_terms.specs.Trees.{is_mult, mult, more}
 use Rattle.coefficients.proofs.FirstFactors.{first_factor, first_front}
 use Rattle.coefficients.proofs.Places.{over_gives}
 use Rattle.coefficients.proofs.Steps.{expression, gives_without}
@@ -9,7 +9,7 @@ use Rattle.reduce_port.specs.Rewritings.{tree_of}
 use Rattle.tree_handles.specs.Expressions.{children_of}
 use Rattle.tree_handles.proofs.Fronts.{behind_first, behind_new, front_same, front_at, front_end, front_without, front_after_two}
 use Rattle.tree_handles.proofs.Given.{gives_as, given_apart, given_handed, given_rest, given_root, given_told, owned}
-use Rattle.tree_handles.proofs.Lasts.{ends_as, last_apart, last_held, last_tree, other_root}
+use Rattle.tree_handles.proofs.Lasts.{ends_as, last_apart, last_held, last_tree}
 use Rattle.power_reduce.proofs.rewriting.product_of_parts.Goals as goal
 
 pub is_one-requires-clause-expression : goal.is_one-requires-clause-expression

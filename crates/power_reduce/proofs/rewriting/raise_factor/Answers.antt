@@ -2,7 +2,7 @@ use Rattle.std.proofs.Common.{refl, arith}
 use Rattle.coefficients.proofs.Places.{over_product, over_end}
 use Rattle.coefficients.proofs.Steps.{children_in, added_as}
 use Rattle.power_reduce.proofs.InPlace.{apart_last}
-use Rattle.power_reduce.proofs.Raising.{split_at, split_over, split_within, factor_taken, taken_front, power_given, product_on, words, kids_of_raised, kids_front}
+use Rattle.power_reduce.proofs.Raising.{split_at, split_within, factor_taken, taken_front, power_given, product_on, words, kids_of_raised, kids_front}
 use Rattle.reduce_port.specs.Rewritings.{tree_of}
 use Rattle.tree_handles.proofs.Fronts.{front_after}
 use Rattle.tree_handles.proofs.Given.{given_rest, given_root, handed_by_put}

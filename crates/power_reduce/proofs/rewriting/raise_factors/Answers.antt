@@ -1,10 +1,9 @@
-use Rattle.std.proofs.Common.{◌≡◌, ◌≤◌, refl, sym, ap, ◌∙◌, subst, Some}
+use Rattle.std.proofs.Common.{◌≤◌, sym, ap, ◌∙◌, subst}
 use Rattle.calc_terms.specs.Numbers.{is_number}
 use Rattle.calc_terms.specs.Reduced.{is_reduced}
 use Rattle.calc_terms.specs.Trees.{Tree, count, is_mult}
 use Rattle.coefficients.proofs.Steps.{if_map}
 use Rattle.power_reduce.proofs.PartsOf.{first_handed, first_tree, some_parts, powers_as}
-use Rattle.reduce_port.specs.Rewritings.{tree_of}
 use Rattle.tree_handles.specs.Expressions.{plain, children_of}
 use Rattle.tree_handles.proofs.Fronts.{behind_first, behind_new, front_same, front_end, front_without, front_after_one, front_after_two}
 use Rattle.tree_handles.proofs.Given.{gives_as, given_apart, given_handed, given_other, given_rest, given_same, given_told, given_without, handed_beside}

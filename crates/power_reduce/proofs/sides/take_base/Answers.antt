@@ -1,5 +1,4 @@
-use Rattle.std.proofs.Common.{inl, refl, arith}
-use Rattle.tree_handles.proofs.Given.{gives_as}
+use Rattle.std.proofs.Common.{inl, arith}
 use Rattle.coefficients.proofs.Steps.{children_in}
 use Rattle.power_reduce.proofs.Powers.{over_power, over_owned, base_taken, taken_alone, alone_front}
 use Rattle.power_reduce.proofs.sides.take_base.Goals as goal

@@ -1,5 +1,5 @@
-use Rattle.std.proofs.Common.{◌≡◌, false, refl, sym, ap, ◌∙◌}
-use Rattle.calc_terms.specs.Trees.{Tree, root_kind, is_num}
+use Rattle.std.proofs.Common.{sym, ap, ◌∙◌}
+use Rattle.calc_terms.specs.Trees.{root_kind}
 use Rattle.coefficients.proofs.Steps.{product_kind}
 use Rattle.reduce_port.specs.Rewritings.{tree_of}
 use Rattle.power_reduce.specs.PowerAnswers.{base_in, exponent_in}

@@ -1,4 +1,4 @@
-use Rattle.std.proofs.Common.{◌≡◌, refl, sym, ap, ◌∙◌, true, false, subst, ◌<◌, ◌^◌}
+use Rattle.std.proofs.Common.{refl, sym, ap, ◌∙◌, subst, ◌<◌, ◌^◌}
 use Rattle.std.specs.Prelude.{nat_abs}
 use Rattle.calc_terms.specs.Fractions.{whole_fraction}
 use Rattle.calc_terms.specs.Reduced.{is_whole_num}

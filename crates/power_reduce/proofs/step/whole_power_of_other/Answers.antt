@@ -1,4 +1,4 @@
-use Rattle.std.proofs.Common.{◌≡◌, ℤ, pos, true, false, None, refl, sym, ap, ◌∙◌, subst}
+use Rattle.std.proofs.Common.{refl, sym, ap, ◌∙◌}
 use Rattle.calc_terms.specs.Fractions.{whole_fraction}
 use Rattle.calc_terms.specs.Numbers.{is_number}
 use Rattle.calc_terms.specs.Reduced.{is_reduced}
@@ -7,7 +7,7 @@ use Rattle.coefficients.proofs.Steps.{one_value}
 use Rattle.reduce_port.specs.Rewritings.{tree_of}
 use Rattle.tree_handles.proofs.Given.{gives_as}
 use Rattle.power_reduce.specs.PowerAnswers.{base_in, exponent_in}
-use Rattle.power_reduce.specs.PowerSteps.{is_even_whole, rewritten}
+use Rattle.power_reduce.specs.PowerSteps.{is_even_whole}
 use Rattle.power_reduce.proofs.Cases.{number_kept, zero_kept, one_kept, other_power, whole_goes_inside, no_number, even_bits, odd_bits, even_whole, odd_root_kept, again}
 use Rattle.power_reduce.proofs.NumberPowers.{zero_answer, one_answer}
 use Rattle.power_reduce.proofs.RationalPowers.{zero_bits, no_zero_bits}

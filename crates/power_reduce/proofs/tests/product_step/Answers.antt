@@ -1,6 +1,6 @@
 use Rattle.std.proofs.Common.{ap, ◌∙◌}
 use Rattle.calc_terms.specs.Reduced.{is_reduced}
-use Rattle.calc_terms.specs.Trees.{Tree, mult, none, more}
+use Rattle.calc_terms.specs.Trees.{mult, none, more}
 use Rattle.power_reduce.proofs.Leaves.{product_reduced}
 use Rattle.tree_handles.specs.Expressions.{plain}
 use Rattle.tree_handles.proofs.Given.{given_apart, given_handed, given_other, given_root, given_same, given_told}

@@ -1,6 +1,6 @@
 use Rattle.std.proofs.Common.{◌≡◌, ◌≤◌, ◌∙◌, ap, sym, refl, inl, arith}
 use Rattle.calc_terms.specs.Reduced.{is_reduced}
-use Rattle.calc_terms.specs.Trees.{Tree, is_mult, count}
+use Rattle.calc_terms.specs.Trees.{count}
 use Rattle.coefficients.proofs.Steps.{if_map}
 use Rattle.tree_handles.specs.Expressions.{plain}
 use Rattle.tree_handles.specs.Roots.{has_root, root_tree, without_root}

@@ -1,13 +1,11 @@
-use Rattle.std.proofs.Common.{◌≡◌, ◌<◌, ◌∙◌, ap, sym, refl, false, true, arith, inl}
+use Rattle.std.proofs.Common.{◌∙◌, ap, sym, arith}
 use Rattle.calc_terms.specs.Reduced.{is_num_one}
 use Rattle.calc_terms.specs.Trees.{is_mult}
-use Rattle.tree_handles.specs.Standing.{forest}
 use Rattle.reduce_port.specs.Rewritings.{tree_of}
 use Rattle.tree_handles.proofs.Given.{owned}
 use Rattle.tree_handles.proofs.Lasts.{apart, expression_root, plain_root}
 use Rattle.tree_handles.proofs.Outcomes.{eqb-sym}
-use Rattle.product_reduce.specs.Products.{factors_in}
-use Rattle.product_reduce.proofs.Beside.{beside_handed, beside_product}
+use Rattle.product_reduce.proofs.Beside.{beside_handed}
 use Rattle.product_reduce.proofs.Fronts.{one_in_front, first_put, first_merged, first_kept}
 use Rattle.product_reduce.proofs.Products.{becomes_as, becomes_at, product_beside, product_live, product_once}
 use Rattle.product_reduce.proofs.fronting.put_in_front.Goals as goal

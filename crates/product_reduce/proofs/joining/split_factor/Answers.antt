@@ -1,12 +1,8 @@
-use Rattle.std.proofs.Common.{◌≡◌, ◌∙◌, ap, sym, inl, arith, refl}
-use Rattle.calc_terms.specs.Fractions.{lowest, one_fraction}
+use Rattle.std.proofs.Common.{◌≡◌, ◌∙◌, ap, sym, inl, arith}
 use Rattle.tree_handles.specs.Inside.{kids_of}
-use Rattle.calc_terms.specs.Ratio.{Ratio}
 use Rattle.calc_terms.specs.Reduced.{is_reduced, is_transparent_power}
-use Rattle.calc_terms.specs.Trees.{num}
 use Rattle.tree_handles.specs.Forest.{arity}
 use Rattle.tree_handles.specs.Standing.{forest}
-use Rattle.tree_handles.proofs.Given.{gives_as}
 use Rattle.tree_handles.proofs.Fronts.{front_at}
 use Rattle.tree_handles.proofs.Lasts.{expression_root, plain_root, kids_of_root}
 use Rattle.product_reduce.proofs.Beside.{beside_gives, beside_handed, beside_other}

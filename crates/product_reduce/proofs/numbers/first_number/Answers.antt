@@ -1,9 +1,7 @@
-use Rattle.std.proofs.Common.{◌≡◌, ◌<◌, ◌∙◌, ap, sym, subst, arith, ℕ}
+use Rattle.std.proofs.Common.{◌∙◌, ap, sym, arith}
 use Rattle.calc_terms.specs.Numbers.{is_number}
 use Rattle.calc_terms.specs.Reduced.{is_reduced}
-use Rattle.calc_terms.specs.Trees.{count}
 use Rattle.tree_handles.specs.Standing.{forest}
-use Rattle.product_reduce.specs.Multiplying.{NoNumberBefore}
 use Rattle.product_reduce.specs.Products.{factors_in}
 use Rattle.product_reduce.proofs.Finished.{reduced_nth}
 use Rattle.product_reduce.proofs.Progress.{none_before_more}

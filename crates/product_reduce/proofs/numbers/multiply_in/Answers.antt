@@ -1,19 +1,12 @@
-use Rattle.std.proofs.Common.{◌≡◌, ◌∙◌, ap, sym, refl, false, true}
-use Rattle.calc_terms.specs.Numbers.{is_number, value}
-use Rattle.calc_terms.specs.Surds.{Surd, surd_times}
-use Rattle.calc_terms.specs.Trees.{Tree}
-use Rattle.number_forms.specs.Answers.{IsNumberOf}
-use Rattle.reduce_port.specs.Rewritings.{tree_of}
-use Rattle.tree_handles.specs.Expressions.{plain, nth}
+use Rattle.std.proofs.Common.{◌∙◌, ap}
+use Rattle.calc_terms.specs.Numbers.{is_number}
 use Rattle.tree_handles.specs.Forest.{kids, without_nth}
 use Rattle.tree_handles.specs.Roots.{root_tree}
 use Rattle.tree_handles.specs.Standing.{forest}
 use Rattle.tree_handles.proofs.Given.{handed_by_put, given_told}
 use Rattle.tree_handles.proofs.Fronts.{behind_first, behind_later, front_same, front_end, front_put, front_after_two}
 use Rattle.tree_handles.proofs.Outcomes.{eqb-sym}
-use Rattle.tree_handles.proofs.Roots.{tree-put}
-use Rattle.product_reduce.specs.Products.{factors_in}
-use Rattle.product_reduce.proofs.Beside.{beside_other, beside_apart, beside_tree, beside_given, behind_clear, behind_beside, taken_factor, without_factor}
+use Rattle.product_reduce.proofs.Beside.{beside_other, beside_apart, behind_clear, taken_factor, without_factor}
 use Rattle.product_reduce.proofs.Products.{product_within}
 use Rattle.product_reduce.proofs.Multiplied.{if_ok_map, multiplied_out, so_far_tree}
 use Rattle.product_reduce.proofs.numbers.multiply_in.Goals as goal

@@ -1,4 +1,4 @@
-use Rattle.std.proofs.Common.{◌≡◌, ◌<◌, ◌≤◌, ◌+◌, ◌∙◌, ap, sym, arith, ℕ}
+use Rattle.std.proofs.Common.{◌≡◌, ◌+◌, ap, arith}
 use Rattle.number_forms.specs.Sums.{removed}
 use Rattle.calc_terms.specs.Trees.{count}
 use Rattle.reduce_port.specs.Rewritings.{tree_of}

@@ -1,4 +1,4 @@
-use Rattle.std.proofs.Common.{ℕ, [], ◌∷◌}
+use Rattle.std.proofs.Common.{[], ◌∷◌}
 use Rattle.calc_terms.specs.Trees.{count}
 use Rattle.tree_handles.specs.Handed.{KeepsFront}
 use Rattle.tree_handles.specs.Standing.{Stands, forest, KeepsRefusals}

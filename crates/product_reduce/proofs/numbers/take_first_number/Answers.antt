@@ -1,4 +1,3 @@
-use Rattle.std.proofs.Common.{◌≡◌}
 use Rattle.tree_handles.specs.Forest.{kids, without_nth}
 use Rattle.tree_handles.specs.Roots.{root_tree}
 use Rattle.tree_handles.specs.Standing.{forest}

@@ -1,4 +1,4 @@
-use Rattle.std.proofs.Common.{◌≡◌, ◌≤◌, ◌∙◌, ap, sym, refl, inl, arith}
+use Rattle.std.proofs.Common.{◌∙◌, ap, sym, refl, inl}
 use Rattle.number_forms.specs.Readers.{is_zero}
 use Rattle.tree_handles.specs.Expressions.{plain}
 use Rattle.product_reduce.specs.Products.{factors_in}

@@ -1,9 +1,9 @@
-use Rattle.std.proofs.Common.{◌≡◌, ◌∙◌, ap, sym, refl, arith}
-use Rattle.calc_terms.specs.Trees.{none, count}
+use Rattle.std.proofs.Common.{◌≡◌, ◌∙◌, ap, refl, arith}
+use Rattle.calc_terms.specs.Trees.{count}
 use Rattle.reduce_port.specs.Children.{are_reduced}
 use Rattle.reduce_port.specs.Rewritings.{tree_of}
 use Rattle.tree_handles.specs.Standing.{forest}
-use Rattle.tree_handles.proofs.Given.{given_root, given_told, given_rest, given_handed}
+use Rattle.tree_handles.proofs.Given.{given_root, given_told, given_rest}
 use Rattle.tree_handles.proofs.Lasts.{apart}
 use Rattle.tree_handles.proofs.Outcomes.{eqb-sym}
 use Rattle.product_reduce.specs.Products.{factors_in}

@@ -1,4 +1,4 @@
-use Rattle.std.proofs.Common.{◌≤◌, arith}
+use Rattle.std.proofs.Common.{arith}
 use Rattle.tree_handles.proofs.Given.{given_handed, given_told}
 use Rattle.reduce_port.specs.Rewritings.{tree_of}
 use Rattle.tree_handles.specs.Expressions.{children_of}

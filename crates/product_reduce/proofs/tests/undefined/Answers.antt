@@ -1,4 +1,4 @@
-use Rattle.std.proofs.Common.{◌≡◌, ◌∙◌, ap, refl, true}
+use Rattle.std.proofs.Common.{◌∙◌, ap, refl}
 use Rattle.calc_terms.specs.Reduced.{is_reduced}
 use Rattle.tree_handles.proofs.Given.{gives_as}
 use Rattle.product_reduce.proofs.Small.{undef_reduced}
