@@ -1,8 +1,8 @@
 -- How many bytes the face of a tree without its minus sign takes: at least 8 less than three times the tree's.
 use Rattle.std.proofs.Common.{◌≡◌, ℕ, zero, suc, ◌+◌, ◌-◌, ◌*◌, ◌≤◌, refl, arith, Bool, true, false, ◌==◌, nat_abs, if◌then◌else◌}
-use Rattle.calc_terms.specs.Faces.{fraction_of, product_of, power_below, unsigned_face, unless_one, exponent_below, has_minus, with_minus, factor_above, factor_below, factors_above, factors_below, next_term, next_terms}
+use Rattle.calc_language.specs.Faces.{fraction_of, product_of, power_below, unsigned_face, unless_one, exponent_below, has_minus, with_minus, factor_above, factor_below, factors_above, factors_below, next_term, next_terms}
 use Rattle.calc_terms.specs.Fractions.{Fraction}
-use Rattle.calc_terms.specs.Grammar.{SoFar, single, summed, multiplied, as_tree}
+use Rattle.calc_language.specs.Grammar.{SoFar, single, summed, multiplied, as_tree}
 use Rattle.calc_terms.specs.Trees.{Tree, num, symbol, undef, add, mult, power, root, neg, sub, div, Trees, none, more, count, size, sizes, whole_num, HasTwo, AllParts, AllPartsOf, root_size}
 use Rattle.tree_handles.specs.Expressions.{children_of}
 use Rattle.beautify.specs.Room.{node_room}

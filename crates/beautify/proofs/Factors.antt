@@ -1,6 +1,6 @@
 -- The factors of a product on a stack, split one after another from the last.
 use Rattle.std.proofs.Common.{◌≡◌, ℕ, zero, suc, ◌+◌, ◌<◌, ◌≤◌, refl, sym, ap, ◌∙◌, arith, true}
-use Rattle.calc_terms.specs.Faces.{fraction_of, unsigned_face, factor_above, factor_below, factors_above, factors_below}
+use Rattle.calc_language.specs.Faces.{fraction_of, unsigned_face, factor_above, factor_below, factors_above, factors_below}
 use Rattle.calc_terms.specs.Trees.{Tree, mult, Trees, none, more, append, count, is_mult}
 use Rattle.tree_handles.specs.Expressions.{nth, children_of}
 use Rattle.beautify.specs.Lists.{first, behind}

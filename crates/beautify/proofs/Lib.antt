@@ -18,3 +18,6 @@ pub mod Signs
 pub mod Sizes
 pub mod Extending
 pub mod Examples
+pub mod FaceRewrites
+pub mod FaceLaws
+pub mod FaceTexts

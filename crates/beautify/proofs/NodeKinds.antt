@@ -1,6 +1,6 @@
 -- What a node is, by the kind of its root.
 use Rattle.std.proofs.Common.{◌≡◌, ◌≤◌, refl, sym, ap, subst, arith, true}
-use Rattle.calc_terms.specs.Faces.{unsigned_face, has_minus, with_minus}
+use Rattle.calc_language.specs.Faces.{unsigned_face, has_minus, with_minus}
 use Rattle.calc_terms.specs.Trees.{Tree, num, symbol, undef, add, mult, power, root, neg, sub, div, Trees, none, more, count, root_kind, is_add, is_mult}
 use Rattle.calc_terms.specs.declared.kind.Kind.{Kind}
 use Rattle.calc_terms.specs.declared.kind.Kind.TheVariants as kind

@@ -1,7 +1,7 @@
 -- What changes at a place of a stack leave of the trees around it.
 use Rattle.std.proofs.Common.{◌≡◌, ℕ, zero, suc, ◌+◌, ◌<◌, ◌≤◌, refl, sym, ap, ◌∙◌, arith, Bool, if◌then◌else◌}
 use Rattle.std.proofs.lemmas.Bool.{ne_eqb}
-use Rattle.calc_terms.specs.Faces.{product_of, fraction_of, unless_one}
+use Rattle.calc_language.specs.Faces.{product_of, fraction_of, unless_one}
 use Rattle.calc_terms.specs.Trees.{Tree, mult, neg, div, Trees, none, more, append, count, whole_num}
 use Rattle.calc_terms.specs.declared.kind.Kind.TheVariants as kind
 use Rattle.tree_handles.specs.Expressions.{nth, inserted}

@@ -1,9 +1,9 @@
 -- The parts of a reduced tree can be shown.
 use Rattle.std.proofs.Common.{◌≡◌, inl, inr, refl, sym, ap, ◌∙◌, arith, true, false}
 use Rattle.calc_terms.specs.Trees.{Tree, num, symbol, undef, add, mult, power, root, neg, sub, div, Trees, none, more, AllParts, AllPartsOf, is_mult, is_undef, HasTwo}
-use Rattle.calc_terms.specs.Numbers.{IsTerm}
-use Rattle.calc_terms.specs.Reduced.{is_reduced, NoneIs, HasForm, IsReduced}
-use Rattle.calc_terms.proofs.ReducedLaws.{reduced_words}
+use Rattle.calc_algebra.specs.Numbers.{IsTerm}
+use Rattle.calc_algebra.specs.Reduced.{is_reduced, NoneIs, HasForm, IsReduced}
+use Rattle.calc_algebra.proofs.ReducedLaws.{reduced_words}
 use Rattle.beautify.specs.Showing.{IsShowable, IsFactor, AreFactors}
 
 -- the root of a part of a reduced tree

@@ -3,7 +3,7 @@ use Rattle.std.proofs.Common.{◌≡◌, ℕ, zero, suc, refl, ap, arith, Bool, 
 use Rattle.std.specs.Prelude.{ℤ, pos, negsuc, nat_abs}
 use Rattle.std.proofs.lemmas.Bool.{le-ltb}
 use lib.Signed.{lt_z}
-use Rattle.calc_terms.specs.Faces.{has_minus, exponent_below, below_zero}
+use Rattle.calc_language.specs.Faces.{has_minus, exponent_below, below_zero}
 use Rattle.calc_terms.specs.Integers.{int_is_negative}
 use Rattle.calc_terms.specs.Trees.{Tree, num, symbol, undef, add, mult, power, root, neg, sub, div, none, more, count, root_kind}
 use Rattle.calc_terms.specs.declared.kind.Kind.{Kind}

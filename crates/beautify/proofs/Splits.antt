@@ -2,7 +2,7 @@
 use Rattle.std.proofs.Common.{◌≡◌, ℕ, zero, suc, ◌+◌, ◌<◌, ◌≤◌, refl, sym, ap, ◌∙◌, arith, Bool, true, false, ◌==◌, nat_abs, if◌then◌else◌}
 use Rattle.std.specs.Prelude.{ℤ, pos, negsuc}
 use Rattle.std.proofs.lemmas.Bool.{ltb-true, ltb-false, eqb-true, ne_eqb}
-use Rattle.calc_terms.specs.Faces.{fraction_of, product_of, power_below, unsigned_face, unless_one, exponent_below, below_zero, has_minus, with_minus, factor_above, factor_below}
+use Rattle.calc_language.specs.Faces.{fraction_of, product_of, power_below, unsigned_face, unless_one, exponent_below, below_zero, has_minus, with_minus, factor_above, factor_below}
 use Rattle.calc_terms.specs.Fractions.{Fraction}
 use Rattle.calc_terms.specs.Trees.{Tree, num, symbol, undef, add, mult, power, root, neg, sub, div, Trees, none, more, append, count, size, sizes, is_div, whole_num, root_kind}
 use Rattle.calc_terms.specs.declared.kind.Kind.TheVariants as kind

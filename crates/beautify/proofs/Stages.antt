@@ -1,6 +1,6 @@
 -- The stages in which the first two trees of a stack become one.
 use Rattle.std.proofs.Common.{◌≡◌, suc, ◌+◌, ◌<◌, ◌≤◌, refl, ap, ◌∙◌, arith, Bool}
-use Rattle.calc_terms.specs.Faces.{fraction_of, with_minus}
+use Rattle.calc_language.specs.Faces.{fraction_of, with_minus}
 use Rattle.calc_terms.specs.Trees.{Tree, power, Trees, none, more, count}
 use Rattle.calc_terms.specs.declared.kind.Kind.TheVariants as kind
 use Rattle.tree_handles.specs.Expressions.{nth, inserted}

@@ -1,6 +1,6 @@
 -- The nodes of a tree from the last to the first.
 use Rattle.std.proofs.Common.{◌≡◌, ℕ, zero, suc, ◌+◌, ◌*◌, ◌<◌, ◌≤◌, List, [], ◌∷◌, ◌++◌, length, take, drop, refl, sym, ap, ◌∙◌, subst, arith, true, false, add-one}
-use Rattle.calc_terms.specs.Faces.{unsigned_face}
+use Rattle.calc_language.specs.Faces.{unsigned_face}
 use Rattle.calc_terms.specs.Node.{Node}
 use Rattle.calc_terms.specs.Trees.{Tree, num, symbol, undef, add, mult, power, root, neg, sub, div, Trees, none, more, append, count, size, sizes, root_size, AllParts, AllPartsOf}
 use Rattle.node_pool.specs.Nodes.{has, first_of, place_of, used, AreDistinct}

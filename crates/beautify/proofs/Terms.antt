@@ -1,7 +1,7 @@
 -- The terms of a sum, one after another.
 use Rattle.std.proofs.Common.{◌≡◌, ℕ, zero, suc, ◌+◌, ◌-◌, ◌*◌, ◌<◌, ◌≤◌, refl, sym, ap, ◌∙◌, arith, add-one, Bool, true, false}
-use Rattle.calc_terms.specs.Faces.{next_term, next_terms, has_minus, with_minus, unsigned_face}
-use Rattle.calc_terms.specs.Grammar.{SoFar, single, as_tree}
+use Rattle.calc_language.specs.Faces.{next_term, next_terms, has_minus, with_minus, unsigned_face}
+use Rattle.calc_language.specs.Grammar.{SoFar, single, as_tree}
 use Rattle.calc_terms.specs.Trees.{Tree, add, Trees, none, more, append, count, is_add}
 use Rattle.tree_handles.specs.Expressions.{nth, children_of}
 use Rattle.beautify.specs.Lists.{first, behind}

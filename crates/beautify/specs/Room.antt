@@ -1,6 +1,6 @@
 -- How many bytes the face of one node takes beside its children's at most, while it is made.
 use Rattle.std.specs.Prelude.{ℕ, zero, suc, ◌*◌}
-use Rattle.calc_terms.specs.Faces.{exponent_below}
+use Rattle.calc_language.specs.Faces.{exponent_below}
 use Rattle.calc_terms.specs.Trees.{Tree, num, symbol, add, mult, power, root, count}
 
 abbrev pub node_room : Tree → ℕ

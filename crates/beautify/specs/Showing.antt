@@ -1,7 +1,7 @@
 -- Nodes of reduced trees, as their faces need them.
 use Rattle.std.specs.Prelude.{◌≡◌, ⊤, Bool, true, false, nat_lt}
-use Rattle.calc_terms.specs.Faces.{unsigned_face, exponent_below}
-use Rattle.calc_terms.specs.Grammar.{SoFar, summed}
+use Rattle.calc_language.specs.Faces.{unsigned_face, exponent_below}
+use Rattle.calc_language.specs.Grammar.{SoFar, summed}
 use Rattle.calc_terms.specs.Integers.{int_is_negative}
 use Rattle.calc_terms.specs.Trees.{Tree, num, symbol, add, mult, power, root, Trees, none, more, append, count, HasTwo}
 use Rattle.beautify.specs.Lists.{behind}

@@ -3,12 +3,11 @@ use Rattle.std.specs.Prelude.{ℕ, ◌≡◌, true}
 use Rattle.calc_terms.specs.Trees.{Trees, add, is_add}
 use Rattle.node_pool.specs.State.{State}
 use Rattle.node_pool.specs.declared.full.Full.{Full}
-use Rattle.reduce_port.specs.Causes.{LacksBytes}
+use Rattle.tree_handles.specs.Standing.{LacksBytes, forest, KeepsRefusals, Refuses}
 use Rattle.tree_handles.specs.Expressions.{plain, children_of}
 use Rattle.tree_handles.specs.Forest.{Forest}
 use Rattle.tree_handles.specs.Handed.{Gives, Starts}
 use Rattle.tree_handles.specs.Roots.{root_tree, without_root}
-use Rattle.tree_handles.specs.Standing.{forest, KeepsRefusals, Refuses}
 
 -- the trees that a root holds
 abbrev pub stacked : ℕ → Forest → Trees

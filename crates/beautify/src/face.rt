@@ -1,18 +1,17 @@
 //! The face of a reduced tree.
 ghost use Rattle.std.specs.Prelude.{◌≡◌, ◌<◌, ◌≤◌, ◌+◌, ◌*◌, true, false, IfErr, IfOk, IsOk, OnOk, [], ◌∷◌};
-ghost use Rattle.calc_terms.specs.Faces.{face};
-ghost use Rattle.calc_terms.specs.Reduced.{is_reduced};
+ghost use Rattle.calc_language.specs.Faces.{face};
+ghost use Rattle.calc_algebra.specs.Reduced.{is_reduced};
 ghost use Rattle.beautify.specs.Showing.{IsShowable};
 ghost use Rattle.beautify.specs.Stacks.{stacked, IsStack, Restacks, FailsAbove};
 ghost use Rattle.calc_terms.specs.Trees.{none, more, is_undef, size, AllParts};
 ghost use Rattle.node_pool.specs.State.{free_of};
-ghost use Rattle.reduce_port.specs.Causes.{LacksBytes};
-ghost use Rattle.reduce_port.specs.Rewritings.{KeepsMeanings, tree_of};
+ghost use Rattle.tree_handles.specs.Standing.{LacksBytes, Stands, forest, KeepsRefusals, Refuses};
+ghost use Rattle.calc_algebra.specs.Rewritings.{KeepsMeanings};
+ghost use Rattle.tree_handles.specs.Handed.{tree_of, IsHanded, Gives, KeepsFront};
 ghost use Rattle.tree_handles.specs.Expressions.{IsExpression, plain};
-ghost use Rattle.tree_handles.specs.Handed.{IsHanded, Gives, KeepsFront};
 ghost use Rattle.tree_handles.specs.Inside.{tree_at};
 ghost use Rattle.tree_handles.specs.Roots.{without_root};
-ghost use Rattle.tree_handles.specs.Standing.{Stands, forest, KeepsRefusals, Refuses};
 
 use crate::marks::{mark_before, node_at, root_mark};
 use crate::nodes::show_node;

@@ -3,7 +3,7 @@ ghost use Rattle.std.specs.Prelude.{◌≡◌, ◌<◌, ◌≤◌, ◌+◌, ◌^
 ghost use Rattle.beautify.specs.Lists.{first, behind, cut};
 ghost use Rattle.beautify.specs.Room.{product_room};
 ghost use Rattle.beautify.specs.Stacks.{stacked, IsStack, Restacks, FailsAbove};
-ghost use Rattle.calc_terms.specs.Faces.{fraction_of, product_of, unless_one};
+ghost use Rattle.calc_language.specs.Faces.{fraction_of, product_of, unless_one};
 ghost use Rattle.calc_terms.specs.Trees.{none, more, count, sizes};
 ghost use Rattle.node_pool.specs.State.{free_of};
 ghost use Rattle.tree_handles.specs.Expressions.{inserted};

@@ -3,6 +3,7 @@
 
 mod face;
 mod fractions;
+pub mod laws;
 mod marks;
 mod nodes;
 mod products;

@@ -4,7 +4,7 @@ ghost use Rattle.beautify.specs.Lists.{behind};
 ghost use Rattle.beautify.specs.Room.{node_room};
 ghost use Rattle.beautify.specs.Showing.{IsShowable, HoldsFaces};
 ghost use Rattle.beautify.specs.Stacks.{stacked, IsStack, Restacks, FailsAbove};
-ghost use Rattle.calc_terms.specs.Faces.{unsigned_face, has_minus, with_minus, fraction_of};
+ghost use Rattle.calc_language.specs.Faces.{unsigned_face, has_minus, with_minus, fraction_of};
 ghost use Rattle.calc_terms.specs.Rat.{value_of};
 ghost use Rattle.calc_terms.specs.Trees.{num, root, power, none, more, count};
 ghost use Rattle.node_pool.specs.State.{free_of};

@@ -4,7 +4,7 @@ ghost use Rattle.beautify.specs.Lists.{behind};
 ghost use Rattle.beautify.specs.Room.{node_room};
 ghost use Rattle.beautify.specs.Showing.{IsFactor, IsShowable, HoldsFaces};
 ghost use Rattle.beautify.specs.Stacks.{stacked, IsStack, Restacks, FailsAbove};
-ghost use Rattle.calc_terms.specs.Faces.{unsigned_face, factor_above, factor_below};
+ghost use Rattle.calc_language.specs.Faces.{unsigned_face, factor_above, factor_below};
 ghost use Rattle.calc_terms.specs.Rat.{value_of};
 ghost use Rattle.calc_terms.specs.Trees.{Trees, num, more, append, count, is_mult, root_kind};
 ghost use Rattle.calc_terms.specs.declared.kind.Kind.TheVariants.{Num};

@@ -1,7 +1,7 @@
 //! Signs and exponents, as the face of a tree needs them.
 ghost use Rattle.std.specs.Prelude.{◌≡◌, ◌<◌, ◌^◌, true, nat_abs};
 ghost use Rattle.beautify.specs.Showing.{is_negative_num, stands_below};
-ghost use Rattle.calc_terms.specs.Faces.{has_minus, exponent_below, below_zero};
+ghost use Rattle.calc_language.specs.Faces.{has_minus, exponent_below, below_zero};
 ghost use Rattle.calc_terms.specs.Integers.{int_is_negative};
 ghost use Rattle.calc_terms.specs.Rat.{value_of};
 ghost use Rattle.tree_handles.specs.Expressions.{IsExpression, plain};

@@ -3,7 +3,7 @@ use Rattle.std.specs.Prelude.{ℕ, ◌≡◌, ◌≤◌, ◌↔◌, List, Option
 use Rattle.std.specs.Option.{option_map}
 use Rattle.std.proofs.Common.{refl, sym, ap, ◌∙◌, subst, arith}
 use Rattle.calc_terms.specs.Leaf.{name_of}
-use Rattle.calc_terms.specs.Tokens.{Token}
+use Rattle.calc_language.specs.Tokens.{Token}
 use Rattle.calc_terms.specs.Trees.{Tree, depth}
 use Rattle.calc_parser.specs.declared.checking.Shape.{Shape}
 use Rattle.calc_parser.specs.declared.checking.ParseFault.{ParseFault}

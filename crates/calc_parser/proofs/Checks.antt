@@ -2,10 +2,10 @@
 use Rattle.std.specs.Prelude.{ℕ, ◌+◌, ◌≡◌, ◌≤◌, List, [], ◌∷◌, ◌++◌, length, map, Option, Some, None}
 use Rattle.std.proofs.Common.{refl, sym, ap, ◌∙◌, subst, arith, length-append, append_assoc}
 use Rattle.std.proofs.lemmas.List.{map-append}
-use Rattle.calc_terms.specs.Tokens.{Token, name, arrow_mark}
+use Rattle.calc_language.specs.Tokens.{Token, name, arrow_mark}
 use Rattle.calc_terms.specs.Trees.{Tree}
-use Rattle.calc_terms.specs.Grammar.{IsSum}
-use Rattle.calc_terms.proofs.ReadLaws.{one_sum_tree}
+use Rattle.calc_language.specs.Grammar.{IsSum}
+use Rattle.calc_language.proofs.ReadLaws.{one_sum_tree}
 use Rattle.calc_tokens.specs.declared.tokens.Token.{Token as Placed}
 use Rattle.calc_tokens.specs.Tokens.{token_of, placed}
 use Rattle.calc_tokens.specs.Placed.{bare}

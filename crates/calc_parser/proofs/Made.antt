@@ -4,9 +4,9 @@ use Rattle.std.proofs.Common.{refl, sym, ap, ◌∙◌, arith, append_assoc, app
 use Rattle.std.proofs.lemmas.Bool.{eqb-true}
 use Rattle.calc_terms.specs.declared.kind.Kind.{Kind}
 use Rattle.calc_terms.specs.declared.kind.Kind.TheVariants as kind
-use Rattle.calc_terms.specs.Tokens.{Token}
+use Rattle.calc_language.specs.Tokens.{Token}
 use Rattle.calc_terms.specs.Trees.{Tree, add, mult, Trees, none, more, append, count}
-use Rattle.calc_terms.specs.Grammar.{SoFar, single, summed, multiplied, as_tree, plus_term, times_factor, joined_tree, Sum, first_term, plus_more, minus_more, Product, first_factor, times_more, over_more}
+use Rattle.calc_language.specs.Grammar.{SoFar, single, summed, multiplied, as_tree, plus_term, times_factor, joined_tree, Sum, first_term, plus_more, minus_more, Product, first_factor, times_more, over_more}
 use Rattle.calc_parser.specs.Postfix.{Node, parent, postfix, postfixes}
 use Rattle.calc_parser.specs.Automaton.{gathered}
 

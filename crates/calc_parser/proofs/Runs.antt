@@ -2,9 +2,9 @@
 use Rattle.std.specs.Prelude.{ℕ, suc, ◌+◌, ◌≡◌, ◌≤◌, ◌<◌, List, [], ◌∷◌, length, drop, Option, Some, None, Result, Ok, Err, MatchResult, OnErr, OnOk}
 use Rattle.std.proofs.Common.{refl, sym, ap, ◌∙◌, get_or, drop-cons, add-one}
 use Rattle.std.proofs.lemmas.List.{get_or-map, drop_all}
-use Rattle.calc_terms.specs.Tokens.{Token, undef_mark}
+use Rattle.calc_language.specs.Tokens.{Token, undef_mark}
 use Rattle.calc_terms.specs.Trees.{Tree}
-use Rattle.calc_terms.specs.Grammar.{IsSum}
+use Rattle.calc_language.specs.Grammar.{IsSum}
 use Rattle.calc_tokens.specs.declared.tokens.Token.{Token as Placed}
 use Rattle.calc_tokens.specs.Tokens.{token_of}
 use Rattle.calc_parser.specs.declared.reader.NoSum.{NoSum}

@@ -2,9 +2,9 @@
 use Rattle.std.specs.Prelude.{◌≡◌, List, [], ◌∷◌, ◌++◌, Bool, true, false}
 use Rattle.std.proofs.Common.{refl, sym, ap, ◌∙◌, subst, append_assoc}
 use Rattle.calc_terms.specs.declared.kind.Kind.TheVariants as kind
-use Rattle.calc_terms.specs.Tokens.{Token, root_mark, plus_mark, minus_mark, times_mark, slash_mark, caret_mark, left_mark}
+use Rattle.calc_language.specs.Tokens.{Token, root_mark, plus_mark, minus_mark, times_mark, slash_mark, caret_mark, left_mark}
 use Rattle.calc_terms.specs.Trees.{Tree, power, neg, Trees, none, more, append, count}
-use Rattle.calc_terms.specs.Grammar.{SoFar, single, as_tree, plus_term, minus_term, times_factor, over_factor, joined_tree, joins, Sum, first_term, plus_more, minus_more, Signed, minus_signed, plain_signed, Product, first_factor, times_more, over_more, Right, minus_right, plain_right, Joined, one_power, another_power, Power, raised_power, Exponent, minus_exponent, plain_exponent, Primary}
+use Rattle.calc_language.specs.Grammar.{SoFar, single, as_tree, plus_term, minus_term, times_factor, over_factor, joined_tree, joins, Sum, first_term, plus_more, minus_more, Signed, minus_signed, plain_signed, Product, first_factor, times_more, over_more, Right, minus_right, plain_right, Joined, one_power, another_power, Power, raised_power, Exponent, minus_exponent, plain_exponent, Primary}
 use Rattle.calc_parser.specs.declared.nesting.Open.{Open}
 use Rattle.calc_parser.specs.declared.nesting.Open.TheVariants as opened
 use Rattle.calc_parser.specs.Postfix.{Node, parent, postfix, postfixes}

@@ -2,7 +2,7 @@
 use Rattle.std.specs.Prelude.{ℕ, ◌+◌, ◌≡◌, ◌≤◌, ◌<◌, List, [], ◌∷◌, ◌++◌, map, length, Some, None}
 use Rattle.std.proofs.Common.{refl, ap, ◌∙◌, arith, length-append}
 use Rattle.std.proofs.lemmas.List.{map-append}
-use Rattle.calc_terms.specs.Tokens.{Token}
+use Rattle.calc_language.specs.Tokens.{Token}
 use Rattle.calc_parser.specs.declared.postfix.Step.{Step}
 use Rattle.calc_parser.specs.declared.nesting.Open.{Open}
 use Rattle.calc_parser.specs.declared.nesting.Level.{Level}

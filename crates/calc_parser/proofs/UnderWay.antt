@@ -8,11 +8,10 @@ use Rattle.calc_terms.specs.Payload.{Payload, size_of_payload}
 use Rattle.calc_terms.specs.Trees.{Tree, Trees, none, more, append, count}
 use Rattle.node_pool.specs.State.{State, free_of}
 use Rattle.node_pool.specs.declared.full.Full.{Full}
-use Rattle.reduce_port.specs.Causes.{LacksBytes}
+use Rattle.tree_handles.specs.Standing.{LacksBytes, Stands, forest, KeepsRefusals, IsRefused, Refuses}
 use Rattle.tree_handles.specs.Expressions.{takes, plains, IsWhole}
 use Rattle.tree_handles.specs.Forest.{Forest, empty, tree, join, arity, one_tree, bytes_in}
 use Rattle.tree_handles.specs.Handed.{Ends, Gives, Represents, KeepsFront, IsOnce}
-use Rattle.tree_handles.specs.Standing.{Stands, forest, KeepsRefusals, IsRefused, Refuses}
 use Rattle.tree_handles.proofs.Forests.{arity-join, bytes_in-join, join_assoc, all-first_trees, all-rest_trees, keeps_after, keeps_none, refuses_after, join-empty}
 use Rattle.tree_handles.proofs.Fronts.{starts_join, starts_same, front_at}
 use Rattle.tree_handles.proofs.Lasts.{ends_as}
@@ -222,13 +221,10 @@ pub record IsStopped (old next : State) (all : List Node) (full : Full) : Type 0
 pub stopped : (old now next : State) (places : List ℕ) (all : List Node) (n : Node) (rest : List Node) (full : Full) → IsUnderWay old now places all (n ∷ rest) → free_of now < bytes_of_node n → IsRefused (bytes_of_node n) now next full
     → IsStopped old next all full
 stopped old now next places all n rest full u short r =
-    let same : free_of next ≡ free_of now = ap free_of r.state in
-    let needed : full.needed ≡ bytes_of_node n = ap (λ (x : Full). x.needed) r.told in
-    let left : full.free ≡ free_of now = ap (λ (x : Full). x.free) r.told in
     record {
       full-is = u.budget ∙ no_room n rest (free_of now) short ∙ ap Err (sym r.told);
       refuses = refuses_after old now next full u.keeps r.refuses;
-      lacks = record { free = left ∙ sym same; lacking = omega arith };
+      lacks = r.lacks;
       front = front_at (front old now places all (n ∷ rest) u) r.same;
     }
 

@@ -2,7 +2,7 @@
 use Rattle.std.specs.Prelude.{ℕ, ◌+◌, max, List, [], ◌∷◌, ◌++◌, Option, Some, None, ◌==◌, if◌then◌else◌}
 use Rattle.calc_terms.specs.declared.kind.Kind.{Kind}
 use Rattle.calc_terms.specs.declared.kind.Kind.TheVariants as kind
-use Rattle.calc_terms.specs.Tokens.{Token, literal, name, undef_mark, root_mark, plus_mark, minus_mark, times_mark, slash_mark, caret_mark, left_mark, right_mark}
+use Rattle.calc_language.specs.Tokens.{Token, literal, name, undef_mark, root_mark, plus_mark, minus_mark, times_mark, slash_mark, caret_mark, left_mark, right_mark}
 use Rattle.calc_parser.specs.declared.nesting.Open.{Open}
 use Rattle.calc_parser.specs.declared.nesting.Open.TheVariants.{Parentheses, Root, Sum, Difference, NegatedTerm, Product, Quotient, NegatedFactor, Joined, Power, NegatedExponent}
 use Rattle.calc_parser.specs.declared.nesting.Level.{Level}

@@ -2,7 +2,7 @@
 use Rattle.std.specs.Prelude.{ℕ, ◌-◌, List, [], ◌∷◌, nat_le, if◌then◌else◌, Result, Ok, Err}
 use Rattle.calc_terms.specs.declared.kind.Kind.TheVariants as kind
 use Rattle.calc_terms.specs.Kind.{size_of_kind}
-use Rattle.calc_terms.specs.Tokens.{literal, name}
+use Rattle.calc_language.specs.Tokens.{literal, name}
 use Rattle.calc_terms.specs.Trees.{Tree}
 use Rattle.node_pool.specs.declared.full.Full.{Full}
 use Rattle.calc_parser.specs.Postfix.{Node, leaf, parent, postfix}

@@ -1,7 +1,7 @@
 -- What one node in postfix order makes of the last trees.
 use Rattle.std.specs.Prelude.{ℕ, ◌-◌, ◌≡◌, Bool, true}
 use Rattle.calc_terms.specs.Payload.{Payload, size_of_payload}
-use Rattle.calc_terms.specs.Tokens.{literal, name}
+use Rattle.calc_language.specs.Tokens.{literal, name}
 use Rattle.calc_terms.specs.Trees.{Tree, Trees, num, symbol, undef}
 use Rattle.tree_handles.specs.Expressions.{compound, grown, takes, takes_kind}
 use Rattle.tree_handles.specs.Forest.{Forest, arity, first_trees, rest_trees, one_tree}

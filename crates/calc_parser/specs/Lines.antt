@@ -1,9 +1,9 @@
 -- Lines of the grammar, and what is said of their trees.
 use Rattle.std.specs.Prelude.{ℕ, ◌≡◌, ◌<◌, List, Option, Some, None}
 use Rattle.std.specs.Option.{option_map}
-use Rattle.calc_terms.specs.Tokens.{Token}
+use Rattle.calc_language.specs.Tokens.{Token}
 use Rattle.calc_terms.specs.Trees.{Tree, depth, nodes}
-use Rattle.calc_terms.specs.Grammar.{IsSum, IsStore}
+use Rattle.calc_language.specs.Grammar.{IsSum, IsStore}
 use Rattle.calc_terms.specs.Leaf.{name_of}
 use Rattle.calc_parser.specs.declared.checking.Shape.{Shape}
 

@@ -1,7 +1,7 @@
 -- The names in tokens.
 use Rattle.std.specs.Prelude.{ℕ, List, Bool, false}
 use Rattle.std.specs.Str.{bytes_eq}
-use Rattle.calc_terms.specs.Tokens.{Token, name}
+use Rattle.calc_language.specs.Tokens.{Token, name}
 
 -- the token is this name
 abbrev pub is_that_name : List ℕ → Token → Bool

@@ -1,6 +1,6 @@
 -- What each answer of the check says.
 use Rattle.std.specs.Prelude.{◌≤◌, List}
-use Rattle.calc_terms.specs.Tokens.{Token}
+use Rattle.calc_language.specs.Tokens.{Token}
 use Rattle.calc_parser.specs.declared.checking.Shape.{Shape}
 use Rattle.calc_parser.specs.declared.checking.ParseFault.{ParseFault}
 use Rattle.calc_parser.specs.declared.checking.ParseFault.TheVariants.{Syntax, Deep}

@@ -1,6 +1,6 @@
 -- What the reader's fields stand for.
 use Rattle.std.specs.Prelude.{ℕ, ◌+◌, ◌≡◌, List, [], ◌∷◌, map, length, reverse, Option, Some, None, Result, Ok, Err, slice_index_or}
-use Rattle.calc_terms.specs.Tokens.{Token, undef_mark}
+use Rattle.calc_language.specs.Tokens.{Token, undef_mark}
 use Rattle.calc_parser.specs.declared.nesting.Open.{Open}
 use Rattle.calc_tokens.specs.declared.tokens.Token.{Token as Placed}
 use Rattle.calc_tokens.specs.Tokens.{token_of}

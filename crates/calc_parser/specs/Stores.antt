@@ -1,6 +1,6 @@
 -- The name behind an arrow at the end of a line.
 use Rattle.std.specs.Prelude.{ℕ, ◌≡◌, List, [], ◌∷◌, ◌++◌, Option, Some, None}
-use Rattle.calc_terms.specs.Tokens.{Token, name, arrow_mark}
+use Rattle.calc_language.specs.Tokens.{Token, name, arrow_mark}
 
 -- the name that the last two tokens store to
 abbrev pub stored : Token → Token → Option (List ℕ)

@@ -1,7 +1,7 @@
 //! The depth of a tree.
 ghost use Rattle.std.specs.Prelude.{◌≡◌, ◌<◌, ◌≤◌, ◌+◌, List, length, map};
 ghost use Rattle.arrayvec.specs.ArrayVec.{array_vec_len};
-ghost use Rattle.calc_terms.specs.Tokens.{Token as Mark};
+ghost use Rattle.calc_language.specs.Tokens.{Token as Mark};
 ghost use Rattle.calc_terms.specs.Trees.{Tree, depth};
 ghost use Rattle.calc_parser.specs.Postfix.{postfix};
 ghost use Rattle.calc_parser.specs.Depths.{deepest, with_node};

@@ -1,6 +1,6 @@
 //! Laws of lines, each the contract of a function without a body.
 ghost use Rattle.std.specs.Prelude.{◌≡◌, ◌↔◌, ◌≤◌, ◌-◌, ℕ, List, Option, Ok};
-ghost use Rattle.calc_terms.specs.Tokens.{Token};
+ghost use Rattle.calc_language.specs.Tokens.{Token};
 ghost use Rattle.calc_terms.specs.Trees.{Tree, size};
 ghost use Rattle.calc_parser.specs.Building.{building};
 ghost use Rattle.calc_parser.specs.Lines.{IsLine};

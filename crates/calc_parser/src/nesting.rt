@@ -1,7 +1,7 @@
 //! What is open while a line is read.
 ghost use Rattle.std.specs.Prelude.{◌≡◌, ◌<◌, [], ◌∷◌, List, length};
 ghost use Rattle.std.specs.Option.{option_map};
-ghost use Rattle.calc_terms.specs.Tokens.{Token as Mark};
+ghost use Rattle.calc_language.specs.Tokens.{Token as Mark};
 ghost use Rattle.calc_parser.specs.Reader.{open_in, innermost, outer, node_of};
 ghost use Rattle.calc_parser.specs.Automaton.{completed, place_in};
 

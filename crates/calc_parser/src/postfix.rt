@@ -1,6 +1,6 @@
 //! Trees in postfix order: children from left to right, then their parent.
 ghost use Rattle.std.specs.Prelude.{◌≡◌, ◌<◌, ◌≤◌, ◌+◌, [], ◌∷◌, ◌++◌, List, length};
-ghost use Rattle.calc_terms.specs.Tokens.{Token as Mark};
+ghost use Rattle.calc_language.specs.Tokens.{Token as Mark};
 
 use arrayvec::ArrayVec;
 use calc_terms::Kind;

@@ -1,9 +1,9 @@
 //! A sum read token by token.
 ghost use Rattle.std.specs.Prelude.{◌≡◌, ◌<◌, ◌≤◌, ◌+◌, ℕ, List, ◌∷◌, ◌++◌, length, map, MatchResult, OnOk, OnErr, Some, None};
 ghost use Rattle.std.specs.Option.{option_map};
-ghost use Rattle.calc_terms.specs.Tokens.{Token as Mark};
+ghost use Rattle.calc_language.specs.Tokens.{Token as Mark};
 ghost use Rattle.calc_terms.specs.Trees.{Tree};
-ghost use Rattle.calc_terms.specs.Grammar.{IsSum};
+ghost use Rattle.calc_language.specs.Grammar.{IsSum};
 ghost use Rattle.calc_tokens.specs.Tokens.{token_of};
 ghost use Rattle.calc_parser.specs.Postfix.{postfix as postfix_of};
 ghost use Rattle.calc_parser.specs.Automaton.{state, ended, gathered, complete as completed_all, end_part, end_powers as powers_ended, end_product as product_ended, sum_nodes, minus_in as sign_in, begin_operand as operand_begun, at_operand, at_parenthesis, at_operator, leave_parentheses as parentheses_left, step, finish as finished, start};

@@ -3,6 +3,8 @@ use Rattle.std.specs.Prelude.{ℕ, zero, suc, ◌*◌, ◌/◌, ◌≡◌, ◌<�
 use Rattle.std.proofs.Common.{refl, arith, sym, ap, ◌∙◌, subst}
 use Rattle.std.proofs.lemmas.Bool.{lt-ltb, eq-eqb, ltb-true, eqb-true}
 use Rattle.std.specs.Int.{IsGcd}
+use Rattle.std.specs.Ordering.{int_cmp}
+use Rattle.std.specs.declared.cmp.Ordering.{Ordering}
 use Rattle.std.proofs.lemmas.Nat.Gcd.{same_from_IsGcd}
 use native.Mathlib.Nat.{div-mul_cancel, pos_of_dvd_of_pos, zero-mul}
 use Prim.Native.Nat.{◌∣◌}
@@ -130,6 +132,10 @@ inverse_of (negsuc n) d = lowest (neg_ℤ (pos d)) (suc n)
 -- 1/a, where a is not zero
 abbrev pub inverse : Fraction → Fraction
 inverse a = inverse_of a.num a.den
+
+-- by value
+abbrev pub fraction_cmp : Fraction → Fraction → Ordering
+fraction_cmp p q = int_cmp (p.num *ℤ pos q.den) (q.num *ℤ pos p.den)
 
 -- ---- equal cross products make one fraction
 

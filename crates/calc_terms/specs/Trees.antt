@@ -1,5 +1,5 @@
 -- The tree of an expression: its measures, its names and its parts.
-use Rattle.std.specs.Prelude.{ℕ, suc, ◌+◌, max, pos, List, [], ◌∷◌, ◌++◌, Bool, true, false, ⊤}
+use Rattle.std.specs.Prelude.{ℕ, suc, ◌+◌, max, pos, List, [], ◌∷◌, ◌++◌, Bool, true, false, ◌&&◌, ◌||◌, ⊤}
 use Rattle.calc_terms.specs.declared.kind.Kind.{Kind}
 use Rattle.calc_terms.specs.declared.kind.Kind.TheVariants as kind
 use Rattle.calc_terms.specs.Kind.{code_of, size_of_kind}
@@ -95,6 +95,23 @@ is_div _ = false
 -- the whole number n
 abbrev pub whole_num : ℕ → Tree
 whole_num n = num (lowest (pos n) 1)
+
+-- ---- the children of a node
+
+-- some child is Undef
+abbrev pub has_undef : Trees → Bool
+has_undef none = false
+has_undef (more t ts) = is_undef t || has_undef ts
+
+-- each child is a rational
+abbrev pub are_rationals : Trees → Bool
+are_rationals none = true
+are_rationals (more t ts) = is_num t && are_rationals ts
+
+-- the parts of each child in its place
+abbrev pub opened_into : (Tree → Trees) → Trees → Trees
+opened_into parts none = none
+opened_into parts (more t ts) = append (parts t) (opened_into parts ts)
 
 -- ---- measures
 

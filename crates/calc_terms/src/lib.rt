@@ -1,8 +1,7 @@
-//! What trees are made of, and the definitions that every contract above cites.
+//! What trees are made of: rationals, kinds and names, the bytes of nodes, and trees with their sizes.
 #![tactic(auto)]
 
 mod euclid;
-pub mod examples;
 mod kind;
 pub mod laws;
 mod leaf;

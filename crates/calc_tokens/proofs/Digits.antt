@@ -3,7 +3,7 @@ use Rattle.std.specs.Prelude.{ℕ, suc, ◌+◌, ◌-◌, ◌*◌, ◌/◌, ◌^
 use Rattle.std.proofs.Common.{refl, ap, ◌∙◌, arith, get_or, drop, drop-cons, pow-suc}
 use Rattle.std.proofs.Math.Nat.{pow-le-pow_right}
 use Rattle.std.proofs.lemmas.Bool.{eqb-true}
-use Rattle.calc_terms.specs.Tokens.{digits_value}
+use Rattle.calc_language.specs.Tokens.{digits_value}
 use Rattle.calc_tokens.specs.Literals.{kept_before, trimmed}
 
 trimmed_zero : (front : List ℕ) → trimmed (front ++ 48 ∷ []) ≡ trimmed front

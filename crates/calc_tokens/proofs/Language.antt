@@ -1,7 +1,7 @@
 -- Tokens with their places, and the tokens of the language.
 use Rattle.std.specs.Prelude.{ℕ, ◌≡◌, ◌⊎◌, List, [], ◌∷◌, Bool, true, false}
 use Rattle.std.proofs.Common.{refl, ap, inl, inr}
-use Rattle.calc_terms.specs.Tokens.{Token, Scans, at_end, at_blank, at_token}
+use Rattle.calc_language.specs.Tokens.{Token, Scans, at_end, at_blank, at_token}
 use Rattle.calc_tokens.specs.Placed.{Placed, bare}
 use Rattle.calc_tokens.specs.Scanned.{Leads, nothing, blank, token, begins_wide, AreTokensOf, IsFirstWide, place}
 

@@ -4,7 +4,7 @@ use Rattle.std.proofs.Common.{refl, sym, ap, ◌∙◌, subst, arith}
 use Rattle.std.proofs.lemmas.Bool.{eqb-true}
 use Rattle.std.proofs.lemmas.Bool.Decides.{nat_tests}
 use Rattle.calc_terms.specs.Name.{is_digit, is_letter}
-use Rattle.calc_terms.specs.Tokens.{Token, is_blank, token_at, literal_at, word_at, first_mark, marks}
+use Rattle.calc_language.specs.Tokens.{Token, is_blank, token_at, literal_at, word_at, first_mark, marks}
 use Rattle.calc_tokens.specs.Literals.{literal_fits}
 use Rattle.calc_tokens.specs.Placed.{Placed}
 use Rattle.calc_tokens.specs.Scanned.{Leads, nothing, blank, token, begins, begins_blank, begins_wide, BeginsToken, BeginsNoToken, IsFirstCharacter, IsFirstWide, AreTokensOf, place}

@@ -9,7 +9,7 @@ use Rattle.std.proofs.lemmas.Int.{ints, to_z_pos}
 use Rattle.std.proofs.lemmas.Bool.{lt-ltb, ltb-true, eqb-true}
 use Rattle.calc_terms.specs.Fractions.{lowest, same_lowest}
 use Rattle.calc_terms.specs.Name.{is_digit}
-use Rattle.calc_terms.specs.Tokens.{digits_value, decimals}
+use Rattle.calc_language.specs.Tokens.{digits_value, decimals}
 use Rattle.calc_tokens.specs.Literals.{trimmed, kept_before, unscaled, scale, parts_fit}
 use Rattle.std.proofs.lemmas.List.Elements.{All-nil, All-cons, All-head, All-tail}
 use Rattle.calc_tokens.proofs.Runs.{chosen, run_passes}

@@ -5,7 +5,7 @@ use Rattle.std.specs.Cmp.Lexicographic.{pointwise}
 use Rattle.std.specs.Option.{option_map, option_or}
 use Rattle.std.proofs.Common.{refl, arith}
 use Rattle.std.proofs.lemmas.Bool.Decides.{nat_tests}
-use Rattle.calc_terms.specs.Tokens.{Token, if_so, rest_after, or_else}
+use Rattle.calc_language.specs.Tokens.{Token, if_so, rest_after, or_else}
 use Rattle.calc_tokens.specs.declared.tokens.What.{What}
 use Rattle.calc_tokens.specs.Tokens.{front_of}
 

@@ -6,7 +6,7 @@ use Rattle.std.proofs.Math.Numerals.{one-add}
 use Rattle.std.proofs.lemmas.Bool.{eqb-true}
 use Rattle.std.proofs.lemmas.List.Elements.{All-nil, All-cons}
 use Rattle.calc_terms.specs.Name.{is_digit}
-use Rattle.calc_terms.specs.Tokens.{leading_run, keep, decimals}
+use Rattle.calc_language.specs.Tokens.{leading_run, keep, decimals}
 
 pub run_front : (p : ℕ → Bool) (bytes : List ℕ) → take (prefix_len p bytes) bytes ≡ (leading_run p bytes).0
 run_front p [] = refl

@@ -1,7 +1,7 @@
 -- A line's tokens up to a rest, one token further at a time.
 use Rattle.std.specs.Prelude.{ℕ, suc, ◌+◌, ◌≡◌, ◌≤◌, ◌<◌, List, [], ◌∷◌, ◌++◌, length, true}
 use Rattle.std.proofs.Common.{sym, ap, subst, arith, length-append}
-use Rattle.calc_terms.specs.Tokens.{Token, is_blank}
+use Rattle.calc_language.specs.Tokens.{Token, is_blank}
 use Rattle.calc_tokens.proofs.Shorter.{token_shorter}
 use Rattle.calc_tokens.specs.Placed.{Placed}
 use Rattle.calc_tokens.specs.Scanned.{Leads, nothing, blank, token, BeginsToken, place}

@@ -3,7 +3,7 @@ use Rattle.std.specs.Prelude.{ℕ, ◌+◌, ◌≡◌, ◌≤◌, ◌<◌, List,
 use Rattle.std.proofs.Common.{refl, subst, arith}
 use Rattle.std.proofs.lemmas.Bool.{ltb-true}
 use Rattle.calc_terms.specs.Name.{is_digit, is_letter, is_name_byte}
-use Rattle.calc_terms.specs.Tokens.{Token, Mark, marks, leading_run, decimals, literal_at, word_at, token_of_word, if_so, rest_after, or_else, first_mark, token_at}
+use Rattle.calc_language.specs.Tokens.{Token, Mark, marks, leading_run, decimals, literal_at, word_at, token_of_word, if_so, rest_after, or_else, first_mark, token_at}
 use Rattle.calc_tokens.proofs.Runs.{run_back_lt, decimals_le}
 
 -- what stands behind, where there is a token

@@ -4,10 +4,8 @@ use Rattle.std.specs.List.{list_all}
 use Rattle.std.specs.Cmp.Lexicographic.{pointwise}
 use Rattle.std.proofs.Common.{refl, sym, ap, ◌∙◌}
 use Rattle.std.proofs.lemmas.Slice.Eq.{bytes_eq-Decides}
-use Rattle.calc_terms.specs.Tokens.{name, root_mark, undef_mark}
-use Rattle.calc_terms.specs.Name.{begins_with_letter, is_name}
-use Rattle.calc_terms.specs.Name.{is_letter, is_name_byte}
-use Rattle.calc_terms.specs.Tokens.{leading_run, keep, same_bytes, token_of_word, word_at}
+use Rattle.calc_language.specs.Tokens.{name, root_mark, undef_mark, leading_run, keep, same_bytes, token_of_word, word_at}
+use Rattle.calc_terms.specs.Name.{begins_with_letter, is_name, is_letter, is_name_byte}
 
 same_bytes-pointwise : (x y : List ℕ) → same_bytes x y ≡ pointwise nat_eq x y
 same_bytes-pointwise [] [] = refl

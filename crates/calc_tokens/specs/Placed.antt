@@ -1,6 +1,6 @@
 -- Tokens of the grammar with their places.
 use Rattle.std.specs.Prelude.{ℕ, List, map}
-use Rattle.calc_terms.specs.Tokens.{Token}
+use Rattle.calc_language.specs.Tokens.{Token}
 
 -- a token, and the place of its first byte, counted from 1
 pub record Placed : Type 0 where

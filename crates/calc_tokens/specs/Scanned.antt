@@ -1,8 +1,7 @@
 -- A line and its tokens with their places, or its first fault.
 use Rattle.std.specs.Prelude.{ℕ, suc, ◌-◌, ◌≡◌, List, [], ◌∷◌, length, Bool, true, false, not, ◌&&◌, Some, None}
-use Rattle.calc_terms.specs.Tokens.{Token}
+use Rattle.calc_language.specs.Tokens.{Token, is_blank, token_at}
 use Rattle.calc_terms.specs.Name.{is_digit}
-use Rattle.calc_terms.specs.Tokens.{is_blank, token_at}
 use Rattle.calc_tokens.specs.Placed.{Placed}
 use Rattle.calc_tokens.specs.Literals.{literal_fits}
 

@@ -3,7 +3,7 @@ use Rattle.std.specs.Prelude.{ℕ, List, map}
 use Rattle.std.specs.Borrow.{Bor}
 use Rattle.calc_terms.specs.Rat.{value_of}
 use Rattle.calc_terms.specs.Leaf.{name_of}
-use Rattle.calc_terms.specs.Tokens as grammar
+use Rattle.calc_language.specs.Tokens as grammar
 use Rattle.calc_tokens.specs.declared.tokens.What.{What}
 use Rattle.calc_tokens.specs.declared.tokens.What.TheVariants.{Number, Name, Plus, Minus, Times, Slash, Caret, Left, Right, Root, Undef, Arrow}
 use Rattle.calc_tokens.specs.declared.tokens.Token.{Token}

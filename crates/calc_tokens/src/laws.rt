@@ -1,6 +1,6 @@
 //! Laws of the tokens of a line, each the contract of a function without a body.
 ghost use Rattle.std.specs.Prelude.{◌≡◌, ◌⊎◌, ℕ, List};
-ghost use Rattle.calc_terms.specs.Tokens.{Token, Scans};
+ghost use Rattle.calc_language.specs.Tokens.{Token, Scans};
 ghost use Rattle.calc_tokens.specs.Placed.{Placed, bare};
 ghost use Rattle.calc_tokens.specs.Scanned.{AreTokensOf, IsFirstWide};
 

@@ -5,7 +5,7 @@ ghost use Rattle.std.specs.Option.{SomeIff};
 ghost use Rattle.calc_terms.specs.Fractions.{lowest};
 ghost use Rattle.calc_terms.specs.Rat.{value_of};
 ghost use Rattle.calc_terms.specs.Name.{is_digit};
-ghost use Rattle.calc_terms.specs.Tokens.{leading_run, decimals, digits_value, literal_at};
+ghost use Rattle.calc_language.specs.Tokens.{leading_run, decimals, digits_value, literal_at};
 ghost use Rattle.calc_tokens.specs.Literals.{trimmed, literal_fits, parts_fit, unscaled, scale};
 ghost use Rattle.calc_tokens.specs.Tokens.{front_of};
 

@@ -1,7 +1,7 @@
 //! Tokens of one spelling.
 ghost use Rattle.std.specs.Prelude.{◌≡◌, ℕ, List, ◌∷◌};
 ghost use Rattle.std.specs.Option.{option_map};
-ghost use Rattle.calc_terms.specs.Tokens.{first_mark, marks, rest_after};
+ghost use Rattle.calc_language.specs.Tokens.{first_mark, marks, rest_after};
 ghost use Rattle.calc_tokens.specs.Tokens.{front_of, token_of};
 
 use crate::tokens::What;

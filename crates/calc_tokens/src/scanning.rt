@@ -1,6 +1,6 @@
 //! From bytes to tokens.
 ghost use Rattle.std.specs.Prelude.{◌≡◌, ◌↔◌, ◌≤◌, ℕ, List, [], length, IfOk, IsOkAnd, MatchResult, OnErr, OnOk, Err, true, false};
-ghost use Rattle.calc_terms.specs.Tokens.{is_blank};
+ghost use Rattle.calc_language.specs.Tokens.{is_blank};
 ghost use Rattle.calc_tokens.specs.Placed.{Placed};
 ghost use Rattle.calc_tokens.specs.Tokens.{tokens_of, token_of};
 ghost use Rattle.calc_tokens.specs.Scanned.{AreTokensOf, IsFirstCharacter, IsFirstWide, begins, begins_blank, BeginsToken};

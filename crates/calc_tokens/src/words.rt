@@ -2,9 +2,8 @@
 ghost use Rattle.std.specs.Prelude.{◌≡◌, true};
 ghost use Rattle.std.specs.List.{prefix_len};
 ghost use Rattle.std.specs.Option.{option_map};
-ghost use Rattle.calc_terms.specs.Name.{is_name_byte};
-ghost use Rattle.calc_terms.specs.Tokens.{leading_run, word_at};
-ghost use Rattle.calc_terms.specs.Name.{begins_with_letter};
+ghost use Rattle.calc_terms.specs.Name.{is_name_byte, begins_with_letter};
+ghost use Rattle.calc_language.specs.Tokens.{leading_run, word_at};
 ghost use Rattle.calc_tokens.specs.Tokens.{front_of};
 
 use crate::tokens::What;

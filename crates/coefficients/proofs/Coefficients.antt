@@ -4,16 +4,16 @@ use Rattle.std.proofs.lemmas.Bool.{not_from_false}
 use Rattle.std.proofs.lemmas.List.Elements.{Contains-append_right}
 use Rattle.std.specs.Prelude.{Contains, []}
 use Rattle.calc_terms.specs.Fractions.{Fraction, zero_fraction, one_fraction, is_zero_fraction, is_one_fraction}
-use Rattle.calc_terms.specs.Loads.{has_coefficient}
-use Rattle.calc_terms.specs.Numbers.{is_number, IsNumber}
-use Rattle.calc_terms.specs.Reduced.{Split, split, split_product, num_one, product_tree, part_of, is_reduced, is_undistributed, is_one_add, IsProductForm, IsSumForm, HasForm}
+use Rattle.calc_measures.specs.Loads.{has_coefficient}
+use Rattle.calc_algebra.specs.Numbers.{is_number, IsNumber}
+use Rattle.calc_algebra.specs.Reduced.{Split, split, split_product, num_one, product_tree, part_of, is_reduced, is_undistributed, is_one_add, IsProductForm, IsSumForm, HasForm}
 use Rattle.calc_terms.specs.Trees.{Tree, num, add, mult, Trees, none, more, append, names, names_of, AllParts, AllPartsOf, is_add, is_undef}
 use Rattle.calc_terms.proofs.FractionFacts.{zero_is, zero_test, one_test, no_zero}
-use Rattle.calc_terms.proofs.NumberClasses.{one_not_zero}
-use Rattle.calc_terms.proofs.NumberLaws.{number_test}
-use Rattle.calc_terms.proofs.NumberRewrites as lower
-use Rattle.reduce_port.specs.Rewritings.{HasNoNewName, Reduces}
-use Rattle.reduce_port.proofs.Rewritings.{keeps}
+use Rattle.calc_algebra.proofs.NumberClasses.{one_not_zero}
+use Rattle.calc_algebra.proofs.NumberLaws.{number_test}
+use Rattle.calc_algebra.proofs.NumberRewrites as lower
+use Rattle.calc_algebra.specs.Rewritings.{HasNoNewName, Reduces}
+use Rattle.calc_algebra.proofs.Rewritings.{keeps}
 use Rattle.coefficients.specs.Coefficients.{coefficient_of, factors_of, spliced, rational_before, with_coefficient, IsMonic}
 use Rattle.coefficients.specs.Multiples.{rational_times_sum}
 use Rattle.coefficients.proofs.Factors.{no_split, AreFactors, factors_monic, factors_of_tree, monic_factors, monic_parts, monic_part, monic_no_number, tree_of_factors}

@@ -2,14 +2,13 @@
 use Rattle.std.proofs.Common.{◌≡◌, ℕ, ◌≤◌, [], ◌∷◌, Bool, true, false, if◌then◌else◌, refl, sym, ap, ◌∙◌, subst, arith}
 use Rattle.calc_terms.specs.declared.kind.Kind.TheVariants as kind
 use Rattle.calc_terms.specs.Fractions.{Fraction, times, is_one_fraction}
-use Rattle.calc_terms.specs.Numbers.{is_number}
-use Rattle.calc_terms.specs.Reduced.{product_tree, is_reduced}
+use Rattle.calc_algebra.specs.Numbers.{is_number}
+use Rattle.calc_algebra.specs.Reduced.{product_tree, is_reduced}
 use Rattle.calc_terms.specs.Trees.{Tree, num, add, mult, Trees, none, more, count, root_kind, is_mult}
 use Rattle.node_pool.specs.State.{State}
-use Rattle.reduce_port.specs.Rewritings.{tree_of}
+use Rattle.tree_handles.specs.Handed.{tree_of, IsHanded, Ends, KeepsFront}
 use Rattle.tree_handles.specs.Expressions.{nth, plain, children_of, IsExpression}
 use Rattle.tree_handles.specs.Forest.{Forest, kids, tree_nth, without_nth}
-use Rattle.tree_handles.specs.Handed.{IsHanded, Ends, KeepsFront}
 use Rattle.tree_handles.specs.Inside.{tree_at}
 use Rattle.tree_handles.specs.Roots.{root_tree, without_root, put}
 use Rattle.tree_handles.specs.Standing.{Stands, forest}

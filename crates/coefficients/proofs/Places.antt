@@ -3,7 +3,7 @@ use Rattle.std.proofs.Common.{◌≡◌, ℕ, ◌≤◌, eqb, cond, refl, sym, a
 use Rattle.calc_terms.specs.declared.kind.Kind.{Kind}
 use Rattle.calc_terms.specs.declared.kind.Kind.TheVariants as kind
 use Rattle.calc_terms.specs.Payload.{Payload, bare}
-use Rattle.calc_terms.specs.Reduced.{is_reduced}
+use Rattle.calc_algebra.specs.Reduced.{is_reduced}
 use Rattle.calc_terms.specs.Trees.{Tree, Trees, none, more, append, count, is_mult, is_add}
 use Rattle.number_forms.proofs.ByKind.{children_number}
 use Rattle.tree_handles.specs.Expressions.{nth, grown, compound, plains, plain, inserted, takes, takes_kind, IsExpression, children_of}

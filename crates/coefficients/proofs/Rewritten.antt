@@ -1,7 +1,7 @@
 -- A child that was taken out of a root is rewritten, and put back.
 use Rattle.std.proofs.Common.{◌≡◌, ℕ, List, [], ◌∷◌, refl, ◌∙◌, subst, true, false}
 use Rattle.calc_terms.specs.declared.kind.Kind.{Kind}
-use Rattle.calc_terms.specs.Reduced.{is_reduced, HasForm}
+use Rattle.calc_algebra.specs.Reduced.{is_reduced, HasForm}
 use Rattle.calc_terms.specs.Trees.{Tree, add, Trees, none, more, append, is_add, AllParts, AllPartsOf}
 use Rattle.node_pool.specs.State.{State}
 use Rattle.tree_handles.specs.Expressions.{children_of, inserted}

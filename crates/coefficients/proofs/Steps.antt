@@ -1,15 +1,14 @@
 -- Steps of calls on a root that is a product or a sum: a child is taken out, put in, and the root goes last.
 use Rattle.std.proofs.Common.{◌≡◌, ℕ, ◌≤◌, [], ◌∷◌, refl, sym, ap, ◌∙◌, subst, arith, true, false, Result, Ok, Err}
 use Rattle.std.specs.Prelude.{IfOk, pos}
-use Rattle.calc_terms.specs.Reduced.{product_tree}
+use Rattle.calc_algebra.specs.Reduced.{product_tree, is_reduced}
 use Rattle.calc_terms.specs.declared.kind.Kind.{Kind}
 use Rattle.calc_terms.specs.declared.kind.Kind.TheVariants as kind
 use Rattle.calc_terms.specs.Trees.{Tree, num, symbol, undef, add, mult, power, root, neg, sub, div, Trees, none, more, count, root_kind, is_mult, is_add}
 use Rattle.node_pool.specs.State.{State}
-use Rattle.reduce_port.specs.Rewritings.{tree_of}
+use Rattle.tree_handles.specs.Handed.{tree_of, IsHanded, Represents, Ends, Gives, KeepsFront}
 use Rattle.tree_handles.specs.Expressions.{plain, compound, inserted, takes_kind, IsExpression, children_of}
 use Rattle.tree_handles.specs.Forest.{Forest, empty, one_tree, with_root_kids, arity, kids, with_nth, tree_nth, without_nth}
-use Rattle.tree_handles.specs.Handed.{IsHanded, Represents, Ends, Gives, KeepsFront}
 use Rattle.tree_handles.specs.Inside.{holds, tree_at, kids_of}
 use Rattle.tree_handles.specs.Roots.{has_root, root_tree, without_root, put}
 use Rattle.tree_handles.specs.Standing.{Stands, forest}
@@ -24,7 +23,6 @@ use Rattle.calc_terms.specs.Ratio.{Ratio, whole}
 use Rattle.calc_terms.specs.Payload.{bare}
 use Rattle.coefficients.specs.Coefficients.{factors_of, coefficient_length}
 use Rattle.coefficients.specs.Pairs.{GivesTwo, LeavesRest}
-use Rattle.calc_terms.specs.Reduced.{is_reduced}
 use Rattle.coefficients.proofs.Lengths.{measured, IsPairLed}
 use Rattle.coefficients.proofs.Places.{over_product, IsOver, taken, over_put, over_end, over_same, over_handed, over_gives, without_put, represents_count}
 

@@ -1,15 +1,13 @@
 //! A tree as a product of factors, and a product of one factor as that factor.
 ghost use Rattle.std.specs.Prelude.{◌≡◌, ◌≤◌, IfOk, IfErr, OnOk, [], ◌∷◌, true};
 ghost use Rattle.calc_terms.specs.Rat.{value_of};
-ghost use Rattle.calc_terms.specs.Reduced.{product_tree};
+ghost use Rattle.calc_algebra.specs.Reduced.{product_tree};
 ghost use Rattle.calc_terms.specs.Trees.{mult, num, more, count, is_mult};
 ghost use Rattle.coefficients.specs.Coefficients.{factors_of};
-ghost use Rattle.reduce_port.specs.Causes.{LacksBytes};
-ghost use Rattle.reduce_port.specs.Rewritings.{tree_of};
+ghost use Rattle.tree_handles.specs.Standing.{LacksBytes, Stands, forest, KeepsRefusals, Refuses};
+ghost use Rattle.tree_handles.specs.Handed.{tree_of, IsHanded, Gives, KeepsFront};
 ghost use Rattle.tree_handles.specs.Expressions.{children_of};
-ghost use Rattle.tree_handles.specs.Handed.{IsHanded, Gives, KeepsFront};
 ghost use Rattle.tree_handles.specs.Roots.{without_root};
-ghost use Rattle.tree_handles.specs.Standing.{Stands, forest, KeepsRefusals, Refuses};
 
 use calc_terms::{Kind, Rat};
 use node_pool::{Full, Pool};

@@ -1,17 +1,15 @@
 //! The coefficient of a reduced tree is taken off.
 ghost use Rattle.std.specs.Prelude.{◌≡◌, IfOk, IfErr, OnOk, [], ◌∷◌, true, false};
-ghost use Rattle.calc_terms.specs.Numbers.{is_number};
-ghost use Rattle.calc_terms.specs.Reduced.{is_reduced, part_of, split_product as split_of};
+ghost use Rattle.calc_algebra.specs.Numbers.{is_number};
+ghost use Rattle.calc_algebra.specs.Reduced.{is_reduced, part_of, split_product as split_of};
 ghost use Rattle.calc_terms.specs.Trees.{mult, is_mult, is_undef};
 ghost use Rattle.coefficients.specs.Coefficients.{coefficient_of, coefficient_length as length_of};
 ghost use Rattle.coefficients.specs.Pairs.{GivesTwo, LeavesRest};
-ghost use Rattle.reduce_port.specs.Causes.{LacksBytes};
-ghost use Rattle.reduce_port.specs.Rewritings.{tree_of};
+ghost use Rattle.tree_handles.specs.Standing.{LacksBytes, Stands, forest, KeepsRefusals, Refuses};
+ghost use Rattle.tree_handles.specs.Handed.{tree_of, IsHanded, KeepsFront};
 ghost use Rattle.tree_handles.specs.Expressions.{IsExpression, plain, children_of};
-ghost use Rattle.tree_handles.specs.Handed.{IsHanded, KeepsFront};
 ghost use Rattle.tree_handles.specs.Inside.{tree_at};
 ghost use Rattle.tree_handles.specs.Roots.{without_root};
-ghost use Rattle.tree_handles.specs.Standing.{Stands, forest, KeepsRefusals, Refuses};
 
 use crate::products::unwrapped;
 use calc_terms::{Kind, Rat};

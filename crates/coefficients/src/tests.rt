@@ -1,6 +1,6 @@
 //! Rationals before a symbol and before a sum. The expected bytes are worked out by hand.
 ghost use Rattle.std.specs.Prelude.{◌≡◌, IfOk, true};
-ghost use Rattle.calc_terms.specs.Numbers.{is_number};
+ghost use Rattle.calc_algebra.specs.Numbers.{is_number};
 ghost use Rattle.node_pool.specs.State.{IsPoolSize};
 ghost use Rattle.tree_handles.specs.Handed.{Gives};
 ghost use Rattle.tree_handles.specs.Standing.{Stands, forest};

@@ -9,12 +9,12 @@ use Rattle.product_reduce.specs.Answers.{IfFinished, IfJoined, IsFinished, IsJoi
 use Rattle.product_reduce.specs.Joining.{IsJointAt}
 use Rattle.product_reduce.specs.declared.steps.Joining.{Joining}
 use Rattle.product_reduce.specs.declared.steps.Joining.TheVariants as joining
-use Rattle.reduce_port.specs.Rewritings.{Rewrites, tree_of}
+use Rattle.calc_algebra.specs.Rewritings.{Rewrites}
+use Rattle.tree_handles.specs.Handed.{tree_of, Gives}
 use Rattle.reduce_port.specs.declared.step.Step.{Step}
 use Rattle.reduce_port.specs.declared.step.Step.TheVariants as step
 use Rattle.tree_handles.specs.Expressions.{children_of}
 use Rattle.tree_handles.specs.Forest.{Forest}
-use Rattle.tree_handles.specs.Handed.{Gives}
 use Rattle.tree_handles.specs.Roots.{without_root}
 use Rattle.tree_handles.specs.Standing.{forest}
 

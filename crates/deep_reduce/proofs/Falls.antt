@@ -1,6 +1,6 @@
 -- The measure falls at each call.
 use Rattle.std.proofs.Common.{◌≡◌, ℕ, ◌+◌, ◌*◌, ◌≤◌, ◌<◌, true, refl, sym, ap, ◌∙◌, subst, arith}
-use Rattle.calc_terms.specs.Loads.{nest, nest_of, weight, load_of_factors}
+use Rattle.calc_measures.specs.Loads.{nest, nest_of, weight, load_of_factors}
 use Rattle.calc_terms.specs.Trees.{Tree, add, mult, power, Trees, is_mult}
 use Rattle.deep_reduce.specs.Unfinished.{nest_over, nest_of_joint, nest_of_rewritten, weight_of_bases, weight_below, IsSummed}
 use Rattle.deep_reduce.proofs.Finished.{IsReadyProduct, IsReadyPower}

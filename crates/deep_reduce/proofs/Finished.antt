@@ -1,8 +1,8 @@
 -- A tree after a rewriting, whose powers or whose exponent were reduced.
 use Rattle.std.proofs.Common.{◌≡◌, ℕ, suc, ◌+◌, ◌≤◌, ◌<◌, Bool, true, false, ◌&&◌, refl, sym, ap, ◌∙◌, subst, arith}
 use Rattle.std.specs.Prelude.{max}
-use Rattle.calc_terms.specs.Loads.{nest, nest_of, load, weight, load_of_factors}
-use Rattle.calc_terms.specs.Reduced.{is_reduced}
+use Rattle.calc_measures.specs.Loads.{nest, nest_of, load, weight, load_of_factors}
+use Rattle.calc_algebra.specs.Reduced.{is_reduced, are_reduced}
 use Rattle.calc_terms.specs.Trees.{Tree, num, symbol, undef, add, mult, power, root, neg, sub, div, Trees, none, more, count, is_mult}
 use Rattle.deep_reduce.specs.Answers.{IsReducedProduct, IsReducedPower}
 use Rattle.deep_reduce.specs.Unfinished.{nest_over, nest_of_rewritten, weight_of_bases, weight_below, IsTransparent, AreTransparent, IsUnfinished, Finishes, IsMultiplied, IsLifted, AreReducedPowers, IsProductOfPowers}
@@ -10,9 +10,8 @@ use Rattle.deep_reduce.proofs.Heavy.{heavy, factor_load}
 use Rattle.deep_reduce.proofs.Nests.{over_power, product_load}
 use Rattle.deep_reduce.proofs.Settled.{exponent_rewritten, factors_rewritten}
 use Rattle.power_reduce.specs.PowerAnswers.{base_in, exponent_in}
-use Rattle.reduce_port.specs.Children.{are_reduced}
-use Rattle.reduce_port.specs.Rewritings.{Rewrites}
-use Rattle.reduce_port.proofs.Rewritings.{Rewrites-refl, rewrites_of, reduces_after}
+use Rattle.calc_algebra.specs.Rewritings.{Rewrites}
+use Rattle.calc_algebra.proofs.Rewritings.{Rewrites-refl, rewrites_of, reduces_after}
 use Rattle.tree_handles.specs.Expressions.{children_of}
 
 -- ---- products of powers

@@ -11,7 +11,7 @@ use Rattle.node_pool.specs.Nodes.{AreNodes}
 use Rattle.node_pool.specs.State.{State}
 use Rattle.rational128.proofs.LowestTerms.{parts_themselves}
 use Rattle.rational128.proofs.Products.{parts_fit}
-use Rattle.reduce_port.specs.Rewritings.{tree_of}
+use Rattle.tree_handles.specs.Handed.{tree_of}
 use Rattle.tree_handles.proofs.Outcomes.{by_test}
 use Rattle.tree_handles.specs.Expressions.{grown, plain, plains, compound}
 use Rattle.tree_handles.specs.Forest.{Forest, empty, tree, flatten, root_payload}

@@ -1,8 +1,8 @@
 -- Reduced trees weigh 2 at least, and so do their bases.
 use Rattle.std.proofs.Common.{◌≡◌, ℕ, suc, ◌+◌, ◌≤◌, inl, inr, Bool, true, false, ◌||◌, if◌then◌else◌, refl, arith}
-use Rattle.calc_terms.specs.Loads.{load, weight, weight_of_factors, load_of_factor, has_coefficient}
-use Rattle.calc_terms.specs.Numbers.{is_number}
-use Rattle.calc_terms.specs.Reduced.{is_reduced, is_opaque_exponent, base_of}
+use Rattle.calc_measures.specs.Loads.{load, weight, weight_of_factors, load_of_factor, has_coefficient}
+use Rattle.calc_algebra.specs.Numbers.{is_number}
+use Rattle.calc_algebra.specs.Reduced.{is_reduced, is_opaque_exponent, base_of}
 use Rattle.calc_terms.specs.Trees.{Tree, num, symbol, undef, add, mult, power, root, neg, sub, div, none, more, is_undef}
 use Rattle.coefficients.proofs.Forms.{reduced_parts, parts_reduced}
 use Rattle.product_reduce.proofs.Bounds.{load_number}

@@ -2,11 +2,11 @@
 use Rattle.std.proofs.Common.{◌≡◌, ℕ, ◌+◌, ◌≤◌, inl, inr, Bool, true, false, if◌then◌else◌, refl, sym, ap, ◌∙◌, subst, arith}
 use Rattle.std.specs.Prelude.{max}
 use Rattle.std.proofs.lemmas.Bool.{and_parts}
-use Rattle.calc_terms.specs.Loads.{nest, nest_of, weight, load_of_factor, load_of_factors}
-use Rattle.calc_terms.specs.Numbers.{is_number, IsNumber}
-use Rattle.calc_terms.specs.Reduced.{is_reduced, is_num_one, base_of, HasForm, NoneIs}
+use Rattle.calc_measures.specs.Loads.{nest, nest_of, weight, load_of_factor, load_of_factors}
+use Rattle.calc_algebra.specs.Numbers.{is_number, IsNumber, are_numbers}
+use Rattle.calc_algebra.specs.Reduced.{is_reduced, is_num_one, base_of, HasForm, NoneIs, are_reduced}
 use Rattle.calc_terms.specs.Trees.{Tree, num, symbol, undef, add, mult, power, root, neg, sub, div, Trees, none, more, append, is_mult, AllPartsOf}
-use Rattle.calc_terms.proofs.NumberLaws.{number_test, number_words}
+use Rattle.calc_algebra.proofs.NumberLaws.{number_test, number_words}
 use Rattle.coefficients.specs.Coefficients.{factors_of}
 use Rattle.coefficients.proofs.Forms.{reduced_parts, parts_reduced}
 use Rattle.deep_reduce.specs.Unfinished.{nest_of_joint}
@@ -14,9 +14,8 @@ use Rattle.deep_reduce.proofs.Heavy.{heavy_base}
 use Rattle.deep_reduce.proofs.Joints.{same_base, transparent_exponent, joint_load, joint_nest, joint_below}
 use Rattle.product_reduce.specs.Factors.{opened, others_in, coefficient_before}
 use Rattle.product_reduce.specs.Joining.{exponent_of, is_partner, has_partner, first_partner, without_partner, joint, have_partners, joined}
-use Rattle.reduce_port.specs.Children.{are_numbers, are_reduced}
 use Rattle.product_reduce.proofs.Bounds.{nest_factors, nest_opened, nest_others, load-append, load_number, load_factors, load_opened}
-use Rattle.reduce_port.proofs.Nests.{nest_number}
+use Rattle.calc_measures.proofs.Nests.{nest_number}
 
 -- ---- factors opened, without their Numbers
 

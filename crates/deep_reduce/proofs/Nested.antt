@@ -1,7 +1,7 @@
 -- A power whose exponent may be a product.
 use Rattle.std.proofs.Common.{◌≡◌, ℕ, ◌<◌, ◌+◌, ◌*◌, true, false, refl, sym, ap, ◌∙◌, subst}
 use Rattle.calc_terms.specs.declared.kind.Kind.{Kind}
-use Rattle.calc_terms.specs.Loads.{nest_of, weight, load_of_factors}
+use Rattle.calc_measures.specs.Loads.{nest_of, weight, load_of_factors}
 use Rattle.calc_terms.specs.Trees.{Tree, num, symbol, undef, add, mult, power, root, neg, sub, div, Trees, root_kind, is_mult}
 use Rattle.coefficients.proofs.Steps.{expression, seen}
 use Rattle.deep_reduce.specs.Unfinished.{nest_of_rewritten, weight_below, IsNested, IsUnfinished, IsMultiplied, IsLifted}
@@ -9,9 +9,8 @@ use Rattle.deep_reduce.proofs.Measures.{of_product, of_exponent, exponents_fall}
 use Rattle.deep_reduce.proofs.Ranks.{rank}
 use Rattle.node_pool.specs.State.{State}
 use Rattle.power_reduce.specs.PowerAnswers.{base_in, exponent_in}
-use Rattle.reduce_port.specs.Rewritings.{tree_of}
+use Rattle.tree_handles.specs.Handed.{tree_of, IsHanded}
 use Rattle.tree_handles.specs.Expressions.{nth, plain, children_of, IsExpression}
-use Rattle.tree_handles.specs.Handed.{IsHanded}
 use Rattle.tree_handles.specs.Inside.{tree_at}
 use Rattle.tree_handles.specs.Standing.{Stands, forest}
 

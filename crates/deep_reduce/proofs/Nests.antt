@@ -2,13 +2,12 @@
 use Rattle.std.proofs.Common.{◌≡◌, suc, ◌≤◌, ◌<◌, Bool, true, false, ◌&&◌, ◌||◌, if◌then◌else◌, refl, sym, arith}
 use Rattle.std.specs.Prelude.{max}
 use Rattle.std.proofs.lemmas.Bool.{and_parts}
-use Rattle.calc_terms.specs.Loads.{nest, nest_of, load, load_of_factors}
-use Rattle.calc_terms.specs.Numbers.{is_number}
+use Rattle.calc_measures.specs.Loads.{nest, nest_of, load, load_of_factors}
+use Rattle.calc_algebra.specs.Numbers.{is_number, are_numbers}
 use Rattle.calc_terms.specs.Trees.{Tree, mult, power, Trees, none, more}
 use Rattle.deep_reduce.specs.Unfinished.{nest_over}
-use Rattle.reduce_port.specs.Children.{are_numbers}
 use Rattle.product_reduce.proofs.Bounds.{load_number}
-use Rattle.reduce_port.proofs.Nests.{nest_number}
+use Rattle.calc_measures.proofs.Nests.{nest_number}
 
 -- ---- Numbers
 

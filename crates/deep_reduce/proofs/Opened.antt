@@ -3,12 +3,12 @@ use Rattle.std.proofs.Common.{◌≡◌, ℕ, ℤ, suc, ◌+◌, ◌≤◌, ◌<
 use Rattle.std.specs.Prelude.{max}
 use Rattle.std.proofs.lemmas.Bool.{and_parts}
 use Rattle.calc_terms.specs.Fractions.{whole_fraction, is_one_fraction}
-use Rattle.calc_terms.specs.Loads.{nest, nest_of, weight, has_coefficient}
-use Rattle.calc_terms.specs.Numbers.{is_number}
-use Rattle.calc_terms.specs.Reduced.{Split, is_reduced, is_opaque_exponent, is_num_one, num_one, split_product, HasForm, IsProductForm}
+use Rattle.calc_measures.specs.Loads.{nest, nest_of, weight, has_coefficient}
+use Rattle.calc_algebra.specs.Numbers.{is_number}
+use Rattle.calc_algebra.specs.Reduced.{Split, is_reduced, is_opaque_exponent, is_num_one, num_one, split_product, HasForm, IsProductForm}
 use Rattle.calc_terms.specs.Trees.{Tree, num, symbol, undef, add, mult, power, root, neg, sub, div, Trees, none, more, append, count, is_undef, AllPartsOf, HasTwo}
 use Rattle.calc_terms.proofs.FractionFacts.{whole_denominator}
-use Rattle.calc_terms.proofs.NumberLaws.{number_test}
+use Rattle.calc_algebra.proofs.NumberLaws.{number_test}
 use Rattle.coefficients.specs.Coefficients.{factors_of}
 use Rattle.coefficients.proofs.Coefficients.{product_form_of}
 use Rattle.coefficients.proofs.Factors.{no_split}
@@ -23,8 +23,8 @@ use Rattle.power_reduce.specs.PowerSteps.{goes_inside, half, is_even_whole, part
 use Rattle.power_reduce.proofs.ByRule.{is_rewritable}
 use Rattle.power_reduce.proofs.Rules.{chosen, nothing}
 use Rattle.power_reduce.proofs.Weights.{weights, weights_none, weights_more, power_nest, product_parts}
-use Rattle.reduce_port.specs.Rewritings.{Rewrites}
-use Rattle.reduce_port.proofs.Rewritings.{reduces_after}
+use Rattle.calc_algebra.specs.Rewritings.{Rewrites}
+use Rattle.calc_algebra.proofs.Rewritings.{reduces_after}
 
 -- ---- products to a power
 

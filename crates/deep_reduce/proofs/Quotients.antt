@@ -1,14 +1,14 @@
 -- What a quotient answers, from the answers for the inverse and for the product.
 use Rattle.std.proofs.Common.{◌≡◌, ◌⊎◌, inl, inr, Bool, true, false, ◌&&◌, refl, sym, ap, ◌∙◌, subst, append-nil}
 use Rattle.std.specs.Prelude.{◌||◌, Contains, if◌then◌else◌, [], ◌++◌}
-use Rattle.calc_terms.proofs.MeaningRewrites as rewrites
-use Rattle.calc_terms.proofs.PowerRewrites.{div_as_product}
-use Rattle.calc_terms.proofs.UndefRewrites.{undefined_part}
+use Rattle.calc_algebra.proofs.MeaningRewrites as rewrites
+use Rattle.calc_algebra.proofs.PowerRewrites.{div_as_product}
+use Rattle.calc_algebra.proofs.UndefRewrites.{undefined_part}
 use Rattle.calc_terms.specs.Fits.{fraction_fits, mul_op}
 use Rattle.calc_terms.specs.Fractions.{Fraction, minus_one_fraction, inverse, is_zero_fraction}
-use Rattle.calc_terms.specs.Numbers.{is_number}
-use Rattle.calc_terms.specs.PlainValues.{PlainValue, undefined, calculated, plain_value}
-use Rattle.calc_terms.specs.Trees.{Tree, num, undef, mult, power, div, none, names, is_undef, is_num, itself, in_mult, first, later}
+use Rattle.calc_algebra.specs.Numbers.{is_number}
+use Rattle.calc_measures.specs.PlainValues.{PlainValue, undefined, calculated, plain_value}
+use Rattle.calc_terms.specs.Trees.{Tree, num, undef, mult, power, div, none, names, is_undef, is_num, itself, in_mult, first, later, has_undef, are_rationals}
 use Rattle.deep_reduce.specs.Nodes.{IsNodeAnswer, IsNodeOverflow}
 use Rattle.deep_reduce.proofs.EasyNodes.{and_true, and_first, and_second, or_none, number_defined}
 use Rattle.deep_reduce.proofs.NodeRewrites.{both}
@@ -16,10 +16,9 @@ use Rattle.deep_reduce.proofs.Rationals.{inverse_value, zero_inverse}
 use Rattle.deep_reduce.proofs.Steps.{two, or_split, or_first, or_second, left_undefined, right_undefined, undef_test, two_rationals, product_value, AreTwo, are_two, undef_number, undef_reduced, no_names}
 use Rattle.power_reduce.specs.PowerAnswers.{has_no_power, has_number_power}
 use Rattle.rational128.specs.declared.overflow.Overflow.{Overflow}
-use Rattle.reduce_port.proofs.Rewritings.{keeps, kept, reduces_after}
-use Rattle.reduce_port.specs.Children.{has_undef, are_rationals}
-use Rattle.reduce_port.specs.PlainTrees.{IsPlainAnswer, IsPlainOverflow}
-use Rattle.reduce_port.specs.Rewritings.{Rewrites, Reduces, KeepsMeanings}
+use Rattle.calc_algebra.proofs.Rewritings.{keeps, kept, reduces_after}
+use Rattle.calc_measures.specs.PlainTrees.{IsPlainAnswer, IsPlainOverflow}
+use Rattle.calc_algebra.specs.Rewritings.{Rewrites, Reduces, KeepsMeanings}
 
 abbrev inverse_tree : Tree → Tree
 inverse_tree b = power b (num minus_one_fraction)

@@ -7,7 +7,7 @@ use Rattle.calc_terms.specs.Fits.{fits, fraction_fits, fraction_power, mul_op, p
 use Rattle.calc_terms.specs.FractionLaws.{times_comm, one_times}
 use Rattle.calc_terms.specs.Fractions.{Fraction, lowest, times, negative, inverse, one_fraction, minus_one_fraction, whole_fraction, is_zero_fraction, lowest_parts, times_lowest, den_pos}
 use Rattle.calc_terms.specs.Integers.{int_is_zero}
-use Rattle.calc_terms.specs.PlainValues.{exactly, undefined, overflow, calculated, powered}
+use Rattle.calc_measures.specs.PlainValues.{exactly, undefined, overflow, calculated, powered}
 use Rattle.rational128.proofs.Reciprocals.{negative_parts, inverts}
 
 -- ---- opposites

@@ -8,7 +8,7 @@ use Rattle.calc_terms.specs.Fractions.{lowest}
 use Rattle.calc_terms.specs.declared.kind.Kind.{Kind}
 use Rattle.calc_terms.specs.declared.kind.Kind.TheVariants as kind
 use Rattle.calc_terms.specs.Payload.{Payload, rational, named, bare}
-use Rattle.calc_terms.specs.Reduced.{is_reduced}
+use Rattle.calc_algebra.specs.Reduced.{is_reduced, are_reduced}
 use Rattle.calc_terms.specs.Trees.{Tree, power, root, neg, sub, div, Trees, none, more, count, nodes, nodes_of}
 use Rattle.coefficients.proofs.Places.{without_put}
 use Rattle.deep_reduce.specs.Nodes.{IsNodeAnswer, IsNodeOverflow}
@@ -24,9 +24,8 @@ use Rattle.number_forms.proofs.Loops.{kept_after, refuses_after}
 use Rattle.radical_forms.specs.Refusals.{IfOverflow}
 use Rattle.rational128.specs.declared.overflow.Overflow.{Overflow}
 use Rattle.reduce_port.proofs.Checks.{one_calm, calm_up_to, trips_at_once, trips_within_after}
-use Rattle.reduce_port.specs.Causes.{IsCaused}
+use Rattle.tree_handles.specs.Causes.{IsCaused}
 use Rattle.reduce_port.specs.Checks.{TripsWithin}
-use Rattle.reduce_port.specs.Children.{are_reduced}
 use Rattle.reduce_port.specs.Faults.{fault_of}
 use Rattle.tree_handles.proofs.Given.{gives_as}
 use Rattle.tree_handles.proofs.Plains.{children_of-plain}

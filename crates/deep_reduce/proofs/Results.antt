@@ -1,13 +1,13 @@
 -- What calls on numbers return, in other words.
 use Rattle.std.proofs.Common.{◌≡◌, ℕ, Result, Ok, Err, true, false, sym, subst}
 use Rattle.std.specs.Prelude.{IfOk, IsErr, IsErrAnd}
-use Rattle.calc_terms.specs.PlainValues.{PlainValue}
+use Rattle.calc_measures.specs.PlainValues.{PlainValue}
 use Rattle.calc_terms.specs.Trees.{Tree}
 use Rattle.node_pool.specs.State.{State}
 use Rattle.number_forms.specs.Answers.{AnswersRationals}
 use Rattle.radical_forms.specs.Refusals.{IfOverflow}
 use Rattle.rational128.specs.declared.overflow.Overflow.{Overflow}
-use Rattle.reduce_port.specs.PlainTrees.{IsPlainAnswer, IsPlainOverflow}
+use Rattle.calc_measures.specs.PlainTrees.{IsPlainAnswer, IsPlainOverflow}
 use Rattle.tree_handles.proofs.Given.{gives_as}
 use Rattle.tree_handles.proofs.Lasts.{last_tree}
 use Rattle.tree_handles.specs.Expressions.{plain}

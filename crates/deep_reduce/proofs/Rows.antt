@@ -2,7 +2,7 @@
 use Rattle.std.proofs.Common.{◌≡◌, ℕ, suc, ◌+◌, ◌≤◌, ◌<◌, [], ◌∷◌, refl, sym, ap, ◌∙◌, subst, arith}
 use Rattle.std.specs.Prelude.{max}
 use Rattle.calc_terms.specs.declared.kind.Kind.TheVariants as kind
-use Rattle.calc_terms.specs.Loads.{nest, nest_of, weight}
+use Rattle.calc_measures.specs.Loads.{nest, nest_of, weight}
 use Rattle.calc_terms.specs.Trees.{Tree, Trees, none, more, append, count}
 use Rattle.coefficients.proofs.Places.{IsOver, IsTaken, taken, over_put, inserted_behind}
 use Rattle.coefficients.proofs.Steps.{IsAdded, added_as}

@@ -3,11 +3,11 @@ use Rattle.std.proofs.Common.{◌≡◌, ℕ, zero, suc, ◌+◌, ◌≤◌, ◌
 use Rattle.std.specs.Prelude.{max, Contains}
 use Rattle.std.proofs.lemmas.Bool.{and_parts}
 use Rattle.std.proofs.lemmas.List.Elements.{Contains-append_left, Contains-append_right, Contains-append_cases}
-use Rattle.calc_terms.specs.Loads.{nest, nest_of, load, weight, load_of_factor, load_of_factors}
-use Rattle.calc_terms.specs.Numbers.{is_number}
-use Rattle.calc_terms.specs.Reduced.{is_reduced, is_opaque_exponent, num_one, base_of}
-use Rattle.calc_terms.specs.Trees.{Tree, num, symbol, undef, add, mult, power, root, neg, sub, div, Trees, none, more, count, is_undef, names, names_of}
-use Rattle.calc_terms.proofs.MeaningRewrites.{KeepsMeanings-refl, KeepsMeanings-power, KeepsMeanings-product_more}
+use Rattle.calc_measures.specs.Loads.{nest, nest_of, load, weight, load_of_factor, load_of_factors}
+use Rattle.calc_algebra.specs.Numbers.{is_number, are_numbers}
+use Rattle.calc_algebra.specs.Reduced.{is_reduced, is_opaque_exponent, num_one, base_of, are_reduced}
+use Rattle.calc_terms.specs.Trees.{Tree, num, symbol, undef, add, mult, power, root, neg, sub, div, Trees, none, more, count, is_undef, names, names_of, has_undef}
+use Rattle.calc_algebra.proofs.MeaningRewrites.{KeepsMeanings-refl, KeepsMeanings-power, KeepsMeanings-product_more}
 use Rattle.deep_reduce.specs.Answers.{IsReducedProduct, IsReducedPower}
 use Rattle.deep_reduce.specs.Unfinished.{nest_over, nest_of_joint, replaced, IsSummed, IsSettled}
 use Rattle.coefficients.proofs.Forms.{parts_reduced}
@@ -20,9 +20,8 @@ use Rattle.power_reduce.specs.PowerAnswers.{base_in, exponent_in}
 use Rattle.product_reduce.specs.Answers.{IsJoined, IsFinished}
 use Rattle.product_reduce.specs.Factors.{opened, others_in}
 use Rattle.product_reduce.specs.Joining.{exponent_of, joint, have_partners, IsJointAt}
-use Rattle.reduce_port.specs.Children.{has_undef, are_numbers, are_reduced}
-use Rattle.reduce_port.specs.Rewritings.{Rewrites, Reduces, HasNoNewName}
-use Rattle.reduce_port.proofs.Rewritings.{keeps, kept, Rewrites-refl, Rewrites-trans, rewrites_of, reduces_after}
+use Rattle.calc_algebra.specs.Rewritings.{Rewrites, Reduces, HasNoNewName}
+use Rattle.calc_algebra.proofs.Rewritings.{keeps, kept, Rewrites-refl, Rewrites-trans, rewrites_of, reduces_after}
 use Rattle.sum_reduce.specs.SumAnswers.{IsSumAnswer}
 use Rattle.tree_handles.specs.Expressions.{nth, children_of}
 

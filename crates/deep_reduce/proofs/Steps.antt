@@ -1,14 +1,14 @@
 -- What the calls on sums, products, powers and roots answer, as answers of a node.
 use Rattle.std.proofs.Common.{◌≡◌, ℕ, ◌<◌, ◌⊎◌, inl, inr, Bool, true, false, ◌&&◌, List, length, refl, sym, ap, ◌∙◌, subst, arith, append-nil}
 use Rattle.std.specs.Prelude.{◌||◌, Contains, [], ◌++◌}
-use Rattle.calc_terms.proofs.MeaningRewrites as rewrites
-use Rattle.calc_terms.proofs.UndefRewrites.{undef_part, undefined_part}
+use Rattle.calc_algebra.proofs.MeaningRewrites as rewrites
+use Rattle.calc_algebra.proofs.UndefRewrites.{undef_part, undefined_part}
 use Rattle.calc_terms.specs.Fits.{fraction_fits, add_op, mul_op}
 use Rattle.calc_terms.specs.Fractions.{Fraction, minus_one_fraction, negative, zero_fraction, one_fraction}
-use Rattle.calc_terms.specs.Numbers.{is_number}
-use Rattle.calc_terms.specs.PlainValues.{PlainValue, exactly, undefined, overflow, nothing, calculated, plain_value}
-use Rattle.calc_terms.specs.Reduced.{is_reduced}
-use Rattle.calc_terms.specs.Trees.{Tree, num, symbol, undef, add, mult, power, root, neg, sub, div, Trees, none, more, names, is_undef, is_num, IsPart, IsPartOf, itself, in_add, in_mult, in_base, in_exponent, in_root, in_neg, in_left, in_right, in_dividend, in_divisor, first, later}
+use Rattle.calc_algebra.specs.Numbers.{is_number}
+use Rattle.calc_measures.specs.PlainValues.{PlainValue, exactly, undefined, overflow, nothing, calculated, plain_value}
+use Rattle.calc_algebra.specs.Reduced.{is_reduced}
+use Rattle.calc_terms.specs.Trees.{Tree, num, symbol, undef, add, mult, power, root, neg, sub, div, Trees, none, more, names, is_undef, is_num, IsPart, IsPartOf, itself, in_add, in_mult, in_base, in_exponent, in_root, in_neg, in_left, in_right, in_dividend, in_divisor, first, later, has_undef, are_rationals}
 use Rattle.deep_reduce.specs.Answers.{IsReducedProduct, IsReducedPower}
 use Rattle.deep_reduce.specs.Nodes.{IsNodeAnswer, IsNodeOverflow, has_no_value}
 use Rattle.deep_reduce.proofs.EasyNodes.{and_true, and_first, and_second, or_true, or_none, undef_words, number_defined}
@@ -17,10 +17,9 @@ use Rattle.deep_reduce.proofs.PlainNodes.{undef_has_no_value}
 use Rattle.deep_reduce.proofs.Rationals.{opposite_value}
 use Rattle.radical_forms.specs.RootAnswers.{IsRootAnswer}
 use Rattle.rational128.specs.declared.overflow.Overflow.{Overflow}
-use Rattle.reduce_port.proofs.Rewritings.{keeps, kept, Rewrites-refl, reduces, reduces_after}
-use Rattle.reduce_port.specs.Children.{has_undef, are_rationals}
-use Rattle.reduce_port.specs.PlainTrees.{IsPlainAnswer, IsPlainOverflow}
-use Rattle.reduce_port.specs.Rewritings.{HasNoNewName, KeepsMeanings, Rewrites, Reduces}
+use Rattle.calc_algebra.proofs.Rewritings.{keeps, kept, Rewrites-refl, reduces, reduces_after}
+use Rattle.calc_measures.specs.PlainTrees.{IsPlainAnswer, IsPlainOverflow}
+use Rattle.calc_algebra.specs.Rewritings.{HasNoNewName, KeepsMeanings, Rewrites, Reduces}
 use Rattle.sum_reduce.specs.SumAnswers.{IsSumAnswer}
 use Rattle.tree_handles.specs.Expressions.{children_of}
 

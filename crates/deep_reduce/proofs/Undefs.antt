@@ -1,8 +1,7 @@
 -- Whether a child is Undef, by the kinds of the children.
 use Rattle.std.proofs.Common.{◌≡◌, ℕ, zero, suc, ◌<◌, true, false, inl, inr, refl, arith}
-use Rattle.calc_terms.specs.Trees.{Tree, num, symbol, undef, add, mult, power, root, neg, sub, div, Trees, none, more, count, is_undef, root_kind}
+use Rattle.calc_terms.specs.Trees.{Tree, num, symbol, undef, add, mult, power, root, neg, sub, div, Trees, none, more, count, is_undef, root_kind, has_undef}
 use Rattle.calc_terms.specs.declared.kind.Kind.TheVariants as kind
-use Rattle.reduce_port.specs.Children.{has_undef}
 use Rattle.tree_handles.specs.Expressions.{nth}
 use Rattle.deep_reduce.proofs.EasyNodes.{or_true, or_none}
 

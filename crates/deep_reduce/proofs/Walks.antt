@@ -4,7 +4,7 @@ use Rattle.std.specs.Prelude.{IfErr, IsErr, IsErrAnd}
 use Rattle.breakers.proofs.Runs.{CalmChecks-append}
 use Rattle.breakers.specs.Breakers.{CalmChecks}
 use Rattle.breakers.specs.State.{State as BreakerState}
-use Rattle.calc_terms.specs.PlainValues.{plain_value}
+use Rattle.calc_measures.specs.PlainValues.{plain_value}
 use Rattle.calc_terms.specs.Trees.{Tree, num, symbol, undef, add, mult, power, root, neg, sub, div, Trees, none, more, append, count, nodes, nodes_of}
 use Rattle.coefficients.proofs.Steps.{expression, seen}
 use Rattle.deep_reduce.specs.Reductions.{IsReducedFrom, Stops}
@@ -15,8 +15,8 @@ use Rattle.node_pool.specs.State.{State}
 use Rattle.number_forms.proofs.Loops.{kept_after, refuses_after}
 use Rattle.reduce_port.proofs.Checks.{calm_up_to_after, trips_within_after}
 use Rattle.reduce_port.specs.Checks.{CalmUpTo, TripsWithin}
-use Rattle.reduce_port.specs.PlainTrees.{IsPlainOverflow}
-use Rattle.reduce_port.specs.Rewritings.{tree_of}
+use Rattle.calc_measures.specs.PlainTrees.{IsPlainOverflow}
+use Rattle.tree_handles.specs.Handed.{tree_of, IsHanded, Ends, Gives, KeepsFront}
 use Rattle.reduce_port.specs.declared.fault.ReduceFault.{ReduceFault}
 use Rattle.reduce_port.specs.declared.fault.ReduceFault.TheVariants as fault
 use Rattle.tree_handles.proofs.Fronts.{behind_first, front_same, front_at, front_put}
@@ -25,7 +25,6 @@ use Rattle.tree_handles.proofs.Lasts.{last_tree}
 use Rattle.tree_handles.proofs.Roots.{put-put, put-same}
 use Rattle.tree_handles.specs.Expressions.{IsExpression, plain, children_of}
 use Rattle.tree_handles.specs.Forest.{Forest, kids, with_nth, tree_nth, without_nth}
-use Rattle.tree_handles.specs.Handed.{IsHanded, Ends, Gives, KeepsFront}
 use Rattle.tree_handles.specs.Inside.{tree_at}
 use Rattle.tree_handles.specs.Roots.{root_tree, without_root, put}
 use Rattle.tree_handles.specs.Standing.{Stands, forest, KeepsRefusals}

@@ -1,13 +1,12 @@
 -- What products and powers of reduced trees reduce to.
 use Rattle.std.specs.Prelude.{◌≡◌, ◌≤◌, ◌+◌, true, false}
-use Rattle.calc_terms.specs.Loads.{nest, load, weight}
-use Rattle.calc_terms.specs.Numbers.{is_number}
-use Rattle.calc_terms.specs.Reduced.{is_opaque_exponent}
-use Rattle.calc_terms.specs.Trees.{Tree, undef, mult, power, Trees}
+use Rattle.calc_measures.specs.Loads.{nest, load, weight}
+use Rattle.calc_algebra.specs.Numbers.{is_number, are_numbers}
+use Rattle.calc_algebra.specs.Reduced.{is_opaque_exponent}
+use Rattle.calc_terms.specs.Trees.{Tree, undef, mult, power, Trees, has_undef}
 use Rattle.power_reduce.specs.PowerAnswers.{has_no_power, has_number_power}
 use Rattle.product_reduce.specs.Answers.{AreJoinable, IsWrittenProduct}
-use Rattle.reduce_port.specs.Children.{has_undef, are_numbers}
-use Rattle.reduce_port.specs.Rewritings.{Reduces}
+use Rattle.calc_algebra.specs.Rewritings.{Reduces}
 
 -- the reduced product of these factors
 pub record IsReducedProduct (ts : Trees) (t : Tree) : Type 0 where

@@ -1,18 +1,18 @@
 -- What is answered for a whole tree, and how its reduction ends without an answer.
 use Rattle.std.specs.Prelude.{◌≡◌, List}
 use Rattle.breakers.specs.State.{State as BreakerState}
-use Rattle.calc_terms.specs.BadAndEasy.{IsEasy}
-use Rattle.calc_terms.specs.PlainValues.{plain_value}
+use Rattle.calc_algebra.specs.BadAndEasy.{IsEasy}
+use Rattle.calc_measures.specs.PlainValues.{plain_value}
 use Rattle.calc_terms.specs.Trees.{Tree, undef, nodes}
 use Rattle.node_pool.specs.State.{State}
-use Rattle.reduce_port.specs.Causes.{LacksBytes, Overflows}
+use Rattle.tree_handles.specs.Standing.{LacksBytes, KeepsRefusals, Refuses}
+use Rattle.tree_handles.specs.Causes.{Overflows}
 use Rattle.reduce_port.specs.Checks.{CalmUpTo, TripsWithin}
 use Rattle.reduce_port.specs.EasyTrees.{Evaluates, HasEasyBadPart}
-use Rattle.reduce_port.specs.PlainTrees.{IsPlainAnswer, IsPlainOverflow}
-use Rattle.reduce_port.specs.Rewritings.{Reduces}
+use Rattle.calc_measures.specs.PlainTrees.{IsPlainAnswer, IsPlainOverflow}
+use Rattle.calc_algebra.specs.Rewritings.{Reduces}
 use Rattle.reduce_port.specs.declared.fault.ReduceFault.{ReduceFault}
 use Rattle.reduce_port.specs.declared.fault.ReduceFault.TheVariants as fault
-use Rattle.tree_handles.specs.Standing.{KeepsRefusals, Refuses}
 
 -- the answer for a tree t, whatever its parts are
 pub record IsReducedFrom (t answer : Tree) : Type 0 where

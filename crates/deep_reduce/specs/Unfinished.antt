@@ -1,13 +1,12 @@
 -- Trees after one rewriting, some of whose powers are still to be reduced, and bounds on what comes of them.
 use Rattle.std.specs.Prelude.{ℕ, zero, suc, ◌+◌, ◌≡◌, ◌≤◌, max, true, false}
-use Rattle.calc_terms.specs.Loads.{nest, nest_of, load, weight}
-use Rattle.calc_terms.specs.Reduced.{is_reduced, is_opaque_exponent}
+use Rattle.calc_measures.specs.Loads.{nest, nest_of, load, weight}
+use Rattle.calc_algebra.specs.Reduced.{is_reduced, is_opaque_exponent, are_reduced}
 use Rattle.calc_terms.specs.Trees.{Tree, add, mult, power, Trees, none, more, count}
 use Rattle.deep_reduce.specs.Answers.{IsReducedProduct, IsReducedPower}
 use Rattle.power_reduce.specs.PowerAnswers.{base_in, exponent_in}
 use Rattle.product_reduce.specs.Joining.{IsJointAt}
-use Rattle.reduce_port.specs.Children.{are_reduced}
-use Rattle.reduce_port.specs.Rewritings.{Reduces}
+use Rattle.calc_algebra.specs.Rewritings.{Reduces}
 use Rattle.sum_reduce.specs.SumAnswers.{IsSumAnswer}
 use Rattle.tree_handles.specs.Expressions.{nth, children_of}
 

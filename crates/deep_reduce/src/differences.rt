@@ -1,17 +1,15 @@
 //! Opposites, differences and quotients, as sums, products and powers.
 ghost use Rattle.std.specs.Prelude.{◌≡◌, true, false, IfOk, IfErr, OnOk, [], ◌∷◌};
 ghost use Rattle.calc_terms.specs.Fractions.{minus_one_fraction};
-ghost use Rattle.calc_terms.specs.Reduced.{is_reduced};
-ghost use Rattle.calc_terms.specs.Trees.{num, neg, power, count, is_undef, is_sub, is_div};
+ghost use Rattle.calc_algebra.specs.Reduced.{is_reduced, are_reduced};
+ghost use Rattle.calc_terms.specs.Trees.{num, neg, power, count, is_undef, is_sub, is_div, has_undef};
 ghost use Rattle.deep_reduce.specs.Nodes.{IsNodeAnswer, IsNodeOverflow, is_neg};
 ghost use Rattle.deep_reduce.specs.Pairs.{GivesSides};
 ghost use Rattle.radical_forms.specs.Refusals.{IfOverflow};
-ghost use Rattle.reduce_port.specs.Causes.{IsCaused};
-ghost use Rattle.reduce_port.specs.Children.{are_reduced, has_undef};
-ghost use Rattle.reduce_port.specs.Rewritings.{tree_of};
+ghost use Rattle.tree_handles.specs.Causes.{IsCaused};
+ghost use Rattle.tree_handles.specs.Handed.{tree_of, IsHanded, Gives, KeepsFront};
 ghost use Rattle.tree_handles.specs.Expressions.{children_of};
 ghost use Rattle.tree_handles.specs.Faults.{Faults};
-ghost use Rattle.tree_handles.specs.Handed.{IsHanded, Gives, KeepsFront};
 ghost use Rattle.tree_handles.specs.Roots.{without_root};
 ghost use Rattle.tree_handles.specs.Standing.{Stands, forest, KeepsRefusals};
 
@@ -19,8 +17,7 @@ use crate::nodes::{add_up, multiply};
 use crate::whole::reduce_power;
 use calc_terms::{Kind, Rat};
 use node_pool::Pool;
-use reduce_port::{is_undefined, over_two};
-use tree_handles::{Handle, NumberFault, number, release, take_child};
+use tree_handles::{Handle, NumberFault, is_undefined, node_over_two, number, release, take_child};
 
 /// -1 times the argument.
 pub(crate) fn negate(pool: &mut Pool, opposite: Handle) -> Result<Handle, NumberFault>
@@ -64,7 +61,7 @@ pub(crate) fn subtract(pool: &mut Pool, difference: Handle) -> Result<Handle, Nu
         release(pool, left);
         return Ok(term);
     }
-    let sum = over_two(pool, Kind::Add, left, term)?;
+    let sum = node_over_two(pool, Kind::Add, left, term)?;
     add_up(pool, sum)
 }
 
@@ -90,7 +87,7 @@ pub(crate) fn divide(pool: &mut Pool, quotient: Handle) -> Result<Handle, Number
         release(pool, dividend);
         return Ok(factor);
     }
-    let product = over_two(pool, Kind::Mult, dividend, factor)?;
+    let product = node_over_two(pool, Kind::Mult, dividend, factor)?;
     multiply(pool, product)
 }
 
@@ -109,7 +106,7 @@ fn minus(pool: &mut Pool, argument: Handle) -> Result<Handle, NumberFault>
     ensures stands { Stands pool.new }
 {
     let minus_one = number(pool, Rat::whole(-1))?;
-    let product = over_two(pool, Kind::Mult, minus_one, argument)?;
+    let product = node_over_two(pool, Kind::Mult, minus_one, argument)?;
     multiply(pool, product)
 }
 
@@ -128,7 +125,7 @@ fn inverse(pool: &mut Pool, base: Handle) -> Result<Handle, NumberFault>
     ensures stands { Stands pool.new }
 {
     let exponent = number(pool, Rat::whole(-1))?;
-    let power = over_two(pool, Kind::Pow, base, exponent)?;
+    let power = node_over_two(pool, Kind::Pow, base, exponent)?;
     reduce_power(pool, power)
 }
 

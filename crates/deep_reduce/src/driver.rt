@@ -4,8 +4,7 @@ ghost use Rattle.breakers.specs.Breakers.{CalmChecks};
 ghost use Rattle.breakers.specs.Watch.{states};
 ghost use Rattle.calc_terms.specs.Trees.{nodes};
 ghost use Rattle.deep_reduce.specs.Reductions.{IsReducedFrom, Stops};
-ghost use Rattle.reduce_port.specs.Rewritings.{tree_of};
-ghost use Rattle.tree_handles.specs.Handed.{IsHanded, Gives, KeepsFront};
+ghost use Rattle.tree_handles.specs.Handed.{tree_of, IsHanded, Gives, KeepsFront};
 ghost use Rattle.tree_handles.specs.Roots.{without_root};
 ghost use Rattle.tree_handles.specs.Standing.{Stands, forest, KeepsRefusals};
 

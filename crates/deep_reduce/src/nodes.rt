@@ -1,15 +1,14 @@
 //! One node whose children are reduced.
 ghost use Rattle.std.specs.Prelude.{◌≡◌, ◌<◌, ◌^◌, nat_abs, true, false, IfOk, IfErr, OnOk, [], ◌∷◌};
 ghost use Rattle.calc_terms.specs.Fractions.{whole_fraction};
-ghost use Rattle.calc_terms.specs.Trees.{num, is_add, is_mult};
+ghost use Rattle.calc_terms.specs.Trees.{num, is_add, is_mult, has_undef};
 ghost use Rattle.deep_reduce.specs.Nodes.{IsNodeAnswer, IsNodeOverflow};
 ghost use Rattle.radical_forms.specs.Refusals.{IfOverflow};
-ghost use Rattle.reduce_port.specs.Causes.{IsCaused};
-ghost use Rattle.reduce_port.specs.Children.{are_reduced, has_undef};
-ghost use Rattle.reduce_port.specs.Rewritings.{tree_of};
+ghost use Rattle.tree_handles.specs.Causes.{IsCaused};
+ghost use Rattle.calc_algebra.specs.Reduced.{are_reduced};
+ghost use Rattle.tree_handles.specs.Handed.{tree_of, IsHanded, Gives, KeepsFront};
 ghost use Rattle.tree_handles.specs.Expressions.{IsExpression, plain, children_of};
 ghost use Rattle.tree_handles.specs.Faults.{Faults};
-ghost use Rattle.tree_handles.specs.Handed.{IsHanded, Gives, KeepsFront};
 ghost use Rattle.tree_handles.specs.Inside.{tree_at};
 ghost use Rattle.tree_handles.specs.Roots.{without_root};
 ghost use Rattle.tree_handles.specs.Standing.{Stands, forest, KeepsRefusals};
@@ -19,9 +18,8 @@ use crate::whole::{reduce_power, reduce_product};
 use calc_terms::{Kind, Rat};
 use node_pool::{Id, Pool};
 use radical_forms::reduce_root;
-use reduce_port::{has_undefined_child, undefined};
 use sum_reduce::reduce_sum;
-use tree_handles::{Handle, NumberFault, children, kind, move_last, number, release};
+use tree_handles::{Handle, NumberFault, children, has_undefined_child, kind, move_last, number, release, undefined};
 
 /// A node over reduced children, as the rules of its kind reduce it.
 pub(crate) fn reduce_node(pool: &mut Pool, tree: Handle) -> Result<Handle, NumberFault>

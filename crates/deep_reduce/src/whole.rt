@@ -1,20 +1,18 @@
 //! Products and powers of reduced trees: steps are taken, and the new powers of each are reduced,
 //! until nothing is left to reduce.
 ghost use Rattle.std.specs.Prelude.{◌≡◌, ◌≤◌, IfOk, IfErr, OnOk, [], ◌∷◌, true};
-ghost use Rattle.calc_terms.specs.PlainValues.{plain_value};
-ghost use Rattle.calc_terms.specs.Reduced.{is_reduced};
-ghost use Rattle.calc_terms.specs.Trees.{count, is_mult, is_num, power as power_tree};
+ghost use Rattle.calc_measures.specs.PlainValues.{plain_value};
+ghost use Rattle.calc_algebra.specs.Reduced.{is_reduced, are_reduced};
+ghost use Rattle.calc_terms.specs.Trees.{count, is_mult, is_num, power as power_tree, are_rationals};
 ghost use Rattle.deep_reduce.specs.Answers.{IsReducedProduct, IsWrittenApart, IsReducedPower};
 ghost use Rattle.deep_reduce.specs.Unfinished.{AreTransparent, Finishes, IsLifted, IsProductOfPowers, IsSettled, IsUnfinished};
 ghost use Rattle.number_forms.specs.Answers.{AnswersRationals};
 ghost use Rattle.power_reduce.specs.PowerAnswers.{base_in, exponent_in};
 ghost use Rattle.product_reduce.specs.Joining.{IsJointAt};
-ghost use Rattle.reduce_port.specs.Causes.{IsCaused};
-ghost use Rattle.reduce_port.specs.Children.{are_rationals, are_reduced};
-ghost use Rattle.reduce_port.specs.Rewritings.{tree_of};
+ghost use Rattle.tree_handles.specs.Causes.{IsCaused};
+ghost use Rattle.tree_handles.specs.Handed.{tree_of, IsHanded, Gives, KeepsFront};
 ghost use Rattle.tree_handles.specs.Expressions.{children_of};
 ghost use Rattle.tree_handles.specs.Faults.{Faults};
-ghost use Rattle.tree_handles.specs.Handed.{IsHanded, Gives, KeepsFront};
 ghost use Rattle.tree_handles.specs.Roots.{without_root};
 ghost use Rattle.tree_handles.specs.Standing.{Stands, forest, KeepsRefusals};
 

@@ -4,8 +4,8 @@ use Rattle.std.proofs.lemmas.Fmt.{PrependsLastDigit, decimal_from_prepends_wide,
 use Rattle.std.proofs.lemmas.List.{append-nil}
 use Rattle.std.proofs.lemmas.Bool.{cases_lt}
 use Rattle.std.specs.Fmt.{decimal}
-use Rattle.calc_terms.specs.Texts as texts
-use Rattle.calc_terms.specs.Texts.{digits_before}
+use Rattle.calc_language.specs.Texts as texts
+use Rattle.calc_language.specs.Texts.{digits_before}
 
 -- digits are put in front of those that are there, the last one first
 step : (k n m : ℕ) (acc : List ℕ) → n / 10 ≡ suc m → digits_before (suc k) n acc ≡ digits_before k (n / 10) ((48 + n % 10) ∷ acc)

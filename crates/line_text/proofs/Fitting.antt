@@ -7,7 +7,7 @@ use Rattle.calc_terms.specs.declared.kind.Kind.TheVariants as kind
 use Rattle.calc_terms.specs.Fits.{fits}
 use Rattle.calc_terms.specs.Node.{Node}
 use Rattle.calc_terms.specs.Payload.{Payload, rational, named, bare, IsPayload}
-use Rattle.calc_terms.specs.Texts.{text}
+use Rattle.calc_language.specs.Texts.{text}
 use Rattle.calc_terms.specs.Trees.{Trees, none, more, AllParts, AllPartsOf, size}
 use Rattle.node_pool.specs.Nodes.{AreNodes, used}
 use Rattle.node_pool.specs.State.{State}

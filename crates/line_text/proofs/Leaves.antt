@@ -5,7 +5,7 @@ use Rattle.std.specs.Fmt as fmt
 use Rattle.std.specs.Int.{w128, cast_signed, cast_unsigned}
 use Rattle.calc_terms.specs.Fractions.{Fraction, lowest, Holds, lowest_parts}
 use Rattle.calc_terms.specs.Ratio.{Ratio, IsRat}
-use Rattle.calc_terms.specs.Texts.{decimal}
+use Rattle.calc_language.specs.Texts.{decimal}
 use Rattle.calc_terms.specs.Trees.{Tree, num}
 use Rattle.line_text.specs.Pending.{leaf_text}
 use Rattle.line_text.proofs.Decimals.{decimal_is}

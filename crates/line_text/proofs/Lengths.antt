@@ -2,8 +2,8 @@
 use Rattle.std.proofs.Common.{ℕ, ◌+◌, ◌*◌, ◌^◌, ◌≤◌, List, ◌++◌, length, Bool, true, false, nat_abs, codes, cond, arith}
 use Rattle.std.proofs.lemmas.List.{length-append}
 use Rattle.std.proofs.lemmas.Bool.{ltb-true}
-use Rattle.calc_terms.specs.Texts.{Place, first_of_sum, later_of_sum, first_of_product, left_of_quotient, later_of_product, base, exponent, admits, at_place, in_parentheses, text, text_of_sum, text_of_terms, text_of_product, text_of_factors, IsWritable, AreWritable}
-use Rattle.calc_terms.specs.Tokens.{times_sign}
+use Rattle.calc_language.specs.Texts.{Place, first_of_sum, later_of_sum, first_of_product, left_of_quotient, later_of_product, base, exponent, admits, at_place, in_parentheses, text, text_of_sum, text_of_terms, text_of_product, text_of_factors, IsWritable, AreWritable}
+use Rattle.calc_language.specs.Tokens.{times_sign}
 use Rattle.calc_terms.specs.Trees.{Tree, num, symbol, undef, add, mult, power, root, neg, sub, div, Trees, none, more, size, sizes, AllPartsOf}
 use Rattle.calc_terms.proofs.Names.{spelled}
 use Rattle.line_text.specs.Lengths.{IsFitting, HasFittingNumbers}

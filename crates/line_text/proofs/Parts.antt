@@ -3,8 +3,8 @@ use Rattle.std.proofs.Common.{◌≡◌, ◌∙◌, ℕ, ◌+◌, ◌≤◌, Lis
 use Rattle.std.proofs.lemmas.List.{length-append}
 use Rattle.calc_terms.specs.declared.kind.Kind.{Kind}
 use Rattle.calc_terms.specs.declared.kind.Kind.TheVariants as kind
-use Rattle.calc_terms.specs.Tokens.{root_sign}
-use Rattle.calc_terms.specs.Texts.{later_of_sum, left_of_quotient, later_of_product, base, exponent, level, admits, admits_signed, at_place, in_parentheses, text, text_of_sum, text_of_terms, text_of_product, text_of_factors}
+use Rattle.calc_language.specs.Tokens.{root_sign}
+use Rattle.calc_language.specs.Texts.{later_of_sum, left_of_quotient, later_of_product, base, exponent, level, admits, admits_signed, at_place, in_parentheses, text, text_of_sum, text_of_terms, text_of_product, text_of_factors}
 use Rattle.calc_terms.specs.Trees.{Tree, num, symbol, undef, add, mult, power, root, neg, sub, div, Trees, none, more, root_kind, is_root, is_sub, is_div}
 use Rattle.tree_handles.specs.Expressions.{children_of}
 use Rattle.line_text.specs.declared.place.Place.{Place}

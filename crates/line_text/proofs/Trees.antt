@@ -7,7 +7,7 @@ use Rattle.calc_terms.specs.declared.kind.Kind.TheVariants as kind
 use Rattle.calc_terms.specs.Node.{Node, header_of, size_of, size_of_header}
 use Rattle.calc_terms.specs.Payload.{Payload, rational, named, bare, kind_of_payload, IsPayload}
 use Rattle.calc_terms.specs.Ratio.{Ratio}
-use Rattle.calc_terms.specs.Texts.{IsWritable, decimal}
+use Rattle.calc_language.specs.Texts.{IsWritable, decimal}
 use Rattle.calc_terms.specs.Trees.{neg, root_kind}
 use Rattle.node_pool.specs.Nodes.{used, has, place_of, first_of, payload_of_id, AreNodes, AreDistinct}
 use Rattle.node_pool.specs.Places.{since, until, IsBoundary}

@@ -3,7 +3,7 @@ use Rattle.std.proofs.Common.{◌≡◌, ◌∙◌, ℕ, suc, ◌+◌, ◌-◌, 
 use Rattle.std.proofs.lemmas.List.{length-append}
 use Rattle.calc_terms.specs.declared.leaf.Header.{Header}
 use Rattle.calc_terms.specs.Node.{Node, header_of, size_of, size_of_header}
-use Rattle.calc_terms.specs.Texts.{IsWritable, AreWritable, text}
+use Rattle.calc_language.specs.Texts.{IsWritable, AreWritable, text}
 use Rattle.calc_terms.specs.Trees.{Tree, num, symbol, undef, add, mult, power, root, neg, sub, div, Trees, none, more}
 use Rattle.node_pool.specs.Nodes.{used, first_of}
 use Rattle.node_pool.specs.Places.{since, IsBoundary}

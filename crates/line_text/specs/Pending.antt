@@ -1,7 +1,7 @@
 -- What is still to be written of a node: children that stand side by side, and perhaps a closing parenthesis.
 use Rattle.std.specs.Prelude.{ℕ, List, [], ◌++◌, Bool, not, ◌||◌, if◌then◌else◌, codes}
 use Rattle.calc_terms.specs.declared.kind.Kind.{Kind}
-use Rattle.calc_terms.specs.Texts.{text, at_place}
+use Rattle.calc_language.specs.Texts.{text, at_place}
 use Rattle.calc_terms.specs.Trees.{Tree, num, symbol, undef, Trees, none, more}
 use Rattle.line_text.specs.declared.place.Place.{Place}
 use Rattle.line_text.specs.declared.place.Pending.{Pending}

@@ -2,9 +2,9 @@
 use Rattle.std.specs.Prelude.{ℕ, List, [], ◌++◌, Bool, true, false, ◌||◌, nat_le, if◌then◌else◌, codes}
 use Rattle.calc_terms.specs.declared.kind.Kind.{Kind}
 use Rattle.calc_terms.specs.declared.kind.Kind.TheVariants as kind
-use Rattle.calc_terms.specs.Texts.{whole_text, first_of_sum, left_of_difference, later_of_sum, first_of_product, left_of_quotient, later_of_product, base, exponent}
-use Rattle.calc_terms.specs.Texts as texts
-use Rattle.calc_terms.specs.Tokens.{times_sign, root_sign}
+use Rattle.calc_language.specs.Texts.{whole_text, first_of_sum, left_of_difference, later_of_sum, first_of_product, left_of_quotient, later_of_product, base, exponent}
+use Rattle.calc_language.specs.Texts as texts
+use Rattle.calc_language.specs.Tokens.{times_sign, root_sign}
 use Rattle.calc_terms.specs.Trees.{Tree, neg, root_kind}
 use Rattle.line_text.specs.declared.place.Place.{Place}
 use Rattle.line_text.specs.declared.place.Place.TheVariants.{WholeText, FirstOfSum, LaterOfSum, LeftOfDifference, RightOfDifference, UnderSign, FirstOfProduct, LaterOfProduct, LeftOfQuotient, RightOfQuotient, Base, Exponent, UnderRoot}

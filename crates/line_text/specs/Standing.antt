@@ -1,7 +1,7 @@
 -- The tree that begins at a place in a pool's bytes.
 use Rattle.std.specs.Prelude.{ℕ, ◌≡◌, List, ◌++◌}
 use Rattle.calc_terms.specs.Node.{Node}
-use Rattle.calc_terms.specs.Texts.{IsWritable}
+use Rattle.calc_language.specs.Texts.{IsWritable}
 use Rattle.calc_terms.specs.Trees.{Tree, Trees}
 use Rattle.node_pool.specs.Places.{since, IsBoundary}
 use Rattle.tree_handles.specs.Expressions.{plain, plains, AllExpressions}

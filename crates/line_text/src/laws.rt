@@ -1,6 +1,6 @@
 //! A law of texts, the contract of a function without a body.
 ghost use Rattle.std.specs.Prelude.{◌≤◌, ◌*◌, length};
-ghost use Rattle.calc_terms.specs.Texts.{text as text_of, IsWritable};
+ghost use Rattle.calc_language.specs.Texts.{text as text_of, IsWritable};
 ghost use Rattle.calc_terms.specs.Trees.{Tree, size};
 ghost use Rattle.line_text.specs.Lengths.{HasFittingNumbers};
 

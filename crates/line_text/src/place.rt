@@ -1,7 +1,6 @@
 //! Where trees stand in a text.
 ghost use Rattle.std.specs.Prelude.{◌≡◌, ◌<◌, ◌-◌, false};
-ghost use Rattle.line_text.specs.Places.{sign_before, next_place, first_place, level_of, admits_kind};
-ghost use Rattle.line_text.specs.Places.{skips_opposites as skips_opposites_there};
+ghost use Rattle.line_text.specs.Places.{sign_before, next_place, first_place, level_of, admits_kind, skips_opposites as skips_opposites_there};
 
 use calc_terms::Kind;
 

@@ -1,7 +1,7 @@
 //! Trees written as texts, in one walk over their nodes.
 ghost use Rattle.std.specs.Prelude.{◌≡◌, ◌*◌, ◌<◌, ◌≤◌, ◌++◌, length, nat_abs, vec_capacity};
 ghost use Rattle.calc_terms.specs.Rat.{ratio_of};
-ghost use Rattle.calc_terms.specs.Texts.{decimal, text as text_of, IsWritable};
+ghost use Rattle.calc_language.specs.Texts.{decimal, text as text_of, IsWritable};
 ghost use Rattle.calc_terms.specs.Trees.{size};
 ghost use Rattle.tree_handles.specs.Expressions.{IsExpression, plain};
 ghost use Rattle.tree_handles.specs.Forest.{kids, arity};

@@ -5,7 +5,7 @@ use Rattle.calc_terms.specs.declared.kind.Kind.{Kind}
 use Rattle.calc_terms.specs.declared.kind.Kind.TheVariants as kind
 use Rattle.calc_terms.specs.Node.{Node}
 use Rattle.calc_terms.specs.Payload.{Payload, rational, named, bare}
-use Rattle.calc_terms.specs.Reduced.{product_tree}
+use Rattle.calc_algebra.specs.Reduced.{product_tree}
 use Rattle.calc_terms.specs.Trees.{Tree, mult, Trees, none, count, is_mult}
 use Rattle.node_order.specs.declared.fronts.Front.{Front}
 use Rattle.node_order.specs.declared.keys.Key.{Key}

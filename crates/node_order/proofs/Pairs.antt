@@ -5,7 +5,7 @@ use Rattle.std.specs.declared.cmp.Ordering.TheVariants.{Less, Equal, Greater}
 use Rattle.std.specs.Ordering.{nat_cmp, ordering_then, ordering_index}
 use Rattle.calc_terms.specs.Node.{Node}
 use Rattle.calc_terms.specs.Payload.{Payload}
-use Rattle.calc_terms.specs.TreeOrder.{tree_cmp, trees_cmp}
+use Rattle.calc_algebra.specs.TreeOrder.{tree_cmp, trees_cmp}
 use Rattle.calc_terms.specs.Trees.{Tree}
 use Rattle.node_order.specs.declared.fronts.Front.{Front}
 use Rattle.node_order.specs.Fronts.{IsFront, Shows}

@@ -9,9 +9,9 @@ use Rattle.std.specs.Ordering.{is_lt}
 use Rattle.std.specs.declared.cmp.Ordering.{Ordering}
 use denote.Param.Members.{Mut}
 use denote.Ref.{Bor}
-use Rattle.calc_terms.specs.TreeOrder.{tree_cmp}
+use Rattle.calc_algebra.specs.TreeOrder.{tree_cmp}
 use Rattle.calc_terms.specs.Trees.{Tree}
-use Rattle.calc_terms.proofs.TreeOrderLaws.{tree_cmp_total}
+use Rattle.calc_algebra.proofs.TreeOrderLaws.{tree_cmp_total}
 
 -- where each call compares the trees of its two arguments
 pub sorted_by_trees : {F X : Type 0} {g : Mut F (Bor X × (Bor X × Unit {0})) Ordering} {f : F} (key : X → Tree) (xs : List X)

@@ -6,10 +6,10 @@ use Rattle.std.specs.Cmp.Lexicographic.{slice_cmp}
 use Rattle.std.specs.Ordering.{nat_cmp, ordering_then}
 use Rattle.calc_terms.specs.declared.kind.Kind.{Kind}
 use Rattle.calc_terms.specs.declared.kind.Kind.TheVariants as kind
-use Rattle.calc_terms.specs.Fractions.{Fraction, lowest}
+use Rattle.calc_terms.specs.Fractions.{Fraction, lowest, fraction_cmp}
 use Rattle.calc_terms.specs.Kind.{code_of}
 use Rattle.calc_terms.specs.Payload.{Payload, rational, named, bare, kind_of_payload}
-use Rattle.calc_terms.specs.TreeOrder.{fraction_cmp, tree_cmp, trees_cmp}
+use Rattle.calc_algebra.specs.TreeOrder.{tree_cmp, trees_cmp}
 use Rattle.calc_terms.specs.Trees.{Tree, num, symbol, undef, add, mult, power, root, neg, sub, div, Trees, root_code}
 use Rattle.node_order.specs.Roots.{value_cmp, payload_cmp}
 use Rattle.node_order.proofs.Orderings.{then-equal, then_assoc}

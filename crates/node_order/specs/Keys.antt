@@ -1,6 +1,6 @@
 -- What trees are put in order by.
 use Rattle.std.specs.Prelude.{ℕ, zero, suc, ◌≡◌, ◌<◌, ◌==◌, if◌then◌else◌, true}
-use Rattle.calc_terms.specs.Reduced.{product_tree}
+use Rattle.calc_algebra.specs.Reduced.{product_tree}
 use Rattle.calc_terms.specs.Trees.{Tree, Trees, none, more, is_mult, count}
 use Rattle.node_order.specs.declared.keys.Key.{Key}
 use Rattle.tree_handles.specs.Expressions.{plain, children_of, IsExpression}

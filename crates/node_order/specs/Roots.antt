@@ -3,10 +3,9 @@ use Rattle.std.specs.declared.cmp.Ordering.{Ordering}
 use Rattle.std.specs.declared.cmp.Ordering.TheVariants.{Equal}
 use Rattle.std.specs.Ordering.{nat_cmp, ordering_then}
 use Rattle.std.specs.Cmp.Lexicographic.{slice_cmp}
-use Rattle.calc_terms.specs.Fractions.{lowest}
+use Rattle.calc_terms.specs.Fractions.{lowest, fraction_cmp}
 use Rattle.calc_terms.specs.Kind.{code_of}
 use Rattle.calc_terms.specs.Payload.{Payload, rational, named, kind_of_payload}
-use Rattle.calc_terms.specs.TreeOrder.{fraction_cmp}
 
 -- leaves of one kind: rationals by value, names by their bytes
 abbrev pub value_cmp : Payload → Payload → Ordering

@@ -1,6 +1,6 @@
 -- Children that are put in order.
 use Rattle.std.specs.Prelude.{ℕ, ◌≡◌, List, [], ◌∷◌, take, drop, IsPermutation, IsSortedByKey}
-use Rattle.calc_terms.specs.TreeOrder.{tree_cmp}
+use Rattle.calc_algebra.specs.TreeOrder.{tree_cmp}
 use Rattle.calc_terms.specs.Trees.{Tree, Trees, none, more}
 use Rattle.tree_handles.specs.Expressions.{plains, AllExpressions}
 use Rattle.tree_handles.specs.Forest.{Forest, kids}

@@ -1,6 +1,6 @@
 //! Trees are compared in one walk over their nodes in prefix order.
 ghost use Rattle.std.specs.Prelude.{◌≡◌};
-ghost use Rattle.calc_terms.specs.TreeOrder.{tree_cmp};
+ghost use Rattle.calc_algebra.specs.TreeOrder.{tree_cmp};
 ghost use Rattle.node_order.specs.Fronts.{Shows, front_tree};
 ghost use Rattle.tree_handles.specs.Expressions.{IsExpression, plain};
 ghost use Rattle.tree_handles.specs.Inside.{tree_at};

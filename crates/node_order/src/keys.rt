@@ -1,6 +1,6 @@
 //! What trees are put in order by.
 ghost use Rattle.std.specs.Prelude.{◌≡◌};
-ghost use Rattle.calc_terms.specs.TreeOrder.{tree_cmp};
+ghost use Rattle.calc_algebra.specs.TreeOrder.{tree_cmp};
 ghost use Rattle.node_order.specs.Fronts.{Shows, front_tree};
 ghost use Rattle.node_order.specs.Keys.{IsKey, key_tree};
 ghost use Rattle.tree_handles.specs.Standing.{Stands, forest};

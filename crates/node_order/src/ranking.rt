@@ -1,6 +1,6 @@
 //! The order in which keys rise.
 ghost use Rattle.std.specs.Prelude.{◌≡◌, ◌<◌, ◌≤◌, ◌^◌, All, IsPermutation, length, IsSortedByKey};
-ghost use Rattle.calc_terms.specs.TreeOrder.{tree_cmp};
+ghost use Rattle.calc_algebra.specs.TreeOrder.{tree_cmp};
 ghost use Rattle.node_order.specs.Keys.{IsKey, key_tree};
 ghost use Rattle.node_order.specs.Ranking.{key_at, ranked_tree};
 ghost use Rattle.tree_handles.specs.Standing.{Stands, forest};

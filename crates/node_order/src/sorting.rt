@@ -1,7 +1,7 @@
 //! Children are put in order by their keys.
 ghost use Rattle.std.specs.Prelude.{◌≡◌, ◌<◌, ◌≤◌, ◌+◌, ◌^◌, All, IsPermutation, IsSortedByKey, ℕ, length, slice_index_or, true};
 ghost use Rattle.std.specs.List.{range_with_len};
-ghost use Rattle.calc_terms.specs.TreeOrder.{tree_cmp};
+ghost use Rattle.calc_algebra.specs.TreeOrder.{tree_cmp};
 ghost use Rattle.calc_terms.specs.Trees.{count};
 ghost use Rattle.node_order.specs.Keys.{IsKey, key_tree};
 ghost use Rattle.node_order.specs.Sorting.{SortsChildren};

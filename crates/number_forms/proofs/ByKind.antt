@@ -3,10 +3,10 @@ use Rattle.std.proofs.Common.{◌≡◌, ◌≢◌, ℕ, refl, sym, ap, ◌∙�
 use Rattle.calc_terms.specs.Fractions.{Fraction}
 use Rattle.calc_terms.specs.declared.kind.Kind.TheVariants as kind
 use Rattle.calc_terms.specs.Trees.{Tree, num, symbol, undef, add, mult, power, root, neg, sub, div, none, more, count, root_kind, is_mult}
-use Rattle.calc_terms.specs.Numbers.{classes, value, is_number}
+use Rattle.calc_algebra.specs.Numbers.{classes, value, is_number}
 use Rattle.number_forms.proofs.Shaped.{length-terms_of, added_number}
 use Rattle.number_forms.specs.Sums.{IsSum, IsSumOf}
-use Rattle.calc_terms.proofs.TermLaws.{Same-refl}
+use Rattle.calc_algebra.proofs.TermLaws.{Same-refl}
 use Rattle.number_forms.specs.Shapes.{has_term_shape}
 use Rattle.tree_handles.specs.Expressions.{nth, children_of, plain, IsExpression}
 use Rattle.tree_handles.specs.Forest.{Forest, arity, kids}

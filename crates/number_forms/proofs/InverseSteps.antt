@@ -1,15 +1,15 @@
 -- Inverses by terms.
 use Rattle.std.proofs.Common.{◌≡◌, [], ◌∷◌, Some, length, true, false, sym, ap, subst, arith}
 use Rattle.std.specs.Prelude.{slice_get}
-use Rattle.calc_terms.specs.Numbers.{is_number, is_term, term_of, value, Rises}
-use Rattle.calc_terms.specs.SquareClasses.{are_alike, Same, Inverts}
-use Rattle.calc_terms.specs.Surds.{Term, Surd}
+use Rattle.calc_algebra.specs.Numbers.{is_number, is_term, term_of, value, Rises}
+use Rattle.calc_algebra.specs.SquareClasses.{are_alike, Same, Inverts}
+use Rattle.calc_algebra.specs.Surds.{Term, Surd}
 use Rattle.calc_terms.specs.Trees.{Tree}
-use Rattle.calc_terms.proofs.InverseLaws.{Inverts-Same}
-use Rattle.calc_terms.proofs.NumberClasses.{value_rises}
-use Rattle.calc_terms.proofs.NumberLaws.{number_words, term_words}
-use Rattle.calc_terms.proofs.SquareClassLaws.{Same-trans}
-use Rattle.calc_terms.proofs.TermLaws.{Same-eq, Same-cons}
+use Rattle.calc_algebra.proofs.InverseLaws.{Inverts-Same}
+use Rattle.calc_algebra.proofs.NumberClasses.{value_rises}
+use Rattle.calc_algebra.proofs.NumberLaws.{number_words, term_words}
+use Rattle.calc_algebra.proofs.SquareClassLaws.{Same-trans}
+use Rattle.calc_algebra.proofs.TermLaws.{Same-eq, Same-cons}
 use Rattle.number_forms.specs.Answers.{IsNumberOf}
 use Rattle.number_forms.specs.Inverses.{IsInverseOf}
 use Rattle.number_forms.specs.Sums.{IsSumOf}

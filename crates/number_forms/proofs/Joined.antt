@@ -2,14 +2,13 @@
 use Rattle.std.proofs.Common.{◌≡◌, ℕ, zero, suc, ◌<◌, ◌≤◌, [], ◌∷◌, true, false, refl, sym, ap, ◌∙◌, arith}
 use Rattle.calc_terms.specs.Fractions.{plus, zero_fraction}
 use Rattle.calc_terms.specs.FractionLaws.{zero_plus}
-use Rattle.calc_terms.specs.Numbers.{IsTerm, AreTerms, IsBelowAll, Rises, term_of, terms_of}
-use Rattle.calc_terms.specs.SquareClasses.{are_alike, class_coefficient, Same}
-use Rattle.calc_terms.specs.Surds.{Term, Surd}
+use Rattle.calc_algebra.specs.Numbers.{IsTerm, AreTerms, IsBelowAll, Rises, term_of, terms_of}
+use Rattle.calc_algebra.specs.SquareClasses.{are_alike, class_coefficient, Same}
+use Rattle.calc_algebra.specs.Surds.{Term, Surd}
 use Rattle.calc_terms.specs.Trees.{Tree, Trees, none, more, count}
-use Rattle.calc_terms.proofs.NumberClasses.{IsProper, alike_turned, alike_through, first_coefficient}
-use Rattle.calc_terms.proofs.SquareClassLaws.{alike_true, Same-trans}
-use Rattle.calc_terms.proofs.SquareClassLaws.{Same-Agree}
-use Rattle.calc_terms.proofs.TermLaws.{Same-refl, Same-cons, Same-to_front, share_apart}
+use Rattle.calc_algebra.proofs.NumberClasses.{IsProper, alike_turned, alike_through, first_coefficient}
+use Rattle.calc_algebra.proofs.SquareClassLaws.{alike_true, Same-trans, Same-Agree}
+use Rattle.calc_algebra.proofs.TermLaws.{Same-refl, Same-cons, Same-to_front, share_apart}
 use Rattle.number_forms.specs.Sums.{removed, IsApart, IsPlace}
 use Rattle.tree_handles.specs.Expressions.{nth, inserted}
 use Rattle.tree_handles.proofs.Outcomes.{by_test}

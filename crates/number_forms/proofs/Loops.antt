@@ -1,12 +1,12 @@
 -- Sums to which the terms of a list are joined one by one.
 use Rattle.std.proofs.Common.{◌≡◌, ℕ, zero, suc, ◌+◌, ◌-◌, ◌^◌, min, ◌≤◌, [], ◌∷◌, ◌++◌, true, length, Some, map, refl, sym, ap, ◌∙◌, subst, arith}
 use Rattle.std.specs.Prelude.{slice_get}
-use Rattle.calc_terms.specs.Numbers.{value}
-use Rattle.calc_terms.specs.SquareClasses.{Same}
-use Rattle.calc_terms.specs.Surds.{Term, Surd, term_times, surd_times}
+use Rattle.calc_algebra.specs.Numbers.{value}
+use Rattle.calc_algebra.specs.SquareClasses.{Same}
+use Rattle.calc_algebra.specs.Surds.{Term, Surd, term_times, surd_times}
 use Rattle.calc_terms.specs.Trees.{Tree}
-use Rattle.calc_terms.proofs.SquareClassLaws.{Same-trans}
-use Rattle.calc_terms.proofs.TermLaws.{Same-refl}
+use Rattle.calc_algebra.proofs.SquareClassLaws.{Same-trans}
+use Rattle.calc_algebra.proofs.TermLaws.{Same-refl}
 use Rattle.node_pool.specs.declared.full.Full.{Full}
 use Rattle.node_pool.specs.State.{State}
 use Rattle.number_forms.specs.Answers.{IsNumberOf}

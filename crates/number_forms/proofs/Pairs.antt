@@ -1,9 +1,9 @@
 -- Two trees that were made one after the other.
 use Rattle.std.proofs.Common.{◌≡◌, ℕ, eqb, true, false, ap, ◌∙◌}
 use Rattle.calc_terms.specs.Fractions.{Fraction}
-use Rattle.calc_terms.specs.Numbers.{is_number, is_term}
+use Rattle.calc_algebra.specs.Numbers.{is_number, is_term}
 use Rattle.calc_terms.specs.Trees.{Tree, num}
-use Rattle.calc_terms.proofs.NumberLaws.{number_test, term_words}
+use Rattle.calc_algebra.proofs.NumberLaws.{number_test, term_words}
 use Rattle.number_forms.proofs.Loops.{other_plain}
 use Rattle.number_forms.proofs.Shaped.{term_number}
 use Rattle.tree_handles.specs.Expressions.{plain}

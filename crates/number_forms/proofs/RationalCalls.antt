@@ -1,26 +1,26 @@
 -- Rationals in place of others.
 use Rattle.std.proofs.Common.{◌≡◌, ℕ, ◌+◌, ◌≤◌, [], ◌++◌, Result, Bool, true, false, cond, eqb, if◌then◌else◌, refl, sym, ap, ◌∙◌, subst, arith}
 use Rattle.calc_terms.specs.Fits.{Operation, operation_fits, result_of, fraction_power}
-use Rattle.calc_terms.specs.Numbers.{value}
-use Rattle.calc_terms.specs.SquareClasses.{Same}
-use Rattle.calc_terms.specs.Surds.{Surd, surd_of, surd_times, surd_power}
+use Rattle.calc_algebra.specs.Numbers.{value}
+use Rattle.calc_algebra.specs.SquareClasses.{Same}
+use Rattle.calc_algebra.specs.Surds.{Surd, surd_of, surd_times, surd_power}
 use Rattle.calc_terms.proofs.FractionFacts.{zero_is}
-use Rattle.calc_terms.proofs.NumberLaws.{number_test}
-use Rattle.calc_terms.proofs.PowerLaws.{zero_surd_of, surd_power-surd_of}
-use Rattle.calc_terms.proofs.SquareClassLaws.{Same-trans}
-use Rattle.calc_terms.proofs.TermLaws.{Same-refl, Same-eq, Same-append, Same-surd_times, Same-surd_power, joined_radicand, surd_times-terms}
+use Rattle.calc_algebra.proofs.NumberLaws.{number_test}
+use Rattle.calc_algebra.proofs.PowerLaws.{zero_surd_of, surd_power-surd_of}
+use Rattle.calc_algebra.proofs.SquareClassLaws.{Same-trans}
+use Rattle.calc_algebra.proofs.TermLaws.{Same-refl, Same-eq, Same-append, Same-surd_times, Same-surd_power, joined_radicand, surd_times-terms}
 use Rattle.number_forms.specs.Answers.{IsNumberOf, AnswersRationals}
 use Rattle.number_forms.proofs.Worth.{Same-sym}
 use Rattle.tree_handles.specs.declared.fault.NumberFault.{NumberFault}
 use Rattle.calc_terms.specs.Fractions.{Fraction, plus, times, is_zero_fraction}
-use Rattle.calc_terms.specs.PlainValues.{calculated, exactly, overflow}
+use Rattle.calc_measures.specs.PlainValues.{calculated, exactly, overflow}
 use Rattle.calc_terms.specs.Rat.{value_of}
 use Rattle.calc_terms.specs.Trees.{Tree, num, is_num, size}
 use Rattle.node_pool.specs.Nodes.{used}
 use Rattle.node_pool.specs.State.{State, free_of}
 use Rattle.rational128.specs.Refusals.{operation_of}
 use Rattle.rational128.specs.declared.overflow.Overflow.{Overflow}
-use Rattle.reduce_port.specs.PlainTrees.{IsPlainAnswer, IsPlainOverflow}
+use Rattle.calc_measures.specs.PlainTrees.{IsPlainAnswer, IsPlainOverflow}
 use Rattle.tree_handles.specs.Expressions.{plain}
 use Rattle.tree_handles.specs.Forest.{Forest, empty, tree, bytes_in}
 use Rattle.tree_handles.specs.Handed.{IsHanded}

@@ -1,9 +1,9 @@
 -- Terms, tested one by one.
 use Rattle.std.proofs.Common.{◌≡◌, ℕ, zero, suc, ◌+◌, ◌<◌, ◌≤◌, Bool, true, false, ◌&&◌, not, nat_lt, refl, sym, ap, ◌∙◌, arith, add-one}
 use Rattle.std.proofs.lemmas.Bool.{and_parts}
-use Rattle.calc_terms.specs.Numbers.{is_term, are_terms, is_below_all, rises, terms_of, term_of}
-use Rattle.calc_terms.specs.SquareClasses.{are_alike}
-use Rattle.calc_terms.specs.Surds.{Term}
+use Rattle.calc_algebra.specs.Numbers.{is_term, are_terms, is_below_all, rises, terms_of, term_of}
+use Rattle.calc_algebra.specs.SquareClasses.{are_alike}
+use Rattle.calc_algebra.specs.Surds.{Term}
 use Rattle.calc_terms.specs.Trees.{Trees, none, more, count}
 use Rattle.number_forms.specs.Sums.{trees_from}
 use Rattle.tree_handles.specs.Expressions.{nth}

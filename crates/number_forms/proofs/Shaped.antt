@@ -3,12 +3,12 @@ use Rattle.std.proofs.Common.{◌≡◌, ◌≢◌, ℕ, zero, suc, ◌≤◌, �
 use Rattle.std.specs.Prelude.{slice_get, pos}
 use Rattle.calc_terms.specs.Fractions.{Fraction, lowest}
 use Rattle.calc_terms.specs.Integers.{int_is_zero}
-use Rattle.calc_terms.specs.Numbers.{IsNumber, IsTerm, AreTerms, Rises, is_number, term_of, terms_of, value}
-use Rattle.calc_terms.specs.Surds.{Surd, surd_of}
+use Rattle.calc_algebra.specs.Numbers.{IsNumber, IsTerm, AreTerms, Rises, is_number, term_of, terms_of, value}
+use Rattle.calc_algebra.specs.Surds.{Surd, surd_of}
 use Rattle.calc_terms.specs.Trees.{Tree, num, symbol, undef, add, mult, power, root, neg, sub, div, Trees, none, more, count}
 use Rattle.calc_terms.proofs.FractionFacts.{zero_test, whole_numerator}
-use Rattle.calc_terms.proofs.NumberLaws.{number_test, number_words}
-use Rattle.calc_terms.proofs.TermLaws.{Same-refl, Same-eq}
+use Rattle.calc_algebra.proofs.NumberLaws.{number_test, number_words}
+use Rattle.calc_algebra.proofs.TermLaws.{Same-refl, Same-eq}
 use Rattle.number_forms.specs.Answers.{IsNumberOf}
 use Rattle.number_forms.specs.Sums.{IsSum, IsSumOf}
 use Rattle.tree_handles.specs.Expressions.{nth, children_of}

@@ -1,13 +1,13 @@
 -- Sums of terms whose radicands are so small that each class has one.
 use Rattle.std.proofs.Common.{◌≡◌, ℕ, zero, suc, ◌-◌, ◌<◌, ◌≤◌, ◌^◌, ◌⊎◌, inl, inr, false, refl, sym, ap, ◌∙◌, subst, arith}
 use Rattle.std.proofs.lemmas.Bool.{false_from_ne_true}
-use Rattle.calc_terms.specs.Clean.{IsClean}
-use Rattle.calc_terms.specs.Numbers.{IsBelowAll, Rises, term_of, terms_of}
-use Rattle.calc_terms.specs.SquareClasses.{are_alike}
-use Rattle.calc_terms.specs.Surds.{Term}
+use Rattle.calc_algebra.specs.Clean.{IsClean}
+use Rattle.calc_algebra.specs.Numbers.{IsBelowAll, Rises, term_of, terms_of}
+use Rattle.calc_algebra.specs.SquareClasses.{are_alike}
+use Rattle.calc_algebra.specs.Surds.{Term}
 use Rattle.calc_terms.specs.Trees.{Tree, Trees, none, more, add, count}
-use Rattle.calc_terms.proofs.CleanLaws.{IsSquareFree, clean_square_free, alike_square_free}
-use Rattle.calc_terms.proofs.NumberUniqueness.{term_simplest}
+use Rattle.calc_algebra.proofs.CleanLaws.{IsSquareFree, clean_square_free, alike_square_free}
+use Rattle.calc_algebra.proofs.NumberUniqueness.{term_simplest}
 use Rattle.number_forms.specs.Sums.{IsSum, IsApart, IsPlace, AreBelow}
 use Rattle.number_forms.proofs.Joined.{apart_each, apart_turned}
 use Rattle.number_forms.proofs.LastSums.{sum_is}

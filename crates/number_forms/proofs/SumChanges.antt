@@ -1,13 +1,13 @@
 -- A sum that stands last: as it is read, with a term more, and with a term less.
 use Rattle.std.proofs.Common.{◌≡◌, ℕ, ◌<◌, [], ◌∷◌, ◌++◌, true, refl, sym, ap, ◌∙◌, subst}
-use Rattle.calc_terms.specs.Numbers.{IsTerm, AreTerms, Rises, is_term, term_of, terms_of, value}
-use Rattle.calc_terms.specs.SquareClasses.{Same, are_alike}
-use Rattle.calc_terms.specs.Surds.{Term, Surd}
+use Rattle.calc_algebra.specs.Numbers.{IsTerm, AreTerms, Rises, is_term, term_of, terms_of, value}
+use Rattle.calc_algebra.specs.SquareClasses.{Same, are_alike}
+use Rattle.calc_algebra.specs.Surds.{Term, Surd}
 use Rattle.calc_terms.specs.Trees.{Tree, Trees, none, more, add, count}
-use Rattle.calc_terms.proofs.NumberClasses.{IsProper}
-use Rattle.calc_terms.proofs.NumberLaws.{term_words}
-use Rattle.calc_terms.proofs.SquareClassLaws.{Same-trans}
-use Rattle.calc_terms.proofs.TermLaws.{Same-refl, Same-eq, Same-cons, Same-append, Same-to_front}
+use Rattle.calc_algebra.proofs.NumberClasses.{IsProper}
+use Rattle.calc_algebra.proofs.NumberLaws.{term_words}
+use Rattle.calc_algebra.proofs.SquareClassLaws.{Same-trans}
+use Rattle.calc_algebra.proofs.TermLaws.{Same-refl, Same-eq, Same-cons, Same-append, Same-to_front}
 use Rattle.node_pool.specs.State.{State}
 use Rattle.number_forms.specs.Sums.{IsSum, IsSumOf, IsApart, IsPlace, removed}
 use Rattle.number_forms.specs.Joins.{IsMatch}

@@ -1,18 +1,18 @@
 -- Terms as trees, and trees as terms.
 use Rattle.std.proofs.Common.{◌≡◌, ◌≢◌, ℕ, ◌≤◌, ◌<◌, inl, inr, Bool, true, false, not, length, [], if◌then◌else◌, Result, Ok, Err, refl, sym, ap, ◌∙◌, arith}
 use Rattle.std.specs.Prelude.{ℤ, pos, nat_abs, IfOk}
-use Rattle.calc_terms.specs.Clean.{IsClean}
+use Rattle.calc_algebra.specs.Clean.{IsClean}
 use Rattle.calc_terms.specs.declared.kind.Kind.TheVariants as kind
 use Rattle.calc_terms.specs.declared.rat.Rat.{Rat}
 use Rattle.calc_terms.specs.Fractions.{Fraction, lowest, zero_fraction, one_fraction, whole_fraction, fraction_path}
-use Rattle.calc_terms.specs.Numbers.{IsTerm, IsRadicand, is_term, is_number, natural_of, term_of, value, classes}
+use Rattle.calc_algebra.specs.Numbers.{IsTerm, IsRadicand, is_term, is_number, natural_of, term_of, value, classes}
 use Rattle.calc_terms.specs.Rat.{ratio_of, value_of}
 use Rattle.calc_terms.specs.Ratio.{Ratio, whole}
-use Rattle.calc_terms.specs.Surds.{Term, term, surd_of}
+use Rattle.calc_algebra.specs.Surds.{Term, term, surd_of}
 use Rattle.calc_terms.specs.Trees.{Tree, num, symbol, undef, add, mult, power, root, neg, sub, div, none, more, root_kind, is_add}
 use Rattle.calc_terms.proofs.FractionFacts.{zero_test, whole_numerator, whole_denominator}
-use Rattle.calc_terms.proofs.NumberLaws.{number_test, number_words}
-use Rattle.calc_terms.proofs.NumberShapes.{AsNumber, as_number}
+use Rattle.calc_algebra.proofs.NumberLaws.{number_test, number_words}
+use Rattle.calc_algebra.proofs.NumberShapes.{AsNumber, as_number}
 use Rattle.calc_terms.specs.Integers.{int_is_zero}
 use Rattle.number_forms.specs.Readers.{is_zero}
 use Rattle.rational128.proofs.LowestTerms.{ratio_parts}

@@ -1,11 +1,11 @@
 -- What a sum is worth, from one joined term to the next.
 use Rattle.std.proofs.Common.{◌≡◌, ℕ, zero, suc, [], ◌∷◌, ◌++◌, Some, length, map, refl, ap, subst, append_assoc}
 use Rattle.std.specs.Prelude.{slice_get}
-use Rattle.calc_terms.specs.SquareClasses.{Same}
-use Rattle.calc_terms.specs.Surds.{Term, Surd, term_times, surd_times}
-use Rattle.calc_terms.proofs.SquareClassLaws.{Same-trans, Same-Agree}
-use Rattle.calc_terms.proofs.SurdLaws.{Agree-sym, Agree-Same}
-use Rattle.calc_terms.proofs.TermLaws.{Same-refl, Same-eq, Same-append, Same-append_comm, Same-to_front}
+use Rattle.calc_algebra.specs.SquareClasses.{Same}
+use Rattle.calc_algebra.specs.Surds.{Term, Surd, term_times, surd_times}
+use Rattle.calc_algebra.proofs.SquareClassLaws.{Same-trans, Same-Agree}
+use Rattle.calc_algebra.proofs.SurdLaws.{Agree-sym, Agree-Same}
+use Rattle.calc_algebra.proofs.TermLaws.{Same-refl, Same-eq, Same-append, Same-append_comm, Same-to_front}
 
 pub Same-sym : {v w : Surd} → Same v w → Same w v
 Same-sym h = Agree-Same (Agree-sym (Same-Agree h))

@@ -1,8 +1,8 @@
 -- What inverting a Number comes to.
 use Rattle.std.specs.Prelude.{◌≡◌, ◌≤◌, true}
-use Rattle.calc_terms.specs.Numbers.{is_number, value, classes}
-use Rattle.calc_terms.specs.SquareClasses.{Inverts}
-use Rattle.calc_terms.specs.Surds.{Surd}
+use Rattle.calc_algebra.specs.Numbers.{is_number, value, classes}
+use Rattle.calc_algebra.specs.SquareClasses.{Inverts}
+use Rattle.calc_algebra.specs.Surds.{Surd}
 use Rattle.calc_terms.specs.Trees.{Tree}
 use Rattle.number_forms.specs.declared.inverting.Inverse.{Inverse}
 use Rattle.number_forms.specs.declared.inverting.Inverse.TheVariants as inverse

@@ -1,7 +1,7 @@
 -- How a term meets a sum of terms.
 use Rattle.std.specs.Prelude.{◌<◌}
-use Rattle.calc_terms.specs.Numbers.{term_of, terms_of}
-use Rattle.calc_terms.specs.Surds.{Term}
+use Rattle.calc_algebra.specs.Numbers.{term_of, terms_of}
+use Rattle.calc_algebra.specs.Surds.{Term}
 use Rattle.calc_terms.specs.Trees.{Trees, count}
 use Rattle.number_forms.specs.Sums.{IsApart, IsPlace}
 use Rattle.number_forms.specs.declared.joining.Match.{Match}

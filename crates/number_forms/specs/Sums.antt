@@ -1,8 +1,8 @@
 -- Sums of terms, of any number of them.
 use Rattle.std.specs.Prelude.{ℕ, zero, suc, ◌≡◌, ◌<◌, ◌≤◌, [], ◌∷◌, false, ⊤}
-use Rattle.calc_terms.specs.Numbers.{AreTerms, Rises, term_of, terms_of, value}
-use Rattle.calc_terms.specs.SquareClasses.{are_alike, Same}
-use Rattle.calc_terms.specs.Surds.{Surd}
+use Rattle.calc_algebra.specs.Numbers.{AreTerms, Rises, term_of, terms_of, value}
+use Rattle.calc_algebra.specs.SquareClasses.{are_alike, Same}
+use Rattle.calc_algebra.specs.Surds.{Surd}
 use Rattle.calc_terms.specs.Trees.{Tree, add, Trees, none, more, count}
 use Rattle.tree_handles.specs.Expressions.{nth}
 

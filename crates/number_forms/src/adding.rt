@@ -2,17 +2,16 @@
 ghost use Rattle.std.specs.Prelude.{◌≡◌, ◌==◌, ◌∷◌, ◌++◌, [], true, false, IfOk, IfErr, OnOk};
 ghost use Rattle.calc_terms.specs.Fits.{add_op};
 ghost use Rattle.calc_terms.specs.Fractions.{Fraction};
-ghost use Rattle.calc_terms.specs.Numbers.{is_number, value};
-ghost use Rattle.calc_terms.specs.PlainValues.{calculated};
+ghost use Rattle.calc_algebra.specs.Numbers.{is_number, value};
+ghost use Rattle.calc_measures.specs.PlainValues.{calculated};
 ghost use Rattle.calc_terms.specs.Trees.{num, is_num, is_add};
 ghost use Rattle.number_forms.specs.Answers.{IsNumberOf, AnswersRationals};
 ghost use Rattle.number_forms.specs.Sums.{IsSum, IsSumOf};
-ghost use Rattle.reduce_port.specs.Causes.{LacksBytes, IsCaused};
-ghost use Rattle.reduce_port.specs.Rewritings.{tree_of};
+ghost use Rattle.tree_handles.specs.Standing.{LacksBytes, Stands, forest, KeepsRefusals, Refuses};
+ghost use Rattle.tree_handles.specs.Causes.{IsCaused};
+ghost use Rattle.tree_handles.specs.Handed.{tree_of, IsHanded, Gives, KeepsFront};
 ghost use Rattle.tree_handles.specs.Faults.{Faults};
-ghost use Rattle.tree_handles.specs.Handed.{IsHanded, Gives, KeepsFront};
 ghost use Rattle.tree_handles.specs.Roots.{without_root};
-ghost use Rattle.tree_handles.specs.Standing.{Stands, forest, KeepsRefusals, Refuses};
 
 use crate::joining::join_term;
 use crate::rationals::{is_rational, take_rationals};

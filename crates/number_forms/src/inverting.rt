@@ -1,13 +1,12 @@
 //! Inverses of Numbers.
 ghost use Rattle.std.specs.Prelude.{◌≡◌, ◌∷◌, [], true, IfOk, IfErr, OnOk};
-ghost use Rattle.calc_terms.specs.Numbers.{is_number, value, classes};
+ghost use Rattle.calc_algebra.specs.Numbers.{is_number, value, classes};
 ghost use Rattle.number_forms.specs.Answers.{IsNumberOf};
 ghost use Rattle.number_forms.specs.Inverses.{AnswersInverse, IsInverseOf};
-ghost use Rattle.reduce_port.specs.Causes.{IsCaused};
-ghost use Rattle.reduce_port.specs.Rewritings.{tree_of};
+ghost use Rattle.tree_handles.specs.Causes.{IsCaused};
+ghost use Rattle.tree_handles.specs.Handed.{tree_of, IsHanded, Gives, KeepsFront};
 ghost use Rattle.surd_terms.specs.Terms.{term_of};
 ghost use Rattle.tree_handles.specs.Faults.{Faults};
-ghost use Rattle.tree_handles.specs.Handed.{IsHanded, Gives, KeepsFront};
 ghost use Rattle.tree_handles.specs.Roots.{without_root};
 ghost use Rattle.tree_handles.specs.Standing.{Stands, forest, KeepsRefusals};
 

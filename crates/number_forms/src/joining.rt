@@ -1,18 +1,17 @@
 //! Terms joined to a sum of terms that stands last.
 ghost use Rattle.std.specs.Prelude.{◌≡◌, ◌<◌, ◌≤◌, ◌-◌, ◌^◌, ◌∷◌, [], IsTrue, IfOk, IfErr, OnOk};
-ghost use Rattle.calc_terms.specs.Numbers.{value, term_of as term_of_tree};
+ghost use Rattle.calc_algebra.specs.Numbers.{value, term_of as term_of_tree};
 ghost use Rattle.calc_terms.specs.Trees.{add, count};
 ghost use Rattle.number_forms.specs.Sums.{IsSum, IsSumOf, IsApart, IsPlace, AreBelow, removed};
 ghost use Rattle.number_forms.specs.Joins.{IsMatch};
-ghost use Rattle.reduce_port.specs.Causes.{LacksBytes, IsCaused, Overflows};
-ghost use Rattle.reduce_port.specs.Rewritings.{tree_of};
+ghost use Rattle.tree_handles.specs.Standing.{LacksBytes, Stands, forest, KeepsRefusals, Refuses};
+ghost use Rattle.tree_handles.specs.Causes.{IsCaused, Overflows};
+ghost use Rattle.tree_handles.specs.Handed.{tree_of, Gives, KeepsFront};
 ghost use Rattle.surd_terms.specs.Terms.{term_of};
 ghost use Rattle.tree_handles.specs.Expressions.{children_of, nth, plain, IsExpression};
 ghost use Rattle.tree_handles.specs.Faults.{Faults};
-ghost use Rattle.tree_handles.specs.Handed.{Gives, KeepsFront};
 ghost use Rattle.tree_handles.specs.Inside.{tree_at};
 ghost use Rattle.tree_handles.specs.Roots.{without_root};
-ghost use Rattle.tree_handles.specs.Standing.{Stands, forest, KeepsRefusals, Refuses};
 
 use crate::placing::place_term;
 use crate::term::term_at;

@@ -1,14 +1,13 @@
 //! Terms as trees.
 ghost use Rattle.std.specs.Prelude.{◌≡◌, ◌≤◌, ◌<◌, ◌^◌, pos, true, IfOk, IfErr, IsOk, OnOk, []};
 ghost use Rattle.calc_terms.specs.Fractions.{whole_fraction};
-ghost use Rattle.calc_terms.specs.Numbers.{is_term, term_of as term_of_tree};
+ghost use Rattle.calc_algebra.specs.Numbers.{is_term, term_of as term_of_tree};
 ghost use Rattle.calc_terms.specs.Rat.{value_of};
 ghost use Rattle.calc_terms.specs.Trees.{num, root, mult, none, more};
 ghost use Rattle.node_pool.specs.State.{free_of};
-ghost use Rattle.reduce_port.specs.Causes.{LacksBytes};
+ghost use Rattle.tree_handles.specs.Standing.{LacksBytes, Stands, forest, KeepsRefusals, Refuses};
 ghost use Rattle.surd_terms.specs.Terms.{term_of};
 ghost use Rattle.tree_handles.specs.Handed.{Gives, KeepsFront};
-ghost use Rattle.tree_handles.specs.Standing.{Stands, forest, KeepsRefusals, Refuses};
 
 use calc_terms::{Kind, Rat};
 use node_pool::{Full, Pool};

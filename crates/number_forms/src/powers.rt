@@ -2,15 +2,14 @@
 ghost use Rattle.std.specs.Prelude.{◌≡◌, ◌∷◌, ◌≤◌, ◌≤ℤ◌, pos, nat_abs, [], true, IfOk, IfErr, OnOk};
 ghost use Rattle.calc_terms.specs.Fits.{pow_op};
 ghost use Rattle.calc_terms.specs.Fractions.{Fraction, whole_fraction};
-ghost use Rattle.calc_terms.specs.Numbers.{is_number, value};
-ghost use Rattle.calc_terms.specs.PlainValues.{calculated};
-ghost use Rattle.calc_terms.specs.Surds.{surd_times, surd_power};
+ghost use Rattle.calc_algebra.specs.Numbers.{is_number, value};
+ghost use Rattle.calc_measures.specs.PlainValues.{calculated};
+ghost use Rattle.calc_algebra.specs.Surds.{surd_times, surd_power};
 ghost use Rattle.calc_terms.specs.Trees.{num, is_num};
 ghost use Rattle.number_forms.specs.Answers.{IsNumberOf, AnswersRationals};
-ghost use Rattle.reduce_port.specs.Causes.{IsCaused};
-ghost use Rattle.reduce_port.specs.Rewritings.{tree_of};
+ghost use Rattle.tree_handles.specs.Causes.{IsCaused};
+ghost use Rattle.tree_handles.specs.Handed.{tree_of, IsHanded, Gives, KeepsFront};
 ghost use Rattle.tree_handles.specs.Faults.{Faults};
-ghost use Rattle.tree_handles.specs.Handed.{IsHanded, Gives, KeepsFront};
 ghost use Rattle.tree_handles.specs.Roots.{without_root};
 ghost use Rattle.tree_handles.specs.Standing.{Stands, forest, KeepsRefusals};
 

@@ -1,6 +1,6 @@
 //! Whether a number is clean.
 ghost use Rattle.std.specs.Prelude.{◌≡◌, ◌≤◌, ◌<◌, ◌^◌};
-ghost use Rattle.calc_terms.specs.Clean.{is_clean};
+ghost use Rattle.calc_algebra.specs.Clean.{is_clean};
 
 use square_parts::split;
 

@@ -3,9 +3,8 @@ ghost use Rattle.std.specs.Prelude.{◌≡◌, ◌==◌, ◌≤◌, ◌∷◌, [
 ghost use Rattle.calc_terms.specs.Rat.{value_of};
 ghost use Rattle.calc_terms.specs.Trees.{num, is_num, size};
 ghost use Rattle.node_pool.specs.State.{free_of};
-ghost use Rattle.reduce_port.specs.Rewritings.{tree_of};
+ghost use Rattle.tree_handles.specs.Handed.{tree_of, IsHanded, KeepsFront};
 ghost use Rattle.tree_handles.specs.Expressions.{IsExpression, plain};
-ghost use Rattle.tree_handles.specs.Handed.{IsHanded, KeepsFront};
 ghost use Rattle.tree_handles.specs.Inside.{tree_at};
 ghost use Rattle.tree_handles.specs.Roots.{without_root};
 ghost use Rattle.tree_handles.specs.Standing.{Stands, forest, KeepsRefusals};

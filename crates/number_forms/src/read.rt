@@ -1,9 +1,9 @@
 //! What a tree tells of the Number that it is.
 ghost use Rattle.std.specs.Prelude.{◌≡◌, ◌==◌, ◌<◌, ◌^◌, true, false, MatchOption, IfSome, nat_abs};
 ghost use Rattle.calc_terms.specs.Fractions.{whole_fraction};
-ghost use Rattle.calc_terms.specs.Numbers.{is_number, classes};
+ghost use Rattle.calc_algebra.specs.Numbers.{is_number, classes};
 ghost use Rattle.calc_terms.specs.Rat.{value_of};
-ghost use Rattle.calc_terms.specs.Reduced.{is_reduced, is_whole_num};
+ghost use Rattle.calc_algebra.specs.Reduced.{is_reduced, is_whole_num};
 ghost use Rattle.calc_terms.specs.Trees.{num};
 ghost use Rattle.number_forms.specs.Readers.{is_zero};
 ghost use Rattle.tree_handles.specs.Expressions.{IsExpression, plain};

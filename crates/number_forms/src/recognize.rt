@@ -1,9 +1,9 @@
 //! Whether an expression is a Number.
 ghost use Rattle.std.specs.Prelude.{◌≡◌, ◌<◌, ◌≤◌, ◌&&◌, true, not, nat_lt};
 ghost use Rattle.calc_terms.specs.Fractions.{is_one_fraction, is_zero_fraction};
-ghost use Rattle.calc_terms.specs.Numbers.{is_number, is_term, is_radicand, is_below_all, are_terms, rises, terms_of, term_of as term_of_tree};
+ghost use Rattle.calc_algebra.specs.Numbers.{is_number, is_term, is_radicand, is_below_all, are_terms, rises, terms_of, term_of as term_of_tree};
 ghost use Rattle.calc_terms.specs.Rat.{value_of};
-ghost use Rattle.calc_terms.specs.SquareClasses.{are_alike};
+ghost use Rattle.calc_algebra.specs.SquareClasses.{are_alike};
 ghost use Rattle.calc_terms.specs.Trees.{count, is_add};
 ghost use Rattle.number_forms.specs.Sums.{trees_from};
 ghost use Rattle.surd_terms.specs.Terms.{term_of};

@@ -1,7 +1,7 @@
 //! The terms of a Number.
 ghost use Rattle.std.specs.Prelude.{◌≡◌, ◌<◌, ◌^◌, true, Some, slice_get};
-ghost use Rattle.calc_terms.specs.Clean.{IsClean};
-ghost use Rattle.calc_terms.specs.Numbers.{is_term, is_number, IsRadicand, natural_of, classes, value, term_of as term_of_tree};
+ghost use Rattle.calc_algebra.specs.Clean.{IsClean};
+ghost use Rattle.calc_algebra.specs.Numbers.{is_term, is_number, IsRadicand, natural_of, classes, value, term_of as term_of_tree};
 ghost use Rattle.calc_terms.specs.Rat.{value_of};
 ghost use Rattle.surd_terms.specs.Terms.{term_of};
 ghost use Rattle.tree_handles.specs.Expressions.{IsExpression, plain};

@@ -2,11 +2,11 @@
 use Rattle.std.proofs.Common.{◌≡◌, ◌∙◌, ℕ, zero, suc, ◌+◌, ◌≤◌, List, [], ◌∷◌, true, false, Option, Some, None, Ok, Err, refl, sym, ap, subst, arith}
 use Rattle.breakers.specs.Breakers.{Check, CalmChecks, TripsRose}
 use Rattle.breakers.specs.State.{State as Breaker}
-use Rattle.calc_terms.specs.BadAndEasy.{IsEasy}
-use Rattle.calc_terms.specs.Faces.{face}
-use Rattle.calc_terms.specs.PlainValues.{plain_value}
-use Rattle.calc_terms.specs.Texts.{HasNames}
-use Rattle.calc_terms.specs.Tokens.{Token}
+use Rattle.calc_algebra.specs.BadAndEasy.{IsEasy}
+use Rattle.calc_language.specs.Faces.{face}
+use Rattle.calc_measures.specs.PlainValues.{plain_value}
+use Rattle.calc_language.specs.Texts.{HasNames}
+use Rattle.calc_language.specs.Tokens.{Token}
 use Rattle.calc_terms.specs.Trees.{Tree, num, symbol, undef, add, mult, power, root, neg, sub, div, is_undef, root_kind, size}
 use Rattle.calc_terms.specs.declared.kind.Kind.TheVariants as kind
 use Rattle.calc_parser.specs.Building.{building}
@@ -16,17 +16,17 @@ use Rattle.node_pool.specs.declared.full.Full.{Full}
 use Rattle.node_pool.specs.Nodes.{AreNodes, used}
 use Rattle.node_pool.specs.State.{State, free_of}
 use Rattle.node_pool.proofs.Sizes.{AreNodes-right}
-use Rattle.reduce_port.specs.Causes.{LacksBytes, Overflows}
+use Rattle.tree_handles.specs.Standing.{LacksBytes, Stands, forest, KeepsRefusals}
+use Rattle.tree_handles.specs.Causes.{Overflows}
 use Rattle.reduce_port.specs.Checks.{CalmUpTo}
 use Rattle.reduce_port.specs.EasyTrees.{Evaluates, HasEasyBadPart}
 use Rattle.reduce_port.specs.Faults.{CountsRefusals, IfFull, IfOverflow}
-use Rattle.reduce_port.specs.PlainTrees.{IsPlainAnswer, IsPlainOverflow}
-use Rattle.reduce_port.specs.Rewritings.{Reduces, tree_of}
+use Rattle.calc_measures.specs.PlainTrees.{IsPlainAnswer, IsPlainOverflow}
+use Rattle.calc_algebra.specs.Rewritings.{Reduces}
+use Rattle.tree_handles.specs.Handed.{tree_of, Gives, KeepsFront, Starts}
 use Rattle.tree_handles.specs.Expressions.{plain}
 use Rattle.tree_handles.specs.Forest.{Forest, flatten, bytes_in}
-use Rattle.tree_handles.specs.Handed.{Gives, KeepsFront, Starts}
 use Rattle.tree_handles.specs.Roots.{without_root}
-use Rattle.tree_handles.specs.Standing.{Stands, forest, KeepsRefusals}
 use Rattle.tree_handles.proofs.Forests.{bytes_in-join, flatten-join, refuses_after}
 use Rattle.tree_handles.proofs.Fronts.{behind_first, behind_new, front_after_one, front_at, front_end, front_same, front_without}
 use Rattle.tree_handles.proofs.Given.{given_rest, given_told, gives_as}

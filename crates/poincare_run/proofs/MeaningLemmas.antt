@@ -1,10 +1,10 @@
 -- What the answers to lines mean.
 use Rattle.std.proofs.Common.{◌≡◌, ℕ, List, true, refl, sym, subst}
-use Rattle.calc_terms.specs.Faces.{face}
+use Rattle.calc_language.specs.Faces.{face}
 use Rattle.calc_terms.specs.Trees.{Tree, num, symbol, undef, add, mult, power, root, neg, sub, div, is_undef}
-use Rattle.calc_terms.proofs.FaceLaws.{reduced_face_means}
+use Rattle.beautify.proofs.FaceLaws.{reduced_face_means}
 use Rattle.calc_tokens.specs.Placed.{Placed}
-use Rattle.reduce_port.specs.Rewritings.{KeepsMeanings, Reduces}
+use Rattle.calc_algebra.specs.Rewritings.{KeepsMeanings, Reduces}
 use Rattle.poincare_run.specs.Evaluations.{IsReduction, lacks_bytes, does_not_fit, has_no_value, has_a_face, IsReplyTo, finds_no_room, is_built}
 use Rattle.poincare_run.specs.Meant.{HasNoMeaning, MeansNothing, ShowsMeaning}
 use Rattle.poincare_run.specs.Reading.{IsReply, is_evaluated, ReadsTree}

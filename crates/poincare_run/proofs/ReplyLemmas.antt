@@ -3,7 +3,7 @@ use Rattle.std.proofs.Common.{◌≡◌, ◌∙◌, ℕ, ℤ, nat_abs, codes, Li
 use Rattle.std.specs.Fmt.{signed_decimal}
 use Rattle.calc_terms.specs.Node.{Node}
 use Rattle.calc_terms.specs.Rat.{ratio_of, value_of}
-use Rattle.calc_terms.specs.Texts.{text}
+use Rattle.calc_language.specs.Texts.{text}
 use Rattle.calc_terms.specs.Trees.{Tree}
 use Rattle.rational128.proofs.LowestTerms.{parts_themselves}
 use Rattle.calc_terms.specs.declared.rat.Rat.{Rat}

@@ -9,9 +9,9 @@ use Rattle.calc_terms.specs.Fractions.{lowest}
 use Rattle.calc_terms.specs.Name.{is_name}
 use Rattle.calc_terms.specs.Payload.{Payload, rational, named, bare, IsPayload}
 use Rattle.calc_terms.specs.Ratio.{Ratio, IsRat}
-use Rattle.calc_terms.specs.Texts.{IsNamed, HasNames}
+use Rattle.calc_language.specs.Texts.{IsNamed, HasNames}
 use Rattle.calc_terms.specs.Trees.{Tree, num, symbol, Trees, none, more, AllParts, AllPartsOf}
-use Rattle.calc_terms.proofs.ReducedLaws.{AllParts-zip}
+use Rattle.calc_algebra.proofs.ReducedLaws.{AllParts-zip}
 use Rattle.node_pool.specs.Nodes.{AreNodes}
 use Rattle.node_pool.proofs.Sizes.{AreNodes-left, AreNodes-right}
 use Rattle.rational128.proofs.LowestTerms.{parts_themselves}

@@ -1,7 +1,7 @@
 -- What the code answers, and the replies that its answers stand for.
 use Rattle.std.specs.Prelude.{◌≡◌, ℕ, List, Option, Some, None, ⊤}
 use Rattle.calc_terms.specs.Rat.{value_of}
-use Rattle.calc_terms.specs.Texts.{IsWritable}
+use Rattle.calc_language.specs.Texts.{IsWritable}
 use Rattle.calc_terms.specs.Trees.{Tree}
 use Rattle.node_pool.specs.declared.full.Full as pool
 use Rattle.node_pool.specs.State.{State as PoolState}

@@ -1,19 +1,19 @@
 -- What the tree of a line comes to.
 use Rattle.std.specs.Prelude.{ℕ, ◌≡◌, ◌≤◌, ◌<◌, ⊤, true, false, Ok, Err}
-use Rattle.calc_terms.specs.BadAndEasy.{IsEasy}
-use Rattle.calc_terms.specs.Faces.{face}
+use Rattle.calc_algebra.specs.BadAndEasy.{IsEasy}
+use Rattle.calc_language.specs.Faces.{face}
 use Rattle.calc_terms.specs.Fits.{fraction_fits}
-use Rattle.calc_terms.specs.PlainValues.{plain_value}
+use Rattle.calc_measures.specs.PlainValues.{plain_value}
 use Rattle.calc_terms.specs.Rat.{value_of}
 use Rattle.calc_terms.specs.Trees.{Tree, num, undef, is_undef, size, AllParts}
 use Rattle.calc_parser.specs.Building.{building}
 use Rattle.node_pool.specs.declared.full.Full.{Full}
 use Rattle.rational128.specs.Refusals.{operation_of}
 use Rattle.rational128.specs.declared.overflow.Overflow.{Overflow}
-use Rattle.reduce_port.specs.Causes.{Overflows}
+use Rattle.tree_handles.specs.Causes.{Overflows}
 use Rattle.reduce_port.specs.EasyTrees.{Evaluates, HasEasyBadPart}
-use Rattle.reduce_port.specs.PlainTrees.{IsPlainAnswer, IsPlainOverflow}
-use Rattle.reduce_port.specs.Rewritings.{Reduces}
+use Rattle.calc_measures.specs.PlainTrees.{IsPlainAnswer, IsPlainOverflow}
+use Rattle.calc_algebra.specs.Rewritings.{Reduces}
 use Rattle.poincare_run.specs.Replies.{Reply, shown, undefined, full, overflow}
 
 abbrev pub IsFitting : Tree → Type 0

@@ -1,14 +1,12 @@
 -- What is displayed of a reduced tree.
 use Rattle.std.specs.Prelude.{ℕ, ◌≡◌, ⊤, true, false}
-use Rattle.calc_terms.specs.Faces.{face}
+use Rattle.calc_language.specs.Faces.{face}
 use Rattle.calc_terms.specs.Trees.{is_undef}
 use Rattle.node_pool.specs.declared.full.Full.{Full}
 use Rattle.node_pool.specs.State.{State}
-use Rattle.reduce_port.specs.Causes.{LacksBytes}
-use Rattle.reduce_port.specs.Rewritings.{tree_of}
-use Rattle.tree_handles.specs.Handed.{Gives}
+use Rattle.tree_handles.specs.Standing.{LacksBytes, forest}
+use Rattle.tree_handles.specs.Handed.{tree_of, Gives}
 use Rattle.tree_handles.specs.Roots.{without_root}
-use Rattle.tree_handles.specs.Standing.{forest}
 use Rattle.poincare_run.specs.declared.answers.Refusal.TheVariants as refusal
 use Rattle.poincare_run.specs.declared.evaluating.Evaluation.{Evaluation}
 use Rattle.poincare_run.specs.declared.evaluating.Evaluation.TheVariants.{Face, Undefined, Refused}

@@ -2,7 +2,7 @@
 use Rattle.std.specs.Prelude.{ℕ, List, [], ◌∷◌, ◌++◌, map, Bool, ◌==◌}
 use Rattle.std.specs.List.{slice_split, list_all}
 use Rattle.std.specs.Str.Lines.{strip_carriage_return}
-use Rattle.calc_terms.specs.Tokens.{is_blank}
+use Rattle.calc_language.specs.Tokens.{is_blank}
 
 abbrev pub is_newline : ℕ → Bool
 is_newline b = b == 10

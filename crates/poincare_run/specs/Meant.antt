@@ -1,12 +1,12 @@
 -- What the answers to lines mean.
 use Rattle.std.specs.Prelude.{ℕ, ◌≡◌, List, true}
-use Rattle.calc_terms.specs.Faces.{face}
-use Rattle.calc_terms.specs.Meanings.{Assignment, IsAssignment, Means}
-use Rattle.calc_terms.specs.Reduced.{is_reduced}
-use Rattle.calc_terms.specs.Surds.{Surd}
+use Rattle.calc_language.specs.Faces.{face}
+use Rattle.calc_algebra.specs.Meanings.{Assignment, IsAssignment, Means}
+use Rattle.calc_algebra.specs.Reduced.{is_reduced}
+use Rattle.calc_algebra.specs.Surds.{Surd}
 use Rattle.calc_terms.specs.Trees.{Tree}
 use Rattle.calc_tokens.specs.Placed.{Placed}
-use Rattle.reduce_port.specs.Rewritings.{KeepsMeanings}
+use Rattle.calc_algebra.specs.Rewritings.{KeepsMeanings}
 use Rattle.poincare_run.specs.Reading.{ReadsTree}
 
 -- it means nothing under any assignment

@@ -1,6 +1,6 @@
 -- How a line is read, and the replies to it.
 use Rattle.std.specs.Prelude.{ℕ, ◌≡◌, ◌≤◌, ◌<◌, ◌==◌, List, [], ◌∷◌, length, Bool, true, false, if◌then◌else◌, Option, Some, None, Contains, codes}
-use Rattle.calc_terms.specs.Tokens.{is_blank}
+use Rattle.calc_language.specs.Tokens.{is_blank}
 use Rattle.calc_terms.specs.Trees.{Tree, depth, names}
 use Rattle.calc_tokens.specs.Placed.{Placed, bare}
 use Rattle.calc_tokens.specs.Scanned.{AreTokensOf, IsFirstCharacter, IsFirstWide}

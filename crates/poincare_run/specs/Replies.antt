@@ -3,8 +3,8 @@ use Rattle.std.specs.Prelude.{ℕ, pos, List, ◌++◌, ◌==◌, if◌then◌el
 use Rattle.std.specs.Fmt.{signed_decimal}
 use Rattle.calc_terms.specs.Fits.{Operation, add_op, mul_op, pow_op}
 use Rattle.calc_terms.specs.Fractions.{Fraction}
-use Rattle.calc_terms.specs.Texts.{text}
-use Rattle.calc_terms.specs.Tokens.{times_sign}
+use Rattle.calc_language.specs.Texts.{text}
+use Rattle.calc_language.specs.Tokens.{times_sign}
 use Rattle.calc_terms.specs.Trees.{Tree}
 use Rattle.node_pool.specs.declared.full.Full.{Full}
 

@@ -3,7 +3,7 @@ use Rattle.std.specs.Prelude.{ℕ, pos, ◌≡◌, ◌-◌, List, [], ◌∷◌}
 use Rattle.calc_terms.specs.Node.{Node, fresh}
 use Rattle.calc_terms.specs.Payload.{rational}
 use Rattle.calc_terms.specs.Ratio.{whole}
-use Rattle.calc_terms.specs.Texts.{IsWritable}
+use Rattle.calc_language.specs.Texts.{IsWritable}
 use Rattle.calc_terms.specs.Trees.{Tree, none, more}
 use Rattle.node_pool.specs.Nodes.{used}
 use Rattle.tree_handles.specs.Forest.{Forest, flatten, root_id}

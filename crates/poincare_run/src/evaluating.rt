@@ -2,14 +2,13 @@
 ghost use Rattle.std.specs.Prelude.{◌≡◌, ◌+◌, ⊤, ℕ, [], ◌∷◌, true};
 ghost use Rattle.breakers.specs.NeverBreaker.{state_of};
 ghost use Rattle.breakers.specs.Watch.{states};
-ghost use Rattle.calc_terms.specs.Reduced.{is_reduced};
+ghost use Rattle.calc_algebra.specs.Reduced.{is_reduced};
 ghost use Rattle.calc_terms.specs.Trees.{Tree, size};
 ghost use Rattle.calc_tokens.specs.Placed.{bare};
 ghost use Rattle.calc_tokens.specs.Tokens.{tokens_of};
 ghost use Rattle.calc_parser.specs.Lines.{IsTreeOf};
 ghost use Rattle.node_pool.specs.State.{free_of};
-ghost use Rattle.reduce_port.specs.Rewritings.{tree_of};
-ghost use Rattle.tree_handles.specs.Handed.{Gives, IsHanded, KeepsFront};
+ghost use Rattle.tree_handles.specs.Handed.{tree_of, Gives, IsHanded, KeepsFront};
 ghost use Rattle.tree_handles.specs.Roots.{without_root};
 ghost use Rattle.tree_handles.specs.Standing.{Stands, forest};
 ghost use Rattle.poincare_run.specs.Answers.{ComesTo, CountsRefusal, IfNotShown, IsRefusalOf, refusal_of_evaluation};

@@ -1,7 +1,7 @@
 //! Laws of answers, each the contract of a function without a body.
 ghost use Rattle.std.specs.Prelude.{ℕ, List};
 ghost use Rattle.calc_terms.specs.Trees.{Tree, undef};
-ghost use Rattle.reduce_port.specs.Rewritings.{Reduces};
+ghost use Rattle.calc_algebra.specs.Rewritings.{Reduces};
 ghost use Rattle.poincare_run.specs.Meant.{HasNoMeaning, MeansNothing, ShowsMeaning};
 ghost use Rattle.poincare_run.specs.Reading.{IsReply};
 ghost use Rattle.poincare_run.specs.Replies.{shown, undefined};

@@ -1,6 +1,6 @@
 //! Lines, read by the grammar.
 ghost use Rattle.std.specs.Prelude.{◌≡◌, ◌≤◌, ℕ, List, length, false, None, OnOk, IfErr};
-ghost use Rattle.calc_terms.specs.Tokens.{is_blank as is_blank_of};
+ghost use Rattle.calc_language.specs.Tokens.{is_blank as is_blank_of};
 ghost use Rattle.calc_terms.specs.Trees.{Tree};
 ghost use Rattle.calc_parser.specs.Outcomes.{IsFaultOf as IsLineFault};
 ghost use Rattle.calc_tokens.specs.Faults.{IsFaultOf};

@@ -1,9 +1,9 @@
 -- Loads and weights of powers.
 use Rattle.std.proofs.Common.{◌≡◌, ℕ, suc, ◌+◌, ◌≤◌, Bool, true, false, ◌||◌, if◌then◌else◌, refl, arith, add-le-add}
-use Rattle.calc_terms.specs.Loads.{load, weight, weight_of_factors, load_of_factor, load_of_factors, has_coefficient}
-use Rattle.calc_terms.specs.Numbers.{is_number, IsNumber}
-use Rattle.calc_terms.proofs.NumberLaws.{number_test, number_words}
-use Rattle.calc_terms.specs.Reduced.{is_opaque_exponent, base_of}
+use Rattle.calc_measures.specs.Loads.{load, weight, weight_of_factors, load_of_factor, load_of_factors, has_coefficient}
+use Rattle.calc_algebra.specs.Numbers.{is_number, IsNumber}
+use Rattle.calc_algebra.proofs.NumberLaws.{number_test, number_words}
+use Rattle.calc_algebra.specs.Reduced.{is_opaque_exponent, base_of}
 use Rattle.calc_terms.specs.Trees.{Tree, num, symbol, undef, add, mult, power, root, neg, sub, div, Trees, none, more, is_undef}
 
 -- a test that leaves nothing or a number

@@ -3,12 +3,12 @@ use Rattle.std.proofs.Common.{◌≡◌, ◌+◌, ◌≤◌, ◌<◌, suc, inl, 
 use Rattle.std.specs.Prelude.{max, ◌==◌}
 use Rattle.std.proofs.lemmas.Bool.{and_parts}
 use Rattle.calc_terms.specs.Fractions.{Fraction, whole_fraction}
-use Rattle.calc_terms.specs.Loads.{nest, load, weight, load_of_factor}
-use Rattle.calc_terms.specs.Numbers.{is_number}
-use Rattle.calc_terms.specs.Reduced.{is_reduced, is_whole_num, is_opaque_exponent}
+use Rattle.calc_measures.specs.Loads.{nest, load, weight, load_of_factor}
+use Rattle.calc_algebra.specs.Numbers.{is_number}
+use Rattle.calc_algebra.specs.Reduced.{is_reduced, is_whole_num, is_opaque_exponent}
 use Rattle.calc_terms.specs.Trees.{Tree, num, mult, power, root, Trees, none, more, is_undef}
 use Rattle.calc_terms.proofs.FractionFacts.{whole_denominator}
-use Rattle.calc_terms.proofs.NumberLaws.{number_test, number_words}
+use Rattle.calc_algebra.proofs.NumberLaws.{number_test, number_words}
 use Rattle.coefficients.proofs.Forms.{reduced_parts, parts_reduced}
 use Rattle.number_forms.specs.Readers.{is_zero}
 use Rattle.power_reduce.specs.PowerAnswers.{has_no_power, has_number_power}

@@ -8,12 +8,12 @@ use Rattle.std.specs.Prelude.{nat_abs, int_rem, ◌==◌}
 use Rattle.calc_terms.specs.declared.kind.Kind.TheVariants as kind
 use Rattle.calc_terms.specs.Fractions.{Fraction, whole_fraction, zero_fraction, is_zero_fraction, is_one_fraction}
 use Rattle.calc_terms.specs.Integers.{int_is_zero, int_is_one, int_is_even}
-use Rattle.calc_terms.specs.Numbers.{is_number}
-use Rattle.calc_terms.specs.PlainValues.{PlainValue, plain_value, powered, nothing}
-use Rattle.calc_terms.specs.Reduced.{is_whole_num, is_opaque_exponent}
+use Rattle.calc_algebra.specs.Numbers.{is_number}
+use Rattle.calc_measures.specs.PlainValues.{PlainValue, plain_value, powered, nothing}
+use Rattle.calc_algebra.specs.Reduced.{is_whole_num, is_opaque_exponent}
 use Rattle.calc_terms.specs.Trees.{Tree, num, symbol, undef, add, mult, power, root, neg, sub, div, none, more, root_kind, is_num, is_undef, is_root}
 use Rattle.calc_terms.proofs.FractionFacts.{whole_numerator, whole_denominator, zero_is}
-use Rattle.calc_terms.proofs.NumberLaws.{number_test, number_words}
+use Rattle.calc_algebra.proofs.NumberLaws.{number_test, number_words}
 use Rattle.node_pool.specs.State.{State}
 use Rattle.number_forms.specs.Answers.{AnswersRationals}
 use Rattle.number_forms.specs.Readers.{is_zero}
@@ -27,15 +27,15 @@ use Rattle.power_reduce.proofs.Rules.{rewriting}
 use Rattle.power_reduce.proofs.Whole.{opaque_is}
 use Rattle.rational128.proofs.Signed.{told}
 use Rattle.rational128.specs.declared.overflow.Overflow.{Overflow}
-use Rattle.reduce_port.specs.PlainTrees.{IsPlainAnswer, IsPlainOverflow}
-use Rattle.reduce_port.specs.Rewritings.{Rewrites, tree_of}
+use Rattle.calc_measures.specs.PlainTrees.{IsPlainAnswer, IsPlainOverflow}
+use Rattle.calc_algebra.specs.Rewritings.{Rewrites}
+use Rattle.tree_handles.specs.Handed.{tree_of, Gives}
 use Rattle.reduce_port.specs.Steps.{AnswersRationalStep, IfAgain}
 use Rattle.reduce_port.specs.declared.step.Step.{Step}
 use Rattle.reduce_port.specs.declared.step.Step.TheVariants as step
 use Rattle.tree_handles.specs.declared.fault.NumberFault.{NumberFault}
 use Rattle.tree_handles.specs.declared.fault.NumberFault.TheVariants as fault
 use Rattle.tree_handles.specs.Forest.{Forest}
-use Rattle.tree_handles.specs.Handed.{Gives}
 use Rattle.tree_handles.proofs.Given.{gives_as}
 use Rattle.tree_handles.proofs.Outcomes.{by_test}
 

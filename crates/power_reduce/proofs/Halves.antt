@@ -5,7 +5,7 @@ use Rattle.std.specs.Int.{w128}
 use Rattle.std.specs.Prelude.{nat_abs, int_div}
 use Rattle.calc_terms.specs.declared.rat.Rat.{Rat}
 use Rattle.calc_terms.specs.Fractions.{lowest, whole_fraction}
-use Rattle.calc_terms.specs.Numbers.{is_number}
+use Rattle.calc_algebra.specs.Numbers.{is_number}
 use Rattle.calc_terms.specs.Rat.{ratio_of, value_of}
 use Rattle.calc_terms.specs.Ratio.{Ratio, whole}
 use Rattle.calc_terms.specs.Trees.{Tree, num, power, root, is_root}

@@ -6,13 +6,12 @@ use Rattle.calc_terms.specs.Trees.{Tree, root, num, Trees, none, more, append, i
 use Rattle.coefficients.proofs.Places.{IsOver, IsTaken, taken, over_put, over_same, over_end, cut, cut_rest, once_count, represents_count, without_put}
 use Rattle.coefficients.proofs.Steps.{IsAdded, gives_put}
 use Rattle.node_pool.specs.State.{State, free_of}
-use Rattle.reduce_port.proofs.Room.{released_free}
+use Rattle.tree_handles.proofs.Room.{released_free}
 use Rattle.power_reduce.specs.PowerAnswers.{is_power, base_in, exponent_in}
 use Rattle.power_reduce.proofs.Powers.{over_power}
-use Rattle.reduce_port.specs.Rewritings.{tree_of}
+use Rattle.tree_handles.specs.Handed.{tree_of, IsOnce, IsHanded, Represents, Ends, Gives, KeepsFront}
 use Rattle.tree_handles.specs.Expressions.{nth, children_of}
 use Rattle.tree_handles.specs.Forest.{Forest, arity, kids, root_count, tree_nth, without_nth, merged_nth}
-use Rattle.tree_handles.specs.Handed.{IsOnce, IsHanded, Represents, Ends, Gives, KeepsFront}
 use Rattle.tree_handles.specs.Inside.{holds, kids_of}
 use Rattle.tree_handles.specs.Roots.{root_tree, without_root, put}
 use Rattle.tree_handles.specs.Standing.{Stands, forest, KeepsRefusals}

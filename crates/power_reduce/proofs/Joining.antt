@@ -2,7 +2,7 @@
 use Rattle.std.proofs.Common.{◌≡◌, ℕ, refl, ap, subst, true, false, Some}
 use Rattle.calc_terms.specs.declared.kind.Kind.TheVariants as kind
 use Rattle.calc_terms.specs.Payload.{bare}
-use Rattle.calc_terms.specs.Reduced.{is_opaque_exponent}
+use Rattle.calc_algebra.specs.Reduced.{is_opaque_exponent}
 use Rattle.calc_terms.specs.Trees.{Tree, mult, power, Trees, none, more, append}
 use Rattle.coefficients.proofs.Places.{IsOver, IsTaken, taken, over_put}
 use Rattle.coefficients.proofs.Steps.{IsAdded}
@@ -11,9 +11,8 @@ use Rattle.power_reduce.specs.PowerSteps.{goes_inside, rewritten}
 use Rattle.power_reduce.proofs.InPlace.{merged, taken_on}
 use Rattle.power_reduce.proofs.Powers.{over_power, power_children}
 use Rattle.node_pool.specs.State.{State}
-use Rattle.reduce_port.specs.Rewritings.{tree_of}
+use Rattle.tree_handles.specs.Handed.{tree_of, IsHanded, Ends, Gives}
 use Rattle.tree_handles.specs.Forest.{Forest, empty, kids, one_tree, with_root_kids, tree_nth, with_nth, without_nth, merged_nth}
-use Rattle.tree_handles.specs.Handed.{IsHanded, Ends, Gives}
 use Rattle.tree_handles.specs.Roots.{root_tree, without_root, put}
 use Rattle.tree_handles.specs.Standing.{forest}
 use Rattle.tree_handles.proofs.Given.{gives, given_handed, given_rest, given_told, represents_handed, represents_node, represents_none, represents_with}

@@ -3,11 +3,11 @@ use Rattle.std.proofs.Common.{◌≡◌, ◌≤◌, Bool, true, false, ◌&&◌,
 use Rattle.std.proofs.lemmas.Bool.{and_from, eq-eqb, not_from_false}
 use Rattle.calc_terms.specs.Fractions.{Fraction, zero_fraction, one_fraction, is_zero_fraction, is_one_fraction}
 use Rattle.calc_terms.specs.Integers.{int_is_zero, int_is_one, int_is_even, int_is_negative}
-use Rattle.calc_terms.specs.Numbers.{is_number, classes}
-use Rattle.calc_terms.specs.Reduced.{is_reduced, is_whole_num, is_transparent_power, IsReduced, HasForm, IsPowerForm, IsWholePowerForm, IsOtherPowerForm}
+use Rattle.calc_algebra.specs.Numbers.{is_number, classes}
+use Rattle.calc_algebra.specs.Reduced.{is_reduced, is_whole_num, is_transparent_power, IsReduced, HasForm, IsPowerForm, IsWholePowerForm, IsOtherPowerForm}
 use Rattle.calc_terms.specs.Trees.{Tree, num, symbol, undef, add, mult, power, root, neg, sub, div, AllParts, is_undef, is_mult, is_root}
 use Rattle.calc_terms.proofs.FractionFacts.{whole_numerator, whole_denominator}
-use Rattle.calc_terms.proofs.ReducedLaws.{reduced_words, reduced_test}
+use Rattle.calc_algebra.proofs.ReducedLaws.{reduced_words, reduced_test}
 use Rattle.power_reduce.specs.PowerSteps.{is_zero_or_one, goes_inside, is_even_whole, rewritten}
 
 -- the parts of a reduced tree that is not Undef have their forms

@@ -4,14 +4,14 @@ use Rattle.std.proofs.lemmas.Int.{ints}
 use Rattle.std.specs.Prelude.{nat_abs}
 use Rattle.calc_terms.specs.Fractions.{whole_fraction, zero_fraction, one_fraction}
 use Rattle.calc_terms.specs.Integers.{int_is_negative}
-use Rattle.calc_terms.specs.Numbers.{is_number, classes, value, IsNumber}
-use Rattle.calc_terms.specs.SquareClasses.{Inverts}
-use Rattle.calc_terms.specs.Surds.{Surd, surd_power}
-use Rattle.calc_terms.specs.Reduced.{is_reduced, num_one}
+use Rattle.calc_algebra.specs.Numbers.{is_number, classes, value, IsNumber}
+use Rattle.calc_algebra.specs.SquareClasses.{Inverts}
+use Rattle.calc_algebra.specs.Surds.{Surd, surd_power}
+use Rattle.calc_algebra.specs.Reduced.{is_reduced, num_one}
 use Rattle.calc_terms.specs.Trees.{Tree, num, undef, add, power, is_num, is_undef}
 use Rattle.calc_terms.proofs.FractionFacts.{whole_numerator}
-use Rattle.calc_terms.proofs.NumberLaws.{number_words}
-use Rattle.calc_terms.proofs.NumberRewrites.{power_of_number, power_of_inverse}
+use Rattle.calc_algebra.proofs.NumberLaws.{number_words}
+use Rattle.calc_algebra.proofs.NumberRewrites.{power_of_number, power_of_inverse}
 use Rattle.number_forms.specs.Answers.{IsNumberOf}
 use Rattle.number_forms.specs.Inverses.{IsInverseOf, AnswersInverse}
 use Rattle.number_forms.specs.Readers.{is_zero}
@@ -22,7 +22,7 @@ use Rattle.power_reduce.proofs.Answered.{number_answer, zero_exponent_answer, on
 use Rattle.power_reduce.proofs.ByRule.{has_power}
 use Rattle.power_reduce.proofs.Kept.{wide_power}
 use Rattle.power_reduce.proofs.Powers.{power_is}
-use Rattle.reduce_port.proofs.Rewritings.{keeps}
+use Rattle.calc_algebra.proofs.Rewritings.{keeps}
 use Rattle.tree_handles.specs.Forest.{Forest}
 use Rattle.tree_handles.specs.Handed.{Gives}
 

@@ -1,7 +1,7 @@
 -- The parts of a product: its coefficient, where it is not 1, before its factors.
 use Rattle.std.proofs.Common.{◌≡◌, ℕ, ◌≤◌, Bool, true, false, Some, if◌then◌else◌, refl, sym, ap, ◌∙◌, subst, arith}
-use Rattle.calc_terms.specs.Numbers.{is_number}
-use Rattle.calc_terms.specs.Reduced.{is_reduced, is_num_one, split_product}
+use Rattle.calc_algebra.specs.Numbers.{is_number}
+use Rattle.calc_algebra.specs.Reduced.{is_reduced, is_num_one, split_product}
 use Rattle.calc_terms.specs.Trees.{Tree, mult, Trees, more, count, is_mult}
 use Rattle.coefficients.specs.Pairs.{GivesTwo}
 use Rattle.coefficients.proofs.Lengths.{some_factors}

@@ -8,10 +8,9 @@ use Rattle.coefficients.proofs.Places.{IsOver, IsTaken, taken, over_put, once_co
 use Rattle.coefficients.proofs.Steps.{children_at, seen, expression, gives_without}
 use Rattle.node_pool.specs.State.{State}
 use Rattle.power_reduce.specs.PowerAnswers.{is_power, base_in, exponent_in}
-use Rattle.reduce_port.specs.Rewritings.{tree_of}
+use Rattle.tree_handles.specs.Handed.{tree_of, IsOnce, AllOnce, IsOwned, IsHanded, Ends, Gives, KeepsFront}
 use Rattle.tree_handles.specs.Expressions.{nth, grown, plains, plain, IsExpression, children_of}
 use Rattle.tree_handles.specs.Forest.{Forest, empty, tree, arity, kids, root_payload, root_count, tree_nth, without_nth}
-use Rattle.tree_handles.specs.Handed.{IsOnce, AllOnce, IsOwned, IsHanded, Ends, Gives, KeepsFront}
 use Rattle.tree_handles.specs.Inside.{tree_at, kids_of}
 use Rattle.tree_handles.specs.Roots.{root_tree, without_root, put}
 use Rattle.tree_handles.specs.Standing.{Stands, forest}

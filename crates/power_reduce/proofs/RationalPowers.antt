@@ -8,18 +8,18 @@ use Rattle.std.specs.Result.{IsErrAnd}
 use Rattle.calc_terms.specs.Fits.{Operation, pow_op, fraction_power, operation_fits, result_of}
 use Rattle.calc_terms.specs.Fractions.{Fraction, lowest, whole_fraction, zero_fraction, one_fraction, inverse, is_zero_fraction}
 use Rattle.calc_terms.specs.Integers.{int_is_zero, int_is_negative}
-use Rattle.calc_terms.specs.PlainValues.{PlainValue, calculated, powered, exactly, undefined, overflow, plain_value}
+use Rattle.calc_measures.specs.PlainValues.{PlainValue, calculated, powered, exactly, undefined, overflow, plain_value}
 use Rattle.calc_terms.specs.declared.rat.Rat.{Rat}
 use Rattle.calc_terms.specs.Rat.{ratio_of, value_of}
 use Rattle.calc_terms.specs.Ratio.{Ratio, whole}
 use Rattle.calc_terms.specs.Trees.{Tree, num, undef, power}
 use Rattle.calc_terms.proofs.FractionFacts.{whole_numerator, whole_denominator, zero_is, no_zero}
-use Rattle.calc_terms.proofs.MeaningRewrites as rewrites
-use Rattle.calc_terms.proofs.MeaningRewrites.{KeepsMeanings-eq}
-use Rattle.calc_terms.proofs.NumberLaws.{number_test}
-use Rattle.calc_terms.proofs.NumberRewrites.{power_of_rational, negative_power_of_rational}
-use Rattle.calc_terms.proofs.PowerRewrites.{power_zero_is_one}
-use Rattle.calc_terms.proofs.UndefRewrites.{zero_to_nothing}
+use Rattle.calc_algebra.proofs.MeaningRewrites as rewrites
+use Rattle.calc_algebra.proofs.MeaningRewrites.{KeepsMeanings-eq}
+use Rattle.calc_algebra.proofs.NumberLaws.{number_test}
+use Rattle.calc_algebra.proofs.NumberRewrites.{power_of_rational, negative_power_of_rational}
+use Rattle.calc_algebra.proofs.PowerRewrites.{power_zero_is_one}
+use Rattle.calc_algebra.proofs.UndefRewrites.{zero_to_nothing}
 use Rattle.node_pool.specs.State.{State}
 use Rattle.number_forms.proofs.RationalCalls.{plain_overflow}
 use Rattle.number_forms.specs.Answers.{AnswersRationals}
@@ -30,8 +30,8 @@ use Rattle.rational128.proofs.Signed.{told}
 use Rattle.rational128.specs.Refusals.{operation_of}
 use Rattle.rational128.specs.declared.overflow.Op.TheVariants.{Pow}
 use Rattle.rational128.specs.declared.overflow.Overflow.{Overflow}
-use Rattle.reduce_port.specs.PlainTrees.{IsPlainAnswer, IsPlainOverflow}
-use Rattle.reduce_port.proofs.Rewritings.{keeps}
+use Rattle.calc_measures.specs.PlainTrees.{IsPlainAnswer, IsPlainOverflow}
+use Rattle.calc_algebra.proofs.Rewritings.{keeps}
 use Rattle.tree_handles.specs.declared.fault.NumberFault.{NumberFault}
 use Rattle.tree_handles.specs.declared.fault.NumberFault.TheVariants as fault
 use Rattle.tree_handles.proofs.Outcomes.{by_test}

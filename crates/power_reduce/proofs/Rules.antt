@@ -6,16 +6,16 @@ use Rattle.std.proofs.lemmas.Bool.{and_parts, eqb-true}
 use Rattle.std.proofs.lemmas.List.Elements.{Contains-append_left, Contains-append_right, Contains-append_cases}
 use Rattle.calc_terms.specs.Fractions.{Fraction, whole_fraction}
 use Rattle.calc_terms.specs.Integers.{int_is_even}
-use Rattle.calc_terms.specs.Numbers.{is_number, is_radicand}
-use Rattle.calc_terms.specs.Reduced.{is_num_one, split_product, split, num_one}
+use Rattle.calc_algebra.specs.Numbers.{is_number, is_radicand}
+use Rattle.calc_algebra.specs.Reduced.{is_num_one, split_product, split, num_one}
 use Rattle.calc_terms.specs.Trees.{Tree, num, symbol, undef, add, mult, power, root, neg, sub, div, Trees, none, more, names, names_of}
 use Rattle.calc_terms.proofs.FractionFacts.{one_is}
-use Rattle.calc_terms.proofs.MeaningRewrites as rewrites
-use Rattle.calc_terms.proofs.MeaningRewrites.{KeepsMeanings-trans, KeepsMeanings-refl, KeepsMeanings-eq, KeepsMeanings-power, one_factor_of_product}
-use Rattle.calc_terms.proofs.NumberRewrites.{fraction_whole, split_keeps}
-use Rattle.calc_terms.proofs.PowerRewrites.{powers, power_of_power, power_of_product, power_of_root}
-use Rattle.reduce_port.specs.Rewritings.{Rewrites, HasNoNewName}
-use Rattle.reduce_port.proofs.Rewritings.{keeps}
+use Rattle.calc_algebra.proofs.MeaningRewrites as rewrites
+use Rattle.calc_algebra.proofs.MeaningRewrites.{KeepsMeanings-trans, KeepsMeanings-refl, KeepsMeanings-eq, KeepsMeanings-power, one_factor_of_product}
+use Rattle.calc_algebra.proofs.NumberRewrites.{fraction_whole, split_keeps}
+use Rattle.calc_algebra.proofs.PowerRewrites.{powers, power_of_power, power_of_product, power_of_root}
+use Rattle.calc_algebra.specs.Rewritings.{Rewrites, HasNoNewName}
+use Rattle.calc_algebra.proofs.Rewritings.{keeps}
 use Rattle.power_reduce.specs.PowerSteps.{is_even_whole, half, raised, parts_of, rewritten}
 
 -- ---- even powers of roots

@@ -1,12 +1,12 @@
 -- The weights and nests of the parts of a product.
 use Rattle.std.proofs.Common.{◌≡◌, ℕ, suc, ◌+◌, ◌≤◌, ◌<◌, ◌⊎◌, inl, inr, Bool, true, false, ◌||◌, if◌then◌else◌, refl, sym, ap, ◌∙◌, subst, arith}
 use Rattle.std.specs.Prelude.{max}
-use Rattle.calc_terms.specs.Loads.{nest, nest_of, load, weight, weight_of_factors, load_of_factor, load_of_factors, has_coefficient}
-use Rattle.calc_terms.specs.Numbers.{is_number, IsNumber}
-use Rattle.calc_terms.specs.Reduced.{Split, is_reduced, is_num_one, num_one, NoneIs, HasForm, IsProductForm}
+use Rattle.calc_measures.specs.Loads.{nest, nest_of, load, weight, weight_of_factors, load_of_factor, load_of_factors, has_coefficient}
+use Rattle.calc_algebra.specs.Numbers.{is_number, IsNumber}
+use Rattle.calc_algebra.specs.Reduced.{Split, is_reduced, is_num_one, num_one, NoneIs, HasForm, IsProductForm}
 use Rattle.calc_terms.specs.Trees.{Tree, num, symbol, undef, add, mult, power, root, neg, sub, div, Trees, none, more, append, AllParts, AllPartsOf, is_mult, is_undef}
 use Rattle.calc_terms.proofs.FractionFacts.{one_test}
-use Rattle.calc_terms.proofs.NumberLaws.{number_test, number_words}
+use Rattle.calc_algebra.proofs.NumberLaws.{number_test, number_words}
 use Rattle.coefficients.specs.Coefficients.{factors_of}
 use Rattle.coefficients.proofs.Coefficients.{leading_factors, product_form_of}
 use Rattle.coefficients.proofs.Factors.{no_split, number_leads, AreFactors}

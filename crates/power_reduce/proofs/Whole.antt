@@ -5,8 +5,8 @@ use Rattle.std.specs.Prelude.{nat_abs}
 use Rattle.std.proofs.lemmas.Bool.{eqb-true, eq-eqb}
 use Rattle.calc_terms.specs.Fractions.{whole_fraction}
 use Rattle.calc_terms.specs.Integers.{int_is_one}
-use Rattle.calc_terms.specs.Numbers.{is_number}
-use Rattle.calc_terms.specs.Reduced.{is_reduced, is_num_one, is_whole_num, is_opaque_exponent}
+use Rattle.calc_algebra.specs.Numbers.{is_number}
+use Rattle.calc_algebra.specs.Reduced.{is_reduced, is_num_one, is_whole_num, is_opaque_exponent}
 use Rattle.calc_terms.specs.Trees.{Tree, num, power}
 use Rattle.calc_terms.proofs.FractionFacts.{whole_numerator, whole_denominator}
 use Rattle.coefficients.proofs.Forms.{reduced_parts, parts_reduced}

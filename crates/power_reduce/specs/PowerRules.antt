@@ -1,9 +1,9 @@
 -- What the rewritings of a power of reduced trees are, rule by rule, and why going on from each ends.
 use Rattle.std.specs.Prelude.{◌≡◌, ◌≤◌, ◌<◌, ◌+◌, ◌⊎◌, ⊤, true, false, ◌&&◌}
 use Rattle.calc_terms.specs.Fractions.{Fraction}
-use Rattle.calc_terms.specs.Loads.{nest, load, weight}
-use Rattle.calc_terms.specs.Numbers.{is_number}
-use Rattle.calc_terms.specs.Reduced.{is_reduced, is_opaque_exponent}
+use Rattle.calc_measures.specs.Loads.{nest, load, weight}
+use Rattle.calc_algebra.specs.Numbers.{is_number}
+use Rattle.calc_algebra.specs.Reduced.{is_reduced, is_opaque_exponent}
 use Rattle.calc_terms.specs.Trees.{Tree, num, mult, power, root, Trees, none, more, is_undef}
 use Rattle.power_reduce.specs.PowerAnswers.{has_no_power, has_number_power}
 use Rattle.power_reduce.specs.PowerSteps.{parts_of, raised}

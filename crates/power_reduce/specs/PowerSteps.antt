@@ -2,8 +2,8 @@
 use Rattle.std.specs.Prelude.{suc, ◌/◌, ℤ, pos, negsuc, neg_ℤ, Bool, false, ◌&&◌, ◌||◌, ◌==◌, not, if◌then◌else◌, Option, Some, None}
 use Rattle.calc_terms.specs.Fractions.{Fraction, whole_fraction, is_zero_fraction, is_one_fraction}
 use Rattle.calc_terms.specs.Integers.{int_is_even}
-use Rattle.calc_terms.specs.Numbers.{is_number}
-use Rattle.calc_terms.specs.Reduced.{is_opaque_exponent, is_num_one, split_product}
+use Rattle.calc_algebra.specs.Numbers.{is_number}
+use Rattle.calc_algebra.specs.Reduced.{is_opaque_exponent, is_num_one, split_product}
 use Rattle.calc_terms.specs.Trees.{Tree, num, mult, power, root, is_undef, Trees, none, more}
 
 -- the rational 0 or 1

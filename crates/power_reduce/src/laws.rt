@@ -1,15 +1,15 @@
 //! Laws of one step on a power, each the contract of a function without a body.
 ghost use Rattle.std.specs.Prelude.{◌≡◌, ◌≤◌, ◌+◌, ◌&&◌, true, false, Some, None};
 ghost use Rattle.calc_terms.specs.Integers.{int_is_negative};
-ghost use Rattle.calc_terms.specs.Loads.{load, weight};
-ghost use Rattle.calc_terms.specs.Numbers.{is_number, classes};
-ghost use Rattle.calc_terms.specs.Reduced.{is_reduced, is_whole_num, is_opaque_exponent, num_one};
+ghost use Rattle.calc_measures.specs.Loads.{load, weight};
+ghost use Rattle.calc_algebra.specs.Numbers.{is_number, classes};
+ghost use Rattle.calc_algebra.specs.Reduced.{is_reduced, is_whole_num, is_opaque_exponent, num_one};
 ghost use Rattle.calc_terms.specs.Trees.{Tree, num, power, undef, is_undef};
 ghost use Rattle.calc_terms.specs.Fractions.{Fraction, one_fraction, zero_fraction};
 ghost use Rattle.power_reduce.specs.PowerAnswers.{has_no_power, IsPowerAnswer};
 ghost use Rattle.power_reduce.specs.PowerRules.{IsByRule, IsRewritable};
 ghost use Rattle.power_reduce.specs.PowerSteps.{is_zero_or_one, rewritten};
-ghost use Rattle.reduce_port.specs.Rewritings.{Rewrites, Reduces, KeepsMeanings};
+ghost use Rattle.calc_algebra.specs.Rewritings.{Rewrites, Reduces, KeepsMeanings};
 
 /// A rewriting keeps every meaning and has no new name.
 pub fn rewriting_keeps_meanings()

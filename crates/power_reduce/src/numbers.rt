@@ -1,17 +1,16 @@
 //! Whole powers of Numbers.
 ghost use Rattle.std.specs.Prelude.{◌≡◌, ◌<◌, ◌^◌, ◌≤ℤ◌, ◌<ℤ◌, pos, nat_abs, IfOk, IfErr, OnOk, [], ◌∷◌, true, false};
 ghost use Rattle.calc_terms.specs.Fractions.{whole_fraction, is_zero_fraction};
-ghost use Rattle.calc_terms.specs.Numbers.{is_number};
-ghost use Rattle.calc_terms.specs.PlainValues.{plain_value, powered, exactly};
+ghost use Rattle.calc_algebra.specs.Numbers.{is_number};
+ghost use Rattle.calc_measures.specs.PlainValues.{plain_value, powered, exactly};
 ghost use Rattle.calc_terms.specs.Rat.{value_of};
 ghost use Rattle.calc_terms.specs.Trees.{num, is_num};
 ghost use Rattle.number_forms.specs.Answers.{AnswersRationals};
 ghost use Rattle.power_reduce.specs.PowerAnswers.{base_in, exponent_in, HasReducedSides, IsPowerAnswer};
-ghost use Rattle.reduce_port.specs.Causes.{IsCaused, Overflows};
-ghost use Rattle.reduce_port.specs.PlainTrees.{IsPlainOverflow};
-ghost use Rattle.reduce_port.specs.Rewritings.{tree_of};
+ghost use Rattle.tree_handles.specs.Causes.{IsCaused, Overflows};
+ghost use Rattle.calc_measures.specs.PlainTrees.{IsPlainOverflow};
+ghost use Rattle.tree_handles.specs.Handed.{tree_of, IsHanded, Gives, KeepsFront};
 ghost use Rattle.tree_handles.specs.Faults.{Faults};
-ghost use Rattle.tree_handles.specs.Handed.{IsHanded, Gives, KeepsFront};
 ghost use Rattle.tree_handles.specs.Roots.{without_root};
 ghost use Rattle.tree_handles.specs.Standing.{Stands, forest, KeepsRefusals};
 
@@ -20,8 +19,7 @@ use calc_terms::Rat;
 use node_pool::Pool;
 use number_forms::{Inverse, classes, invert_number, power_number};
 use rational128::{Overflow, invert, pow};
-use reduce_port::undefined;
-use tree_handles::{Handle, NumberFault, move_last};
+use tree_handles::{Handle, NumberFault, move_last, undefined};
 
 /// A whole power of the rational q: of 0 it is Undef where the exponent is at most 0.
 pub(crate) fn rational_power(

@@ -1,18 +1,16 @@
 //! The three rewritings of a power.
 ghost use Rattle.std.specs.Prelude.{◌≡◌, ◌==◌, ◌<◌, ◌≤◌, ◌^◌, nat_abs, Some, IfOk, IfErr, OnOk, [], ◌∷◌, true, false};
 ghost use Rattle.calc_terms.specs.Fractions.{whole_fraction};
-ghost use Rattle.calc_terms.specs.Numbers.{is_number};
-ghost use Rattle.calc_terms.specs.Reduced.{is_reduced, is_opaque_exponent};
+ghost use Rattle.calc_algebra.specs.Numbers.{is_number};
+ghost use Rattle.calc_algebra.specs.Reduced.{is_reduced, is_opaque_exponent};
 ghost use Rattle.calc_terms.specs.Trees.{num, mult, count, is_mult, is_root};
 ghost use Rattle.power_reduce.specs.PowerAnswers.{is_power, base_in, exponent_in, HasReducedSides};
 ghost use Rattle.power_reduce.specs.PowerSteps.{goes_inside, is_even_whole, parts_of, raised, rewritten};
 ghost use Rattle.power_reduce.specs.Raising.{HasKids, raised_at};
-ghost use Rattle.reduce_port.specs.Causes.{LacksBytes};
-ghost use Rattle.reduce_port.specs.Rewritings.{tree_of};
+ghost use Rattle.tree_handles.specs.Standing.{LacksBytes, Stands, forest, KeepsRefusals, Refuses};
+ghost use Rattle.tree_handles.specs.Handed.{tree_of, IsHanded, Gives, KeepsFront};
 ghost use Rattle.tree_handles.specs.Expressions.{children_of};
-ghost use Rattle.tree_handles.specs.Handed.{IsHanded, Gives, KeepsFront};
 ghost use Rattle.tree_handles.specs.Roots.{without_root};
-ghost use Rattle.tree_handles.specs.Standing.{Stands, forest, KeepsRefusals, Refuses};
 
 use crate::sides::{is_one, take_sides};
 use calc_terms::{Kind, Rat};

@@ -1,13 +1,12 @@
 //! The base and the exponent of a power: read, taken out, and the power replaced.
 ghost use Rattle.std.specs.Prelude.{◌≡◌, [], ◌∷◌, true};
 ghost use Rattle.calc_terms.specs.Rat.{value_of};
-ghost use Rattle.calc_terms.specs.Reduced.{is_reduced, is_opaque_exponent, is_num_one};
+ghost use Rattle.calc_algebra.specs.Reduced.{is_reduced, is_opaque_exponent, is_num_one};
 ghost use Rattle.calc_terms.specs.Trees.{num, is_num};
 ghost use Rattle.coefficients.specs.Pairs.{GivesTwo};
 ghost use Rattle.power_reduce.specs.PowerAnswers.{is_power, base_in, exponent_in};
-ghost use Rattle.reduce_port.specs.Rewritings.{tree_of};
+ghost use Rattle.tree_handles.specs.Handed.{tree_of, IsHanded, Gives, KeepsFront};
 ghost use Rattle.tree_handles.specs.Expressions.{IsExpression, plain};
-ghost use Rattle.tree_handles.specs.Handed.{IsHanded, Gives, KeepsFront};
 ghost use Rattle.tree_handles.specs.Inside.{tree_at};
 ghost use Rattle.tree_handles.specs.Roots.{without_root};
 ghost use Rattle.tree_handles.specs.Standing.{Stands, forest, KeepsRefusals};

@@ -1,18 +1,17 @@
 //! One step on a power of reduced trees, by the kinds of its base and its exponent.
 ghost use Rattle.std.specs.Prelude.{◌≡◌, ◌<◌, ◌^◌, ◌&&◌, nat_abs, None, IfOk, IfErr, OnOk, [], ◌∷◌, true, false};
 ghost use Rattle.calc_terms.specs.Fractions.{whole_fraction};
-ghost use Rattle.calc_terms.specs.Numbers.{is_number};
-ghost use Rattle.calc_terms.specs.PlainValues.{plain_value};
-ghost use Rattle.calc_terms.specs.Reduced.{is_reduced, is_whole_num};
+ghost use Rattle.calc_algebra.specs.Numbers.{is_number};
+ghost use Rattle.calc_measures.specs.PlainValues.{plain_value};
+ghost use Rattle.calc_algebra.specs.Reduced.{is_reduced, is_whole_num};
 ghost use Rattle.calc_terms.specs.Trees.{num, is_num, is_mult, is_root, is_undef};
 ghost use Rattle.power_reduce.specs.PowerAnswers.{is_power, base_in, exponent_in, HasReducedSides, IsStep};
 ghost use Rattle.power_reduce.specs.PowerSteps.{goes_inside, is_zero_or_one, rewritten};
-ghost use Rattle.reduce_port.specs.Causes.{IsCaused};
-ghost use Rattle.reduce_port.specs.Rewritings.{tree_of};
+ghost use Rattle.tree_handles.specs.Causes.{IsCaused};
+ghost use Rattle.tree_handles.specs.Handed.{tree_of, IsHanded, KeepsFront};
 ghost use Rattle.reduce_port.specs.Steps.{AnswersRationalStep, IfAgain};
 ghost use Rattle.tree_handles.specs.Expressions.{IsExpression, plain};
 ghost use Rattle.tree_handles.specs.Faults.{Faults};
-ghost use Rattle.tree_handles.specs.Handed.{IsHanded, KeepsFront};
 ghost use Rattle.tree_handles.specs.Inside.{tree_at};
 ghost use Rattle.tree_handles.specs.Roots.{without_root};
 ghost use Rattle.tree_handles.specs.Standing.{Stands, forest, KeepsRefusals};
@@ -23,8 +22,8 @@ use crate::sides::{base_id, exponent_id, first_exponent_is_opaque, take_base, wi
 use calc_terms::{Kind, Rat};
 use node_pool::{Id, Pool};
 use number_forms::{is_reduced_number, whole};
-use reduce_port::{Step, is_undefined, undefined};
-use tree_handles::{Handle, NumberFault, kind, move_last, rational};
+use reduce_port::Step;
+use tree_handles::{Handle, NumberFault, is_undefined, kind, move_last, rational, undefined};
 
 /// One step on a power of reduced trees: a reduced tree, or one rewriting, whose new powers and product are
 /// not reduced yet.

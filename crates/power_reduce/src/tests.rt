@@ -1,14 +1,13 @@
 //! Steps on powers of rationals, of a symbol, of roots, of sums of roots, of a power and of a product. The expected bytes are worked out
 //! by hand: 8 for each node, 16 for the symbol x and 40 for a rational.
 ghost use Rattle.std.specs.Prelude.{◌≡◌, IfOk, true};
-ghost use Rattle.calc_terms.specs.Numbers.{is_number};
+ghost use Rattle.calc_algebra.specs.Numbers.{is_number};
 ghost use Rattle.calc_terms.specs.Rat.{value_of};
-ghost use Rattle.calc_terms.specs.Reduced.{is_reduced};
+ghost use Rattle.calc_algebra.specs.Reduced.{is_reduced};
 ghost use Rattle.calc_terms.specs.Trees.{num, root as root_tree_of};
 ghost use Rattle.node_pool.specs.State.{IsPoolSize};
-ghost use Rattle.reduce_port.specs.Rewritings.{tree_of};
+ghost use Rattle.tree_handles.specs.Handed.{tree_of, IsHanded, Gives};
 ghost use Rattle.reduce_port.specs.Steps.{IfDone};
-ghost use Rattle.tree_handles.specs.Handed.{IsHanded, Gives};
 ghost use Rattle.tree_handles.specs.Standing.{Stands, forest};
 
 use super::power_step;

@@ -1,14 +1,14 @@
 -- Nest and Load of the factors of a product.
 use Rattle.std.proofs.Common.{ℕ, ◌+◌, ◌≤◌, max, ◌≡◌, Bool, true, false, ◌||◌, refl, if◌then◌else◌, sym, ap, ◌∙◌, arith}
 use Rattle.coefficients.specs.Coefficients.{factors_of}
-use Rattle.calc_terms.specs.Loads.{nest, nest_of, weight, load, load_of_factor, load_of_factors}
-use Rattle.calc_terms.specs.Numbers.{is_number, IsNumber}
-use Rattle.calc_terms.specs.Reduced.{is_num_one, product_tree}
+use Rattle.calc_measures.specs.Loads.{nest, nest_of, weight, load, load_of_factor, load_of_factors}
+use Rattle.calc_algebra.specs.Numbers.{is_number, IsNumber}
+use Rattle.calc_algebra.specs.Reduced.{is_num_one, product_tree}
 use Rattle.calc_terms.specs.Trees.{Tree, num, add, mult, root, Trees, none, more, append, is_undef}
-use Rattle.calc_terms.proofs.MeaningRewrites.{Permuted, permuted_none, permuted_more, permuted_swap, permuted_trans}
-use Rattle.calc_terms.proofs.NumberLaws.{number_words, number_test}
+use Rattle.calc_algebra.proofs.MeaningRewrites.{Permuted, permuted_none, permuted_more, permuted_swap, permuted_trans}
+use Rattle.calc_algebra.proofs.NumberLaws.{number_words, number_test}
 use Rattle.product_reduce.specs.Factors.{opened, others_in, coefficient_before}
-use Rattle.reduce_port.proofs.Nests.{nest-append, nest_number}
+use Rattle.calc_measures.proofs.Nests.{nest-append, nest_number}
 
 -- ---- Nest
 

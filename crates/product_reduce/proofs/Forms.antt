@@ -5,12 +5,12 @@ use Rattle.number_forms.specs.Readers.{is_zero}
 use Rattle.std.proofs.Common.{◌≡◌, inl, inr, Bool, true, false, ◌&&◌, not, refl, if◌then◌else◌, sym, ap, ◌∙◌, subst}
 use Rattle.std.proofs.lemmas.Bool.{and_parts, and_from, or_left, not_from_false}
 use Rattle.calc_terms.specs.Fractions.{Fraction, is_zero_fraction, is_one_fraction}
-use Rattle.calc_terms.specs.Numbers.{is_number, is_radicand, IsNumber, IsTerm, AreTerms}
-use Rattle.calc_terms.specs.Reduced.{is_num_one, num_one, Split, split, split_product, product_tree, NoneIs, RisesBy, base_of, IsFrontForm, IsProductForm, is_undistributed, has_form, HasForm, all_parts, all_parts_of}
+use Rattle.calc_algebra.specs.Numbers.{is_number, is_radicand, IsNumber, IsTerm, AreTerms}
+use Rattle.calc_algebra.specs.Reduced.{is_num_one, num_one, Split, split, split_product, product_tree, NoneIs, RisesBy, base_of, IsFrontForm, IsProductForm, is_undistributed, has_form, HasForm, all_parts, all_parts_of}
 use Rattle.calc_terms.specs.Trees.{Tree, num, symbol, undef, add, mult, power, root, neg, sub, div, Trees, none, more, append, HasTwo, is_mult}
 use Rattle.calc_terms.proofs.FractionFacts.{no_zero, no_one}
-use Rattle.calc_terms.proofs.NumberLaws.{number_words, number_test, term_words}
-use Rattle.calc_terms.proofs.ReducedLaws.{form_words, form_test}
+use Rattle.calc_algebra.proofs.NumberLaws.{number_words, number_test, term_words}
+use Rattle.calc_algebra.proofs.ReducedLaws.{form_words, form_test}
 use Rattle.product_reduce.specs.Factors.{opened, others_in, coefficient_before}
 use Rattle.product_reduce.proofs.Opened.{one_is_num}
 

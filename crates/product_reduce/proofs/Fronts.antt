@@ -1,7 +1,7 @@
 -- A coefficient comes before the factors of a product.
 use Rattle.std.proofs.Common.{ℕ, ◌≡◌, Bool, true, false, if◌then◌else◌, refl, sym, ap, ◌∙◌, arith}
 use Rattle.coefficients.specs.Coefficients.{factors_of}
-use Rattle.calc_terms.specs.Reduced.{is_num_one}
+use Rattle.calc_algebra.specs.Reduced.{is_num_one}
 use Rattle.calc_terms.specs.Trees.{Tree, mult, Trees, none, more, append, is_mult}
 use Rattle.tree_handles.specs.Expressions.{children_of}
 use Rattle.tree_handles.specs.Forest.{Forest, kids, merged_nth, with_nth}

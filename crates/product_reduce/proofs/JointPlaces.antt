@@ -1,12 +1,11 @@
 -- The place of a joint behind a coefficient.
 use Rattle.std.proofs.Common.{ℕ, zero, suc, ◌+◌, ◌<◌, ◌≤◌, ◌≡◌, Bool, true, false, if◌then◌else◌, refl, ap, ◌∙◌, arith}
 use Rattle.std.proofs.lemmas.Bool.{and_parts, and_from}
-use Rattle.calc_terms.specs.Numbers.{is_number}
-use Rattle.calc_terms.specs.Reduced.{is_num_one, is_reduced}
+use Rattle.calc_algebra.specs.Numbers.{is_number}
+use Rattle.calc_algebra.specs.Reduced.{is_num_one, is_reduced, are_reduced}
 use Rattle.calc_terms.specs.Trees.{Tree, Trees, none, more, append, count}
 use Rattle.coefficients.specs.Coefficients.{factors_of}
 use Rattle.number_forms.specs.Sums.{removed}
-use Rattle.reduce_port.specs.Children.{are_reduced}
 use Rattle.tree_handles.specs.Expressions.{nth, inserted}
 use Rattle.product_reduce.specs.Factors.{coefficient_before}
 use Rattle.product_reduce.specs.Joining.{joint, joined, IsFirstPair, IsFirstJoint, IsJointAt}

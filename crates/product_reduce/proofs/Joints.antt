@@ -3,11 +3,11 @@ use Rattle.std.proofs.Common.{ℕ, zero, suc, ◌+◌, ◌≤◌, ◌<◌, max, 
 use Rattle.std.specs.Prelude.{⊤}
 use Rattle.std.proofs.lemmas.Bool.{and_parts}
 use Rattle.calc_terms.specs.Fractions.{Fraction, one_fraction, is_zero_fraction}
-use Rattle.calc_terms.specs.Loads.{nest, nest_of, weight, weight_of_factors, load_of_factor, load_of_factors, has_coefficient}
-use Rattle.calc_terms.specs.Numbers.{is_number, IsNumber, Rises, terms_of}
-use Rattle.calc_terms.specs.Reduced.{is_opaque_exponent, is_whole_num, is_reduced, has_form, all_parts, HasForm, IsSumForm, NoneIs, base_of}
+use Rattle.calc_measures.specs.Loads.{nest, nest_of, weight, weight_of_factors, load_of_factor, load_of_factors, has_coefficient}
+use Rattle.calc_algebra.specs.Numbers.{is_number, IsNumber, Rises, terms_of}
+use Rattle.calc_algebra.specs.Reduced.{is_opaque_exponent, is_whole_num, is_reduced, has_form, all_parts, HasForm, IsSumForm, NoneIs, base_of}
 use Rattle.calc_terms.specs.Trees.{Tree, num, add, mult, power, root, Trees, none, more, count, is_mult}
-use Rattle.calc_terms.proofs.NumberLaws.{number_words, number_test}
+use Rattle.calc_algebra.proofs.NumberLaws.{number_words, number_test}
 use Rattle.coefficients.proofs.Forms.{reduced_parts}
 use Rattle.number_forms.proofs.Shaped.{term_number}
 use Rattle.number_forms.specs.Sums.{removed}

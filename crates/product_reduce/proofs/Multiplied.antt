@@ -1,9 +1,8 @@
 -- One Number of a product goes into the product of those before it.
 use Rattle.std.specs.Prelude.{Result, Ok, Err, IfOk}
 use Rattle.number_forms.specs.Sums.{removed}
-use Rattle.reduce_port.specs.Children.{are_reduced}
+use Rattle.calc_algebra.specs.Reduced.{are_reduced, num_one}
 use Rattle.std.proofs.Common.{ℕ, ◌≡◌, eqb, true, false, refl, sym, ap, ◌∙◌, subst}
-use Rattle.calc_terms.specs.Reduced.{num_one}
 use Rattle.calc_terms.specs.Trees.{Tree, Trees, count}
 use Rattle.tree_handles.specs.Expressions.{nth, plain}
 use Rattle.tree_handles.specs.Forest.{Forest}

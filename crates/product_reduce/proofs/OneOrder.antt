@@ -2,11 +2,11 @@
 use Rattle.std.specs.declared.cmp.Ordering.TheVariants.{Less, Equal, Greater}
 use Rattle.std.specs.Ordering.{ordering_reverse}
 use Rattle.std.proofs.Common.{◌≡◌, ◌⊎◌, inl, inr, false, refl, sym, ap, ◌∙◌}
-use Rattle.calc_terms.specs.Reduced.{base_of, RisesBy}
-use Rattle.calc_terms.specs.TreeOrder.{tree_cmp}
+use Rattle.calc_algebra.specs.Reduced.{base_of, RisesBy}
+use Rattle.calc_algebra.specs.TreeOrder.{tree_cmp}
 use Rattle.calc_terms.specs.Trees.{Tree, Trees, none, more}
-use Rattle.calc_terms.proofs.MeaningRewrites.{Permuted, permuted_none, permuted_more, permuted_swap, permuted_trans, Permuted-sym}
-use Rattle.calc_terms.proofs.TreeOrderLaws.{tree_cmp_refl, tree_cmp_total}
+use Rattle.calc_algebra.proofs.MeaningRewrites.{Permuted, permuted_none, permuted_more, permuted_swap, permuted_trans, Permuted-sym}
+use Rattle.calc_algebra.proofs.TreeOrderLaws.{tree_cmp_refl, tree_cmp_total}
 use Rattle.node_order.specs.Sorting.{IsSorting}
 use Rattle.product_reduce.specs.Answers.{IsWritten}
 use Rattle.product_reduce.specs.Factors.{coefficient_times}

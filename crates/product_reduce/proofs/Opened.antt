@@ -2,19 +2,19 @@
 use Rattle.std.proofs.Common.{◌≡◌, Bool, true, false, refl, if◌then◌else◌, ap}
 use Rattle.coefficients.specs.Coefficients.{factors_of}
 use Rattle.calc_terms.specs.Fractions.{one_fraction}
-use Rattle.calc_terms.specs.Meanings.{Assignment, IsAssignment, Means}
-use Rattle.calc_terms.specs.Numbers.{is_number}
-use Rattle.calc_terms.specs.Reduced.{is_num_one}
-use Rattle.calc_terms.specs.SquareClasses.{Same}
-use Rattle.calc_terms.specs.Surds.{Surd}
+use Rattle.calc_algebra.specs.Meanings.{Assignment, IsAssignment, Means}
+use Rattle.calc_algebra.specs.Numbers.{is_number}
+use Rattle.calc_algebra.specs.Reduced.{is_num_one}
+use Rattle.calc_algebra.specs.SquareClasses.{Same}
+use Rattle.calc_algebra.specs.Surds.{Surd}
 use Rattle.calc_terms.specs.Trees.{Tree, num, mult, Trees, none, more, append}
 use Rattle.calc_terms.proofs.FractionFacts.{one_is}
-use Rattle.calc_terms.proofs.MeaningRewrites.{KeepsMeanings, KeepsMeanings-refl, KeepsMeanings-eq, KeepsMeanings-trans, KeepsMeanings-product_more, KeepsMeanings-product_append, flat_product, nested_product, Permuted, permuted_none, permuted_more, permuted_trans, Permuted-sym, Permuted-to_front, permuted_product, one_factor_of_product, product_parts, none_product}
-use Rattle.calc_terms.proofs.NumberLaws.{number_words}
-use Rattle.calc_terms.proofs.NumberRewrites.{number_value, value_means}
-use Rattle.calc_terms.proofs.SquareClassLaws.{Same-trans}
-use Rattle.calc_terms.proofs.MeaningLaws.{Same-sym}
-use Rattle.calc_terms.proofs.TermLaws.{Same-surd_times}
+use Rattle.calc_algebra.proofs.MeaningRewrites.{KeepsMeanings, KeepsMeanings-refl, KeepsMeanings-eq, KeepsMeanings-trans, KeepsMeanings-product_more, KeepsMeanings-product_append, flat_product, nested_product, Permuted, permuted_none, permuted_more, permuted_trans, Permuted-sym, Permuted-to_front, permuted_product, one_factor_of_product, product_parts, none_product}
+use Rattle.calc_algebra.proofs.NumberLaws.{number_words}
+use Rattle.calc_algebra.proofs.NumberRewrites.{number_value, value_means}
+use Rattle.calc_algebra.proofs.SquareClassLaws.{Same-trans}
+use Rattle.calc_algebra.proofs.MeaningLaws.{Same-sym}
+use Rattle.calc_algebra.proofs.TermLaws.{Same-surd_times}
 use Rattle.product_reduce.specs.Factors.{opened, numbers_in, others_in, product_of_values, IsCoefficient, coefficient_before}
 
 -- ---- products in a product

@@ -5,7 +5,7 @@ use Rattle.calc_terms.specs.declared.kind.Kind.{Kind}
 use Rattle.calc_terms.specs.declared.kind.Kind.TheVariants as kind
 use Rattle.calc_terms.specs.Payload.{Payload, rational, named, bare}
 use Rattle.calc_terms.specs.Trees.{Tree, mult, Trees, none, more, count, is_mult}
-use Rattle.tree_handles.specs.Expressions.{nth, grown, compound, plains, plain, inserted, children_of, takes, IsWhole, AllExpressions}
+use Rattle.tree_handles.specs.Expressions.{nth, grown, compound, plains, plain, inserted, children_of, takes, IsWhole, AllExpressions, IsExpression}
 use Rattle.tree_handles.specs.Forest.{Forest, empty, tree, arity, kids, root_count, with_root_kids, tree_nth, without_nth, merged_nth}
 use Rattle.tree_handles.specs.Handed.{IsOnce, AllOnce, Represents}
 use Rattle.tree_handles.specs.Roots.{root_tree, without_root, put}
@@ -16,7 +16,6 @@ use Rattle.tree_handles.proofs.Given.{represents_as, represents_with, handed_at,
 use Rattle.tree_handles.proofs.Nths.{with_nth-without_nth}
 use Rattle.tree_handles.proofs.Outcomes.{by_test}
 use Rattle.tree_handles.proofs.Plains.{plain-tree_nth, count-plains, children_of-plain, whole_kids, alone}
-use Rattle.tree_handles.specs.Expressions.{IsExpression}
 use Rattle.tree_handles.specs.Inside.{holds, tree_at, kids_of}
 use Rattle.tree_handles.specs.Standing.{Stands, forest}
 use Rattle.node_pool.specs.State.{State}

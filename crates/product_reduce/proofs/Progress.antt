@@ -1,28 +1,27 @@
 -- The Numbers among the factors are multiplied one after the other.
 use Rattle.std.specs.Prelude.{Err}
 use Rattle.number_forms.specs.Sums.{removed}
-use Rattle.reduce_port.specs.Children.{are_rationals, are_reduced}
+use Rattle.calc_terms.specs.Trees.{are_rationals, Tree, num, mult, Trees, none, more, count, is_num}
+use Rattle.calc_algebra.specs.Reduced.{are_reduced, num_one, is_reduced}
 use Rattle.std.proofs.Common.{◌⊎◌, inl, inr, nat_lt, ℕ, zero, suc, ◌<◌, ◌≤◌, ◌+◌, ◌≡◌, List, ◌∷◌, Bool, true, false, if◌then◌else◌, refl, sym, ap, ◌∙◌, subst, arith}
 use Rattle.std.proofs.lemmas.Bool.{and_parts, and_from, ltb-true, ltb-false}
 use Rattle.calc_terms.specs.Fits.{mul_op, operation_fits, result_of}
 use Rattle.calc_terms.specs.Fractions.{Fraction, one_fraction, lowest}
 use Rattle.calc_terms.specs.Gcd.{gcd}
-use Rattle.calc_terms.specs.Numbers.{is_number, value}
-use Rattle.calc_terms.specs.PlainValues.{PlainValue, exactly, overflow, calculated, fold_values, gather, values, plain_of_children, plain_value, are_plain}
-use Rattle.calc_terms.specs.Reduced.{num_one, is_reduced}
-use Rattle.calc_terms.specs.SquareClasses.{Same}
-use Rattle.calc_terms.specs.Surds.{Surd, surd_one, surd_times}
-use Rattle.calc_terms.specs.Trees.{Tree, num, mult, Trees, none, more, count, is_num}
-use Rattle.calc_terms.proofs.MeaningLaws.{Same-sym}
-use Rattle.calc_terms.proofs.SquareClassLaws.{Same-trans}
-use Rattle.calc_terms.proofs.SurdLaws.{Agree-Same, surd_times_assoc, surd_times-one, surd_times-surd_one}
-use Rattle.calc_terms.proofs.TermLaws.{Same-refl, Same-eq, Same-surd_times}
+use Rattle.calc_algebra.specs.Numbers.{is_number, value}
+use Rattle.calc_measures.specs.PlainValues.{PlainValue, exactly, overflow, calculated, fold_values, gather, values, plain_of_children, plain_value, are_plain}
+use Rattle.calc_algebra.specs.SquareClasses.{Same}
+use Rattle.calc_algebra.specs.Surds.{Surd, surd_one, surd_times}
+use Rattle.calc_algebra.proofs.MeaningLaws.{Same-sym}
+use Rattle.calc_algebra.proofs.SquareClassLaws.{Same-trans}
+use Rattle.calc_algebra.proofs.SurdLaws.{Agree-Same, surd_times_assoc, surd_times-one, surd_times-surd_one}
+use Rattle.calc_algebra.proofs.TermLaws.{Same-refl, Same-eq, Same-surd_times}
 use Rattle.node_pool.specs.State.{State}
 use Rattle.number_forms.specs.Answers.{AnswersRationals}
 use Rattle.tree_handles.specs.declared.fault.NumberFault.{NumberFault}
 use Rattle.tree_handles.specs.declared.fault.NumberFault.TheVariants as fault
 use Rattle.rational128.specs.declared.overflow.Overflow.{Overflow}
-use Rattle.reduce_port.specs.PlainTrees.{IsPlainAnswer, IsPlainOverflow}
+use Rattle.calc_measures.specs.PlainTrees.{IsPlainAnswer, IsPlainOverflow}
 use Rattle.tree_handles.specs.Expressions.{nth}
 use Rattle.tree_handles.proofs.Outcomes.{by_test}
 use Rattle.product_reduce.specs.Factors.{numbers_in, others_in, product_of_values, IsCoefficient}

@@ -1,9 +1,9 @@
 -- Factors that were sorted beside their coefficient.
 use Rattle.std.proofs.Common.{ℕ, ◌≤◌, ◌≡◌, eqb, true, false, refl, sym, ap, ◌∙◌, subst}
-use Rattle.calc_terms.specs.Numbers.{is_number}
-use Rattle.calc_terms.specs.Reduced.{is_reduced, product_tree, RisesBy, base_of}
+use Rattle.calc_algebra.specs.Numbers.{is_number}
+use Rattle.calc_algebra.specs.Reduced.{is_reduced, product_tree, RisesBy, base_of}
 use Rattle.calc_terms.specs.Trees.{Tree, Trees, none, count}
-use Rattle.calc_terms.proofs.MeaningRewrites.{Permuted, Permuted-sym}
+use Rattle.calc_algebra.proofs.MeaningRewrites.{Permuted, Permuted-sym}
 use Rattle.coefficients.specs.Coefficients.{with_coefficient}
 use Rattle.coefficients.proofs.Factors.{factors_monic}
 use Rattle.node_order.specs.Sorting.{IsSorting}

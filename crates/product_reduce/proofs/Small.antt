@@ -5,20 +5,19 @@ use Rattle.std.specs.Prelude.{pos, negsuc}
 use Rattle.std.specs.Cmp.Lexicographic.{slice_cmp}
 use Rattle.std.specs.Ordering.{nat_cmp}
 use Rattle.std.specs.declared.cmp.Ordering.TheVariants.{Less}
-use Rattle.calc_terms.specs.Clean.{is_clean, left_of}
-use Rattle.calc_terms.specs.SquareRoots.{square_root}
+use Rattle.calc_algebra.specs.Clean.{is_clean, left_of}
+use Rattle.calc_algebra.specs.SquareRoots.{square_root}
 use Rattle.calc_terms.specs.declared.rat.Rat.{Rat}
 use Rattle.calc_terms.specs.Rat.{ratio_of, value_of}
 use Rattle.calc_terms.specs.Ratio.{Ratio, whole}
 use Rattle.calc_terms.specs.Fractions.{lowest, zero_fraction, one_fraction}
 use Rattle.calc_terms.specs.Gcd.{gcd}
-use Rattle.calc_terms.specs.Numbers.{is_number}
-use Rattle.calc_terms.specs.Reduced.{is_reduced}
+use Rattle.calc_algebra.specs.Numbers.{is_number}
+use Rattle.calc_algebra.specs.Reduced.{is_reduced, are_reduced}
 use Rattle.calc_terms.specs.Trees.{Tree, num, symbol, undef, add, mult, power, root, Trees, none, more, count, is_mult}
-use Rattle.calc_terms.proofs.NumberLaws.{number_words}
+use Rattle.calc_algebra.proofs.NumberLaws.{number_words}
 use Rattle.coefficients.specs.Coefficients.{IsMonic}
 use Rattle.coefficients.proofs.Forms.{parts_reduced, number_parts}
-use Rattle.reduce_port.specs.Children.{are_reduced}
 use Rattle.tree_handles.specs.Expressions.{plain, inserted, children_of}
 use Rattle.tree_handles.specs.Forest.{Forest, kids, with_nth}
 use Rattle.tree_handles.specs.Handed.{IsHanded, Ends, Gives}

@@ -2,7 +2,7 @@
 use Rattle.std.proofs.Common.{ℕ, ◌≡◌, [], ◌∷◌, Bool, true, false, if◌then◌else◌, refl, sym, ap, ◌∙◌, subst, arith}
 use Rattle.number_forms.specs.Sums.{removed}
 use Rattle.std.proofs.lemmas.Bool.{not-true, not-false}
-use Rattle.calc_terms.specs.Reduced.{is_opaque_exponent, is_transparent_power, base_of, num_one}
+use Rattle.calc_algebra.specs.Reduced.{is_opaque_exponent, is_transparent_power, base_of, num_one}
 use Rattle.calc_terms.specs.Trees.{Tree, num, symbol, undef, add, mult, power, root, neg, sub, div, Trees, none, more, count}
 use Rattle.tree_handles.specs.Expressions.{nth, plain, children_of}
 use Rattle.tree_handles.specs.Forest.{Forest, empty, tree, arity, kids, with_root_kids, tree_nth, without_nth}

@@ -2,12 +2,12 @@
 use Rattle.std.proofs.Common.{ℕ, ◌≡◌, ◌||◌, Result, Ok, Err, Bool, true, false, [], ◌∷◌, eqb, refl, sym, ap, ◌∙◌, subst}
 use Rattle.std.specs.Prelude.{IfOk, IsErrAnd}
 use Rattle.std.proofs.lemmas.Bool.{and_from}
-use Rattle.calc_terms.specs.PlainValues.{PlainValue}
-use Rattle.calc_terms.specs.Trees.{Tree, mult, Trees, none, more, is_mult}
+use Rattle.calc_measures.specs.PlainValues.{PlainValue}
+use Rattle.calc_terms.specs.Trees.{Tree, mult, Trees, none, more, is_mult, has_undef, are_rationals}
 use Rattle.node_pool.specs.State.{State}
 use Rattle.number_forms.specs.Answers.{AnswersRationals}
-use Rattle.reduce_port.specs.Children.{has_undef, are_rationals, are_reduced}
-use Rattle.reduce_port.specs.PlainTrees.{IsPlainAnswer}
+use Rattle.calc_algebra.specs.Reduced.{are_reduced}
+use Rattle.calc_measures.specs.PlainTrees.{IsPlainAnswer}
 use Rattle.reduce_port.specs.Steps.{AnswersRationalStep}
 use Rattle.tree_handles.specs.declared.fault.NumberFault.{NumberFault}
 use Rattle.tree_handles.specs.declared.fault.NumberFault.TheVariants as fault

@@ -1,10 +1,10 @@
 -- What one step on a product makes of it.
 use Rattle.std.specs.Prelude.{ℕ, ◌≡◌, ◌≤◌, ⊤, true, false, Result, Ok, Err}
-use Rattle.calc_terms.specs.Loads.{nest, nest_of, load, load_of_factors}
-use Rattle.calc_terms.specs.Numbers.{is_number}
-use Rattle.calc_terms.specs.PlainValues.{PlainValue}
-use Rattle.calc_terms.specs.Reduced.{NoneIs, base_of}
-use Rattle.calc_terms.specs.Trees.{Tree, mult, Trees, none, more, is_mult, is_undef}
+use Rattle.calc_measures.specs.Loads.{nest, nest_of, load, load_of_factors}
+use Rattle.calc_algebra.specs.Numbers.{is_number, are_numbers}
+use Rattle.calc_measures.specs.PlainValues.{PlainValue}
+use Rattle.calc_algebra.specs.Reduced.{NoneIs, base_of, are_reduced}
+use Rattle.calc_terms.specs.Trees.{Tree, mult, Trees, none, more, is_mult, is_undef, has_undef}
 use Rattle.node_order.specs.Sorting.{IsSorting}
 use Rattle.node_pool.specs.State.{State}
 use Rattle.number_forms.specs.Readers.{is_zero}
@@ -12,9 +12,9 @@ use Rattle.product_reduce.specs.Factors.{opened, others_in, IsCoefficient, coeff
 use Rattle.product_reduce.specs.Joining.{have_partners, joined}
 use Rattle.product_reduce.specs.declared.steps.Joining.{Joining}
 use Rattle.product_reduce.specs.declared.steps.Joining.TheVariants as joining
-use Rattle.reduce_port.specs.Children.{has_undef, are_numbers, are_reduced}
-use Rattle.reduce_port.specs.PlainTrees.{IsPlainAnswer, IsPlainOverflow}
-use Rattle.reduce_port.specs.Rewritings.{Rewrites, Reduces, tree_of}
+use Rattle.calc_measures.specs.PlainTrees.{IsPlainAnswer, IsPlainOverflow}
+use Rattle.calc_algebra.specs.Rewritings.{Rewrites, Reduces}
+use Rattle.tree_handles.specs.Handed.{tree_of}
 use Rattle.tree_handles.specs.declared.fault.NumberFault.{NumberFault}
 use Rattle.tree_handles.specs.declared.fault.NumberFault.TheVariants as fault
 

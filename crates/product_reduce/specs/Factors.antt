@@ -1,12 +1,11 @@
 -- The factors of a product: products in it opened, its Numbers as one coefficient, and the others.
 use Rattle.std.specs.Prelude.{◌≡◌, true, if◌then◌else◌}
-use Rattle.calc_terms.specs.Numbers.{is_number, value}
-use Rattle.calc_terms.specs.Reduced.{is_num_one, product_tree}
-use Rattle.calc_terms.specs.SquareClasses.{Same}
-use Rattle.calc_terms.specs.Surds.{Surd, surd_one, surd_times}
-use Rattle.calc_terms.specs.Trees.{Tree, Trees, none, more, append}
+use Rattle.calc_algebra.specs.Numbers.{is_number, value}
+use Rattle.calc_algebra.specs.Reduced.{is_num_one, product_tree}
+use Rattle.calc_algebra.specs.SquareClasses.{Same}
+use Rattle.calc_algebra.specs.Surds.{Surd, surd_one, surd_times}
+use Rattle.calc_terms.specs.Trees.{Tree, Trees, none, more, append, opened_into}
 use Rattle.coefficients.specs.Coefficients.{factors_of, with_coefficient}
-use Rattle.reduce_port.specs.Children.{opened_into}
 
 -- the factors of a product in a product stand in its place
 abbrev pub opened : Trees → Trees

@@ -2,16 +2,16 @@
 use Rattle.std.specs.Prelude.{ℕ, ◌≡◌, ◌≤◌, ◌<◌, true, false, List, [], ◌∷◌}
 use Rattle.calc_terms.specs.Fits.{mul_op}
 use Rattle.calc_terms.specs.Fractions.{Fraction, zero_fraction}
-use Rattle.calc_terms.specs.Numbers.{is_number, value}
-use Rattle.calc_terms.specs.PlainValues.{fold_values, plain_value}
-use Rattle.calc_terms.specs.SquareClasses.{Same}
-use Rattle.calc_terms.specs.Surds.{surd_times}
-use Rattle.calc_terms.specs.Trees.{Tree, num, mult, Trees, none, more, count, is_num}
+use Rattle.calc_algebra.specs.Numbers.{is_number, value}
+use Rattle.calc_measures.specs.PlainValues.{fold_values, plain_value}
+use Rattle.calc_algebra.specs.SquareClasses.{Same}
+use Rattle.calc_algebra.specs.Surds.{surd_times}
+use Rattle.calc_terms.specs.Trees.{Tree, num, mult, Trees, none, more, count, is_num, are_rationals}
 use Rattle.tree_handles.specs.Expressions.{nth, plain}
 use Rattle.tree_handles.specs.Forest.{Forest}
 use Rattle.tree_handles.specs.Roots.{root_tree}
 use Rattle.product_reduce.specs.Factors.{numbers_in, others_in, product_of_values}
-use Rattle.reduce_port.specs.Children.{are_rationals, are_reduced}
+use Rattle.calc_algebra.specs.Reduced.{are_reduced}
 use Rattle.product_reduce.specs.Products.{IsTakenOut}
 
 -- the rational of a Num, and 0 for any other tree

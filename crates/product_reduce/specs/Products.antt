@@ -5,7 +5,7 @@ use Rattle.tree_handles.specs.Expressions.{plain, children_of}
 use Rattle.tree_handles.specs.Forest.{Forest}
 use Rattle.tree_handles.specs.Handed.{IsHanded, KeepsFront}
 use Rattle.tree_handles.specs.Roots.{has_root, root_tree, without_root}
-use Rattle.calc_terms.specs.Reduced.{base_of}
+use Rattle.calc_algebra.specs.Reduced.{base_of}
 use Rattle.product_reduce.specs.Joining.{exponent_of}
 
 -- the trees below a root

@@ -1,6 +1,6 @@
 -- Factors in the order of their bases.
 use Rattle.std.specs.Prelude.{ℕ}
-use Rattle.calc_terms.specs.Reduced.{base_of}
+use Rattle.calc_algebra.specs.Reduced.{base_of}
 use Rattle.calc_terms.specs.Trees.{Trees}
 use Rattle.node_order.specs.Sorting.{IsSorting}
 use Rattle.product_reduce.specs.Products.{Becomes, factors_in}

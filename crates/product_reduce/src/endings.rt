@@ -1,20 +1,19 @@
 //! The last part of a step: a product with a pair joined, or a reduced tree.
 ghost use Rattle.std.specs.Prelude.{◌≡◌, ◌==◌, true, false, IfOk, IfErr, OnOk, [], ◌∷◌};
-ghost use Rattle.calc_terms.specs.Numbers.{is_number};
+ghost use Rattle.calc_algebra.specs.Numbers.{is_number};
 ghost use Rattle.calc_terms.specs.Trees.{mult, none};
 ghost use Rattle.number_forms.specs.Readers.{is_zero};
 ghost use Rattle.product_reduce.specs.Answers.{AreOthers, IsEnding, IsAlone};
 ghost use Rattle.product_reduce.specs.Factors.{coefficient_before};
 ghost use Rattle.product_reduce.specs.Joining.{IsFirstPair, IsFirstJoint, IsJointAt, have_partners, joined};
 ghost use Rattle.product_reduce.specs.Products.{IsProduct, factors_in};
-ghost use Rattle.reduce_port.specs.Causes.{IsCaused, LacksBytes};
-ghost use Rattle.reduce_port.specs.Children.{are_reduced};
-ghost use Rattle.reduce_port.specs.Rewritings.{tree_of};
+ghost use Rattle.tree_handles.specs.Causes.{IsCaused};
+ghost use Rattle.tree_handles.specs.Standing.{LacksBytes, Stands, forest, KeepsRefusals, Refuses};
+ghost use Rattle.calc_algebra.specs.Reduced.{are_reduced};
+ghost use Rattle.tree_handles.specs.Handed.{tree_of, IsHanded, Gives, KeepsFront};
 ghost use Rattle.tree_handles.specs.Expressions.{children_of};
 ghost use Rattle.tree_handles.specs.Faults.{Faults};
-ghost use Rattle.tree_handles.specs.Handed.{IsHanded, Gives, KeepsFront};
 ghost use Rattle.tree_handles.specs.Roots.{without_root};
-ghost use Rattle.tree_handles.specs.Standing.{Stands, forest, KeepsRefusals, Refuses};
 
 use crate::factors::factor_count;
 use crate::fronting::put_in_front;

@@ -1,8 +1,7 @@
 //! The factors of a product by their places; products among them are opened.
 ghost use Rattle.std.specs.Prelude.{◌≡◌, ◌<◌, true};
-ghost use Rattle.calc_terms.specs.Trees.{count, is_mult};
+ghost use Rattle.calc_terms.specs.Trees.{count, is_mult, has_undef};
 ghost use Rattle.product_reduce.specs.Factors.{opened};
-ghost use Rattle.reduce_port.specs.Children.{has_undef};
 ghost use Rattle.product_reduce.specs.Products.{IsProduct, Becomes, factors_in};
 ghost use Rattle.tree_handles.specs.Expressions.{IsExpression, plain, nth};
 ghost use Rattle.tree_handles.specs.Inside.{tree_at};
@@ -10,8 +9,7 @@ ghost use Rattle.tree_handles.specs.Standing.{Stands, forest, KeepsRefusals};
 
 use calc_terms::Kind;
 use node_pool::{Id, Pool};
-use reduce_port::has_undefined_child;
-use tree_handles::{Handle, child_id, children, kind, merge_children};
+use tree_handles::{Handle, child_id, children, has_undefined_child, kind, merge_children};
 
 /// How many factors a product has.
 pub fn factor_count(pool: &Pool, product: &Handle) -> u16

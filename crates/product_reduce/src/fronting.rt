@@ -1,12 +1,11 @@
 //! The coefficient in front of the other factors.
 ghost use Rattle.std.specs.Prelude.{◌≡◌, ◌==◌, true, false};
-ghost use Rattle.calc_terms.specs.Numbers.{is_number};
-ghost use Rattle.calc_terms.specs.Reduced.{is_num_one};
+ghost use Rattle.calc_algebra.specs.Numbers.{is_number};
+ghost use Rattle.calc_algebra.specs.Reduced.{is_num_one};
 ghost use Rattle.product_reduce.specs.Factors.{coefficient_before};
 ghost use Rattle.product_reduce.specs.Products.{IsProduct, Becomes, factors_in};
-ghost use Rattle.reduce_port.specs.Rewritings.{tree_of};
+ghost use Rattle.tree_handles.specs.Handed.{tree_of, IsHanded};
 ghost use Rattle.tree_handles.specs.Expressions.{IsExpression, plain};
-ghost use Rattle.tree_handles.specs.Handed.{IsHanded};
 ghost use Rattle.tree_handles.specs.Inside.{tree_at};
 ghost use Rattle.tree_handles.specs.Roots.{without_root};
 ghost use Rattle.tree_handles.specs.Standing.{Stands, forest, KeepsRefusals};

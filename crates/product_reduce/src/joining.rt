@@ -1,24 +1,20 @@
 //! Two factors with identical bases become one power.
 ghost use Rattle.std.specs.Prelude.{◌≡◌, ◌==◌, ◌<◌, true, false, IfOk, IfErr, OnOk, [], ◌∷◌};
 ghost use Rattle.number_forms.specs.Sums.{removed};
-ghost use Rattle.reduce_port.specs.Children.{are_reduced};
-ghost use Rattle.calc_terms.specs.Reduced.{is_reduced, base_of};
+ghost use Rattle.calc_algebra.specs.Reduced.{are_reduced, is_reduced, base_of};
 ghost use Rattle.calc_terms.specs.Trees.{add, power, count, none, more};
 ghost use Rattle.product_reduce.specs.Joining.{exponent_of, joined, IsFirstPair};
 ghost use Rattle.product_reduce.specs.Products.{IsProduct, IsTakenOut, IsSplit, Becomes, factors_in};
-ghost use Rattle.reduce_port.specs.Causes.{LacksBytes};
-ghost use Rattle.reduce_port.specs.Rewritings.{tree_of};
+ghost use Rattle.tree_handles.specs.Standing.{LacksBytes, Stands, forest, KeepsRefusals, Refuses};
+ghost use Rattle.tree_handles.specs.Handed.{tree_of, IsHanded, Gives, KeepsFront};
 ghost use Rattle.tree_handles.specs.Expressions.{nth};
-ghost use Rattle.tree_handles.specs.Handed.{IsHanded, Gives, KeepsFront};
 ghost use Rattle.tree_handles.specs.Roots.{without_root};
-ghost use Rattle.tree_handles.specs.Standing.{Stands, forest, KeepsRefusals, Refuses};
 
 use crate::nodes::one;
 use crate::partners::is_transparent_power;
 use calc_terms::Kind;
 use node_pool::{Full, Pool};
-use reduce_port::over_two;
-use tree_handles::{Handle, add_child, release, take_child};
+use tree_handles::{Handle, add_child, node_over_two, release, take_child};
 
 /// A factor as its base and its exponent, which is 1 where none is written.
 fn split_factor(pool: &mut Pool, factor: Handle) -> Result<(Handle, Handle), Full>
@@ -79,8 +75,8 @@ fn raise(pool: &mut Pool, factor: Handle, exponent: Handle) -> Result<Handle, Fu
     ensures stands { Stands pool.new }
 {
     let (base, own) = split_factor(pool, factor)?;
-    let sum = over_two(pool, Kind::Add, own, exponent)?;
-    let power = over_two(pool, Kind::Pow, base, sum)?;
+    let sum = node_over_two(pool, Kind::Add, own, exponent)?;
+    let power = node_over_two(pool, Kind::Pow, base, sum)?;
     Ok(power)
 }
 

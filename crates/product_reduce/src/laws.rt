@@ -1,12 +1,12 @@
 //! Laws of products finished and of two factors joined, each the contract of a function without a body.
 ghost use Rattle.std.specs.Prelude.{ℕ, ◌≡◌, ◌≤◌, ◌<◌, ◌+◌, true, false};
-ghost use Rattle.calc_terms.specs.Loads.{nest, nest_of, load, load_of_factors, weight};
-ghost use Rattle.calc_terms.specs.Reduced.{is_reduced, base_of};
+ghost use Rattle.calc_measures.specs.Loads.{nest, nest_of, load, load_of_factors, weight};
+ghost use Rattle.calc_algebra.specs.Reduced.{is_reduced, base_of, are_reduced};
 ghost use Rattle.calc_terms.specs.Trees.{Tree, add, mult, Trees, none, more, count};
 ghost use Rattle.number_forms.specs.Sums.{removed};
 ghost use Rattle.product_reduce.specs.Answers.{IsJoined, IsWritten};
 ghost use Rattle.product_reduce.specs.Joining.{exponent_of, have_partners, joint};
-ghost use Rattle.reduce_port.specs.Children.{are_numbers, are_reduced};
+ghost use Rattle.calc_algebra.specs.Numbers.{are_numbers};
 ghost use Rattle.tree_handles.specs.Expressions.{nth, children_of};
 
 /// The base and the exponents of a joint are reduced.

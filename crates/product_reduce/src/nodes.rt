@@ -1,16 +1,14 @@
 //! The rational 1, with the cause of a refusal.
 ghost use Rattle.std.specs.Prelude.{◌≡◌, IfOk, IfErr, OnOk, []};
-ghost use Rattle.calc_terms.specs.Reduced.{num_one};
-ghost use Rattle.reduce_port.specs.Causes.{LacksBytes};
+ghost use Rattle.calc_algebra.specs.Reduced.{num_one};
+ghost use Rattle.tree_handles.specs.Standing.{LacksBytes, Stands, forest, KeepsRefusals, Refuses};
 ghost use Rattle.tree_handles.specs.Handed.{Gives, KeepsFront};
-ghost use Rattle.tree_handles.specs.Standing.{Stands, forest, KeepsRefusals, Refuses};
 
 use calc_terms::Rat;
 use node_pool::{Full, Pool};
 use tree_handles::{Handle, number};
 
 /// A new last tree that is the rational 1.
-#[tactic(auto, using(reduce_port::proofs::Refused::lacks))]
 pub fn one(pool: &mut Pool) -> Result<Handle, Full>
     requires stands { Stands pool.old }
     ensures ok { IfOk result (λ h. Gives (forest pool.old) (forest pool.new) h (λ t. t ≡ num_one)) }

@@ -1,24 +1,23 @@
 //! The Numbers among the factors, multiplied from left to right.
 ghost use Rattle.std.specs.Prelude.{◌≡◌, ◌==◌, ◌<◌, ◌≤◌, true, false, MatchOption, IfOk, IfErr, OnOk, [], ◌∷◌};
 ghost use Rattle.number_forms.specs.Sums.{removed};
-ghost use Rattle.reduce_port.specs.Children.{are_reduced, are_rationals};
+ghost use Rattle.calc_algebra.specs.Reduced.{are_reduced};
+ghost use Rattle.calc_terms.specs.Trees.{are_rationals, num, mult, count};
 ghost use Rattle.calc_terms.specs.Fits.{mul_op};
 ghost use Rattle.calc_terms.specs.Fractions.{Fraction};
-ghost use Rattle.calc_terms.specs.Numbers.{is_number, value};
-ghost use Rattle.calc_terms.specs.PlainValues.{calculated, plain_value};
-ghost use Rattle.calc_terms.specs.Surds.{surd_times};
-ghost use Rattle.calc_terms.specs.Trees.{num, mult, count};
+ghost use Rattle.calc_algebra.specs.Numbers.{is_number, value};
+ghost use Rattle.calc_measures.specs.PlainValues.{calculated, plain_value};
+ghost use Rattle.calc_algebra.specs.Surds.{surd_times};
 ghost use Rattle.product_reduce.specs.Factors.{others_in, IsCoefficient};
 ghost use Rattle.product_reduce.specs.Multiplying.{NoNumberBefore, IsFirstNumber, IsUnderway};
 ghost use Rattle.product_reduce.specs.Products.{IsProduct, IsTakenOut, factors_in};
 ghost use Rattle.number_forms.specs.Answers.{IsNumberOf, AnswersRationals};
-ghost use Rattle.reduce_port.specs.Causes.{IsCaused, LacksBytes};
-ghost use Rattle.reduce_port.specs.Rewritings.{tree_of};
+ghost use Rattle.tree_handles.specs.Causes.{IsCaused};
+ghost use Rattle.tree_handles.specs.Standing.{LacksBytes, Stands, forest, KeepsRefusals, Refuses};
+ghost use Rattle.tree_handles.specs.Handed.{tree_of, IsHanded, KeepsFront};
 ghost use Rattle.tree_handles.specs.Expressions.{nth};
 ghost use Rattle.tree_handles.specs.Faults.{Faults};
-ghost use Rattle.tree_handles.specs.Handed.{IsHanded, KeepsFront};
 ghost use Rattle.tree_handles.specs.Roots.{without_root};
-ghost use Rattle.tree_handles.specs.Standing.{Stands, forest, KeepsRefusals, Refuses};
 
 use crate::factors::{factor, factor_count};
 use crate::nodes::one;

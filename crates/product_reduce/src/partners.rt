@@ -1,7 +1,6 @@
 //! Factors with identical bases, found and joined.
 ghost use Rattle.std.specs.Prelude.{◌≡◌, ◌<◌, true, false, not, MatchOption};
-ghost use Rattle.reduce_port.specs.Children.{are_reduced};
-ghost use Rattle.calc_terms.specs.Reduced.{is_reduced, is_opaque_exponent, is_transparent_power, base_of};
+ghost use Rattle.calc_algebra.specs.Reduced.{are_reduced, is_reduced, is_opaque_exponent, is_transparent_power, base_of};
 ghost use Rattle.calc_terms.specs.Trees.{count};
 ghost use Rattle.product_reduce.specs.Joining.{is_partner, have_partners, HasNoPartner, IsNearest, IsFirstPair};
 ghost use Rattle.product_reduce.specs.Products.{IsProduct, factors_in};

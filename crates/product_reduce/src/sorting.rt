@@ -1,6 +1,6 @@
 //! Factors are put in the order of their bases.
 ghost use Rattle.std.specs.Prelude.{◌≡◌, true};
-ghost use Rattle.reduce_port.specs.Children.{are_reduced};
+ghost use Rattle.calc_algebra.specs.Reduced.{are_reduced};
 ghost use Rattle.product_reduce.specs.Products.{IsProduct, factors_in};
 ghost use Rattle.product_reduce.specs.Sorting.{SortsFactors};
 ghost use Rattle.tree_handles.specs.Standing.{Stands, forest, KeepsRefusals};
@@ -15,7 +15,7 @@ struct Bases;
 
 impl Keys for Bases {
     ghost use Rattle.std.specs.Prelude.{◌≡◌, true};
-    ghost use Rattle.calc_terms.specs.Reduced.{is_reduced, base_of};
+    ghost use Rattle.calc_algebra.specs.Reduced.{is_reduced, base_of};
 
     ghost key_of = { base_of };
 

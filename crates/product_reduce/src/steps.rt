@@ -1,19 +1,18 @@
 //! One step on a product of reduced factors.
 ghost use Rattle.std.specs.Prelude.{◌≡◌, ◌==◌, ◌≤◌, true, false, IfOk, IfErr, OnOk, [], ◌∷◌};
-ghost use Rattle.calc_terms.specs.Numbers.{is_number};
-ghost use Rattle.calc_terms.specs.PlainValues.{plain_value};
-ghost use Rattle.calc_terms.specs.Trees.{count, is_mult, none};
+ghost use Rattle.calc_algebra.specs.Numbers.{is_number};
+ghost use Rattle.calc_measures.specs.PlainValues.{plain_value};
+ghost use Rattle.calc_terms.specs.Trees.{count, is_mult, none, are_rationals};
 ghost use Rattle.product_reduce.specs.Answers.{AreOthers, IfFinished, IfJoined, IsFinished, IsJoined, IsStop, IsRejoined, IsAnswered, AnswersRationalFactors};
 ghost use Rattle.product_reduce.specs.Factors.{opened, others_in};
 ghost use Rattle.product_reduce.specs.Joining.{IsFirstJoint, IsJointAt};
 ghost use Rattle.product_reduce.specs.Products.{IsProduct, factors_in};
-ghost use Rattle.reduce_port.specs.Causes.{IsCaused};
-ghost use Rattle.reduce_port.specs.Children.{are_reduced, are_rationals};
-ghost use Rattle.reduce_port.specs.Rewritings.{tree_of};
+ghost use Rattle.tree_handles.specs.Causes.{IsCaused};
+ghost use Rattle.calc_algebra.specs.Reduced.{are_reduced};
+ghost use Rattle.tree_handles.specs.Handed.{tree_of, IsHanded, Gives, KeepsFront};
 ghost use Rattle.reduce_port.specs.Steps.{IfDone, IfAgain, AnswersRationalStep};
 ghost use Rattle.tree_handles.specs.Expressions.{children_of};
 ghost use Rattle.tree_handles.specs.Faults.{Faults};
-ghost use Rattle.tree_handles.specs.Handed.{IsHanded, Gives, KeepsFront};
 ghost use Rattle.tree_handles.specs.Roots.{without_root};
 ghost use Rattle.tree_handles.specs.Standing.{Stands, forest, KeepsRefusals};
 
@@ -23,8 +22,8 @@ use crate::numbers::take_coefficient;
 use crate::partners::first_pair;
 use node_pool::Pool;
 use number_forms::is_zero;
-use reduce_port::{Step, undefined};
-use tree_handles::{Handle, NumberFault, move_last, release};
+use reduce_port::Step;
+use tree_handles::{Handle, NumberFault, move_last, release, undefined};
 
 /// What a step on a product made of it.
 #[derive(Drop)]

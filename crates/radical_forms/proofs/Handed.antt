@@ -5,12 +5,11 @@ use Rattle.calc_terms.specs.Trees.{Tree, num, symbol, undef, add, mult, power, r
 use Rattle.node_pool.specs.State.{State}
 use Rattle.tree_handles.specs.Expressions.{plain, nth, children_of, IsExpression}
 use Rattle.tree_handles.specs.Forest.{arity}
-use Rattle.tree_handles.specs.Handed.{IsHanded}
+use Rattle.tree_handles.specs.Handed.{IsHanded, tree_of}
 use Rattle.tree_handles.specs.Inside.{kids_of, tree_at}
 use Rattle.tree_handles.specs.Standing.{Stands, forest}
 use Rattle.tree_handles.proofs.Lasts.{expression_root, plain_root}
 use Rattle.tree_handles.proofs.Readings.{expression_children}
-use Rattle.reduce_port.specs.Rewritings.{tree_of}
 use Rattle.radical_forms.specs.RootAnswers.{argument_of}
 
 -- a root is over its argument

@@ -4,22 +4,22 @@ use Rattle.std.proofs.lemmas.Int.{ints}
 use Rattle.std.specs.Prelude.{List, length, Result, Ok, Err, if◌then◌else◌}
 use Rattle.calc_terms.specs.Fractions.{Fraction, whole_fraction}
 use Rattle.calc_terms.specs.Integers.{int_is_negative, int_is_zero}
-use Rattle.calc_terms.specs.Loads.{nest, load}
-use Rattle.calc_terms.specs.Meanings.{IsRootOf}
-use Rattle.calc_terms.specs.Numbers.{is_number, is_term, term_of, value, IsTerm}
-use Rattle.calc_terms.specs.Reduced.{is_reduced, IsReduced}
-use Rattle.calc_terms.specs.SquareClasses.{Same}
-use Rattle.calc_terms.specs.Surds.{Term, Surd, surd_of}
+use Rattle.calc_measures.specs.Loads.{nest, load}
+use Rattle.calc_algebra.specs.Meanings.{IsRootOf}
+use Rattle.calc_algebra.specs.Numbers.{is_number, is_term, term_of, value, IsTerm}
+use Rattle.calc_algebra.specs.Reduced.{is_reduced, IsReduced}
+use Rattle.calc_algebra.specs.SquareClasses.{Same}
+use Rattle.calc_algebra.specs.Surds.{Term, Surd, surd_of}
 use Rattle.calc_terms.specs.Trees.{Tree, num, symbol, undef, mult, root, none, more, names, is_num, is_undef, itself, in_root}
-use Rattle.calc_terms.proofs.NumberLaws.{number_test, number_words, term_words}
-use Rattle.calc_terms.proofs.MeaningRewrites.{KeepsMeanings}
-use Rattle.calc_terms.proofs.NumberRewrites.{root_of_rational}
-use Rattle.calc_terms.proofs.ReducedLaws.{reduced_test, reduced_words}
-use Rattle.calc_terms.proofs.TermLaws.{Same-eq}
-use Rattle.calc_terms.proofs.UndefRewrites.{undef_part, root_of_negative}
+use Rattle.calc_algebra.proofs.NumberLaws.{number_test, number_words, term_words}
+use Rattle.calc_algebra.proofs.MeaningRewrites.{KeepsMeanings}
+use Rattle.calc_algebra.proofs.NumberRewrites.{root_of_rational}
+use Rattle.calc_algebra.proofs.ReducedLaws.{reduced_test, reduced_words}
+use Rattle.calc_algebra.proofs.TermLaws.{Same-eq}
+use Rattle.calc_algebra.proofs.UndefRewrites.{undef_part, root_of_negative}
 use Rattle.number_forms.proofs.Shaped.{term_number, term_value}
-use Rattle.reduce_port.specs.Rewritings.{HasNoNewName}
-use Rattle.reduce_port.proofs.Rewritings.{keeps, Rewrites-refl, reduces}
+use Rattle.calc_algebra.specs.Rewritings.{HasNoNewName}
+use Rattle.calc_algebra.proofs.Rewritings.{keeps, Rewrites-refl, reduces}
 use Rattle.radical_forms.specs.RootAnswers.{has_no_root, IsRootAnswer}
 use Rattle.radical_forms.specs.Refusals.{HasWideRoot, IsOverflow, IfOverflow}
 use Rattle.node_pool.specs.declared.full.Full.{Full}

@@ -24,9 +24,3 @@ fewer_free id s t st su k e =
     let more : bytes_in (forest t) ≡ bytes_in (forest s) + bytes_in (one_tree id (bare kind.Undef) empty) = ap bytes_in e.whole ∙ bytes_in-join (forest s) (one_tree id (bare kind.Undef) empty) in
     let fits : used t.nodes ≤ t.size = su.pool.fits in
     omega (arith, bytes_used s st, bytes_used t su, k.size)
-
--- a pool that was opened
-pub stands_open : (s : State) → s.nodes ≡ [] → IsPoolSize s.size → Stands s
-stands_open s e size =
-    let pool : IsPool s = record { nodes = subst AreNodes (sym e) tt; distinct = subst AreDistinct (sym e) tt; fits = omega (arith, ap used e); size = size } in
-    (stands s empty e pool tt).1

@@ -1,11 +1,4 @@
-pub mod Rewritings
 pub mod Checks
 pub mod Filling
 pub mod Leaves
 pub mod Faults
-pub mod Room
-pub mod Names
-pub mod Nests
-pub mod Children
-pub mod Refused
-pub mod Readings

@@ -1,9 +1,5 @@
-pub mod Rewritings
 pub mod Bounds
 pub mod Checks
-pub mod Causes
 pub mod EasyTrees
-pub mod PlainTrees
 pub mod Faults
-pub mod Children
 pub mod Steps

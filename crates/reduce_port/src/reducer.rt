@@ -14,20 +14,20 @@ pub trait Reducer {
     ghost use Rattle.std.specs.Prelude.{◌≡◌, ◌↔◌, ◌+◌, ◌*◌, ℕ, Option, IfOk, OnOk, [], ◌∷◌};
     ghost use Rattle.breakers.specs.Breakers.{CalmChecks, TripsRose};
     ghost use Rattle.breakers.specs.Watch.{states};
-    ghost use Rattle.calc_terms.specs.BadAndEasy.{IsEasy};
-    ghost use Rattle.calc_terms.specs.PlainValues.{plain_value};
+    ghost use Rattle.calc_algebra.specs.BadAndEasy.{IsEasy};
+    ghost use Rattle.calc_measures.specs.PlainValues.{plain_value};
     ghost use Rattle.calc_terms.specs.Trees.{Tree, undef, nodes, size};
     ghost use Rattle.node_pool.specs.State.{free_of};
     ghost use Rattle.reduce_port.specs.Bounds.{MayExceed, Covers};
-    ghost use Rattle.reduce_port.specs.Causes.{LacksBytes, Overflows};
+    ghost use Rattle.tree_handles.specs.Standing.{LacksBytes, Stands, forest};
+    ghost use Rattle.tree_handles.specs.Causes.{Overflows};
     ghost use Rattle.reduce_port.specs.Checks.{CalmUpTo, TripsWithin};
     ghost use Rattle.reduce_port.specs.EasyTrees.{Evaluates, HasEasyBadPart};
     ghost use Rattle.reduce_port.specs.Faults.{IfFull, IfOverflow, IfInterrupted, CountsRefusals};
-    ghost use Rattle.reduce_port.specs.PlainTrees.{IsPlainAnswer, IsPlainOverflow};
-    ghost use Rattle.reduce_port.specs.Rewritings.{Reduces, tree_of};
-    ghost use Rattle.tree_handles.specs.Handed.{IsHanded, Gives, KeepsFront};
+    ghost use Rattle.calc_measures.specs.PlainTrees.{IsPlainAnswer, IsPlainOverflow};
+    ghost use Rattle.calc_algebra.specs.Rewritings.{Reduces};
+    ghost use Rattle.tree_handles.specs.Handed.{tree_of, IsHanded, Gives, KeepsFront};
     ghost use Rattle.tree_handles.specs.Roots.{without_root};
-    ghost use Rattle.tree_handles.specs.Standing.{Stands, forest};
 
     // The bytes within which a tree is reduced, where the reducer tells them.
     ghost room: { Option (Tree → ℕ) };

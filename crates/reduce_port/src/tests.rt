@@ -4,11 +4,10 @@ ghost use Rattle.breakers.specs.Breakers.{CalmChecks};
 ghost use Rattle.breakers.specs.Watch.{states};
 ghost use Rattle.calc_terms.specs.Trees.{nodes};
 ghost use Rattle.node_pool.specs.State.{IsPoolSize};
-ghost use Rattle.reduce_port.specs.Causes.{LacksBytes};
-ghost use Rattle.reduce_port.specs.Rewritings.{Reduces, tree_of};
-ghost use Rattle.tree_handles.specs.Handed.{IsHanded, Gives, KeepsFront};
+ghost use Rattle.tree_handles.specs.Standing.{LacksBytes, Stands, forest, Refuses};
+ghost use Rattle.calc_algebra.specs.Rewritings.{Reduces};
+ghost use Rattle.tree_handles.specs.Handed.{tree_of, IsHanded, Gives, KeepsFront};
 ghost use Rattle.tree_handles.specs.Roots.{without_root};
-ghost use Rattle.tree_handles.specs.Standing.{Stands, forest, Refuses};
 
 use crate::{ReduceFault, Reducer};
 use breakers::{Breaker, CountBreaker, Interrupted, Watch};

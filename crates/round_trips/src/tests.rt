@@ -1,7 +1,7 @@
 mod shapes;
 
 ghost use Rattle.std.specs.Prelude.{◌≡◌, IfOk, IfSome};
-ghost use Rattle.calc_terms.specs.Texts.{IsWritable};
+ghost use Rattle.calc_language.specs.Texts.{IsWritable};
 ghost use Rattle.node_pool.specs.State.{IsPoolSize};
 ghost use Rattle.tree_handles.specs.Handed.{IsHanded, Gives};
 ghost use Rattle.tree_handles.specs.Expressions.{plain};

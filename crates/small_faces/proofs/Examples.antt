@@ -3,12 +3,12 @@ use Rattle.std.proofs.Common.{◌≡◌, ◌≢◌, ◌∙◌, ◌<◌, ◌<ℤ�
 use Rattle.std.proofs.lemmas.Int.{ints}
 use Rattle.std.specs.Prelude.{Result, Ok, Err, IfOk}
 use Rattle.calc_terms.specs.Fractions.{Fraction, lowest, zero_fraction, one_fraction, is_one_fraction}
-use Rattle.calc_terms.specs.Numbers.{is_number, is_term}
-use Rattle.calc_terms.specs.Reduced.{is_reduced, HasForm, IsPowerForm, IsProductForm, IsSumForm}
+use Rattle.calc_algebra.specs.Numbers.{is_number, is_term}
+use Rattle.calc_algebra.specs.Reduced.{is_reduced, HasForm, IsPowerForm, IsProductForm, IsSumForm}
 use Rattle.calc_terms.specs.Trees.{Tree, num, symbol, add, mult, power, none, more, AllParts}
 use Rattle.calc_terms.specs.declared.kind.Kind.{Kind}
 use Rattle.calc_terms.proofs.FractionFacts.{cross_products, zero_test}
-use Rattle.calc_terms.proofs.ReducedLaws.{reduced_test}
+use Rattle.calc_algebra.proofs.ReducedLaws.{reduced_test}
 use Rattle.tree_handles.specs.Expressions.{compound, plain}
 use Rattle.tree_handles.specs.Forest.{Forest}
 use Rattle.tree_handles.specs.Handed.{Gives}

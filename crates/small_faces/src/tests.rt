@@ -4,11 +4,10 @@ ghost use Rattle.std.specs.Prelude.{◌≡◌, ◌≢◌, ◌<◌, ◌<ℤ◌, �
 ghost use Rattle.calc_terms.specs.Fractions.{zero_fraction, one_fraction};
 ghost use Rattle.calc_terms.specs.Leaf.{name_of};
 ghost use Rattle.calc_terms.specs.Rat.{value_of};
-ghost use Rattle.calc_terms.specs.Reduced.{is_reduced};
+ghost use Rattle.calc_algebra.specs.Reduced.{is_reduced};
 ghost use Rattle.calc_terms.specs.Trees.{num, symbol, add, mult, power, none, more, is_undef};
 ghost use Rattle.node_pool.specs.State.{IsPoolSize};
-ghost use Rattle.reduce_port.specs.Rewritings.{tree_of};
-ghost use Rattle.tree_handles.specs.Handed.{IsHanded, Gives};
+ghost use Rattle.tree_handles.specs.Handed.{tree_of, IsHanded, Gives};
 ghost use Rattle.tree_handles.specs.Standing.{Stands, forest};
 
 use beautify::face_of;

@@ -4,7 +4,7 @@ use Rattle.std.specs.Int.{◌∣◌}
 use Rattle.std.proofs.lemmas.Bool.{cases_lt}
 use Rattle.std.proofs.lemmas.Nat.Gcd.{dvd_trans, dvd-zero}
 use Rattle.std.proofs.Math.Nat.{mul-div_cancel', dvd-mul_right, dvd-mul_left, mul-dvd-mul}
-use Rattle.calc_terms.specs.Clean.{left_of, IsClean}
+use Rattle.calc_algebra.specs.Clean.{left_of, IsClean}
 use Rattle.rational128.proofs.Coprime.{IsCoprime, IsCoprime-swap, IsCoprime-mul, other_factor}
 use Rattle.square_parts.proofs.SmoothNumbers.{common_or_coprime, IsSmooth-mul, IsRough-mul}
 use Rattle.square_parts.proofs.LeftOf.{IsRest, left_of_is, left_of_part}

@@ -4,8 +4,8 @@ use Rattle.std.specs.Int.{◌∣◌}
 use Rattle.std.proofs.lemmas.Bool.{cases_lt}
 use Rattle.std.proofs.lemmas.Nat.Gcd.{dvd_refl, dvd_trans, le_of_dvd}
 use Rattle.std.proofs.Math.Nat.{dvd-mul_right, mul-dvd-mul, eq-one_of_dvd-one}
-use Rattle.calc_terms.specs.Clean.{trial_limit, left_of, IsClean}
-use Rattle.calc_terms.proofs.SquareRootLaws.{square_le}
+use Rattle.calc_algebra.specs.Clean.{trial_limit, left_of, IsClean}
+use Rattle.calc_algebra.proofs.SquareRootLaws.{square_le}
 use Rattle.rational128.proofs.Coprime.{IsCoprime, IsCoprime-swap, IsCoprime-from_gcd, IsGcd-from_coprime, IsCoprime-divisors, IsCoprime-mul, other_factor}
 use Rattle.square_parts.specs.declared.division.Found.{Found}
 use Rattle.square_parts.specs.Divisors.{IsSmooth, HasNoDivisorBelow, HasNoOtherDivisor}

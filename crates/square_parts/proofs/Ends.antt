@@ -4,7 +4,7 @@ use Rattle.std.specs.Int.{◌∣◌}
 use Rattle.std.proofs.lemmas.Bool.{cases_lt}
 use Rattle.std.proofs.lemmas.Nat.Gcd.{dvd_trans, dvd_of_mod-eq-zero}
 use Rattle.std.proofs.Math.Nat.{mul-div_cancel', dvd-mul_left}
-use Rattle.calc_terms.specs.Clean.{trial_limit}
+use Rattle.calc_algebra.specs.Clean.{trial_limit}
 use Rattle.square_parts.specs.Divisors.{HasNoDivisorBelow, HasNoOtherDivisor, IsSkipped}
 
 -- a multiple of a small number divides n no more than that number does

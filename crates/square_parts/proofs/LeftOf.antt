@@ -4,7 +4,7 @@ use Rattle.std.specs.Int.{◌∣◌}
 use Rattle.std.proofs.lemmas.Bool.{cases_lt}
 use Rattle.std.proofs.lemmas.Nat.Gcd.{dvd_trans, dvd_of_mod-eq-zero, mod-eq-zero_of_dvd}
 use Rattle.std.proofs.Math.Nat.{mul-div_cancel', dvd-mul_right, pow-suc}
-use Rattle.calc_terms.specs.Clean.{trial_limit, without, left_from, left_of}
+use Rattle.calc_algebra.specs.Clean.{trial_limit, without, left_from, left_of}
 use Rattle.square_parts.specs.Divisors.{IsSmooth}
 use Rattle.square_parts.proofs.SmoothNumbers.{IsRough, IsSmooth-one, IsSmooth-small, IsSmooth-mul, one_rough_part}
 

@@ -4,7 +4,7 @@ use Rattle.std.specs.Int.{IsGcd, ◌∣◌}
 use Rattle.std.proofs.lemmas.Nat.Gcd.{dvd_refl, dvd_trans, dvd_antisymm, le_of_dvd}
 use Rattle.std.proofs.Math.Nat.{dvd-mul_right, pos_of_dvd_of_pos, eq-one_of_dvd-one}
 use Rattle.calc_terms.specs.Gcd.{gcd, gcd_is}
-use Rattle.calc_terms.specs.Clean.{trial_limit}
+use Rattle.calc_algebra.specs.Clean.{trial_limit}
 use Rattle.rational128.proofs.Coprime.{IsCoprime, IsCoprime-swap, IsCoprime-from_gcd, other_factor}
 use Rattle.square_parts.specs.Divisors.{IsSmooth}
 

@@ -4,7 +4,7 @@ use Rattle.std.specs.Int.{IsGcd, ◌∣◌}
 use Rattle.std.proofs.lemmas.Bool.{cases_lt}
 use Rattle.std.proofs.lemmas.Nat.Gcd.{dvd_refl, dvd_trans, le_of_dvd, dvd_of_mod-eq-zero, mod-eq-zero_of_dvd}
 use Rattle.std.proofs.Math.Nat.{mul-div_cancel', dvd-mul_left, mul-dvd-mul, dvd_of_mul-dvd-mul_right, eq-one_of_dvd-one}
-use Rattle.calc_terms.specs.Clean.{trial_limit, IsClean}
+use Rattle.calc_algebra.specs.Clean.{trial_limit, IsClean}
 use Rattle.rational128.proofs.Coprime.{IsCoprime, IsCoprime-swap, IsCoprime-from_gcd, IsGcd-from_coprime, IsCoprime-divisors, IsCoprime-mul, other_factor, positive_factor}
 use Rattle.square_parts.specs.declared.division.Found.{Found}
 use Rattle.square_parts.specs.Divisors.{IsSmooth, IsSquareFree, HasNoDivisorBelow}

@@ -1,7 +1,7 @@
 -- Which divisors a number has.
 use Rattle.std.specs.Prelude.{ℕ, ◌*◌, ◌%◌, ◌≡◌, ◌≢◌, ◌≤◌, ◌<◌, ◌⊎◌}
 use Prim.Native.Nat.{◌∣◌}
-use Rattle.calc_terms.specs.Clean.{trial_limit}
+use Rattle.calc_algebra.specs.Clean.{trial_limit}
 
 -- no number from 2 to below d divides n
 pub record HasNoDivisorBelow (d n : ℕ) : Type 0 where

@@ -1,7 +1,7 @@
 //! Radicands of one square class.
 ghost use Rattle.std.specs.Prelude.{◌≡◌, ◌↔◌, ◌*◌, ◌<◌, ◌≤◌, ◌^◌, ◌≢◌, ℕ, IsSome, IsNone, IfSome, true};
 ghost use Rattle.std.specs.Int.{IsGcd};
-ghost use Rattle.calc_terms.specs.SquareClasses.{are_alike};
+ghost use Rattle.calc_algebra.specs.SquareClasses.{are_alike};
 
 use rational128::{gcd, isqrt};
 

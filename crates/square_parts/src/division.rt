@@ -1,6 +1,6 @@
 //! Trial division, which takes the squares of small numbers out of a number.
 ghost use Rattle.std.specs.Prelude.{◌≡◌, ◌↔◌, ◌%◌, ◌/◌, ◌+◌, ◌<◌, ◌≤◌, ◌^◌, IsTrue, ℕ};
-ghost use Rattle.calc_terms.specs.Clean.{trial_limit};
+ghost use Rattle.calc_algebra.specs.Clean.{trial_limit};
 ghost use Rattle.square_parts.specs.Divisors.{HasNoDivisorBelow, HasNoOtherDivisor, IsCandidate, IsSkipped};
 
 /// The greatest number up to the trial limit of 10,000 that is no multiple of 2, 3, 5 or 13.

@@ -1,8 +1,8 @@
 //! Laws of square classes and of clean numbers, each the contract of a function without a body.
 ghost use Rattle.std.specs.Prelude.{◌≡◌, ◌↔◌, ℕ, ◌*◌, ◌^◌, ◌<◌, true};
 ghost use Rattle.std.specs.Int.{◌∣◌};
-ghost use Rattle.calc_terms.specs.SquareClasses.{are_alike};
-ghost use Rattle.calc_terms.specs.Clean.{IsClean};
+ghost use Rattle.calc_algebra.specs.SquareClasses.{are_alike};
+ghost use Rattle.calc_algebra.specs.Clean.{IsClean};
 
 /// Radicands are alike where their product is a square above 0, and this is an equivalence.
 pub fn alike_is_an_equivalence()

@@ -1,6 +1,6 @@
 //! The square part of a number.
 ghost use Rattle.std.specs.Prelude.{◌≡◌, ◌*◌, ◌<◌, ◌≤◌, ◌^◌};
-ghost use Rattle.calc_terms.specs.Clean.{IsClean};
+ghost use Rattle.calc_algebra.specs.Clean.{IsClean};
 ghost use Rattle.square_parts.specs.Divisors.{HasNoOtherDivisor};
 ghost use Rattle.square_parts.specs.Found.{number_of, IsFound};
 

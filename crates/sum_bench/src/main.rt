@@ -4,10 +4,9 @@
 
 ghost use Rattle.std.specs.Prelude.{◌≡◌, ◌≤◌, IfOk, true};
 ghost use Rattle.calc_terms.specs.Trees.{count, is_add};
-ghost use Rattle.reduce_port.specs.Children.{are_reduced};
-ghost use Rattle.reduce_port.specs.Rewritings.{tree_of};
+ghost use Rattle.calc_algebra.specs.Reduced.{are_reduced};
+ghost use Rattle.tree_handles.specs.Handed.{tree_of, IsHanded};
 ghost use Rattle.tree_handles.specs.Expressions.{children_of};
-ghost use Rattle.tree_handles.specs.Handed.{IsHanded};
 ghost use Rattle.tree_handles.specs.Standing.{Stands, forest};
 
 use anyhow::Context;

@@ -3,13 +3,12 @@ use Rattle.std.proofs.Common.{◌⊎◌, inl, inr, nat_lt, ℕ, zero, suc, ◌<�
 use Rattle.std.proofs.lemmas.Bool.{and_parts, ltb-true, ltb-false}
 use Rattle.calc_terms.specs.Fits.{add_op, operation_fits, result_of}
 use Rattle.calc_terms.specs.Fractions.{Fraction, zero_fraction}
-use Rattle.calc_terms.specs.Numbers.{is_number}
-use Rattle.calc_terms.specs.PlainValues.{PlainValue, exactly, overflow, calculated, fold_values, gather, values, plain_of_children, plain_value, are_plain}
-use Rattle.calc_terms.specs.Reduced.{NoneIs}
-use Rattle.calc_terms.specs.Trees.{Tree, num, add, Trees, none, more, count, is_num}
+use Rattle.calc_algebra.specs.Numbers.{is_number}
+use Rattle.calc_measures.specs.PlainValues.{PlainValue, exactly, overflow, calculated, fold_values, gather, values, plain_of_children, plain_value, are_plain}
+use Rattle.calc_algebra.specs.Reduced.{NoneIs}
+use Rattle.calc_terms.specs.Trees.{Tree, num, add, Trees, none, more, count, is_num, are_rationals}
 use Rattle.rational128.specs.declared.overflow.Overflow.{Overflow}
-use Rattle.reduce_port.specs.Children.{are_rationals}
-use Rattle.reduce_port.specs.PlainTrees.{IsPlainAnswer, IsPlainOverflow}
+use Rattle.calc_measures.specs.PlainTrees.{IsPlainAnswer, IsPlainOverflow}
 use Rattle.tree_handles.specs.Expressions.{nth}
 use Rattle.tree_handles.proofs.Outcomes.{by_test}
 use Rattle.sum_reduce.specs.Arranging.{IsTotal}

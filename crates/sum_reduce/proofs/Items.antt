@@ -1,6 +1,6 @@
 -- Terms by their identifiers.
 use Rattle.std.proofs.Common.{ℕ, suc, ◌<◌, ◌≤◌, ◌≡◌, List, [], ◌∷◌, true, false, refl, sym, ap, ◌∙◌, subst, arith}
-use Rattle.calc_terms.specs.Reduced.{is_reduced}
+use Rattle.calc_algebra.specs.Reduced.{is_reduced}
 use Rattle.calc_terms.specs.Trees.{Tree, count}
 use Rattle.node_pool.specs.State.{State}
 use Rattle.tree_handles.specs.Children.{root_ids}

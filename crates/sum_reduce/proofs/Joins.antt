@@ -4,32 +4,31 @@ use Rattle.std.specs.declared.cmp.Ordering.TheVariants.{Less, Equal, Greater}
 use Rattle.std.specs.Ordering.{is_eq}
 use Rattle.std.proofs.Common.{ℕ, zero, suc, ◌+◌, ◌≤◌, ◌<◌, ◌≡◌, ◌++◌, Bool, true, false, ◌&&◌, not, refl, sym, ap, ◌∙◌, subst, arith}
 use Rattle.std.proofs.lemmas.Bool.{and_parts}
-use Rattle.calc_terms.specs.Numbers.{is_number, value}
-use Rattle.calc_terms.specs.Reduced.{part_of, NoneIs, is_reduced}
-use Rattle.calc_terms.specs.SquareClasses.{Same}
-use Rattle.calc_terms.specs.TreeOrder.{tree_cmp}
+use Rattle.calc_algebra.specs.Numbers.{is_number, value, are_numbers}
+use Rattle.calc_algebra.specs.Reduced.{part_of, NoneIs, is_reduced}
+use Rattle.calc_algebra.specs.SquareClasses.{Same}
+use Rattle.calc_algebra.specs.TreeOrder.{tree_cmp}
 use Rattle.calc_terms.specs.Trees.{Tree, add, mult, Trees, none, more, count, names, names_of, nodes, is_add, is_undef}
-use Rattle.calc_terms.proofs.MeaningRewrites.{KeepsMeanings, KeepsMeanings-refl, KeepsMeanings-eq, KeepsMeanings-trans, KeepsMeanings-sum_more, Permuted, Permuted-sym, permuted_more, permuted_sum, joined_in_sum, same_factor}
-use Rattle.calc_terms.proofs.NumberLaws.{number_words, number_test}
-use Rattle.calc_terms.proofs.NumberRewrites.{sum_of_numbers, coefficient_times_part, with_coefficient as coefficient_for}
-use Rattle.calc_terms.proofs.TreeOrderLaws.{tree_cmp_equal}
+use Rattle.calc_algebra.proofs.MeaningRewrites.{KeepsMeanings, KeepsMeanings-refl, KeepsMeanings-eq, KeepsMeanings-trans, KeepsMeanings-sum_more, Permuted, Permuted-sym, permuted_more, permuted_sum, joined_in_sum, same_factor}
+use Rattle.calc_algebra.proofs.NumberLaws.{number_words, number_test}
+use Rattle.calc_algebra.proofs.NumberRewrites.{sum_of_numbers, coefficient_times_part, with_coefficient as coefficient_for}
+use Rattle.calc_algebra.proofs.TreeOrderLaws.{tree_cmp_equal}
 use Rattle.coefficients.specs.Coefficients.{coefficient_of, with_coefficient}
 use Rattle.coefficients.proofs.Bounds.{coefficient_nest}
 use Rattle.coefficients.proofs.Coefficients.{taken, coefficient_same, put_formed, put_reduces}
 use Rattle.coefficients.proofs.Factors.{monic_part, monic_parts, monic_no_number}
 use Rattle.coefficients.proofs.Forms.{parts_reduced, parts_defined}
 use Rattle.coefficients.proofs.Keeps.{coefficient_keeps}
-use Rattle.reduce_port.specs.Children.{are_numbers}
-use Rattle.reduce_port.proofs.Rewritings.{keeps, kept}
+use Rattle.calc_algebra.proofs.Rewritings.{keeps, kept}
 use Rattle.tree_handles.specs.Expressions.{nth, inserted}
 use Rattle.sum_reduce.specs.Joining.{IsJoining}
 use Rattle.sum_reduce.specs.Stages.{IsStage, widths}
 use Rattle.number_forms.specs.Sums.{removed}
 use Rattle.sum_reduce.specs.Terms.{AreFormed, is_loose, is_partner, IsPair}
 use Rattle.number_forms.specs.Answers.{IsNumberOf}
-use Rattle.reduce_port.proofs.Names.{Within, no_new_name, within_of, within_same, within_both, within_beside, within_trans, within_right, within_none, within_eq, names_permuted, number_names}
+use Rattle.calc_algebra.proofs.Names.{Within, no_new_name, within_of, within_same, within_both, within_beside, within_trans, within_right, within_none, within_eq, names_permuted, number_names}
 use Rattle.sum_reduce.proofs.Names.{names_of_part}
-use Rattle.reduce_port.proofs.Nests.{nest_permuted, nest_number}
+use Rattle.calc_measures.proofs.Nests.{nest_permuted, nest_number}
 use Rattle.sum_reduce.proofs.Nests.{nest_of_part}
 use Rattle.sum_reduce.proofs.Places.{taken_permuted, inserted_permuted, count_inserted, count_removed, nth_inserted, nth_behind_inserted, removed_inserted, nth_removed, nth_behind_removed, removed_two}
 use Rattle.sum_reduce.proofs.Stages.{none_permuted, formed_permuted, stage_after, stage_permuted}

@@ -3,14 +3,13 @@ use Rattle.std.specs.Prelude.{Err}
 use Rattle.std.proofs.Common.{ℕ, ◌<◌, ◌≤◌, ◌≡◌, ◌++◌, [], ◌∷◌, true, refl, sym, ap, ◌∙◌, subst, arith}
 use Rattle.calc_terms.specs.Fits.{add_op}
 use Rattle.calc_terms.specs.Fractions.{Fraction}
-use Rattle.calc_terms.specs.Numbers.{is_number, value}
-use Rattle.calc_terms.specs.PlainValues.{PlainValue, calculated, plain_value}
-use Rattle.calc_terms.specs.Reduced.{NoneIs}
-use Rattle.calc_terms.specs.Trees.{Tree, num, add, Trees, none, more, count, is_num}
-use Rattle.calc_terms.proofs.MeaningRewrites.{permuted_more}
+use Rattle.calc_algebra.specs.Numbers.{is_number, value}
+use Rattle.calc_measures.specs.PlainValues.{PlainValue, calculated, plain_value}
+use Rattle.calc_algebra.specs.Reduced.{NoneIs}
+use Rattle.calc_terms.specs.Trees.{Tree, num, add, Trees, none, more, count, is_num, are_rationals}
+use Rattle.calc_algebra.proofs.MeaningRewrites.{permuted_more}
 use Rattle.node_pool.specs.State.{State}
 use Rattle.number_forms.specs.Answers.{IsNumberOf, AnswersRationals}
-use Rattle.reduce_port.specs.Children.{are_rationals}
 use Rattle.tree_handles.specs.declared.fault.NumberFault.{NumberFault}
 use Rattle.tree_handles.specs.declared.fault.NumberFault.TheVariants as fault
 use Rattle.tree_handles.specs.Expressions.{nth}

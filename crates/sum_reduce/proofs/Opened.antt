@@ -2,22 +2,21 @@
 use Rattle.std.specs.Prelude.{Option, Some, None, MatchOption}
 use Rattle.std.proofs.Common.{ℕ, zero, suc, ◌+◌, ◌-◌, ◌≤◌, ◌<◌, ◌≡◌, ◌⊎◌, inl, inr, nat_lt, Bool, true, false, not, ◌&&◌, if◌then◌else◌, refl, sym, ap, ◌∙◌, subst, arith}
 use Rattle.std.proofs.lemmas.Bool.{and_parts, ltb-true, ltb-false}
-use Rattle.calc_terms.specs.Loads.{nest, nest_of}
-use Rattle.calc_terms.specs.Numbers.{is_number}
-use Rattle.calc_terms.specs.Reduced.{HasForm, IsSumForm, NoneIs}
+use Rattle.calc_measures.specs.Loads.{nest, nest_of}
+use Rattle.calc_algebra.specs.Numbers.{is_number, are_numbers}
+use Rattle.calc_algebra.specs.Reduced.{HasForm, IsSumForm, NoneIs}
 use Rattle.calc_terms.specs.Trees.{Tree, add, Trees, none, more, append, count, names, names_of, is_add, HasTwo, AllParts}
-use Rattle.calc_terms.proofs.MeaningRewrites.{KeepsMeanings, KeepsMeanings-refl, KeepsMeanings-sum_append, flat_sum}
-use Rattle.calc_terms.proofs.NumberLaws.{number_test}
+use Rattle.calc_algebra.proofs.MeaningRewrites.{KeepsMeanings, KeepsMeanings-refl, KeepsMeanings-sum_append, flat_sum}
+use Rattle.calc_algebra.proofs.NumberLaws.{number_test}
 use Rattle.coefficients.proofs.Forms.{AllPartsOf-append}
 use Rattle.coefficients.proofs.Openings.{opened_from, nth_opened, count_opened, opened_at, opened_beside}
-use Rattle.reduce_port.specs.Children.{are_numbers}
 use Rattle.tree_handles.specs.Expressions.{nth, inserted, children_of}
 use Rattle.tree_handles.proofs.Outcomes.{by_test}
 use Rattle.sum_reduce.specs.Stages.{width, widths}
 use Rattle.number_forms.specs.Sums.{removed}
 use Rattle.sum_reduce.specs.Terms.{AreFormed, is_loose, terms_of_loose, opened, IsTightBetween, IsLastLoose}
-use Rattle.reduce_port.proofs.Names.{Within, within_same, within_beside, within_trans, within_eq, within_both, within_none, names_of-append}
-use Rattle.reduce_port.proofs.Nests.{nest-append}
+use Rattle.calc_algebra.proofs.Names.{Within, within_same, within_beside, within_trans, within_eq, within_both, within_none, names_of-append}
+use Rattle.calc_measures.proofs.Nests.{nest-append}
 use Rattle.sum_reduce.proofs.Widths.{widths-append}
 
 -- ---- one tree

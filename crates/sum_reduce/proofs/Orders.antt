@@ -1,10 +1,9 @@
 -- From opened terms to terms in order.
 use Rattle.std.specs.Prelude.{Err}
 use Rattle.std.proofs.Common.{ℕ, ◌≤◌, ◌≡◌, true, sym, ap, ◌∙◌, subst, arith}
-use Rattle.calc_terms.specs.PlainValues.{PlainValue, plain_value}
-use Rattle.calc_terms.specs.Reduced.{NoneIs}
-use Rattle.calc_terms.specs.Trees.{add, Trees, none, more, append, count}
-use Rattle.reduce_port.specs.Children.{are_rationals}
+use Rattle.calc_measures.specs.PlainValues.{PlainValue, plain_value}
+use Rattle.calc_algebra.specs.Reduced.{NoneIs}
+use Rattle.calc_terms.specs.Trees.{add, Trees, none, more, append, count, are_rationals}
 use Rattle.tree_handles.specs.declared.fault.NumberFault.{NumberFault}
 use Rattle.tree_handles.specs.declared.fault.NumberFault.TheVariants as fault
 use Rattle.sum_reduce.specs.Arranging.{IsFolded, AnswersFold, IsLead, IsArranged}

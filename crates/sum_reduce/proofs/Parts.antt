@@ -1,8 +1,8 @@
 -- The key of a term's part.
 use Rattle.std.proofs.Common.{ℕ, zero, suc, ◌≤◌, ◌≡◌, ◌≢◌, ◌⊎◌, inl, inr, eqb, cond, Bool, true, false, refl, sym, ap, ◌∙◌, arith}
 use Rattle.std.proofs.lemmas.Bool.{ne_eqb, eq-eqb}
-use Rattle.calc_terms.specs.Numbers.{is_number}
-use Rattle.calc_terms.specs.Reduced.{Split, split_product, product_tree, part_of, is_reduced}
+use Rattle.calc_algebra.specs.Numbers.{is_number}
+use Rattle.calc_algebra.specs.Reduced.{Split, split_product, product_tree, part_of, is_reduced}
 use Rattle.calc_terms.specs.Trees.{Tree, mult, Trees, none, more, count, is_mult}
 use Rattle.coefficients.specs.Coefficients.{coefficient_length}
 use Rattle.coefficients.proofs.Lengths.{IsPairLed, IsMeasured, long, measured, some_factors, product_part, other_part}

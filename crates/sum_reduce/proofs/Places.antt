@@ -1,7 +1,7 @@
 -- Terms by their places.
 use Rattle.std.proofs.Common.{ℕ, zero, suc, ◌<◌, ◌≤◌, ◌+◌, ◌≡◌, refl, ap, arith}
 use Rattle.calc_terms.specs.Trees.{Tree, Trees, none, more, count}
-use Rattle.calc_terms.proofs.MeaningRewrites.{Permuted, Permuted-refl, permuted_more, permuted_swap, permuted_trans}
+use Rattle.calc_algebra.proofs.MeaningRewrites.{Permuted, Permuted-refl, permuted_more, permuted_swap, permuted_trans}
 use Rattle.tree_handles.specs.Expressions.{nth, inserted}
 use Rattle.number_forms.specs.Sums.{removed}
 

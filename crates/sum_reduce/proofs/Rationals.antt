@@ -1,12 +1,11 @@
 -- What is answered where all terms are rationals.
 use Rattle.std.specs.Prelude.{Err}
 use Rattle.std.proofs.Common.{◌≡◌, true, refl, sym, ap, ◌∙◌, subst}
-use Rattle.calc_terms.specs.PlainValues.{PlainValue, plain_value}
-use Rattle.calc_terms.specs.Trees.{Tree, num, add, Trees, none, more, is_add}
+use Rattle.calc_measures.specs.PlainValues.{PlainValue, plain_value}
+use Rattle.calc_terms.specs.Trees.{Tree, num, add, Trees, none, more, is_add, are_rationals, has_undef}
 use Rattle.node_pool.specs.State.{State}
 use Rattle.number_forms.specs.Answers.{AnswersRationals}
-use Rattle.reduce_port.specs.Children.{are_rationals, has_undef}
-use Rattle.reduce_port.specs.PlainTrees.{IsPlainAnswer, IsPlainOverflow}
+use Rattle.calc_measures.specs.PlainTrees.{IsPlainAnswer, IsPlainOverflow}
 use Rattle.tree_handles.specs.declared.fault.NumberFault.{NumberFault}
 use Rattle.tree_handles.specs.declared.fault.NumberFault.TheVariants as fault
 use Rattle.tree_handles.specs.Expressions.{children_of}

@@ -6,26 +6,25 @@ use Rattle.std.specs.Prelude.{⊤, IsSortedByKey}
 use Rattle.std.proofs.Common.{suc, ◌≤◌, arith, add-one, ◌≡◌, Bool, true, false, ◌&&◌, ◌||◌, not, if◌then◌else◌, refl, sym, ap, ◌∙◌, subst}
 use Rattle.std.proofs.lemmas.Bool.{and_parts}
 use Rattle.calc_terms.specs.Fractions.{zero_fraction}
-use Rattle.calc_terms.specs.Loads.{nest, nest_of}
-use Rattle.calc_terms.specs.Numbers.{is_number}
-use Rattle.calc_terms.specs.Reduced.{part_of, NoneIs, RisesBy, HasForm, is_reduced}
-use Rattle.calc_terms.specs.TreeOrder.{tree_cmp}
-use Rattle.calc_terms.specs.Trees.{Tree, num, undef, add, Trees, none, more, append, count, names, names_of, is_add, is_undef, AllParts, in_add}
-use Rattle.calc_terms.proofs.MeaningRewrites.{KeepsMeanings, KeepsMeanings-refl, single_sum}
-use Rattle.calc_terms.proofs.NumberLaws.{number_test}
-use Rattle.calc_terms.proofs.TreeOrderLaws.{tree_cmp_total}
-use Rattle.calc_terms.proofs.UndefRewrites.{undef_part}
+use Rattle.calc_measures.specs.Loads.{nest, nest_of}
+use Rattle.calc_algebra.specs.Numbers.{is_number, are_numbers}
+use Rattle.calc_algebra.specs.Reduced.{part_of, NoneIs, RisesBy, HasForm, is_reduced, are_reduced}
+use Rattle.calc_algebra.specs.TreeOrder.{tree_cmp}
+use Rattle.calc_terms.specs.Trees.{Tree, num, undef, add, Trees, none, more, append, count, names, names_of, is_add, is_undef, AllParts, in_add, has_undef}
+use Rattle.calc_algebra.proofs.MeaningRewrites.{KeepsMeanings, KeepsMeanings-refl, single_sum}
+use Rattle.calc_algebra.proofs.NumberLaws.{number_test, numbers_defined}
+use Rattle.calc_algebra.proofs.TreeOrderLaws.{tree_cmp_total}
+use Rattle.calc_algebra.proofs.UndefRewrites.{undef_part}
 use Rattle.coefficients.proofs.Forms.{parts_reduced, parts_defined, reduced_parts}
 use Rattle.node_order.specs.Sorting.{list_of}
-use Rattle.reduce_port.specs.Children.{has_undef, are_numbers, are_reduced}
-use Rattle.reduce_port.proofs.Rewritings.{keeps, reduces_after}
+use Rattle.calc_algebra.proofs.Rewritings.{keeps, reduces_after}
 use Rattle.sum_reduce.specs.Arranging.{IsLead, IsSettled}
 use Rattle.sum_reduce.specs.Stages.{IsStage}
 use Rattle.sum_reduce.specs.SumAnswers.{IsSumAnswer}
 use Rattle.sum_reduce.specs.Terms.{AreFormed, is_loose, is_partner, NoPairBetween, terms_of_number, sum_tree, written_tree}
-use Rattle.reduce_port.proofs.Names.{Within, no_new_name, within_left, within_same, within_none}
+use Rattle.calc_algebra.proofs.Names.{Within, no_new_name, within_left, within_same, within_none}
 use Rattle.sum_reduce.proofs.WrittenSums.{AreOthers, zero_terms, written_sum, written_formed, written_keeps, written_names, written_nest}
-use Rattle.reduce_port.proofs.Children.{undef_inside, numbers_defined}
+use Rattle.tree_handles.proofs.UndefChildren.{undef_inside}
 
 -- ---- reduced terms
 

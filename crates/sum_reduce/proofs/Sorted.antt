@@ -1,11 +1,11 @@
 -- Terms in the order of their parts.
 use Rattle.std.specs.Prelude.{IsSortedByKey}
 use Rattle.std.proofs.Common.{ℕ, zero, suc, ◌<◌, ◌≤◌, arith, ◌≡◌, List, [], ◌∷◌, take, drop, Bool, true, false, refl, sym, ap, ◌∙◌, subst}
-use Rattle.calc_terms.specs.Numbers.{is_number}
-use Rattle.calc_terms.specs.Reduced.{part_of, NoneIs, is_reduced}
-use Rattle.calc_terms.specs.TreeOrder.{tree_cmp}
+use Rattle.calc_algebra.specs.Numbers.{is_number}
+use Rattle.calc_algebra.specs.Reduced.{part_of, NoneIs, is_reduced}
+use Rattle.calc_algebra.specs.TreeOrder.{tree_cmp}
 use Rattle.calc_terms.specs.Trees.{Tree, Trees, none, more, append, count}
-use Rattle.calc_terms.proofs.MeaningRewrites.{Permuted, permuted_none, permuted_more, permuted_swap, permuted_trans, Permuted-append_right, permuted_trees, trees_of}
+use Rattle.calc_algebra.proofs.MeaningRewrites.{Permuted, permuted_none, permuted_more, permuted_swap, permuted_trans, Permuted-append_right, permuted_trees, trees_of}
 use Rattle.coefficients.proofs.Forms.{parts_reduced}
 use Rattle.node_order.specs.Sorting.{list_of, IsSorting, SortsChildren}
 use Rattle.tree_handles.specs.Expressions.{nth, plains}

@@ -1,20 +1,19 @@
 -- From stage to stage of a sum.
 use Rattle.std.proofs.Common.{◌≤◌, ◌≡◌, ◌++◌, Bool, true, false, ◌&&◌, refl, sym, ap, ◌∙◌, arith}
 use Rattle.std.proofs.lemmas.Bool.{and_parts, and_from}
-use Rattle.calc_terms.specs.Numbers.{is_number, value}
-use Rattle.calc_terms.specs.Reduced.{NoneIs}
-use Rattle.calc_terms.specs.SquareClasses.{Same}
+use Rattle.calc_algebra.specs.Numbers.{is_number, value, are_numbers}
+use Rattle.calc_algebra.specs.Reduced.{NoneIs}
+use Rattle.calc_algebra.specs.SquareClasses.{Same}
 use Rattle.calc_terms.specs.Trees.{Tree, Trees, more, count, names, names_of}
-use Rattle.calc_terms.proofs.MeaningRewrites.{Permuted, Permuted-refl, permuted_none, permuted_more, permuted_swap, permuted_trans, permuted_sum, joined_in_sum}
-use Rattle.calc_terms.proofs.NumberLaws.{number_words}
-use Rattle.calc_terms.proofs.NumberRewrites.{sum_of_numbers}
+use Rattle.calc_algebra.proofs.MeaningRewrites.{Permuted, Permuted-refl, permuted_none, permuted_more, permuted_swap, permuted_trans, permuted_sum, joined_in_sum}
+use Rattle.calc_algebra.proofs.NumberLaws.{number_words}
+use Rattle.calc_algebra.proofs.NumberRewrites.{sum_of_numbers}
 use Rattle.coefficients.proofs.Forms.{number_parts}
-use Rattle.reduce_port.specs.Children.{are_numbers}
-use Rattle.reduce_port.proofs.Rewritings.{keeps, Rewrites-trans}
+use Rattle.calc_algebra.proofs.Rewritings.{keeps, Rewrites-trans}
 use Rattle.sum_reduce.specs.Stages.{IsStage}
 use Rattle.sum_reduce.specs.Terms.{AreFormed, opened}
-use Rattle.reduce_port.proofs.Names.{no_new_name, within_both, within_trans, within_right, within_none, within_eq, names_permuted, number_names}
-use Rattle.reduce_port.proofs.Nests.{nest_permuted, nest_number}
+use Rattle.calc_algebra.proofs.Names.{no_new_name, within_both, within_trans, within_right, within_none, within_eq, names_permuted, number_names}
+use Rattle.calc_measures.proofs.Nests.{nest_permuted, nest_number}
 use Rattle.sum_reduce.proofs.Opened.{opened_keeps, names_opened, nest_opened, widths_opened, opened_formed, opened_some, opened_numbers}
 use Rattle.sum_reduce.proofs.Widths.{widths_permuted, width_number}
 

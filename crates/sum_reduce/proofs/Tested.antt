@@ -1,13 +1,12 @@
 -- Trees that the tests build.
 use Rattle.std.proofs.Common.{ℕ, zero, suc, ◌≡◌, List, inr, Bool, true, false, ◌&&◌, not, refl, sym, ap}
 use Rattle.std.proofs.lemmas.Bool.{and_parts, and_from}
-use Rattle.calc_terms.specs.Numbers.{is_number}
-use Rattle.calc_terms.specs.Reduced.{is_reduced}
+use Rattle.calc_algebra.specs.Numbers.{is_number}
+use Rattle.calc_algebra.specs.Reduced.{is_reduced, are_reduced}
 use Rattle.calc_terms.specs.Trees.{Tree, symbol, add, Trees, none, more, is_add}
-use Rattle.calc_terms.proofs.NumberLaws.{number_words}
+use Rattle.calc_algebra.proofs.NumberLaws.{number_words}
 use Rattle.coefficients.specs.Coefficients.{IsMonic}
 use Rattle.coefficients.proofs.Forms.{parts_reduced, number_parts}
-use Rattle.reduce_port.specs.Children.{are_reduced}
 use Rattle.tree_handles.specs.Expressions.{plain, inserted, children_of}
 use Rattle.tree_handles.specs.Forest.{Forest, kids}
 use Rattle.tree_handles.specs.Handed.{Ends, Gives}

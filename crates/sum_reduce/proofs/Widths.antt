@@ -1,12 +1,12 @@
 -- The width of terms.
 use Rattle.std.proofs.Common.{suc, ◌+◌, ◌≤◌, ◌≡◌, ◌≢◌, ◌⊎◌, inl, inr, Bool, true, false, not, if◌then◌else◌, refl, sym, ap, ◌∙◌, subst, arith}
 use Rattle.calc_terms.specs.Fractions.{Fraction, zero_fraction, is_zero_fraction, is_one_fraction}
-use Rattle.calc_terms.specs.Numbers.{is_number, is_radicand, IsNumber, IsTerm}
-use Rattle.calc_terms.specs.Reduced.{split, split_product, product_tree, part_of, num_one, NoneIs, HasForm}
+use Rattle.calc_algebra.specs.Numbers.{is_number, is_radicand, IsNumber, IsTerm}
+use Rattle.calc_algebra.specs.Reduced.{split, split_product, product_tree, part_of, num_one, NoneIs, HasForm}
 use Rattle.calc_terms.specs.Trees.{Tree, num, add, mult, root, Trees, none, more, append, nodes, nodes_of, is_add, AllParts, AllPartsOf}
 use Rattle.calc_terms.proofs.FractionFacts.{no_zero}
-use Rattle.calc_terms.proofs.MeaningRewrites.{Permuted, permuted_none, permuted_more, permuted_swap, permuted_trans}
-use Rattle.calc_terms.proofs.NumberLaws.{number_test}
+use Rattle.calc_algebra.proofs.MeaningRewrites.{Permuted, permuted_none, permuted_more, permuted_swap, permuted_trans}
+use Rattle.calc_algebra.proofs.NumberLaws.{number_test}
 use Rattle.coefficients.specs.Coefficients.{IsMonic, with_coefficient, rational_before}
 use Rattle.coefficients.specs.Multiples.{mapped, rational_times_term, rational_times_sum}
 use Rattle.coefficients.proofs.Coefficients.{put, zero_or_not, monic_sum}

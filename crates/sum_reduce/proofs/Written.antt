@@ -2,7 +2,7 @@
 use Rattle.std.proofs.Common.{nat_lt, ℕ, ◌≤◌, ◌<◌, ◌≡◌, Bool, true, false, if◌then◌else◌, refl, sym, ap, ◌∙◌, arith}
 use Rattle.std.proofs.lemmas.Bool.{ltb-true}
 use Rattle.tree_handles.proofs.Outcomes.{by_test}
-use Rattle.calc_terms.specs.Numbers.{is_number}
+use Rattle.calc_algebra.specs.Numbers.{is_number}
 use Rattle.calc_terms.specs.Trees.{Tree, num, add, Trees, none, more, append, count, is_add}
 use Rattle.number_forms.specs.Readers.{is_zero}
 use Rattle.tree_handles.specs.Expressions.{nth, children_of}

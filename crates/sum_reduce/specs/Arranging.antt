@@ -1,15 +1,15 @@
 -- Terms in order.
 use Rattle.std.specs.Prelude.{ℕ, ◌≡◌, ⊤, true, IsSortedByKey, Result, Ok, Err}
 use Rattle.calc_terms.specs.Fractions.{Fraction}
-use Rattle.calc_terms.specs.Numbers.{is_number}
-use Rattle.calc_terms.specs.PlainValues.{PlainValue, exactly}
-use Rattle.calc_terms.specs.Reduced.{part_of, NoneIs}
-use Rattle.calc_terms.specs.TreeOrder.{tree_cmp}
+use Rattle.calc_algebra.specs.Numbers.{is_number}
+use Rattle.calc_measures.specs.PlainValues.{PlainValue, exactly}
+use Rattle.calc_algebra.specs.Reduced.{part_of, NoneIs}
+use Rattle.calc_algebra.specs.TreeOrder.{tree_cmp}
 use Rattle.calc_terms.specs.Trees.{Tree, num, Trees, none, more, append, count}
 use Rattle.node_order.specs.Sorting.{list_of}
 use Rattle.node_pool.specs.State.{State}
-use Rattle.reduce_port.specs.PlainTrees.{IsPlainOverflow}
-use Rattle.reduce_port.specs.Rewritings.{tree_of}
+use Rattle.calc_measures.specs.PlainTrees.{IsPlainOverflow}
+use Rattle.tree_handles.specs.Handed.{tree_of}
 use Rattle.tree_handles.specs.declared.fault.NumberFault.{NumberFault}
 use Rattle.tree_handles.specs.declared.fault.NumberFault.TheVariants as fault
 use Rattle.sum_reduce.specs.Stages.{IsStage}

@@ -1,12 +1,11 @@
 -- A part whose coefficient stands beside the sum.
 use Rattle.std.specs.Prelude.{ℕ, ◌+◌, ◌≡◌, ◌≤◌, true, false}
-use Rattle.calc_terms.specs.Loads.{nest_of}
-use Rattle.calc_terms.specs.Numbers.{is_number}
-use Rattle.calc_terms.specs.Reduced.{NoneIs}
+use Rattle.calc_measures.specs.Loads.{nest_of}
+use Rattle.calc_algebra.specs.Numbers.{is_number, are_numbers}
+use Rattle.calc_algebra.specs.Reduced.{NoneIs}
 use Rattle.calc_terms.specs.Trees.{Tree, add, mult, Trees, none, more, nodes}
 use Rattle.coefficients.specs.Coefficients.{IsMonic}
-use Rattle.reduce_port.specs.Children.{are_numbers}
-use Rattle.reduce_port.specs.Rewritings.{HasNoNewName, KeepsMeanings}
+use Rattle.calc_algebra.specs.Rewritings.{HasNoNewName, KeepsMeanings}
 use Rattle.sum_reduce.specs.Stages.{widths}
 use Rattle.sum_reduce.specs.Terms.{AreFormed, is_loose}
 

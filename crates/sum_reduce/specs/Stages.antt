@@ -1,11 +1,10 @@
 -- The terms of a sum on the way to its answer.
 use Rattle.std.specs.Prelude.{ℕ, ◌+◌, ◌≡◌, ◌≤◌, true, if◌then◌else◌}
-use Rattle.calc_terms.specs.Loads.{nest_of}
-use Rattle.calc_terms.specs.Numbers.{is_number}
-use Rattle.calc_terms.specs.Reduced.{part_of}
+use Rattle.calc_measures.specs.Loads.{nest_of}
+use Rattle.calc_algebra.specs.Numbers.{is_number, are_numbers}
+use Rattle.calc_algebra.specs.Reduced.{part_of}
 use Rattle.calc_terms.specs.Trees.{Tree, add, Trees, none, more, count, nodes}
-use Rattle.reduce_port.specs.Children.{are_numbers}
-use Rattle.reduce_port.specs.Rewritings.{Rewrites}
+use Rattle.calc_algebra.specs.Rewritings.{Rewrites}
 use Rattle.sum_reduce.specs.Terms.{AreFormed}
 
 -- 1 for a Number, the nodes of its part for another term, and all terms of a sum: where partners are joined it falls

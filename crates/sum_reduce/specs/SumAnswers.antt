@@ -1,10 +1,9 @@
 -- What a sum of reduced terms reduces to.
 use Rattle.std.specs.Prelude.{◌≡◌, ◌≤◌, true}
-use Rattle.calc_terms.specs.Loads.{nest}
-use Rattle.calc_terms.specs.Numbers.{is_number}
-use Rattle.calc_terms.specs.Trees.{Tree, add, Trees, is_undef}
-use Rattle.reduce_port.specs.Children.{has_undef, are_numbers}
-use Rattle.reduce_port.specs.Rewritings.{Reduces}
+use Rattle.calc_measures.specs.Loads.{nest}
+use Rattle.calc_algebra.specs.Numbers.{is_number, are_numbers}
+use Rattle.calc_terms.specs.Trees.{Tree, add, Trees, is_undef, has_undef}
+use Rattle.calc_algebra.specs.Rewritings.{Reduces}
 
 -- the reduced sum of these terms
 pub record IsSumAnswer (ts : Trees) (t : Tree) : Type 0 where

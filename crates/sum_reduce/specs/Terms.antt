@@ -2,12 +2,11 @@
 use Rattle.std.specs.Prelude.{ℕ, suc, ◌≡◌, ◌<◌, ◌≤◌, Bool, true, false, ◌&&◌, not, if◌then◌else◌}
 use Rattle.std.specs.Ordering.{is_eq}
 use Rattle.calc_terms.specs.Fractions.{zero_fraction, is_zero_fraction}
-use Rattle.calc_terms.specs.Numbers.{is_number}
-use Rattle.calc_terms.specs.Reduced.{part_of, HasForm}
-use Rattle.calc_terms.specs.TreeOrder.{tree_cmp}
-use Rattle.calc_terms.specs.Trees.{Tree, num, add, Trees, none, more, append, count, is_add, AllPartsOf}
+use Rattle.calc_algebra.specs.Numbers.{is_number}
+use Rattle.calc_algebra.specs.Reduced.{part_of, HasForm}
+use Rattle.calc_algebra.specs.TreeOrder.{tree_cmp}
+use Rattle.calc_terms.specs.Trees.{Tree, num, add, Trees, none, more, append, count, is_add, AllPartsOf, opened_into}
 use Rattle.number_forms.specs.Sums.{removed}
-use Rattle.reduce_port.specs.Children.{opened_into}
 use Rattle.tree_handles.specs.Expressions.{nth}
 
 -- reduced terms, none of them Undef

@@ -1,14 +1,13 @@
 //! The terms of a sum are opened, joined and put in order.
 ghost use Rattle.std.specs.Prelude.{◌≡◌, ◌<◌, ◌≤◌, ◌+◌, ◌^◌, true, false, IfErr, IfSome, MatchOption, OnOk, [], ◌∷◌};
-ghost use Rattle.calc_terms.specs.PlainValues.{plain_value};
-ghost use Rattle.calc_terms.specs.Trees.{add, count};
-ghost use Rattle.reduce_port.specs.Causes.{IsCaused};
-ghost use Rattle.reduce_port.specs.Children.{are_rationals};
+ghost use Rattle.calc_measures.specs.PlainValues.{plain_value};
+ghost use Rattle.calc_terms.specs.Trees.{add, count, are_rationals};
+ghost use Rattle.tree_handles.specs.Causes.{IsCaused};
 ghost use Rattle.sum_reduce.specs.Arranging.{IsLed, IsArranged, IsSettled, AnswersFold};
 ghost use Rattle.sum_reduce.specs.Stages.{IsStage, widths};
 ghost use Rattle.sum_reduce.specs.Sums.{IsSum, Changes, terms_in};
 ghost use Rattle.sum_reduce.specs.Terms.{AreFormed, is_loose, IsPair, IsFirstPair, NoPairBetween};
-ghost use Rattle.calc_terms.specs.Reduced.{NoneIs};
+ghost use Rattle.calc_algebra.specs.Reduced.{NoneIs};
 ghost use Rattle.number_forms.specs.Sums.{removed};
 ghost use Rattle.tree_handles.specs.Expressions.{nth};
 ghost use Rattle.tree_handles.specs.Faults.{Faults};

@@ -1,12 +1,13 @@
 //! Terms with identical parts become one.
 ghost use Rattle.std.specs.Prelude.{◌≡◌, ◌==◌, ◌<◌, ◌+◌, ◌^◌, ◌++◌, ℕ, true, false, IfOk, IfErr, OnOk, [], ◌∷◌};
-ghost use Rattle.calc_terms.specs.Numbers.{is_number, value};
-ghost use Rattle.calc_terms.specs.Reduced.{is_reduced, part_of, NoneIs};
+ghost use Rattle.calc_algebra.specs.Numbers.{is_number, value};
+ghost use Rattle.calc_algebra.specs.Reduced.{is_reduced, part_of, NoneIs};
 ghost use Rattle.calc_terms.specs.Trees.{Trees, count, is_undef, none, more};
 ghost use Rattle.coefficients.specs.Coefficients.{coefficient_of, with_coefficient};
 ghost use Rattle.number_forms.specs.Answers.{IsNumberOf};
-ghost use Rattle.reduce_port.specs.Causes.{IsCaused, LacksBytes};
-ghost use Rattle.reduce_port.specs.Rewritings.{tree_of};
+ghost use Rattle.tree_handles.specs.Causes.{IsCaused};
+ghost use Rattle.tree_handles.specs.Standing.{LacksBytes, Stands, forest, KeepsRefusals, Refuses};
+ghost use Rattle.tree_handles.specs.Handed.{tree_of, IsHanded, Gives, KeepsFront};
 ghost use Rattle.sum_reduce.specs.Joining.{IsJoining};
 ghost use Rattle.sum_reduce.specs.Stages.{IsStage, widths};
 ghost use Rattle.sum_reduce.specs.Sums.{IsSum, Changes, Takes, terms_in};
@@ -15,9 +16,7 @@ ghost use Rattle.sum_reduce.specs.Terms.{AreFormed, IsPair, is_loose};
 ghost use Rattle.tree_handles.specs.Expressions.{nth, inserted};
 ghost use Rattle.tree_handles.specs.Faults.{Faults};
 ghost use Rattle.tree_handles.specs.Forest.{Forest};
-ghost use Rattle.tree_handles.specs.Handed.{IsHanded, Gives, KeepsFront};
 ghost use Rattle.tree_handles.specs.Roots.{without_root};
-ghost use Rattle.tree_handles.specs.Standing.{Stands, forest, KeepsRefusals, Refuses};
 
 use crate::partners::leads_pair;
 use coefficients::{put_coefficient, take_coefficient};

@@ -2,13 +2,12 @@
 ghost use Rattle.std.specs.Prelude.{◌≡◌, ◌==◌, ◌<◌, ◌≤◌, ◌++◌, true, false, MatchOption, IfOk, IfErr, OnOk, [], ◌∷◌};
 ghost use Rattle.calc_terms.specs.Fits.{add_op};
 ghost use Rattle.calc_terms.specs.Fractions.{Fraction};
-ghost use Rattle.calc_terms.specs.Numbers.{is_number, value};
-ghost use Rattle.calc_terms.specs.PlainValues.{calculated, plain_value};
-ghost use Rattle.calc_terms.specs.Trees.{num, is_num, add, more, count};
+ghost use Rattle.calc_algebra.specs.Numbers.{is_number, value};
+ghost use Rattle.calc_measures.specs.PlainValues.{calculated, plain_value};
+ghost use Rattle.calc_terms.specs.Trees.{num, is_num, add, more, count, are_rationals};
 ghost use Rattle.number_forms.specs.Answers.{IsNumberOf, AnswersRationals};
-ghost use Rattle.reduce_port.specs.Causes.{IsCaused};
-ghost use Rattle.reduce_port.specs.Children.{are_rationals};
-ghost use Rattle.reduce_port.specs.Rewritings.{tree_of};
+ghost use Rattle.tree_handles.specs.Causes.{IsCaused};
+ghost use Rattle.tree_handles.specs.Handed.{tree_of, IsHanded, KeepsFront};
 ghost use Rattle.sum_reduce.specs.Arranging.{IsGathered, IsNumbered, AnswersTotal, AnswersFold};
 ghost use Rattle.sum_reduce.specs.Sums.{IsSum, Changes, Takes, terms_in};
 ghost use Rattle.number_forms.specs.Sums.{removed};
@@ -16,7 +15,6 @@ ghost use Rattle.sum_reduce.specs.Terms.{AreFormed, NoNumberBefore, IsFirstNumbe
 ghost use Rattle.tree_handles.specs.Expressions.{nth};
 ghost use Rattle.tree_handles.specs.Faults.{Faults};
 ghost use Rattle.tree_handles.specs.Forest.{Forest};
-ghost use Rattle.tree_handles.specs.Handed.{IsHanded, KeepsFront};
 ghost use Rattle.tree_handles.specs.Roots.{without_root};
 ghost use Rattle.tree_handles.specs.Standing.{Stands, forest, KeepsRefusals};
 

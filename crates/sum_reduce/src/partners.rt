@@ -1,7 +1,7 @@
 //! Terms with identical parts.
 ghost use Rattle.std.specs.Prelude.{◌≡◌, ◌<◌, ◌≤◌, ◌+◌, ◌^◌, true, false, MatchOption, IfSome};
-ghost use Rattle.calc_terms.specs.Numbers.{is_number};
-ghost use Rattle.calc_terms.specs.Reduced.{is_reduced, part_of};
+ghost use Rattle.calc_algebra.specs.Numbers.{is_number};
+ghost use Rattle.calc_algebra.specs.Reduced.{is_reduced, part_of};
 ghost use Rattle.calc_terms.specs.Trees.{count};
 ghost use Rattle.node_order.specs.Keys.{IsKey, key_tree};
 ghost use Rattle.sum_reduce.specs.Sums.{IsSum, terms_in};
@@ -24,8 +24,8 @@ pub struct Parts;
 
 impl Keys for Parts {
     ghost use Rattle.std.specs.Prelude.{◌≡◌, true, false};
-    ghost use Rattle.calc_terms.specs.Numbers.{is_number};
-    ghost use Rattle.calc_terms.specs.Reduced.{is_reduced, part_of};
+    ghost use Rattle.calc_algebra.specs.Numbers.{is_number};
+    ghost use Rattle.calc_algebra.specs.Reduced.{is_reduced, part_of};
 
     ghost key_of = { part_of };
 

@@ -1,15 +1,14 @@
 //! A sum becomes one reduced tree.
 ghost use Rattle.std.specs.Prelude.{◌≡◌, ◌≤◌, true, IfOk, IfErr, OnOk, [], ◌∷◌};
-ghost use Rattle.calc_terms.specs.PlainValues.{plain_value};
-ghost use Rattle.calc_terms.specs.Trees.{count, is_add};
+ghost use Rattle.calc_measures.specs.PlainValues.{plain_value};
+ghost use Rattle.calc_terms.specs.Trees.{count, is_add, are_rationals};
 ghost use Rattle.number_forms.specs.Answers.{AnswersRationals};
-ghost use Rattle.reduce_port.specs.Causes.{IsCaused};
-ghost use Rattle.reduce_port.specs.Children.{are_rationals, are_reduced};
-ghost use Rattle.reduce_port.specs.Rewritings.{tree_of};
+ghost use Rattle.tree_handles.specs.Causes.{IsCaused};
+ghost use Rattle.calc_algebra.specs.Reduced.{are_reduced};
+ghost use Rattle.tree_handles.specs.Handed.{tree_of, IsHanded, Gives, KeepsFront};
 ghost use Rattle.sum_reduce.specs.SumAnswers.{IsSumAnswer};
 ghost use Rattle.tree_handles.specs.Expressions.{children_of};
 ghost use Rattle.tree_handles.specs.Faults.{Faults};
-ghost use Rattle.tree_handles.specs.Handed.{IsHanded, Gives, KeepsFront};
 ghost use Rattle.tree_handles.specs.Roots.{without_root};
 ghost use Rattle.tree_handles.specs.Standing.{Stands, forest, KeepsRefusals};
 
@@ -17,8 +16,7 @@ use crate::arranging::settle;
 use crate::endings::written;
 use crate::terms::has_undef_term;
 use node_pool::Pool;
-use reduce_port::undefined;
-use tree_handles::{Handle, NumberFault};
+use tree_handles::{Handle, NumberFault, undefined};
 
 /// A sum of reduced terms, at least one, becomes one reduced tree. Sums in it are opened, Numbers are
 /// added from left to right, and the coefficients of terms with identical parts, all before their sum

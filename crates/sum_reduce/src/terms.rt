@@ -1,10 +1,9 @@
 //! The terms of a sum by their places; sums among them are opened.
 ghost use Rattle.std.specs.Prelude.{◌≡◌, ◌<◌, ◌≤◌, ℕ, MatchOption, true};
-ghost use Rattle.calc_terms.specs.Trees.{count};
-ghost use Rattle.reduce_port.specs.Children.{has_undef};
+ghost use Rattle.calc_terms.specs.Trees.{count, has_undef};
 ghost use Rattle.sum_reduce.specs.Sums.{IsSum, Changes, terms_in};
 ghost use Rattle.sum_reduce.specs.Terms.{AreFormed, is_loose, IsTightBetween, IsLastLoose, opened};
-ghost use Rattle.calc_terms.specs.Reduced.{is_reduced};
+ghost use Rattle.calc_algebra.specs.Reduced.{is_reduced};
 ghost use Rattle.tree_handles.specs.Expressions.{IsExpression, plain, nth};
 ghost use Rattle.tree_handles.specs.Inside.{tree_at};
 ghost use Rattle.tree_handles.specs.Standing.{Stands, forest, KeepsRefusals};
@@ -12,8 +11,7 @@ ghost use Rattle.tree_handles.specs.Standing.{Stands, forest, KeepsRefusals};
 use calc_terms::Kind;
 use node_pool::{Id, Pool};
 use number_forms::is_reduced_number;
-use reduce_port::has_undefined_child;
-use tree_handles::{Handle, child_id, child_ids, children, kind, merge_children};
+use tree_handles::{Handle, child_id, child_ids, children, has_undefined_child, kind, merge_children};
 
 /// How many terms a sum has.
 pub fn term_count(pool: &Pool, sum: &Handle) -> u16

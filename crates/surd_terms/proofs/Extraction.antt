@@ -3,10 +3,10 @@ use Rattle.std.proofs.Common.{◌≡◌, ◌≢◌, ℕ, zero, suc, ◌*◌, ◌
 use Rattle.std.specs.Prelude.{nat_abs}
 use Rattle.std.proofs.lemmas.Int.{ints}
 use Rattle.calc_terms.specs.Fractions.{Fraction, quotient, zero_fraction, mul_pos}
-use Rattle.calc_terms.specs.Meanings.{IsRootOf}
-use Rattle.calc_terms.specs.Surds.{term}
+use Rattle.calc_algebra.specs.Meanings.{IsRootOf}
+use Rattle.calc_algebra.specs.Surds.{term}
 use Rattle.calc_terms.proofs.FractionFacts.{cross_products}
-use Rattle.calc_terms.proofs.NumberRewrites.{root_extracted}
+use Rattle.calc_algebra.proofs.NumberRewrites.{root_extracted}
 use Rattle.surd_terms.proofs.Radicands.{part_at_most}
 
 -- a number above 0 is its magnitude

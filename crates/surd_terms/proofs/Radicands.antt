@@ -3,7 +3,7 @@ use Rattle.std.proofs.Common.{◌≡◌, ℕ, zero, suc, ◌*◌, ◌/◌, ◌<�
 use Rattle.std.specs.Int.{IsGcd, ◌∣◌}
 use Rattle.std.proofs.Math.Nat.{mul-div_cancel', dvd-zero}
 use native.Mathlib.Nat.{pos_of_dvd_of_pos}
-use Rattle.calc_terms.specs.Clean.{IsClean}
+use Rattle.calc_algebra.specs.Clean.{IsClean}
 use Rattle.calc_terms.specs.Fractions.{mul_pos}
 use Rattle.square_parts.proofs.LeftOf.{left_of_is}
 

@@ -1,7 +1,7 @@
 -- Inverses of terms, by the conjugate.
 use Rattle.std.specs.Prelude.{pos}
 use Rattle.calc_terms.specs.Fractions.{Fraction, plus, times, negative, inverse, whole_fraction}
-use Rattle.calc_terms.specs.Surds.{Term, term}
+use Rattle.calc_algebra.specs.Surds.{Term, term}
 
 -- 1/(c * √r)
 abbrev pub inverse_of : Term → Term

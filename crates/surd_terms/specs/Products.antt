@@ -1,7 +1,7 @@
 -- Square parts of radicands.
 use Rattle.std.specs.Prelude.{ℕ, ◌*◌, ◌≡◌, ◌⊎◌, pos}
 use Rattle.calc_terms.specs.Fractions.{times, whole_fraction}
-use Rattle.calc_terms.specs.Surds.{Term}
+use Rattle.calc_algebra.specs.Surds.{Term}
 
 -- t is u with a square of its radicand taken before the root
 pub record IsExtracted (t u : Term) : Type 0 where

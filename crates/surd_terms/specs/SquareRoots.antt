@@ -2,7 +2,7 @@
 use Rattle.std.specs.Prelude.{ℕ, ◌*◌, ◌≡◌, nat_abs}
 use Rattle.calc_terms.specs.Fractions.{quotient}
 use Rattle.calc_terms.specs.Ratio.{Ratio}
-use Rattle.calc_terms.specs.Surds.{Term}
+use Rattle.calc_algebra.specs.Surds.{Term}
 
 -- √(p/q) as (root/q) * √r, where p * q is root * root * r
 pub record IsRootTerm (t : Term) (f : Ratio) : Type 0 where

@@ -2,8 +2,8 @@
 use Rattle.std.specs.Prelude.{ℕ, ◌*◌, ◌≡◌, pos, true, false, [], ◌∷◌, ⊤}
 use Rattle.std.specs.Int.{IsGcd}
 use Rattle.calc_terms.specs.Fractions.{plus, times, zero_fraction, whole_fraction}
-use Rattle.calc_terms.specs.SquareClasses.{are_alike, Same}
-use Rattle.calc_terms.specs.Surds.{Term}
+use Rattle.calc_algebra.specs.SquareClasses.{are_alike, Same}
+use Rattle.calc_algebra.specs.Surds.{Term}
 use Rattle.surd_terms.specs.Terms.{term_of}
 use Rattle.surd_terms.specs.declared.sums.Joined.{Joined}
 use Rattle.surd_terms.specs.declared.sums.Joined.TheVariants as joined

@@ -3,7 +3,7 @@ ghost use Rattle.std.specs.Prelude.{◌≡◌, ◌↔◌, ◌<◌, ◌^◌, pos,
 ghost use Rattle.calc_terms.specs.Fractions.{whole_fraction, inverse as inverse_of_fraction};
 ghost use Rattle.calc_terms.specs.Rat.{ratio_of, value_of};
 ghost use Rattle.calc_terms.specs.Ratio.{whole as whole_ratio};
-ghost use Rattle.calc_terms.specs.SquareClasses.{are_alike, Inverts};
+ghost use Rattle.calc_algebra.specs.SquareClasses.{are_alike, Inverts};
 ghost use Rattle.rational128.specs.Refusals.{DoesNotFit};
 ghost use Rattle.surd_terms.specs.Inverses.{square_of, inverse_of, first_of_inverse, second_of_inverse};
 ghost use Rattle.surd_terms.specs.Terms.{coefficient_of, term_of};

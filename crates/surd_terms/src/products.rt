@@ -1,9 +1,9 @@
 //! Products of two terms.
 ghost use Rattle.std.specs.Prelude.{◌≡◌, ◌↔◌, ◌*◌, ◌<◌, ◌≤◌, ◌^◌, IsErr, IfOk, IfErr, [], ◌∷◌};
-ghost use Rattle.calc_terms.specs.Clean.{IsClean};
+ghost use Rattle.calc_algebra.specs.Clean.{IsClean};
 ghost use Rattle.calc_terms.specs.Rat.{value_of};
-ghost use Rattle.calc_terms.specs.SquareClasses.{Same};
-ghost use Rattle.calc_terms.specs.Surds.{term_times};
+ghost use Rattle.calc_algebra.specs.SquareClasses.{Same};
+ghost use Rattle.calc_algebra.specs.Surds.{term_times};
 ghost use Rattle.rational128.specs.Refusals.{DoesNotFit};
 ghost use Rattle.surd_terms.specs.Products.{IsExtracted, HasRational};
 ghost use Rattle.surd_terms.specs.Terms.{coefficient_of, term_of};

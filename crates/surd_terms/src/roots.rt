@@ -1,7 +1,7 @@
 //! Square roots of rationals.
 ghost use Rattle.std.specs.Prelude.{◌≡◌, ◌↔◌, pos, ◌<ℤ◌, IsErr, IfOk, IfErr, [], ◌∷◌};
 ghost use Rattle.calc_terms.specs.Fractions.{whole_fraction};
-ghost use Rattle.calc_terms.specs.Meanings.{IsRootOf};
+ghost use Rattle.calc_algebra.specs.Meanings.{IsRootOf};
 ghost use Rattle.calc_terms.specs.Rat.{ratio_of};
 ghost use Rattle.calc_terms.specs.Ratio.{whole as whole_ratio};
 ghost use Rattle.rational128.specs.Refusals.{DoesNotFit};

@@ -1,9 +1,9 @@
 //! Sums of two terms.
 ghost use Rattle.std.specs.Prelude.{◌≡◌, ◌↔◌, ◌<◌, ◌^◌, IsErr, IfOk, IfErr, false};
-ghost use Rattle.calc_terms.specs.Clean.{IsClean};
+ghost use Rattle.calc_algebra.specs.Clean.{IsClean};
 ghost use Rattle.calc_terms.specs.Rat.{value_of};
-ghost use Rattle.calc_terms.specs.SquareClasses.{are_alike};
-ghost use Rattle.calc_terms.specs.Surds.{term};
+ghost use Rattle.calc_algebra.specs.SquareClasses.{are_alike};
+ghost use Rattle.calc_algebra.specs.Surds.{term};
 ghost use Rattle.rational128.specs.Refusals.{DoesNotFit};
 ghost use Rattle.surd_terms.specs.Sums.{Joins, IfTerm, IsSum, ComesTo};
 ghost use Rattle.surd_terms.specs.Terms.{coefficient_of, term_of};

@@ -1,6 +1,6 @@
 //! One rational multiple of a square root.
 ghost use Rattle.std.specs.Prelude.{◌≡◌, ◌≢◌, ◌<◌, ◌≤◌, ◌^◌};
-ghost use Rattle.calc_terms.specs.Clean.{IsClean};
+ghost use Rattle.calc_algebra.specs.Clean.{IsClean};
 ghost use Rattle.calc_terms.specs.Fractions.{zero_fraction};
 ghost use Rattle.calc_terms.specs.Rat.{value_of};
 
@@ -18,7 +18,7 @@ pub struct Term {
 }
 
 impl Term {
-    ghost use Rattle.calc_terms.specs.Surds.{term};
+    ghost use Rattle.calc_algebra.specs.Surds.{term};
     ghost use Rattle.surd_terms.specs.Terms.{coefficient_of, term_of};
 
     /// The rational c, with radicand 1.

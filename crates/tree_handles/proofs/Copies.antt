@@ -6,8 +6,7 @@ use Rattle.calc_terms.specs.Payload.{Payload, kind_of_payload}
 use Rattle.node_pool.specs.Nodes.{has, used, first_of, payload_of_id, AreNodes, AreDistinct, with_children}
 use Rattle.node_pool.specs.Places.{since, until, IsBoundary}
 use Rattle.node_pool.specs.State.{State, IsPool}
-use Rattle.node_pool.proofs.Cuts.{until-since}
-use Rattle.node_pool.proofs.Cuts.{step, AreNodes-since}
+use Rattle.node_pool.proofs.Cuts.{until-since, step, AreNodes-since}
 use Rattle.node_pool.proofs.Splits.{with_children-append}
 use Rattle.tree_handles.specs.Copies.{IsCopy, AreCopies, copy_of}
 use Rattle.tree_handles.specs.Forest.{Label, Forest, empty, tree, arity, node_of, flatten}

@@ -6,8 +6,7 @@ use Rattle.node_pool.specs.Nodes.{used, first_of, place_of}
 use Rattle.node_pool.specs.Places.{since, until, between, IsBoundary}
 use Rattle.node_pool.specs.State.{IsPool, State, free_of}
 use Rattle.node_pool.proofs.Sizes.{used-append, size_from}
-use Rattle.node_pool.proofs.Cuts.{until-since, since-append}
-use Rattle.node_pool.proofs.Cuts.{step, cut, boundary_le, between_next, between_none}
+use Rattle.node_pool.proofs.Cuts.{until-since, since-append, step, cut, boundary_le, between_next, between_none}
 use Rattle.node_pool.proofs.Splits.{boundary-append, between-append, place_of-append}
 use Rattle.tree_handles.specs.Copies.{AreCopies, copy_of, IsCopy}
 use Rattle.tree_handles.specs.Expressions.{nth, plains, plain, AllExpressions, IsExpression}

@@ -1,5 +1,5 @@
 -- Laws of forests: joining, prefix order, and the parser.
-use Rattle.std.proofs.Common.{◌≡◌, ℕ, zero, suc, ◌+◌, ◌-◌, ◌^◌, min, ◌<◌, ◌≤◌, List, [], ◌∷◌, ◌++◌, length, cond, eqb, refl, sym, ap, ◌∙◌, subst, arith, append_assoc, Bool, true}
+use Rattle.std.proofs.Common.{◌≡◌, ℕ, zero, suc, ◌+◌, ◌-◌, ◌^◌, min, ◌<◌, ◌≤◌, List, [], ◌∷◌, ◌++◌, length, cond, eqb, refl, sym, ap, ◌∙◌, subst, arith, append_assoc, Bool, true, false}
 use Rattle.std.proofs.lemmas.List.{append-nil, length-append}
 use Rattle.calc_terms.specs.Payload.{Payload}
 use Rattle.calc_terms.specs.Node.{Node, fresh}
@@ -197,12 +197,23 @@ keeps_after s t u a b = record { size = b.size ∙ a.size; refusals = b.refusals
 pub refuses_after : (s t u : State) (full : Full) → KeepsRefusals s t → Refuses t u full → Refuses s u full
 refuses_after s t u full a b = record { size = b.size ∙ a.size; refusals = b.refusals ∙ ap (λ (n : ℕ). min (n + 1) (2 ^ 64 - 1)) a.refusals; last_refused = b.last_refused }
 
-pub is_refused : (needed : ℕ) (s t : State) (full : Full) → full ≡ record { needed = needed; free = free_of s } → t ≡ refused s full → IsRefused needed s t full
-is_refused needed s t full e q = record {
+-- what is not within the free bytes exceeds them
+pub not_within : {need free : ℕ} {A : Type 0} → A × (need ≤ free → false ≡ true) → free < need
+not_within {need = need} {free = free} h = below need free (λ l. no (h.1 l))
+  where
+    no : false ≡ true → ⊥
+    no e = cc
+
+    below : (a b : ℕ) → (a ≤ b → ⊥) → b < a
+    below a b h = grind arith
+
+pub is_refused : (needed : ℕ) (s t : State) (full : Full) → full ≡ record { needed = needed; free = free_of s } → t ≡ refused s full → free_of s < needed → IsRefused needed s t full
+is_refused needed s t full e q short = record {
   told = e;
   state = q;
   same = ap forest q;
   refuses = record { size = ap (λ (x : State). x.size) q; refusals = ap (λ (x : State). x.refusals) q; last_refused = ap (λ (x : State). x.last_refused) q };
+  lacks = record { free = ap (λ (x : Full). x.free) e ∙ sym (ap free_of q); lacking = omega (arith, ap (λ (x : Full). x.free) e, ap (λ (x : Full). x.needed) e, short) };
 }
 
 -- after a refusal the pool stands as before

@@ -24,3 +24,7 @@ pub mod Given
 pub mod Fronts
 pub mod Tested
 pub mod Places
+pub mod UndefChildren
+pub mod NextChildren
+pub mod Room
+pub mod Opened

@@ -7,8 +7,7 @@ use Rattle.node_pool.specs.Nodes.{has, used, first_of, with_count, AreDistinct}
 use Rattle.node_pool.specs.Places.{until, since, between, without, IsBoundary}
 use Rattle.node_pool.specs.State.{State, IsPool}
 use Rattle.node_pool.proofs.Sizes.{used-append, size_from, length_le_used}
-use Rattle.node_pool.proofs.Cuts.{since-append, until-append, until-since}
-use Rattle.node_pool.proofs.Cuts.{cut}
+use Rattle.node_pool.proofs.Cuts.{since-append, until-append, until-since, cut}
 use Rattle.node_pool.proofs.Splits.{boundary-append, with_count-append, without-append}
 use Rattle.tree_handles.specs.Forest.{Label, Forest, empty, tree, join, arity, node_of, flatten, first_trees, rest_trees, forest_of}
 use Rattle.tree_handles.specs.Inside.{released}

@@ -1,9 +1,8 @@
 -- Forests of labelled trees, and their nodes in prefix order.
 use Rattle.std.specs.Prelude.{ℕ, zero, suc, ◌+◌, max, List, [], ◌∷◌, ◌++◌}
 use Rattle.calc_terms.specs.declared.kind.Kind.TheVariants as kind
-use Rattle.calc_terms.specs.Payload.{Payload, bare}
+use Rattle.calc_terms.specs.Payload.{Payload, bare, size_of_payload}
 use Rattle.calc_terms.specs.Node.{Node}
-use Rattle.calc_terms.specs.Payload.{size_of_payload}
 
 pub record Label : Type 0 where
   pub id : ℕ

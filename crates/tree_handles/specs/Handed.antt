@@ -2,8 +2,14 @@
 use Rattle.std.specs.Prelude.{ℕ, ◌≡◌, List, [], ◌∷◌, true, false}
 use Rattle.calc_terms.specs.Trees.{Tree, Trees}
 use Rattle.tree_handles.specs.Forest.{Label, Forest, join, arity, root_id, AllNodes}
+use Rattle.node_pool.specs.State.{State}
 use Rattle.tree_handles.specs.Roots.{has_root, root_tree}
+use Rattle.tree_handles.specs.Standing.{forest}
 use Rattle.tree_handles.specs.Expressions.{plains, plain, AllExpressions}
+
+-- the plain tree of a root
+abbrev pub tree_of : ℕ → State → Tree
+tree_of i s = plain (root_tree i (forest s))
 
 abbrev pub IsOnce : Label → ℕ → Type 0
 IsOnce l n = l.count ≡ 1

@@ -8,3 +8,4 @@ pub mod Children
 pub mod Copies
 pub mod Walks
 pub mod Faults
+pub mod Causes

@@ -1,5 +1,5 @@
 -- A pool that stands for a forest.
-use Rattle.std.specs.Prelude.{ℕ, ◌≡◌, ◌≤◌}
+use Rattle.std.specs.Prelude.{ℕ, ◌≡◌, ◌≤◌, ◌<◌}
 use Rattle.node_pool.specs.declared.full.Full.{Full}
 use Rattle.node_pool.specs.State.{State, IsPool, free_of, refused}
 use Rattle.tree_handles.specs.Forest.{Label, Forest, flatten, forest_of, AllNodes}
@@ -30,9 +30,15 @@ pub record Refuses (old new : State) (full : Full) : Type 0 where
   pub refusals : new.refusals ≡ (refused old full).refusals
   pub last_refused : new.last_refused ≡ full
 
+-- more bytes are needed than are free now
+pub record LacksBytes (now : State) (full : Full) : Type 0 where
+  pub free : full.free ≡ free_of now
+  pub lacking : full.free < full.needed
+
 -- a call was refused: the refusal says how many bytes it needed and how many were free, and nothing changed
 pub record IsRefused (needed : ℕ) (old new : State) (full : Full) : Type 0 where
   pub told : full ≡ record { needed = needed; free = free_of old }
   pub state : new ≡ refused old full
   pub same : forest new ≡ forest old
   pub refuses : Refuses old new full
+  pub lacks : LacksBytes new full

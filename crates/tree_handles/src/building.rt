@@ -1,10 +1,12 @@
 //! Nodes over trees that are handed.
-ghost use Rattle.std.specs.Prelude.{◌≡◌, ◌==◌, true, false, IfOk, IfErr, OnOk, [], ◌∷◌};
+ghost use Rattle.std.specs.Prelude.{◌≡◌, ◌≤◌, ◌↔◌, ◌==◌, true, false, IfOk, IfErr, IsOk, OnOk, [], ◌∷◌};
+ghost use Rattle.calc_terms.specs.Payload.{bare, size_of_payload};
 ghost use Rattle.calc_terms.specs.Trees.{none, more};
+ghost use Rattle.node_pool.specs.State.{free_of};
 ghost use Rattle.tree_handles.specs.Expressions.{plain, compound, takes_kind};
 ghost use Rattle.tree_handles.specs.Handed.{IsHanded, Gives, KeepsFront};
 ghost use Rattle.tree_handles.specs.Roots.{root_tree, without_root};
-ghost use Rattle.tree_handles.specs.Standing.{Stands, forest, KeepsRefusals, Refuses};
+ghost use Rattle.tree_handles.specs.Standing.{Stands, forest, KeepsRefusals, IsRefused};
 
 use crate::handle::{Handle, node};
 use crate::moving::add_child;
@@ -20,7 +22,8 @@ pub fn node_over(pool: &mut Pool, kind: Kind, child: Handle) -> Result<Handle, F
         IfOk result (λ h. Gives (without_root child old) (forest pool.new) h (λ t. t ≡ compound kind (more (plain (root_tree child old)) none))) }
     ensures front { KeepsFront (child ∷ []) (forest pool.old) (forest pool.new) }
     ensures kept { OnOk result (KeepsRefusals pool.old pool.new) }
-    ensures full { IfErr result (Refuses pool.old pool.new) }
+    ensures full { IfErr result (IsRefused (size_of_payload (bare kind)) pool.old pool.new) }
+    ensures exactly { IsOk result ↔ (size_of_payload (bare kind) ≤ free_of pool.old) }
     ensures stands { Stands pool.new }
 {
     let over = node(pool, kind)?;
@@ -44,7 +47,8 @@ pub fn node_over_two(
         IfOk result (λ h. Gives (without_root right (without_root left old)) (forest pool.new) h (λ t. t ≡ compound kind (more (plain (root_tree left old)) (more (plain (root_tree right old)) none)))) }
     ensures front { KeepsFront (left ∷ right ∷ []) (forest pool.old) (forest pool.new) }
     ensures kept { OnOk result (KeepsRefusals pool.old pool.new) }
-    ensures full { IfErr result (Refuses pool.old pool.new) }
+    ensures full { IfErr result (IsRefused (size_of_payload (bare kind)) pool.old pool.new) }
+    ensures exactly { IsOk result ↔ (size_of_payload (bare kind) ≤ free_of pool.old) }
     ensures stands { Stands pool.new }
 {
     let over = node(pool, kind)?;

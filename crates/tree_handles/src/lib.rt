@@ -11,6 +11,7 @@ mod moving;
 mod read;
 mod releasing;
 mod siblings;
+mod undef;
 mod walk;
 
 pub use building::{node_over, node_over_two};
@@ -25,6 +26,7 @@ pub use moving::{
 pub use read::{child_id, children, count, kind, name, rational};
 pub use releasing::release;
 pub use siblings::{ChildIds, child_ids};
+pub use undef::{has_undefined_child, is_undefined, undefined};
 
 #[cfg(test)]
 mod tests;

@@ -1,5 +1,5 @@
 use Rattle.std.proofs.Common.{◌≡◌, true}
-use Rattle.calc_terms.specs.Numbers.{is_number}
+use Rattle.calc_algebra.specs.Numbers.{is_number}
 use Rattle.tree_handles.specs.Handed.{Gives}
 use Rattle.tree_handles.specs.Standing.{Stands, forest}
 use Rattle.number_bench.proofs.roots.Given as goal

@@ -1,9 +1,8 @@
 //! Numbers that are built from rows.
 ghost use Rattle.std.specs.Prelude.{◌≡◌, ◌<ℤ◌, pos, IfOk, true};
-ghost use Rattle.calc_terms.specs.Numbers.{is_number};
+ghost use Rattle.calc_algebra.specs.Numbers.{is_number};
 ghost use Rattle.calc_terms.specs.Rat.{ratio_of};
-ghost use Rattle.reduce_port.specs.Rewritings.{tree_of};
-ghost use Rattle.tree_handles.specs.Handed.{IsHanded, Gives};
+ghost use Rattle.tree_handles.specs.Handed.{tree_of, IsHanded, Gives};
 ghost use Rattle.tree_handles.specs.Standing.{Stands, forest};
 
 use crate::read::term_count;

@@ -1,9 +1,8 @@
 //! Calls in pools of just enough bytes and of eight too few. The sizes follow from the order of work: a rational
 //! takes 40 bytes, every other node 8, and beside the operands stand the sum so far and the term that is joined to it.
 ghost use Rattle.std.specs.Prelude.{◌≡◌, IfOk, true};
-ghost use Rattle.calc_terms.specs.Numbers.{is_number};
-ghost use Rattle.reduce_port.specs.Rewritings.{tree_of};
-ghost use Rattle.tree_handles.specs.Handed.{IsHanded, Gives};
+ghost use Rattle.calc_algebra.specs.Numbers.{is_number};
+ghost use Rattle.tree_handles.specs.Handed.{tree_of, IsHanded, Gives};
 ghost use Rattle.tree_handles.specs.Roots.{without_root};
 ghost use Rattle.tree_handles.specs.Standing.{Stands, forest};
 

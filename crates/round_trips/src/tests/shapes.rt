@@ -1,6 +1,6 @@
 //! Trees of a table, and how they are built in a pool.
 ghost use Rattle.std.specs.Prelude.{◌≡◌, IfOk, true};
-ghost use Rattle.calc_terms.specs.Texts.{IsWritable};
+ghost use Rattle.calc_language.specs.Texts.{IsWritable};
 ghost use Rattle.tree_handles.specs.Expressions.{takes_kind};
 ghost use Rattle.tree_handles.specs.Handed.{Gives};
 ghost use Rattle.tree_handles.specs.Standing.{Stands, forest};

@@ -1,6 +1,6 @@
 use Rattle.std.proofs.Common.{◌≡◌, ◌≤◌, true}
 use Rattle.calc_terms.specs.Trees.{count}
-use Rattle.reduce_port.specs.Children.{are_reduced}
+use Rattle.calc_algebra.specs.Reduced.{are_reduced}
 use Rattle.tree_handles.specs.Standing.{Stands, forest}
 use Rattle.sum_reduce.specs.Sums.{IsSum, terms_in}
 use Rattle.sum_bench.proofs.sum_of_names.Given as goal

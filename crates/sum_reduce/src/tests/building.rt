@@ -1,15 +1,13 @@
 //! Terms and sums, which are built in a pool.
 ghost use Rattle.std.specs.Prelude.{◌≡◌, ◌≤◌, ◌==◌, ◌∷◌, [], IfOk, ⊤, length, true, false};
-ghost use Rattle.calc_terms.specs.Numbers.{is_number};
-ghost use Rattle.calc_terms.specs.Reduced.{is_reduced};
+ghost use Rattle.calc_algebra.specs.Numbers.{is_number};
+ghost use Rattle.calc_algebra.specs.Reduced.{is_reduced, are_reduced};
 ghost use Rattle.calc_terms.specs.Trees.{count, is_add};
 ghost use Rattle.coefficients.specs.Coefficients.{IsMonic};
-ghost use Rattle.reduce_port.specs.Children.{are_reduced};
-ghost use Rattle.reduce_port.specs.Rewritings.{tree_of};
+ghost use Rattle.tree_handles.specs.Handed.{tree_of, IsHanded, Gives};
 ghost use Rattle.sum_reduce.specs.Sums.{terms_in};
 ghost use Rattle.sum_reduce.specs.Terms.{is_loose};
 ghost use Rattle.tree_handles.specs.Roots.{without_root};
-ghost use Rattle.tree_handles.specs.Handed.{IsHanded, Gives};
 ghost use Rattle.tree_handles.specs.Standing.{Stands, forest};
 
 use crate::reduce_sum;

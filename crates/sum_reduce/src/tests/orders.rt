@@ -2,7 +2,7 @@
 ghost use Rattle.std.specs.Prelude.{◌≡◌, ◌≤◌, IfOk, true};
 ghost use Rattle.calc_terms.specs.Trees.{count, is_add};
 ghost use Rattle.coefficients.specs.Coefficients.{IsMonic};
-ghost use Rattle.reduce_port.specs.Children.{are_reduced};
+ghost use Rattle.calc_algebra.specs.Reduced.{are_reduced};
 ghost use Rattle.sum_reduce.specs.Sums.{terms_in};
 ghost use Rattle.tree_handles.specs.Handed.{Gives};
 ghost use Rattle.tree_handles.specs.Standing.{Stands, forest};

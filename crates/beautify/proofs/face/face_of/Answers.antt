@@ -1,10 +1,10 @@
 use Rattle.std.proofs.Common.{◌≡◌, ℕ, inl, ap, sym, ◌∙◌, subst, arith, refl}
-use Rattle.calc_terms.specs.Faces.{face}
+use Rattle.calc_language.specs.Faces.{face}
 use Rattle.calc_terms.specs.Trees.{count, size, AllParts}
-use Rattle.reduce_port.specs.Rewritings.{KeepsMeanings, tree_of}
+use Rattle.calc_algebra.specs.Rewritings.{KeepsMeanings}
+use Rattle.tree_handles.specs.Handed.{tree_of, Gives, Starts}
 use Rattle.tree_handles.specs.Expressions.{plain, nth, IsExpression}
 use Rattle.tree_handles.specs.Forest.{Forest}
-use Rattle.tree_handles.specs.Handed.{Gives, Starts}
 use Rattle.tree_handles.specs.Inside.{tree_at}
 use Rattle.tree_handles.specs.Roots.{without_root}
 use Rattle.tree_handles.specs.Standing.{forest}

@@ -1,5 +1,5 @@
 use Rattle.std.proofs.Common.{◌≡◌, ◌<◌, ◌≤◌, ◌-◌, ℕ, suc, drop, length, refl, ap, sym, ◌∙◌, subst, arith, Bool}
-use Rattle.calc_terms.specs.Faces.{unsigned_face, has_minus, with_minus}
+use Rattle.calc_language.specs.Faces.{unsigned_face, has_minus, with_minus}
 use Rattle.calc_terms.specs.Trees.{Tree, Trees, none, more, count, sizes}
 use Rattle.node_pool.specs.Nodes.{first_of}
 use Rattle.node_pool.specs.State.{free_of}

@@ -1,5 +1,5 @@
 use Rattle.std.proofs.Common.{◌≡◌, ◌≤◌, ◌+◌, ℕ, ap, sym, ◌∙◌, arith}
-use Rattle.calc_terms.specs.Faces.{product_of}
+use Rattle.calc_language.specs.Faces.{product_of}
 use Rattle.calc_terms.specs.Fractions.{lowest}
 use Rattle.calc_terms.specs.Ratio.{Ratio}
 use Rattle.calc_terms.specs.Trees.{Tree, Trees, num, mult, none, more, count}

@@ -1,5 +1,5 @@
 use Rattle.std.proofs.Common.{ap, sym, ◌∙◌, arith}
-use Rattle.calc_terms.specs.Faces.{exponent_below}
+use Rattle.calc_language.specs.Faces.{exponent_below}
 use Rattle.tree_handles.specs.Expressions.{plain}
 use Rattle.tree_handles.specs.Forest.{Forest}
 use Rattle.tree_handles.specs.Inside.{tree_at}

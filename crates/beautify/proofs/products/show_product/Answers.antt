@@ -1,5 +1,5 @@
 use Rattle.std.proofs.Common.{◌≡◌, ◌<◌, ◌≤◌, ◌-◌, ℕ, suc, ap, sym, ◌∙◌, subst, arith}
-use Rattle.calc_terms.specs.Faces.{unsigned_face, factor_above, factor_below, factors_above, factors_below}
+use Rattle.calc_language.specs.Faces.{unsigned_face, factor_above, factor_below, factors_above, factors_below}
 use Rattle.calc_terms.specs.Trees.{Tree, count, append, more}
 use Rattle.tree_handles.specs.Expressions.{plain, nth, children_of}
 use Rattle.tree_handles.specs.Forest.{Forest}

@@ -1,5 +1,5 @@
 use Rattle.std.proofs.Common.{◌≡◌, ◌≤◌}
-use Rattle.calc_terms.specs.Faces.{factors_above, factors_below}
+use Rattle.calc_language.specs.Faces.{factors_above, factors_below}
 use Rattle.calc_terms.specs.Trees.{append, count}
 use Rattle.node_pool.specs.State.{free_of}
 use Rattle.tree_handles.specs.Expressions.{plain, children_of}

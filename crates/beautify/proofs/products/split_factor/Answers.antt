@@ -1,5 +1,5 @@
 use Rattle.std.proofs.Common.{◌≡◌, ap, sym, ◌∙◌}
-use Rattle.calc_terms.specs.Faces.{unsigned_face}
+use Rattle.calc_language.specs.Faces.{unsigned_face}
 use Rattle.calc_terms.specs.Trees.{Tree, num, more, append, root_kind}
 use Rattle.calc_terms.specs.Rat.{value_of}
 use Rattle.tree_handles.specs.Expressions.{plain}

@@ -1,5 +1,5 @@
 use Rattle.std.proofs.Common.{◌≡◌, ◌≤◌, ◌+◌, ℕ, ap, ◌∙◌, arith, refl, nat_abs}
-use Rattle.calc_terms.specs.Faces.{unless_one}
+use Rattle.calc_language.specs.Faces.{unless_one}
 use Rattle.calc_terms.specs.Rat.{value_of}
 use Rattle.calc_terms.specs.Trees.{Trees, none, append, count}
 use Rattle.tree_handles.specs.Expressions.{inserted}

@@ -1,5 +1,5 @@
 use Rattle.std.proofs.Common.{◌≤◌, sym, subst, arith}
-use Rattle.calc_terms.specs.Trees.{count}
+use Rattle.calc_terms.specs.Trees.{count, num, none, more}
 use Rattle.tree_handles.specs.Forest.{Forest}
 use Rattle.tree_handles.specs.Standing.{forest}
 use Rattle.tree_handles.proofs.Forests.{keeps_after}
@@ -7,7 +7,6 @@ use Rattle.tree_handles.proofs.Given.{given_rest}
 use Rattle.beautify.specs.Stacks.{stacked}
 use Rattle.beautify.proofs.Stacking.{came, last_given, stack_under, same_stack, fails_at_once, short, passed_on}
 use Rattle.beautify.proofs.Sizes.{costs, sizes-inserted}
-use Rattle.calc_terms.specs.Trees.{num, none, more}
 use Rattle.calc_terms.specs.Rat.{value_of}
 use Rattle.beautify.proofs.stack.push_number.Goals as goal
 

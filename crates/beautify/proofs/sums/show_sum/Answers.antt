@@ -1,5 +1,5 @@
 use Rattle.std.proofs.Common.{◌<◌, ◌+◌, ◌-◌, ℕ, refl, ap, sym, ◌∙◌, arith}
-use Rattle.calc_terms.specs.Faces.{has_minus}
+use Rattle.calc_language.specs.Faces.{has_minus}
 use Rattle.calc_terms.specs.Trees.{Trees, count}
 use Rattle.tree_handles.specs.Expressions.{plain, nth, children_of}
 use Rattle.tree_handles.specs.Forest.{Forest, arity}

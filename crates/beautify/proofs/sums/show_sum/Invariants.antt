@@ -1,5 +1,5 @@
 use Rattle.std.proofs.Common.{◌≡◌, ◌≤◌, ◌+◌, ◌*◌, ◌-◌}
-use Rattle.calc_terms.specs.Grammar.{as_tree}
+use Rattle.calc_language.specs.Grammar.{as_tree}
 use Rattle.calc_terms.specs.Trees.{more}
 use Rattle.node_pool.specs.State.{free_of}
 use Rattle.tree_handles.specs.Expressions.{plain, children_of}

@@ -1,5 +1,5 @@
 use Rattle.std.proofs.Common.{ap, sym, ◌∙◌, Bool}
-use Rattle.calc_terms.specs.Faces.{has_minus, with_minus}
+use Rattle.calc_language.specs.Faces.{has_minus, with_minus}
 use Rattle.calc_terms.specs.Trees.{none, more}
 use Rattle.tree_handles.specs.Expressions.{plain, nth, inserted}
 use Rattle.tree_handles.specs.Forest.{Forest}

@@ -1,6 +1,6 @@
 use Rattle.std.specs.Prelude.{◌≡◌, List, map, IfOk}
 use Rattle.std.proofs.Common.{sym, ap, ◌∙◌, subst}
-use Rattle.calc_terms.specs.Tokens.{Token}
+use Rattle.calc_language.specs.Tokens.{Token}
 use Rattle.calc_terms.specs.Trees.{Tree}
 use Rattle.calc_tokens.specs.Placed.{Placed, bare}
 use Rattle.calc_tokens.specs.Tokens.{tokens_of, placed}

@@ -3,8 +3,8 @@ use Rattle.std.specs.Option.{option_map}
 use Rattle.std.proofs.Common.{refl, sym, ap, ◌∙◌, subst}
 use Rattle.calc_terms.specs.Leaf.{name_of}
 use Rattle.calc_terms.specs.Trees.{Tree}
-use Rattle.calc_terms.specs.Grammar.{IsSum}
-use Rattle.calc_terms.proofs.ReadLaws.{one_sum_tree}
+use Rattle.calc_language.specs.Grammar.{IsSum}
+use Rattle.calc_language.proofs.ReadLaws.{one_sum_tree}
 use Rattle.node_pool.specs.State.{free_of}
 use Rattle.tree_handles.proofs.Given.{gives_as}
 use Rattle.calc_parser.specs.Building.{placing}

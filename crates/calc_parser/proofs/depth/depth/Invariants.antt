@@ -1,6 +1,6 @@
 use Rattle.std.proofs.Common.{◌≡◌, ◌≤◌, drop, map, List, []}
 use Rattle.arrayvec.specs.ArrayVec.{array_vec_len}
-use Rattle.calc_terms.specs.Tokens.{Token}
+use Rattle.calc_language.specs.Tokens.{Token}
 use Rattle.calc_parser.specs.Depths.{deepest, with_nodes}
 use Rattle.calc_parser.specs.Reader.{node_of}
 use Rattle.calc_parser.proofs.depth.depth.Given as goal

@@ -1,9 +1,8 @@
 use Rattle.std.specs.Prelude.{ℕ, ◌≡◌, List, pos}
 use Rattle.std.proofs.Common.{refl}
 use Rattle.calc_terms.specs.Fractions.{Fraction, lowest}
-use Rattle.calc_terms.specs.Tokens.{literal}
+use Rattle.calc_language.specs.Tokens.{literal, leading_run, decimals, literal_at}
 use Rattle.calc_terms.specs.Name.{is_digit}
-use Rattle.calc_terms.specs.Tokens.{leading_run, decimals, literal_at}
 use Rattle.calc_tokens.specs.Literals.{trimmed, unscaled, scale}
 use Rattle.calc_tokens.proofs.Runs.{run_passes}
 use Rattle.calc_tokens.proofs.Parts.{decimals_pass, trimmed_pass, same_value}

@@ -1,6 +1,5 @@
-use Rattle.std.proofs.Common.{sym}
+use Rattle.std.proofs.Common.{sym, ap, ◌∙◌}
 use Rattle.std.specs.Option.{is_some}
-use Rattle.std.proofs.Common.{ap, ◌∙◌}
 use Rattle.calc_tokens.proofs.Parts.{whole_too_wide, kept_too_wide, both_fit, positive_scale, value_is}
 use Rattle.calc_tokens.proofs.literals.value.Goals as goal
 

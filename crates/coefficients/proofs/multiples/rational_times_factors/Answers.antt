@@ -1,6 +1,6 @@
 use Rattle.std.proofs.Common.{◌≤◌, ap, ◌∙◌, sym, subst, arith, inl, refl}
 use Rattle.calc_terms.specs.Rat.{value_of}
-use Rattle.calc_terms.specs.Reduced.{product_tree}
+use Rattle.calc_algebra.specs.Reduced.{product_tree}
 use Rattle.calc_terms.specs.Trees.{Tree, num, mult, more, count, is_mult, root_kind}
 use Rattle.tree_handles.specs.Expressions.{children_of}
 use Rattle.tree_handles.specs.Roots.{without_root}

@@ -1,7 +1,7 @@
 use Rattle.calc_terms.specs.Rat.{value_of}
 use Rattle.coefficients.specs.Multiples.{rational_times}
 use Rattle.coefficients.proofs.Loops.{IsPartDone}
-use Rattle.reduce_port.specs.Rewritings.{tree_of}
+use Rattle.tree_handles.specs.Handed.{tree_of}
 use Rattle.tree_handles.specs.Expressions.{children_of}
 use Rattle.tree_handles.specs.Standing.{Stands, forest, KeepsRefusals}
 use Rattle.coefficients.proofs.multiples.rational_times_number.Given as goal

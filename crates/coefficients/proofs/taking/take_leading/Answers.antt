@@ -1,7 +1,7 @@
 use Rattle.std.proofs.Common.{◌≡◌, ℕ, ◌∙◌, ap, refl, sym, subst, arith}
 use Rattle.calc_terms.specs.declared.kind.Kind.TheVariants as kind
 use Rattle.calc_terms.specs.Fractions.{Fraction}
-use Rattle.calc_terms.specs.Reduced.{Split, is_reduced, num_one}
+use Rattle.calc_algebra.specs.Reduced.{Split, is_reduced, num_one}
 use Rattle.calc_terms.specs.Trees.{Trees, num, is_mult}
 use Rattle.tree_handles.specs.Forest.{Forest, kids}
 use Rattle.tree_handles.specs.Handed.{Represents, Gives}

@@ -1,12 +1,11 @@
 use Rattle.std.proofs.Common.{◌≡◌, inl, refl, sym, ap, ◌∙◌, subst, false, true}
 use Rattle.calc_terms.specs.Fits.{fraction_fits}
 use Rattle.calc_terms.specs.Fractions.{Fraction, minus_one_fraction}
-use Rattle.calc_terms.specs.Reduced.{is_reduced}
-use Rattle.calc_terms.specs.Trees.{Tree, num, undef, count, is_undef, is_add, is_mult, neg, power}
+use Rattle.calc_algebra.specs.Reduced.{is_reduced, are_reduced}
+use Rattle.calc_terms.specs.Trees.{Tree, num, undef, count, is_undef, is_add, is_mult, neg, power, has_undef}
 use Rattle.calc_terms.specs.declared.kind.Kind.TheVariants as kind
 use Rattle.deep_reduce.specs.Nodes.{IsNodeAnswer}
-use Rattle.reduce_port.specs.Children.{are_reduced, has_undef}
-use Rattle.reduce_port.specs.Rewritings.{tree_of}
+use Rattle.tree_handles.specs.Handed.{tree_of}
 use Rattle.tree_handles.proofs.Given.{given_handed, given_told, given_root, gives_as, owned}
 use Rattle.tree_handles.specs.Expressions.{nth, children_of}
 use Rattle.coefficients.proofs.Steps.{expression, seen}
@@ -74,17 +73,17 @@ returns-then-is_undefined-clause-front c =
     let m = c.in_ok-factor.ensures.ok in
     gone_front s m (c.release.ensures.owned (owned (left_beside s m).handed))
 
-pub over_two-requires-clause-first : goal.over_two-requires-clause-first
-over_two-requires-clause-first c = (left_beside c.take_sides-dividend.ensures.sides c.in_ok-factor.ensures.ok).handed
+pub node_over_two-requires-clause-first : goal.node_over_two-requires-clause-first
+node_over_two-requires-clause-first c = (left_beside c.take_sides-dividend.ensures.sides c.in_ok-factor.ensures.ok).handed
 
-pub over_two-requires-clause-second : goal.over_two-requires-clause-second
-over_two-requires-clause-second c = given_handed c.in_ok-factor.ensures.ok
+pub node_over_two-requires-clause-second : goal.node_over_two-requires-clause-second
+node_over_two-requires-clause-second c = given_handed c.in_ok-factor.ensures.ok
 
-pub over_two-requires-clause-apart : goal.over_two-requires-clause-apart
-over_two-requires-clause-apart c = (left_beside c.take_sides-dividend.ensures.sides c.in_ok-factor.ensures.ok).apart
+pub node_over_two-requires-clause-apart : goal.node_over_two-requires-clause-apart
+node_over_two-requires-clause-apart c = (left_beside c.take_sides-dividend.ensures.sides c.in_ok-factor.ensures.ok).apart
 
 pub returns-in_err-product-clause-front : goal.returns-in_err-product-clause-front
-returns-in_err-product-clause-front c = paired_front c.take_sides-dividend.ensures.sides c.inverse.ensures.front c.in_ok-factor.ensures.ok c.over_two.ensures.front
+returns-in_err-product-clause-front c = paired_front c.take_sides-dividend.ensures.sides c.inverse.ensures.front c.in_ok-factor.ensures.ok c.node_over_two.ensures.front
 
 pub multiply-requires-clause-handed : goal.multiply-requires-clause-handed
 multiply-requires-clause-handed c = given_handed c.in_ok-product.ensures.ok
@@ -158,4 +157,4 @@ pub returns-clause-front : goal.returns-clause-front
 returns-clause-front c =
     let s = c.take_sides-dividend.ensures.sides in
     let m = c.in_ok-factor.ensures.ok in
-    reduced_front (paired_front s c.inverse.ensures.front m c.over_two.ensures.front) c.in_ok-product.ensures.ok (left_beside s m).rest c.multiply.ensures.front
+    reduced_front (paired_front s c.inverse.ensures.front m c.node_over_two.ensures.front) c.in_ok-product.ensures.ok (left_beside s m).rest c.multiply.ensures.front

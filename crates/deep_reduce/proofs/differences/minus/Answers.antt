@@ -1,9 +1,9 @@
 use Rattle.std.proofs.Common.{◌≡◌, refl, ap, ◌∙◌}
 use Rattle.calc_terms.specs.Fractions.{minus_one_fraction}
-use Rattle.calc_terms.specs.Trees.{Tree, num, is_mult}
+use Rattle.calc_terms.specs.Trees.{Tree, num, is_mult, has_undef}
 use Rattle.calc_terms.specs.declared.kind.Kind.TheVariants as kind
-use Rattle.reduce_port.specs.Children.{are_reduced, has_undef}
-use Rattle.reduce_port.specs.Rewritings.{tree_of}
+use Rattle.calc_algebra.specs.Reduced.{are_reduced}
+use Rattle.tree_handles.specs.Handed.{tree_of}
 use Rattle.tree_handles.specs.Expressions.{children_of}
 use Rattle.tree_handles.proofs.Fronts.{behind_first, behind_new, front_same, front_end, front_after, front_after_two}
 use Rattle.tree_handles.proofs.Given.{gives_as, given_handed, given_other, given_rest}
@@ -18,19 +18,19 @@ use Rattle.deep_reduce.proofs.differences.minus.Goals as goal
 pub returns-in_err-minus_one-clause-front : goal.returns-in_err-minus_one-clause-front
 returns-in_err-minus_one-clause-front c = front_after front_same c.number.ensures.front
 
-pub over_two-requires-clause-first : goal.over_two-requires-clause-first
-over_two-requires-clause-first c = given_handed c.in_ok-minus_one.ensures.given
+pub node_over_two-requires-clause-first : goal.node_over_two-requires-clause-first
+node_over_two-requires-clause-first c = given_handed c.in_ok-minus_one.ensures.given
 
-pub over_two-requires-clause-second : goal.over_two-requires-clause-second
-over_two-requires-clause-second c = given_other c.in_ok-minus_one.ensures.given c.requires.handed
+pub node_over_two-requires-clause-second : goal.node_over_two-requires-clause-second
+node_over_two-requires-clause-second c = given_other c.in_ok-minus_one.ensures.given c.requires.handed
 
-pub over_two-requires-clause-apart : goal.over_two-requires-clause-apart
-over_two-requires-clause-apart c = apart_first c.in_ok-minus_one.ensures.given c.requires.handed
+pub node_over_two-requires-clause-apart : goal.node_over_two-requires-clause-apart
+node_over_two-requires-clause-apart c = apart_first c.in_ok-minus_one.ensures.given c.requires.handed
 
 pub returns-in_err-product-clause-front : goal.returns-in_err-product-clause-front
 returns-in_err-product-clause-front c =
     let n = c.in_ok-minus_one.ensures.given in
-    front_after_two (behind_new n.ends front_same) behind_first (front_end n.ends front_same) c.over_two.ensures.front
+    front_after_two (behind_new n.ends front_same) behind_first (front_end n.ends front_same) c.node_over_two.ensures.front
 
 pub multiply-requires-clause-handed : goal.multiply-requires-clause-handed
 multiply-requires-clause-handed c = given_handed c.in_ok-product.ensures.ok
@@ -69,5 +69,5 @@ returns-clause-overflow c =
 pub returns-clause-front : goal.returns-clause-front
 returns-clause-front c =
     let n = c.in_ok-minus_one.ensures.given in
-    let paired = front_after_two (behind_new n.ends front_same) behind_first (front_end n.ends front_same) c.over_two.ensures.front in
+    let paired = front_after_two (behind_new n.ends front_same) behind_first (front_end n.ends front_same) c.node_over_two.ensures.front in
     reduced_front paired c.in_ok-product.ensures.ok (ap (without_root c.args.argument) (given_rest n)) c.multiply.ensures.front

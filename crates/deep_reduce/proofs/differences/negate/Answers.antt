@@ -1,8 +1,7 @@
 use Rattle.std.proofs.Common.{◌≡◌, inl, refl, sym, ap, ◌∙◌, subst, arith, false}
-use Rattle.calc_terms.specs.Reduced.{is_reduced}
-use Rattle.calc_terms.specs.Trees.{Tree, Trees, neg, none, more, count, is_undef}
-use Rattle.reduce_port.specs.Children.{are_reduced, has_undef}
-use Rattle.reduce_port.specs.Rewritings.{tree_of}
+use Rattle.calc_algebra.specs.Reduced.{is_reduced, are_reduced}
+use Rattle.calc_terms.specs.Trees.{Tree, Trees, neg, none, more, count, is_undef, has_undef}
+use Rattle.tree_handles.specs.Handed.{tree_of}
 use Rattle.tree_handles.proofs.Fronts.{behind_first, behind_new, front_same, front_end, front_without, front_after_one}
 use Rattle.tree_handles.proofs.Given.{given_handed, given_told, given_rest}
 use Rattle.tree_handles.specs.Expressions.{nth, children_of}

@@ -1,5 +1,5 @@
 use Rattle.std.proofs.Common.{inl, refl, arith}
-use Rattle.reduce_port.specs.Rewritings.{tree_of}
+use Rattle.tree_handles.specs.Handed.{tree_of}
 use Rattle.tree_handles.proofs.Fronts.{behind_first, front_at, front_without}
 use Rattle.tree_handles.specs.Expressions.{children_of}
 use Rattle.deep_reduce.proofs.Parents.{first_out, both_out, parent_children, parent_end, parent_handed}

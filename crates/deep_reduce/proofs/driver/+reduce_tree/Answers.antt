@@ -3,7 +3,7 @@ use Rattle.breakers.specs.Watch.{states}
 use Rattle.calc_terms.specs.Trees.{Tree, count, nodes}
 use Rattle.deep_reduce.specs.Nodes.{IsNodeOverflow}
 use Rattle.reduce_port.specs.Faults.{fault_of}
-use Rattle.reduce_port.specs.Rewritings.{tree_of}
+use Rattle.tree_handles.specs.Handed.{tree_of}
 use Rattle.reduce_port.specs.declared.fault.ReduceFault.TheVariants as fault
 use Rattle.tree_handles.specs.Expressions.{children_of}
 use Rattle.tree_handles.proofs.Forests.{keeps_none, keeps_after}

@@ -1,6 +1,6 @@
 use Rattle.breakers.specs.Watch.{states}
 use Rattle.calc_terms.specs.Trees.{nodes}
-use Rattle.reduce_port.specs.Rewritings.{tree_of}
+use Rattle.tree_handles.specs.Handed.{tree_of}
 use Rattle.tree_handles.specs.Standing.{Stands, forest, KeepsRefusals}
 use Rattle.deep_reduce.proofs.Walks.{IsWalked}
 use Rattle.deep_reduce.proofs.driver.+reduce_tree.Given as goal

@@ -4,8 +4,8 @@ use Rattle.coefficients.proofs.Rewritten.{over_back, apart_back, put_back, front
 use Rattle.coefficients.proofs.Steps.{children_in, moved, moved_front}
 use Rattle.deep_reduce.proofs.Children.{over_power, power_of_sum, exponent_taken, itself}
 use Rattle.power_reduce.specs.PowerAnswers.{exponent_in}
-use Rattle.reduce_port.specs.Children.{are_reduced}
-use Rattle.reduce_port.specs.Rewritings.{tree_of}
+use Rattle.calc_algebra.specs.Reduced.{are_reduced}
+use Rattle.tree_handles.specs.Handed.{tree_of}
 use Rattle.sum_reduce.specs.SumAnswers.{IsSumAnswer}
 use Rattle.tree_handles.specs.Expressions.{children_of}
 use Rattle.tree_handles.proofs.Fronts.{front_same}

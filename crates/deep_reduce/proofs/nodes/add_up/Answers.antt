@@ -1,7 +1,7 @@
 use Rattle.std.proofs.Common.{◌≡◌, ℕ, ap, ◌∙◌, sym, refl, arith}
-use Rattle.calc_terms.specs.PlainValues.{plain_value}
+use Rattle.calc_measures.specs.PlainValues.{plain_value}
 use Rattle.calc_terms.specs.Trees.{Tree, count}
-use Rattle.reduce_port.specs.Rewritings.{tree_of}
+use Rattle.tree_handles.specs.Handed.{tree_of}
 use Rattle.tree_handles.specs.Expressions.{children_of}
 use Rattle.coefficients.proofs.Steps.{live, expression, seen}
 use Rattle.deep_reduce.proofs.Results.{answered, answer_as}

@@ -1,11 +1,10 @@
 use Rattle.std.proofs.Common.{◌≡◌, refl, sym, ap, ◌∙◌, subst, true, false}
-use Rattle.calc_terms.specs.PlainValues.{plain_value}
-use Rattle.calc_terms.specs.Trees.{Tree, is_undef, root_kind}
+use Rattle.calc_measures.specs.PlainValues.{plain_value}
+use Rattle.calc_terms.specs.Trees.{Tree, is_undef, root_kind, has_undef}
 use Rattle.calc_terms.specs.declared.kind.Kind.TheVariants as kind
 use Rattle.deep_reduce.specs.Nodes.{IsNodeAnswer, IsNodeOverflow}
 use Rattle.power_reduce.specs.PowerAnswers.{base_in, exponent_in}
-use Rattle.reduce_port.specs.Children.{has_undef}
-use Rattle.reduce_port.specs.Rewritings.{tree_of}
+use Rattle.tree_handles.specs.Handed.{tree_of}
 use Rattle.tree_handles.proofs.Fronts.{behind_first, front_same, front_end, front_without}
 use Rattle.tree_handles.proofs.Given.{gives, gives_as, represents_handed}
 use Rattle.tree_handles.specs.Expressions.{children_of}

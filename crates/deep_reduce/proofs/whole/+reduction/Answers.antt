@@ -18,8 +18,9 @@ use Rattle.deep_reduce.proofs.Ranks.{below_measure}
 use Rattle.deep_reduce.proofs.Rows.{IsPowerOf, none_reduced, part_front, next_power, next_within, back_within, next_of, next_taken, next_reduced, all_reduced}
 use Rattle.deep_reduce.proofs.Settled.{joint_at, ready_joint, ready_summed, settled_less, joint_less, product_after, product_finished}
 use Rattle.power_reduce.specs.PowerAnswers.{base_in, exponent_in}
-use Rattle.reduce_port.specs.Children.{are_reduced}
-use Rattle.reduce_port.specs.Rewritings.{Rewrites, tree_of}
+use Rattle.calc_algebra.specs.Reduced.{are_reduced}
+use Rattle.calc_algebra.specs.Rewritings.{Rewrites}
+use Rattle.tree_handles.specs.Handed.{tree_of}
 use Rattle.tree_handles.specs.Expressions.{nth, children_of}
 use Rattle.tree_handles.proofs.Forests.{keeps_none, keeps_after}
 use Rattle.tree_handles.proofs.Fronts.{behind_first, behind_new, front_same, front_put, front_end, front_without, front_after_one}

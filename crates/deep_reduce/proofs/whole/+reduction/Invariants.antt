@@ -1,6 +1,6 @@
 use Rattle.deep_reduce.proofs.Measures.{of_product, of_power, of_joint, of_powers, of_exponent, of_rewritten}
 use Rattle.deep_reduce.proofs.Rows.{IsPartReduced}
-use Rattle.reduce_port.specs.Rewritings.{tree_of}
+use Rattle.tree_handles.specs.Handed.{tree_of}
 use Rattle.tree_handles.specs.Expressions.{children_of}
 use Rattle.tree_handles.specs.Standing.{Stands, forest, KeepsRefusals}
 use Rattle.deep_reduce.proofs.whole.+reduction.Given as goal

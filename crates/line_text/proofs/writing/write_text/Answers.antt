@@ -1,5 +1,5 @@
 use Rattle.std.proofs.Common.{◌∙◌, ap, arith}
-use Rattle.calc_terms.specs.Texts.{text}
+use Rattle.calc_language.specs.Texts.{text}
 use Rattle.calc_terms.specs.Trees.{size}
 use Rattle.tree_handles.specs.Expressions.{plain}
 use Rattle.tree_handles.specs.Forest.{Forest}

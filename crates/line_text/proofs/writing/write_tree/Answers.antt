@@ -1,6 +1,6 @@
 use Rattle.std.proofs.Common.{◌≡◌, ◌∙◌, ◌+◌, ◌++◌, ℕ, Bool, List, [], ◌∷◌, length, refl, sym, ap, subst, arith, append-nil}
 use Rattle.std.proofs.lemmas.List.{length-append}
-use Rattle.calc_terms.specs.Texts.{text}
+use Rattle.calc_language.specs.Texts.{text}
 use Rattle.node_pool.specs.Nodes.{used}
 use Rattle.tree_handles.specs.Forest.{flatten}
 use Rattle.line_text.specs.declared.place.Pending.{Pending}

@@ -1,5 +1,5 @@
 use Rattle.std.proofs.Common.{◌≡◌, ◌+◌, ◌-◌, ◌*◌, ◌≤◌, ◌++◌, length, vec_capacity}
-use Rattle.calc_terms.specs.Texts.{text}
+use Rattle.calc_language.specs.Texts.{text}
 use Rattle.node_pool.specs.Nodes.{used}
 use Rattle.tree_handles.specs.Forest.{flatten}
 use Rattle.line_text.specs.Standing.{tree_from, plain_from}

@@ -1,8 +1,7 @@
-use Rattle.std.proofs.Common.{◌∙◌, arith}
+use Rattle.std.proofs.Common.{◌∙◌, arith, length}
 use Rattle.std.specs.List.{range_with_len}
 use Rattle.std.proofs.lemmas.List.{map-id}
 use Rattle.std.proofs.lemmas.List.FromFn.{fill_by_all}
-use Rattle.std.proofs.Common.{length}
 use Rattle.node_order.proofs.arranging.list_places.Goals as goal
 
 pub returns : goal.returns

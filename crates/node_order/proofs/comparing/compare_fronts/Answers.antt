@@ -1,5 +1,5 @@
 use Rattle.std.proofs.Common.{arith, sym, ◌∙◌}
-use Rattle.calc_terms.specs.TreeOrder.{tree_cmp}
+use Rattle.calc_algebra.specs.TreeOrder.{tree_cmp}
 use Rattle.node_order.specs.Fronts.{front_tree}
 use Rattle.node_order.proofs.Pairs.{IsPending, pending_as, equal_roots, open_start, open_few, open_same, open_fewer, pending_done, pending_left, pending_right, pending_next}
 use Rattle.node_order.proofs.comparing.compare_fronts.Goals as goal

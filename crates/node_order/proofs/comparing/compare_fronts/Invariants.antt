@@ -1,5 +1,5 @@
 use Rattle.std.proofs.Common.{◌-◌}
-use Rattle.calc_terms.specs.TreeOrder.{tree_cmp}
+use Rattle.calc_algebra.specs.TreeOrder.{tree_cmp}
 use Rattle.node_order.specs.Fronts.{front_tree}
 use Rattle.node_order.proofs.Pairs.{IsOpen}
 use Rattle.node_pool.specs.Nodes.{used}

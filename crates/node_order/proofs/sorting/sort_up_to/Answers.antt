@@ -1,7 +1,7 @@
 use Rattle.std.proofs.Common.{◌+◌, ◌<◌, ◌≤◌, ℕ, sym, ap, subst, arith, replicate}
 use Rattle.std.proofs.lemmas.List.{length-take-le, length-replicate}
 use Rattle.std.specs.List.Sorted.{IsSortedByKey}
-use Rattle.calc_terms.specs.TreeOrder.{tree_cmp}
+use Rattle.calc_algebra.specs.TreeOrder.{tree_cmp}
 use Rattle.calc_terms.specs.Trees.{count}
 use Rattle.node_order.proofs.SortLaws.{sorted_children, handle_kids}
 use Rattle.tree_handles.specs.Expressions.{plains, nth, IsWhole, IsExpression}

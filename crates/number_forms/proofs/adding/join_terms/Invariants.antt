@@ -1,8 +1,8 @@
 use Rattle.std.proofs.Common.{◌++◌}
-use Rattle.calc_terms.specs.Numbers.{value}
+use Rattle.calc_algebra.specs.Numbers.{value}
 use Rattle.number_forms.proofs.Loops.{IsJoined}
 use Rattle.number_forms.proofs.Worth.{terms_from}
-use Rattle.reduce_port.specs.Rewritings.{tree_of}
+use Rattle.tree_handles.specs.Handed.{tree_of}
 use Rattle.number_forms.proofs.adding.join_terms.Given as goal
 
 abbrev pub invariant-loop-at : goal.invariant-loop-at

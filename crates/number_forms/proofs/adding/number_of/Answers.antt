@@ -1,6 +1,6 @@
 use Rattle.std.proofs.Common.{◌≡◌, ◌≤◌, inl, sym, ap, ◌∙◌, refl, arith, subst}
 use Rattle.std.specs.Prelude.{pos}
-use Rattle.calc_terms.specs.Numbers.{value}
+use Rattle.calc_algebra.specs.Numbers.{value}
 use Rattle.number_forms.specs.Answers.{IsNumberOf}
 use Rattle.calc_terms.specs.Trees.{Tree, count}
 use Rattle.number_forms.proofs.LastSums.{sum_is, only_child, only_owned}
@@ -8,7 +8,7 @@ use Rattle.number_forms.proofs.Shaped.{zero_sum, one_sum, more_sum, zero_number_
 use Rattle.number_forms.proofs.SumChanges.{same_plain, read_expression}
 use Rattle.number_forms.proofs.TermTrees.{if_given, whole_is}
 use Rattle.number_forms.proofs.Loops.{gives_itself}
-use Rattle.reduce_port.specs.Rewritings.{tree_of}
+use Rattle.tree_handles.specs.Handed.{tree_of}
 use Rattle.tree_handles.specs.Expressions.{children_of}
 use Rattle.tree_handles.proofs.Fronts.{behind_first, front_same, front_at, front_end, front_put, front_without, front_after}
 use Rattle.tree_handles.proofs.Given.{given_root, given_handed, given_told, gives_as, owned}

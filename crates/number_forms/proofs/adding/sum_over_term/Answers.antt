@@ -5,7 +5,7 @@ use Rattle.number_forms.specs.Readers.{is_zero}
 use Rattle.number_forms.proofs.Shaped.{no_term_sum_of, one_term_sum_of}
 use Rattle.number_forms.proofs.SumChanges.{same_plain, read_expression}
 use Rattle.number_forms.proofs.TermTrees.{if_given, nonzero_term, zero_value}
-use Rattle.reduce_port.specs.Rewritings.{tree_of}
+use Rattle.tree_handles.specs.Handed.{tree_of}
 use Rattle.tree_handles.proofs.Fronts.{behind_first, front_same, front_at, front_end, front_without, front_after}
 use Rattle.tree_handles.proofs.Given.{represents_none, represents_handed, represents_with, represents_node, gives, owned}
 use Rattle.tree_handles.proofs.Lasts.{last_held, last_apart, other_root}

@@ -1,7 +1,7 @@
 use Rattle.std.proofs.Common.{◌≡◌, ◌≢◌, ◌≤◌, ℕ, refl, sym, ap, ◌∙◌, arith}
-use Rattle.calc_terms.specs.Numbers.{is_number, classes}
+use Rattle.calc_algebra.specs.Numbers.{is_number, classes}
 use Rattle.number_forms.proofs.SumChanges.{same_plain, read_expression}
-use Rattle.reduce_port.specs.Rewritings.{tree_of}
+use Rattle.tree_handles.specs.Handed.{tree_of}
 use Rattle.tree_handles.proofs.Fronts.{behind_first, front_same, front_at, front_end, front_without}
 use Rattle.tree_handles.proofs.Given.{represents_handed, gives, owned}
 use Rattle.number_forms.proofs.inverting.invert_number.Goals as goal

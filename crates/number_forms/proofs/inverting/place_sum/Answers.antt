@@ -1,9 +1,9 @@
 use Rattle.std.proofs.Common.{refl, sym, ap, ◌∙◌, subst}
-use Rattle.calc_terms.specs.Numbers.{value}
+use Rattle.calc_algebra.specs.Numbers.{value}
 use Rattle.number_forms.specs.Sums.{IsSum}
 use Rattle.number_forms.proofs.InverseSteps.{joined_two}
 use Rattle.number_forms.proofs.Loops.{gives_rest, number_as}
-use Rattle.reduce_port.specs.Rewritings.{tree_of}
+use Rattle.tree_handles.specs.Handed.{tree_of}
 use Rattle.surd_terms.specs.Terms.{term_of}
 use Rattle.tree_handles.proofs.Fronts.{behind_new, front_same, front_after_one}
 use Rattle.tree_handles.proofs.Given.{given_told, given_rest, gives_as}

@@ -2,7 +2,7 @@ use Rattle.std.proofs.Common.{sym, subst, refl}
 use Rattle.calc_terms.specs.Trees.{Tree}
 use Rattle.number_forms.specs.Sums.{IsApart}
 use Rattle.number_forms.proofs.SumChanges.{same_plain, read_expression, read_sum, read_place, sum_value, removed_is_sum, cancelled, made_one, matched, apart_rest}
-use Rattle.reduce_port.specs.Rewritings.{tree_of}
+use Rattle.tree_handles.specs.Handed.{tree_of}
 use Rattle.surd_terms.specs.Terms.{term_of}
 use Rattle.tree_handles.proofs.Fronts.{behind_first, front_after_one}
 use Rattle.tree_handles.proofs.Given.{given_root, given_handed, given_told, given_rest, gives_as}

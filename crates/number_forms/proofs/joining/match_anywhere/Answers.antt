@@ -1,7 +1,7 @@
 use Rattle.std.proofs.Common.{◌≡◌, ℕ, false, refl, sym, ◌∙◌, subst, arith, below_more}
 use Rattle.std.proofs.lemmas.List.{length_push}
-use Rattle.calc_terms.specs.Numbers.{term_of as term_of_tree}
-use Rattle.calc_terms.specs.SquareClasses.{are_alike}
+use Rattle.calc_algebra.specs.Numbers.{term_of as term_of_tree}
+use Rattle.calc_algebra.specs.SquareClasses.{are_alike}
 use Rattle.calc_terms.specs.Trees.{count}
 use Rattle.number_forms.proofs.Children.{IsNextChild, left_more, next_child, none_left, few_children}
 use Rattle.number_forms.proofs.ByKind.{children_number}

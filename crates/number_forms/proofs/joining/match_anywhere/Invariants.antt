@@ -1,6 +1,6 @@
 use Rattle.std.proofs.Common.{◌≡◌, ℕ, ◌<◌, length, false}
-use Rattle.calc_terms.specs.Numbers.{term_of as term_of_tree}
-use Rattle.calc_terms.specs.SquareClasses.{are_alike}
+use Rattle.calc_algebra.specs.Numbers.{term_of as term_of_tree}
+use Rattle.calc_algebra.specs.SquareClasses.{are_alike}
 use Rattle.number_forms.proofs.Children.{AreLeft}
 use Rattle.surd_terms.specs.Terms.{term_of}
 use Rattle.tree_handles.specs.Expressions.{nth, plain, children_of}

@@ -1,5 +1,5 @@
 use Rattle.std.proofs.Common.{ℕ, ◌<◌, ◌≤◌, ◌-◌}
-use Rattle.calc_terms.specs.Numbers.{term_of}
+use Rattle.calc_algebra.specs.Numbers.{term_of}
 use Rattle.calc_terms.specs.Trees.{count}
 use Rattle.tree_handles.specs.Expressions.{nth, plain, children_of}
 use Rattle.tree_handles.specs.Inside.{tree_at}

@@ -1,14 +1,13 @@
 use Rattle.std.proofs.Common.{◌≡◌, ℕ, ◌≤◌, ◌++◌, Some, length, map, sym, ap, ◌∙◌, arith, add-one, subst}
 use Rattle.std.specs.Prelude.{slice_get}
-use Rattle.calc_terms.specs.Numbers.{is_number, value, classes}
-use Rattle.calc_terms.specs.Surds.{surd_times, term_times, Surd}
+use Rattle.calc_algebra.specs.Numbers.{is_number, value, classes}
+use Rattle.calc_algebra.specs.Surds.{surd_times, term_times, Surd}
 use Rattle.calc_terms.specs.Trees.{Tree}
 use Rattle.number_forms.specs.Sums.{IsSumOf}
 use Rattle.number_forms.proofs.Loops.{IsJoined, joined_none, joined_row, joined_all, from_all, other_plain, other_read, other_expression, gives_rest}
 use Rattle.number_forms.proofs.Worth.{terms_from}
-use Rattle.reduce_port.specs.Rewritings.{tree_of}
+use Rattle.tree_handles.specs.Handed.{tree_of, Gives}
 use Rattle.surd_terms.specs.Terms.{term_of}
-use Rattle.tree_handles.specs.Handed.{Gives}
 use Rattle.tree_handles.specs.Roots.{without_root}
 use Rattle.tree_handles.specs.Standing.{forest}
 use Rattle.tree_handles.proofs.Given.{given_other, given_rest, handed_at}

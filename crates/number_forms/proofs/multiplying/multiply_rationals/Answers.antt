@@ -2,7 +2,7 @@ use Rattle.std.proofs.Common.{Ok, ap, ◌∙◌}
 use Rattle.calc_terms.specs.Fits.{mul_op}
 use Rattle.calc_terms.specs.Trees.{num}
 use Rattle.number_forms.proofs.RationalCalls.{plain_answer, rational_of, rational_product, at_rationals}
-use Rattle.reduce_port.specs.Rewritings.{tree_of}
+use Rattle.tree_handles.specs.Handed.{tree_of}
 use Rattle.tree_handles.proofs.Given.{given_told, gives_as}
 use Rattle.number_forms.proofs.multiplying.multiply_rationals.Goals as goal
 

@@ -6,7 +6,7 @@ use Rattle.tree_handles.proofs.Fronts.{behind_new, front_same, front_end, front_
 use Rattle.tree_handles.proofs.Given.{represents_none, represents_handed, represents_with, represents_node, gives, gives_as, given_root, given_handed, given_told, given_rest}
 use Rattle.tree_handles.proofs.Lasts.{last_held, last_apart, other_root, ends_as}
 use Rattle.node_pool.specs.State.{free_of}
-use Rattle.reduce_port.proofs.Room.{left_after}
+use Rattle.tree_handles.proofs.Room.{left_after}
 use Rattle.number_forms.proofs.placing.place_multiple.Goals as goal
 
 pub add_child-requires-clause-live : goal.add_child-requires-clause-live

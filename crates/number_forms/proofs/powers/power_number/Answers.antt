@@ -2,13 +2,13 @@ use Rattle.std.proofs.Common.{◌≡◌, inl, refl, sym, ap, ◌∙◌, rules, F
 use Rattle.std.specs.Int.{w128}
 use Rattle.std.specs.Prelude.{nat_abs}
 use Rattle.std.proofs.lemmas.Int.{to_z-of_z}
-use Rattle.calc_terms.specs.Numbers.{value}
-use Rattle.calc_terms.specs.Surds.{surd_power}
+use Rattle.calc_algebra.specs.Numbers.{value}
+use Rattle.calc_algebra.specs.Surds.{surd_power}
 use Rattle.calc_terms.specs.Trees.{is_num}
-use Rattle.calc_terms.proofs.TermLaws.{Same-eq}
+use Rattle.calc_algebra.proofs.TermLaws.{Same-eq}
 use Rattle.number_forms.proofs.Loops.{gives_without, number_as}
 use Rattle.number_forms.proofs.SumChanges.{same_plain, read_expression}
-use Rattle.reduce_port.specs.Rewritings.{tree_of}
+use Rattle.tree_handles.specs.Handed.{tree_of}
 use Rattle.tree_handles.proofs.Fronts.{behind_first, front_same, front_at, front_without, front_after}
 use Rattle.tree_handles.proofs.Given.{given_other, gives_as, owned}
 use Rattle.number_forms.proofs.powers.power_number.Goals as goal

@@ -4,13 +4,13 @@ use Rattle.std.proofs.lemmas.Int.{to_z-of_z}
 use Rattle.std.specs.Prelude.{ℤ, nat_abs}
 use Rattle.calc_terms.specs.Fits.{pow_op, fraction_power, operation_fits}
 use Rattle.calc_terms.specs.Fractions.{Fraction, whole_fraction}
-use Rattle.calc_terms.specs.PlainValues.{calculated}
+use Rattle.calc_measures.specs.PlainValues.{calculated}
 use Rattle.calc_terms.specs.Rat.{value_of}
 use Rattle.calc_terms.specs.Trees.{num}
 use Rattle.calc_terms.proofs.FractionFacts.{whole_numerator}
 use Rattle.number_forms.proofs.RationalCalls.{plain_answer, rational_of, rational_power, num_same}
-use Rattle.reduce_port.specs.PlainTrees.{IsPlainAnswer}
-use Rattle.reduce_port.specs.Rewritings.{tree_of}
+use Rattle.calc_measures.specs.PlainTrees.{IsPlainAnswer}
+use Rattle.tree_handles.specs.Handed.{tree_of}
 use Rattle.tree_handles.proofs.Fronts.{behind_first, front_same, front_at, front_without, front_after}
 use Rattle.tree_handles.proofs.Given.{given_told, gives_as}
 use Rattle.number_forms.proofs.powers.power_rational.Goals as goal

@@ -1,6 +1,6 @@
 use Rattle.std.proofs.Common.{◌≡◌, ◌-◌, true, sym, ap, ◌∙◌, subst, arith}
-use Rattle.calc_terms.specs.Numbers.{is_number}
-use Rattle.calc_terms.specs.Reduced.{is_reduced}
+use Rattle.calc_algebra.specs.Numbers.{is_number}
+use Rattle.calc_algebra.specs.Reduced.{is_reduced}
 use Rattle.calc_terms.specs.Trees.{Tree, add, count}
 use Rattle.number_forms.specs.Shapes.{has_term_shape}
 use Rattle.number_forms.proofs.ByKind.{add_by_kind}

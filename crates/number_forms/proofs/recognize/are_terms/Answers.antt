@@ -1,6 +1,6 @@
 use Rattle.std.proofs.Common.{◌≡◌, ℕ, length, refl, sym, ap, ◌∙◌, arith}
 use Rattle.std.proofs.lemmas.List.{length_push}
-use Rattle.calc_terms.specs.Numbers.{is_term, are_terms}
+use Rattle.calc_algebra.specs.Numbers.{is_term, are_terms}
 use Rattle.calc_terms.specs.Trees.{count}
 use Rattle.number_forms.proofs.Children.{IsNextChild, left_more, next_child, none_left}
 use Rattle.number_forms.proofs.Rising.{terms_next, no_term, terms_end}

@@ -1,5 +1,5 @@
 use Rattle.std.proofs.Common.{◌≡◌, length}
-use Rattle.calc_terms.specs.Numbers.{are_terms}
+use Rattle.calc_algebra.specs.Numbers.{are_terms}
 use Rattle.number_forms.proofs.Children.{AreLeft}
 use Rattle.number_forms.specs.Sums.{trees_from}
 use Rattle.tree_handles.specs.Expressions.{plain, children_of}

@@ -1,5 +1,5 @@
 use Rattle.std.proofs.Common.{ap, ◌∙◌, arith}
-use Rattle.calc_terms.specs.Numbers.{is_term, term_of as term_of_tree}
+use Rattle.calc_algebra.specs.Numbers.{is_term, term_of as term_of_tree}
 use Rattle.number_forms.proofs.ByKind.{children_number}
 use Rattle.number_forms.proofs.Rising.{nth_term}
 use Rattle.tree_handles.specs.Standing.{forest}

@@ -1,8 +1,8 @@
 use Rattle.std.proofs.Common.{◌≡◌, ℕ, ◌+◌, ◌++◌, ◌∷◌, [], ◌&&◌, length, not, nat_lt, refl, sym, ap, ◌∙◌, arith}
 use Rattle.std.proofs.lemmas.List.{length_push}
-use Rattle.calc_terms.specs.Numbers.{is_below_all, is_term, terms_of, term_of as term_of_tree}
-use Rattle.calc_terms.specs.SquareClasses.{are_alike}
-use Rattle.calc_terms.specs.Surds.{Term}
+use Rattle.calc_algebra.specs.Numbers.{is_below_all, is_term, terms_of, term_of as term_of_tree}
+use Rattle.calc_algebra.specs.SquareClasses.{are_alike}
+use Rattle.calc_algebra.specs.Surds.{Term}
 use Rattle.number_forms.proofs.ByKind.{children_number}
 use Rattle.number_forms.proofs.Children.{IsNextChild, left_more, next_child, none_left}
 use Rattle.number_forms.proofs.Rising.{below_next, not_below, below_end, nth_term}

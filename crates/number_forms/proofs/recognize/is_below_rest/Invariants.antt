@@ -1,5 +1,5 @@
 use Rattle.std.proofs.Common.{◌≡◌, ◌+◌, length}
-use Rattle.calc_terms.specs.Numbers.{is_below_all, terms_of}
+use Rattle.calc_algebra.specs.Numbers.{is_below_all, terms_of}
 use Rattle.number_forms.proofs.Children.{AreLeft}
 use Rattle.number_forms.specs.Sums.{trees_from}
 use Rattle.surd_terms.specs.Terms.{term_of}

@@ -1,6 +1,6 @@
 use Rattle.std.proofs.Common.{◌≡◌, ◌+◌, ◌<◌, sym, ap, ◌∙◌, arith}
-use Rattle.calc_terms.specs.Numbers.{is_below_all, terms_of}
-use Rattle.calc_terms.specs.Surds.{Term}
+use Rattle.calc_algebra.specs.Numbers.{is_below_all, terms_of}
+use Rattle.calc_algebra.specs.Surds.{Term}
 use Rattle.calc_terms.specs.Trees.{count}
 use Rattle.number_forms.proofs.Rising.{rises_next, no_rise, rises_end}
 use Rattle.number_forms.specs.Sums.{trees_from}

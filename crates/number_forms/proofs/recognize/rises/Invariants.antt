@@ -1,5 +1,5 @@
 use Rattle.std.proofs.Common.{◌≡◌}
-use Rattle.calc_terms.specs.Numbers.{rises, terms_of}
+use Rattle.calc_algebra.specs.Numbers.{rises, terms_of}
 use Rattle.number_forms.specs.Sums.{trees_from}
 use Rattle.tree_handles.specs.Expressions.{plain, children_of}
 use Rattle.tree_handles.specs.Inside.{tree_at}

@@ -1,6 +1,6 @@
 use Rattle.std.proofs.Common.{◌≡◌, ◌<◌, Some, sym, ap, ◌∙◌, subst, arith, true}
 use Rattle.std.specs.Prelude.{slice_get}
-use Rattle.calc_terms.specs.Numbers.{is_number, is_term, value, term_of as term_of_tree, classes}
+use Rattle.calc_algebra.specs.Numbers.{is_number, is_term, value, term_of as term_of_tree, classes}
 use Rattle.calc_terms.specs.Trees.{Tree, add, count}
 use Rattle.number_forms.proofs.ByKind.{add_by_kind, sum_classes, children_number}
 use Rattle.number_forms.proofs.Shaped.{added_number, nth_of_terms, nth_is_term}

@@ -2,8 +2,8 @@ use Rattle.std.proofs.Common.{◌≡◌, sym, ap, ◌∙◌, rules, subst, FitsS
 use Rattle.std.specs.Int.{w128}
 use Rattle.std.specs.Prelude.{nat_abs}
 use Rattle.std.proofs.lemmas.Int.{to_z-of_z}
-use Rattle.calc_terms.specs.Clean.{IsClean}
-use Rattle.calc_terms.specs.Numbers.{natural_of}
+use Rattle.calc_algebra.specs.Clean.{IsClean}
+use Rattle.calc_algebra.specs.Numbers.{natural_of}
 use Rattle.calc_terms.specs.Rat.{value_of}
 use Rattle.number_forms.proofs.TermTrees.{natural_abs}
 use Rattle.rational128.proofs.LowestTerms.{ratio_parts}

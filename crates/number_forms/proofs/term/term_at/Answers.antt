@@ -1,8 +1,8 @@
 use Rattle.std.proofs.Common.{sym, ap, ◌∙◌, subst}
-use Rattle.calc_terms.specs.Numbers.{IsTerm, term_of as term_of_tree}
-use Rattle.calc_terms.specs.Surds.{term}
-use Rattle.calc_terms.proofs.NumberClasses.{one_not_zero}
-use Rattle.calc_terms.proofs.NumberLaws.{term_words}
+use Rattle.calc_algebra.specs.Numbers.{IsTerm, term_of as term_of_tree}
+use Rattle.calc_algebra.specs.Surds.{term}
+use Rattle.calc_algebra.proofs.NumberClasses.{one_not_zero}
+use Rattle.calc_algebra.proofs.NumberLaws.{term_words}
 use Rattle.number_forms.proofs.TermTrees.{one_value}
 use Rattle.number_forms.proofs.term.term_at.Goals as goal
 

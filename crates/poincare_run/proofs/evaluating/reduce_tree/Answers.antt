@@ -3,7 +3,7 @@ use Rattle.breakers.specs.Breakers.{CalmChecks}
 use Rattle.breakers.specs.NeverBreaker.{state_of}
 use Rattle.breakers.specs.Watch.{states}
 use Rattle.calc_terms.specs.Trees.{nodes}
-use Rattle.reduce_port.specs.Rewritings.{tree_of}
+use Rattle.tree_handles.specs.Handed.{tree_of}
 use Rattle.tree_handles.specs.declared.handle.Handle.{Handle}
 use Rattle.tree_handles.proofs.Given.{given_handed, given_told}
 use Rattle.poincare_run.specs.Answers.{refusal_of_evaluation}

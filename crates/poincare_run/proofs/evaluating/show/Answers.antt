@@ -4,7 +4,7 @@ use Rattle.tree_handles.specs.Expressions.{plain}
 use Rattle.tree_handles.specs.Inside.{tree_at}
 use Rattle.tree_handles.specs.Standing.{forest}
 use Rattle.tree_handles.proofs.Lasts.{expression_root, plain_root}
-use Rattle.reduce_port.specs.Rewritings.{tree_of}
+use Rattle.tree_handles.specs.Handed.{tree_of}
 use Rattle.poincare_run.proofs.EvaluationLemmas.{undef_by_kind, defined_by_kind}
 use Rattle.poincare_run.proofs.evaluating.show.Goals as goal
 use Rattle.poincare_run.proofs.evaluating.show.Goals.{After-kind}

@@ -1,5 +1,5 @@
 use Rattle.std.proofs.Common.{refl, ap, ◌∙◌}
-use Rattle.calc_terms.specs.Numbers.{is_number}
+use Rattle.calc_algebra.specs.Numbers.{is_number}
 use Rattle.calc_terms.specs.Trees.{num}
 use Rattle.coefficients.proofs.Steps.{one_value, if_map}
 use Rattle.tree_handles.proofs.Fronts.{behind_first, behind_new, front_same, front_without, front_after_one}

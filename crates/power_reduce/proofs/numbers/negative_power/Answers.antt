@@ -1,7 +1,7 @@
 use Rattle.std.proofs.Common.{◌≡◌, refl, sym, ap, ◌∙◌, arith, subst, pos, ◌≤ℤ◌}
-use Rattle.calc_terms.specs.Numbers.{is_number, classes}
+use Rattle.calc_algebra.specs.Numbers.{is_number, classes}
 use Rattle.coefficients.proofs.Steps.{if_map}
-use Rattle.reduce_port.specs.Rewritings.{tree_of}
+use Rattle.tree_handles.specs.Handed.{tree_of}
 use Rattle.tree_handles.proofs.Fronts.{behind_first, behind_new, front_same, front_at, front_end, front_without, front_after_one}
 use Rattle.tree_handles.proofs.Given.{gives, gives_as, given_handed, given_rest, given_told, represents_handed}
 use Rattle.power_reduce.specs.PowerAnswers.{base_in}

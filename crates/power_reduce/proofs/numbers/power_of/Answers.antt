@@ -1,13 +1,13 @@
 use Rattle.std.proofs.Common.{◌≡◌, pos, ◌≤ℤ◌, ◌<ℤ◌, refl, sym, ap, ◌∙◌, subst, arith, true, false}
 use Rattle.std.proofs.lemmas.Int.{ints}
 use Rattle.calc_terms.specs.Integers.{int_is_zero}
-use Rattle.calc_terms.specs.PlainValues.{PlainValue, exactly}
+use Rattle.calc_measures.specs.PlainValues.{PlainValue, exactly}
 use Rattle.calc_terms.specs.Rat.{value_of}
 use Rattle.coefficients.proofs.Steps.{one_value}
 use Rattle.power_reduce.proofs.RationalPowers.{above, not_above, below, zero_bits, no_zero_bits, opposite, powered_above, powered_below, powered_zero, not_zero, fitting_power, unfit_power, fitting_power_of, unfit_power_of, if_err, at_zero}
 use Rattle.rational128.proofs.LowestTerms.{ratio_parts}
 use Rattle.rational128.proofs.Signed.{told}
-use Rattle.reduce_port.specs.PlainTrees.{IsPlainOverflow}
+use Rattle.calc_measures.specs.PlainTrees.{IsPlainOverflow}
 use Rattle.power_reduce.proofs.numbers.power_of.Goals as goal
 use Rattle.power_reduce.proofs.numbers.power_of.Goals.{Else-n-gt0}
 

@@ -1,8 +1,8 @@
 use Rattle.std.proofs.Common.{◌≡◌, pos, ◌≤ℤ◌, true, refl, sym, ap, ◌∙◌, subst}
 use Rattle.calc_terms.specs.Fractions.{is_zero_fraction}
-use Rattle.calc_terms.specs.PlainValues.{powered}
+use Rattle.calc_measures.specs.PlainValues.{powered}
 use Rattle.calc_terms.specs.Rat.{value_of}
-use Rattle.reduce_port.specs.PlainTrees.{IsPlainOverflow}
+use Rattle.calc_measures.specs.PlainTrees.{IsPlainOverflow}
 use Rattle.tree_handles.proofs.Given.{gives_as, given_told}
 use Rattle.power_reduce.proofs.Powers.{power_is}
 use Rattle.power_reduce.proofs.RationalPowers.{at_most, not_at_most, zero_rational, no_zero_rational, plain_power, powered_undefined, nothing_answer, value_answer, overflow_answer, plain_as, rationals_as}

@@ -1,11 +1,11 @@
 use Rattle.std.proofs.Common.{refl, inl, sym, ap, ◌∙◌}
-use Rattle.calc_terms.specs.Reduced.{is_num_one}
+use Rattle.calc_algebra.specs.Reduced.{is_num_one}
 use Rattle.calc_terms.specs.Trees.{is_mult, mult, more}
 use Rattle.coefficients.proofs.FirstFactors.{first_factor, first_front}
 use Rattle.coefficients.proofs.Places.{over_gives}
 use Rattle.coefficients.proofs.Steps.{expression, gives_without}
 use Rattle.power_reduce.proofs.PartsOf.{led_by_one, led_by_other, first_handed, first_tree, first_seen, gives_at}
-use Rattle.reduce_port.specs.Rewritings.{tree_of}
+use Rattle.tree_handles.specs.Handed.{tree_of}
 use Rattle.tree_handles.specs.Expressions.{children_of}
 use Rattle.tree_handles.proofs.Fronts.{behind_first, behind_new, front_same, front_at, front_end, front_without, front_after_two}
 use Rattle.tree_handles.proofs.Given.{gives_as, given_apart, given_handed, given_rest, given_root, given_told, owned}

@@ -3,7 +3,7 @@ use Rattle.calc_terms.specs.Trees.{Tree, count, is_mult}
 use Rattle.coefficients.proofs.Places.{over_product, over_handed, over_plain}
 use Rattle.coefficients.proofs.Steps.{live, expression, seen, children_at}
 use Rattle.power_reduce.proofs.Raising.{none_raised, part_front, exponent_beside, exponent_tree, part_count, product_behind, product_tree, next_raised, next_kids, last_kids, all_raised, kids_over, raised_last, kids_front}
-use Rattle.reduce_port.specs.Rewritings.{tree_of}
+use Rattle.tree_handles.specs.Handed.{tree_of}
 use Rattle.tree_handles.specs.Expressions.{children_of}
 use Rattle.tree_handles.proofs.Forests.{keeps_none, keeps_after}
 use Rattle.tree_handles.proofs.Fronts.{behind_first, behind_later, behind_new, front_at, front_end, front_without, front_after_two}

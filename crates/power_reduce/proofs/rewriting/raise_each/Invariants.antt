@@ -1,5 +1,5 @@
 use Rattle.power_reduce.proofs.Raising.{IsPartRaised}
-use Rattle.reduce_port.specs.Rewritings.{tree_of}
+use Rattle.tree_handles.specs.Handed.{tree_of}
 use Rattle.tree_handles.specs.Expressions.{children_of}
 use Rattle.tree_handles.specs.Standing.{Stands, forest, KeepsRefusals}
 use Rattle.power_reduce.proofs.rewriting.raise_each.Given as goal

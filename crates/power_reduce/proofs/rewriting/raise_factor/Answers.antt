@@ -3,7 +3,7 @@ use Rattle.coefficients.proofs.Places.{over_product, over_end}
 use Rattle.coefficients.proofs.Steps.{children_in, added_as}
 use Rattle.power_reduce.proofs.InPlace.{apart_last}
 use Rattle.power_reduce.proofs.Raising.{split_at, split_within, factor_taken, taken_front, power_given, product_on, words, kids_of_raised, kids_front}
-use Rattle.reduce_port.specs.Rewritings.{tree_of}
+use Rattle.tree_handles.specs.Handed.{tree_of}
 use Rattle.tree_handles.proofs.Fronts.{front_after}
 use Rattle.tree_handles.proofs.Given.{given_rest, given_root, handed_by_put}
 use Rattle.tree_handles.proofs.Lasts.{ends_as, last_apart, last_held, other_root}

@@ -1,6 +1,6 @@
 use Rattle.std.proofs.Common.{◌≤◌, sym, ap, ◌∙◌, subst}
-use Rattle.calc_terms.specs.Numbers.{is_number}
-use Rattle.calc_terms.specs.Reduced.{is_reduced}
+use Rattle.calc_algebra.specs.Numbers.{is_number}
+use Rattle.calc_algebra.specs.Reduced.{is_reduced}
 use Rattle.calc_terms.specs.Trees.{Tree, count, is_mult}
 use Rattle.coefficients.proofs.Steps.{if_map}
 use Rattle.power_reduce.proofs.PartsOf.{first_handed, first_tree, some_parts, powers_as}

@@ -1,7 +1,7 @@
 use Rattle.std.proofs.Common.{arith, ◌≤◌}
 use Rattle.node_pool.specs.State.{free_of}
-use Rattle.reduce_port.proofs.Room.{released_free}
-use Rattle.reduce_port.specs.Rewritings.{tree_of}
+use Rattle.tree_handles.proofs.Room.{released_free}
+use Rattle.tree_handles.specs.Handed.{tree_of}
 use Rattle.tree_handles.proofs.Fronts.{behind_first, front_same, front_at, front_without, front_after}
 use Rattle.tree_handles.proofs.Given.{owned}
 use Rattle.power_reduce.proofs.Powers.{number_room}

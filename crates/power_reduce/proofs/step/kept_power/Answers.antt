@@ -1,4 +1,4 @@
-use Rattle.reduce_port.specs.Rewritings.{tree_of}
+use Rattle.tree_handles.specs.Handed.{tree_of}
 use Rattle.tree_handles.proofs.Fronts.{behind_first, front_same, front_end, front_without}
 use Rattle.tree_handles.proofs.Given.{gives, represents_handed}
 use Rattle.power_reduce.proofs.Cases.{kept_power_answer}

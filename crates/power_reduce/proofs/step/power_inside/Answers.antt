@@ -1,7 +1,7 @@
 use Rattle.std.proofs.Common.{sym, ap, ◌∙◌}
 use Rattle.calc_terms.specs.Trees.{root_kind}
 use Rattle.coefficients.proofs.Steps.{product_kind}
-use Rattle.reduce_port.specs.Rewritings.{tree_of}
+use Rattle.tree_handles.specs.Handed.{tree_of}
 use Rattle.power_reduce.specs.PowerAnswers.{base_in, exponent_in}
 use Rattle.power_reduce.proofs.Cases.{power_kind, inside_other, other_kept, rational_kept, rational_whole, no_rational_power, no_rational_product}
 use Rattle.power_reduce.proofs.step.power_inside.Goals as goal

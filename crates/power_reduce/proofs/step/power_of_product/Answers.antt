@@ -1,7 +1,7 @@
 use Rattle.std.proofs.Common.{sym, ap, ◌∙◌}
-use Rattle.calc_terms.specs.Numbers.{is_number}
-use Rattle.calc_terms.specs.Reduced.{is_reduced}
-use Rattle.reduce_port.specs.Rewritings.{tree_of}
+use Rattle.calc_algebra.specs.Numbers.{is_number}
+use Rattle.calc_algebra.specs.Reduced.{is_reduced}
+use Rattle.tree_handles.specs.Handed.{tree_of}
 use Rattle.power_reduce.specs.PowerAnswers.{exponent_in}
 use Rattle.power_reduce.proofs.Cases.{inside_other, number_kept, again}
 use Rattle.power_reduce.proofs.step.power_of_product.Goals as goal

@@ -1,10 +1,10 @@
 use Rattle.std.proofs.Common.{refl, sym, ap, ◌∙◌, subst, ◌<◌, ◌^◌}
 use Rattle.std.specs.Prelude.{nat_abs}
 use Rattle.calc_terms.specs.Fractions.{whole_fraction}
-use Rattle.calc_terms.specs.Reduced.{is_whole_num}
+use Rattle.calc_algebra.specs.Reduced.{is_whole_num}
 use Rattle.calc_terms.specs.Trees.{num, is_undef}
 use Rattle.rational128.proofs.Signed.{told}
-use Rattle.reduce_port.specs.Rewritings.{tree_of}
+use Rattle.tree_handles.specs.Handed.{tree_of}
 use Rattle.tree_handles.proofs.Given.{gives_as}
 use Rattle.power_reduce.specs.PowerAnswers.{base_in, exponent_in}
 use Rattle.power_reduce.proofs.Cases.{HasUndef, undef_base, undef_exponent, undef_kept, undef_answer, defined_rationals}

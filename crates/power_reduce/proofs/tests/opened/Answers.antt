@@ -1,6 +1,6 @@
 use Rattle.std.proofs.Common.{ap}
 use Rattle.node_pool.specs.State.{State}
-use Rattle.reduce_port.proofs.Filling.{stands_open}
+use Rattle.tree_handles.proofs.Opened.{stands_open}
 use Rattle.power_reduce.proofs.tests.opened.Goals as goal
 
 pub returns : goal.returns

@@ -1,5 +1,5 @@
 use Rattle.std.proofs.Common.{ap, ◌∙◌}
-use Rattle.calc_terms.specs.Reduced.{is_reduced}
+use Rattle.calc_algebra.specs.Reduced.{is_reduced}
 use Rattle.calc_terms.specs.Trees.{mult, none, more}
 use Rattle.power_reduce.proofs.Leaves.{product_reduced}
 use Rattle.tree_handles.specs.Expressions.{plain}

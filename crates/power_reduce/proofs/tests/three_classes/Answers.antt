@@ -1,6 +1,6 @@
 use Rattle.std.proofs.Common.{◌∙◌, ap}
-use Rattle.calc_terms.specs.Numbers.{is_number}
-use Rattle.calc_terms.proofs.NumberLaws.{number_test}
+use Rattle.calc_algebra.specs.Numbers.{is_number}
+use Rattle.calc_algebra.proofs.NumberLaws.{number_test}
 use Rattle.number_forms.proofs.Pairs.{first_handed, pair_apart, first_told, pair_rest}
 use Rattle.number_forms.proofs.TermTrees.{if_given}
 use Rattle.tree_handles.proofs.Given.{given_handed, given_told}

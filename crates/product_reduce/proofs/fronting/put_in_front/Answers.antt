@@ -1,7 +1,7 @@
 use Rattle.std.proofs.Common.{◌∙◌, ap, sym, arith}
-use Rattle.calc_terms.specs.Reduced.{is_num_one}
+use Rattle.calc_algebra.specs.Reduced.{is_num_one}
 use Rattle.calc_terms.specs.Trees.{is_mult}
-use Rattle.reduce_port.specs.Rewritings.{tree_of}
+use Rattle.tree_handles.specs.Handed.{tree_of}
 use Rattle.tree_handles.proofs.Given.{owned}
 use Rattle.tree_handles.proofs.Lasts.{apart, expression_root, plain_root}
 use Rattle.tree_handles.proofs.Outcomes.{eqb-sym}

@@ -1,6 +1,6 @@
 use Rattle.std.proofs.Common.{◌≡◌, ◌+◌, ◌∙◌, ap, sym, refl, arith}
 use Rattle.number_forms.specs.Sums.{removed}
-use Rattle.calc_terms.specs.Reduced.{is_reduced}
+use Rattle.calc_algebra.specs.Reduced.{is_reduced}
 use Rattle.calc_terms.specs.Trees.{count}
 use Rattle.tree_handles.specs.Expressions.{nth}
 use Rattle.tree_handles.specs.Forest.{arity}

@@ -7,31 +7,31 @@ use Rattle.tree_handles.proofs.Roots.{tree-without}
 use Rattle.product_reduce.proofs.Beside.{beside_other, beside_apart, beside_below, beside_gone, beside_without, beside_tree, beside_tree_below, behind_clear}
 use Rattle.product_reduce.proofs.joining.raise.Goals as goal
 
-pub over_two-requires-clause-first : goal.over_two-requires-clause-first
-over_two-requires-clause-first c = let s = c.in_ok-base.ensures.ok in beside_other s.base s.exponent.handed
+pub node_over_two-requires-clause-first : goal.node_over_two-requires-clause-first
+node_over_two-requires-clause-first c = let s = c.in_ok-base.ensures.ok in beside_other s.base s.exponent.handed
 
-pub over_two-requires-clause-second : goal.over_two-requires-clause-second
-over_two-requires-clause-second c = let s = c.in_ok-base.ensures.ok in beside_other s.base (beside_other s.exponent (handed_beside c.args.factor c.requires.apart c.requires.second))
+pub node_over_two-requires-clause-second : goal.node_over_two-requires-clause-second
+node_over_two-requires-clause-second c = let s = c.in_ok-base.ensures.ok in beside_other s.base (beside_other s.exponent (handed_beside c.args.factor c.requires.apart c.requires.second))
 
-pub over_two-requires-clause-apart : goal.over_two-requires-clause-apart
-over_two-requires-clause-apart c = let s = c.in_ok-base.ensures.ok in beside_apart c.args.exponent s.exponent (handed_beside c.args.factor c.requires.apart c.requires.second).root
+pub node_over_two-requires-clause-apart : goal.node_over_two-requires-clause-apart
+node_over_two-requires-clause-apart c = let s = c.in_ok-base.ensures.ok in beside_apart c.args.exponent s.exponent (handed_beside c.args.factor c.requires.apart c.requires.second).root
 
 pub returns-in_err-sum-clause-front : goal.returns-in_err-sum-clause-front
 returns-in_err-sum-clause-front c =
     let s = c.in_ok-base.ensures.ok in
-    front_after_two (behind_clear s.exponent.clear (front_without behind_first front_same)) (behind_later behind_first) (front_after_one behind_first front_same c.split_factor.ensures.front) c.over_two.ensures.front
+    front_after_two (behind_clear s.exponent.clear (front_without behind_first front_same)) (behind_later behind_first) (front_after_one behind_first front_same c.split_factor.ensures.front) c.node_over_two.ensures.front
 
-pub over_two-requires-2-clause-first : goal.over_two-requires-2-clause-first
-over_two-requires-2-clause-first c =
+pub node_over_two-requires-2-clause-first : goal.node_over_two-requires-2-clause-first
+node_over_two-requires-2-clause-first c =
     let s = c.in_ok-base.ensures.ok in
     let x = handed_beside c.args.factor c.requires.apart c.requires.second in
     given_other c.in_ok-sum.ensures.ok (beside_without c.args.exponent (beside_gone s.base s.exponent) x.root).handed
 
-pub over_two-requires-2-clause-second : goal.over_two-requires-2-clause-second
-over_two-requires-2-clause-second c = given_handed c.in_ok-sum.ensures.ok
+pub node_over_two-requires-2-clause-second : goal.node_over_two-requires-2-clause-second
+node_over_two-requires-2-clause-second c = given_handed c.in_ok-sum.ensures.ok
 
-pub over_two-requires-2-clause-apart : goal.over_two-requires-2-clause-apart
-over_two-requires-2-clause-apart c =
+pub node_over_two-requires-2-clause-apart : goal.node_over_two-requires-2-clause-apart
+node_over_two-requires-2-clause-apart c =
     let s = c.in_ok-base.ensures.ok in
     let x = handed_beside c.args.factor c.requires.apart c.requires.second in
     eqb-sym c.in_ok-sum.sum c.in_ok-base.base (given_apart c.in_ok-sum.ensures.ok (beside_without c.args.exponent (beside_gone s.base s.exponent) x.root).handed)
@@ -41,10 +41,10 @@ returns-in_err-power-clause-front c =
     let s = c.in_ok-base.ensures.ok in
     let start = front_after_one behind_first front_same c.split_factor.ensures.front in
     let own = behind_clear s.exponent.clear (front_without behind_first front_same) in
-    let two = front_after_two own (behind_later behind_first) start c.over_two.ensures.front in
+    let two = front_after_two own (behind_later behind_first) start c.node_over_two.ensures.front in
     let base = behind_clear (beside_below s.base s.exponent) (front_without behind_first front_same) in
     let sum = behind_new c.in_ok-sum.ensures.ok.ends (front_without (behind_later behind_first) (front_without own start)) in
-    front_after_two base sum two c.over_two-2.ensures.front
+    front_after_two base sum two c.node_over_two-2.ensures.front
 
 pub returns-clause-ok : goal.returns-clause-ok
 returns-clause-ok c =
@@ -61,7 +61,7 @@ returns-clause-front c =
     let s = c.in_ok-base.ensures.ok in
     let start = front_after_one behind_first front_same c.split_factor.ensures.front in
     let own = behind_clear s.exponent.clear (front_without behind_first front_same) in
-    let two = front_after_two own (behind_later behind_first) start c.over_two.ensures.front in
+    let two = front_after_two own (behind_later behind_first) start c.node_over_two.ensures.front in
     let base = behind_clear (beside_below s.base s.exponent) (front_without behind_first front_same) in
     let sum = behind_new c.in_ok-sum.ensures.ok.ends (front_without (behind_later behind_first) (front_without own start)) in
-    front_after_two base sum two c.over_two-2.ensures.front
+    front_after_two base sum two c.node_over_two-2.ensures.front

@@ -1,6 +1,6 @@
 use Rattle.std.proofs.Common.{◌≡◌, ◌∙◌, ap, sym, inl, arith}
 use Rattle.tree_handles.specs.Inside.{kids_of}
-use Rattle.calc_terms.specs.Reduced.{is_reduced, is_transparent_power}
+use Rattle.calc_algebra.specs.Reduced.{is_reduced, is_transparent_power}
 use Rattle.tree_handles.specs.Forest.{arity}
 use Rattle.tree_handles.specs.Standing.{forest}
 use Rattle.tree_handles.proofs.Fronts.{front_at}

@@ -1,5 +1,5 @@
 use Rattle.std.proofs.Common.{◌∙◌, ap, refl}
-use Rattle.calc_terms.specs.Reduced.{is_reduced}
+use Rattle.calc_algebra.specs.Reduced.{is_reduced}
 use Rattle.product_reduce.specs.Joining.{exponent_of}
 use Rattle.tree_handles.specs.Standing.{forest}
 use Rattle.tree_handles.proofs.Given.{owned}

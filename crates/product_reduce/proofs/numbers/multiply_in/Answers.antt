@@ -1,5 +1,5 @@
 use Rattle.std.proofs.Common.{◌∙◌, ap}
-use Rattle.calc_terms.specs.Numbers.{is_number}
+use Rattle.calc_algebra.specs.Numbers.{is_number}
 use Rattle.tree_handles.specs.Forest.{kids, without_nth}
 use Rattle.tree_handles.specs.Roots.{root_tree}
 use Rattle.tree_handles.specs.Standing.{forest}

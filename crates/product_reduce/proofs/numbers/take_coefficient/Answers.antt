@@ -1,7 +1,7 @@
 use Rattle.std.proofs.Common.{◌≡◌, ◌+◌, ap, arith}
 use Rattle.number_forms.specs.Sums.{removed}
 use Rattle.calc_terms.specs.Trees.{count}
-use Rattle.reduce_port.specs.Rewritings.{tree_of}
+use Rattle.tree_handles.specs.Handed.{tree_of}
 use Rattle.tree_handles.specs.Standing.{forest}
 use Rattle.tree_handles.proofs.Forests.{keeps_after}
 use Rattle.tree_handles.proofs.Fronts.{behind_first, front_after_two}

@@ -1,5 +1,5 @@
 use Rattle.std.proofs.Common.{◌<◌, ap, ◌∙◌, subst, refl}
-use Rattle.calc_terms.specs.Reduced.{is_reduced, base_of}
+use Rattle.calc_algebra.specs.Reduced.{is_reduced, base_of}
 use Rattle.calc_terms.specs.Trees.{Trees, count}
 use Rattle.node_order.specs.Sorting.{IsSorting}
 use Rattle.tree_handles.specs.Expressions.{nth, plains}

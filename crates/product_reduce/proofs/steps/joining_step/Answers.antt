@@ -1,10 +1,10 @@
 use Rattle.std.proofs.Common.{◌≡◌, ◌≤◌, ◌∙◌, Err, ap, sym, refl, subst, true, false}
-use Rattle.calc_terms.specs.PlainValues.{PlainValue, plain_value}
-use Rattle.calc_terms.specs.Trees.{Trees, mult, count}
+use Rattle.calc_measures.specs.PlainValues.{PlainValue, plain_value}
+use Rattle.calc_terms.specs.Trees.{Trees, mult, count, are_rationals}
 use Rattle.number_forms.specs.Answers.{AnswersRationals}
-use Rattle.reduce_port.specs.Children.{are_reduced, are_rationals}
-use Rattle.reduce_port.specs.PlainTrees.{IsPlainAnswer}
-use Rattle.reduce_port.specs.Rewritings.{tree_of}
+use Rattle.calc_algebra.specs.Reduced.{are_reduced}
+use Rattle.calc_measures.specs.PlainTrees.{IsPlainAnswer}
+use Rattle.tree_handles.specs.Handed.{tree_of}
 use Rattle.tree_handles.specs.Expressions.{children_of}
 use Rattle.tree_handles.specs.Standing.{forest}
 use Rattle.tree_handles.proofs.Fronts.{behind_first, front_after_one}

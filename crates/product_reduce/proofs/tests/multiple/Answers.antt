@@ -1,7 +1,7 @@
 use Rattle.std.proofs.Common.{◌∙◌, ap}
-use Rattle.calc_terms.specs.Numbers.{is_number}
-use Rattle.calc_terms.specs.Reduced.{is_reduced}
-use Rattle.calc_terms.proofs.NumberLaws.{number_words}
+use Rattle.calc_algebra.specs.Numbers.{is_number}
+use Rattle.calc_algebra.specs.Reduced.{is_reduced}
+use Rattle.calc_algebra.proofs.NumberLaws.{number_words}
 use Rattle.coefficients.proofs.Coefficients.{put_reduces}
 use Rattle.tree_handles.specs.Expressions.{plain}
 use Rattle.tree_handles.specs.Roots.{without_root}

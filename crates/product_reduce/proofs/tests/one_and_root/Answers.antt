@@ -1,5 +1,5 @@
 use Rattle.std.proofs.Common.{◌∙◌, ap, pos}
-use Rattle.calc_terms.specs.Numbers.{is_number}
+use Rattle.calc_algebra.specs.Numbers.{is_number}
 use Rattle.calc_terms.specs.Trees.{num, root}
 use Rattle.number_forms.proofs.Pairs.{first_handed, pair_apart, first_told, pair_rest}
 use Rattle.number_forms.proofs.TermTrees.{if_given}

@@ -1,6 +1,6 @@
 use Rattle.std.proofs.Common.{◌∙◌, ap, pos, negsuc, refl}
-use Rattle.calc_terms.specs.Numbers.{is_number}
-use Rattle.calc_terms.specs.Reduced.{is_reduced}
+use Rattle.calc_algebra.specs.Numbers.{is_number}
+use Rattle.calc_algebra.specs.Reduced.{is_reduced}
 use Rattle.calc_terms.specs.Trees.{num, symbol, power, root}
 use Rattle.tree_handles.proofs.Given.{gives_as}
 use Rattle.product_reduce.proofs.Multiplied.{if_ok_map}

@@ -1,6 +1,6 @@
 use Rattle.std.proofs.Common.{◌≡◌, ◌≤◌, true}
 use Rattle.calc_terms.specs.Trees.{count}
-use Rattle.reduce_port.specs.Children.{are_reduced}
+use Rattle.calc_algebra.specs.Reduced.{are_reduced}
 use Rattle.tree_handles.specs.Standing.{Stands, forest}
 use Rattle.product_reduce.specs.Products.{Becomes, factors_in}
 use Rattle.product_reduce.proofs.tests.product.Given as goal

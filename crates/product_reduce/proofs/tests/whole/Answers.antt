@@ -1,6 +1,6 @@
 use Rattle.std.proofs.Common.{◌∙◌, ap, refl}
-use Rattle.calc_terms.specs.Numbers.{is_number}
-use Rattle.calc_terms.proofs.NumberLaws.{number_test}
+use Rattle.calc_algebra.specs.Numbers.{is_number}
+use Rattle.calc_algebra.proofs.NumberLaws.{number_test}
 use Rattle.tree_handles.proofs.Given.{gives_as}
 use Rattle.product_reduce.proofs.tests.whole.Goals as goal
 

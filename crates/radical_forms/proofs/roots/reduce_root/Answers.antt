@@ -4,7 +4,7 @@ use Rattle.calc_terms.specs.Trees.{Tree, num, root, is_num, is_undef, root_kind}
 use Rattle.tree_handles.proofs.Lasts.{expression_root}
 use Rattle.tree_handles.proofs.Fronts.{behind_first, front_same, front_end, front_without}
 use Rattle.tree_handles.proofs.Given.{gives, gives_as, represents_handed}
-use Rattle.reduce_port.specs.Rewritings.{tree_of}
+use Rattle.tree_handles.specs.Handed.{tree_of}
 use Rattle.radical_forms.specs.RootAnswers.{argument_of}
 use Rattle.radical_forms.proofs.Handed.{root_is, has_child, argument_at, undef_by_kind, no_num_by_kind, no_undef_by_kind}
 use Rattle.radical_forms.proofs.RootLaws.{no_argument_answer, other_answer, no_other_wide, answer_as}

@@ -13,7 +13,7 @@ use Rattle.tree_handles.proofs.Fronts.{behind_first, front_same, front_at, front
 use Rattle.tree_handles.proofs.Given.{gives_as, owned}
 use Rattle.rational128.specs.declared.overflow.Overflow.{Overflow}
 use Rattle.radical_forms.specs.Refusals.{NamesProduct}
-use Rattle.reduce_port.proofs.Room.{released_free}
+use Rattle.tree_handles.proofs.Room.{released_free}
 use Rattle.radical_forms.proofs.RootLaws.{zero_answer, positive_answer, negative_answer, not_above_zero, not_above_negative, answer_as, root_as, wide_as, positive_num, negative_num, not_negative_num, not_overflow, is_overflow, named_overflow}
 use Rattle.radical_forms.proofs.roots.root_of_rational.Goals as goal
 use Rattle.radical_forms.proofs.roots.root_of_rational.Goals.{Then-num-lt0, Then-num-eq0, Else-num-eq0}

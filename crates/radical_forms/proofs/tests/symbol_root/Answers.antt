@@ -1,5 +1,5 @@
 use Rattle.std.proofs.Common.{ap, ◌∙◌}
-use Rattle.calc_terms.specs.Reduced.{is_reduced}
+use Rattle.calc_algebra.specs.Reduced.{is_reduced}
 use Rattle.calc_terms.specs.Trees.{Tree, is_root}
 use Rattle.tree_handles.proofs.Given.{given_handed, given_told}
 use Rattle.radical_forms.specs.RootAnswers.{argument_of}

@@ -1,5 +1,5 @@
 use Rattle.std.proofs.Common.{◌∙◌, ap}
-use Rattle.calc_terms.specs.Reduced.{is_reduced}
+use Rattle.calc_algebra.specs.Reduced.{is_reduced}
 use Rattle.calc_terms.specs.Trees.{is_undef}
 use Rattle.tree_handles.proofs.Given.{given_handed, given_told}
 use Rattle.small_faces.proofs.Examples.{if_ok_map, name_reduced}

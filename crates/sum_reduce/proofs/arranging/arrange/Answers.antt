@@ -1,6 +1,6 @@
 use Rattle.std.proofs.Common.{◌≤◌, sym, subst}
-use Rattle.calc_terms.specs.Reduced.{NoneIs}
-use Rattle.calc_terms.specs.PlainValues.{plain_value}
+use Rattle.calc_algebra.specs.Reduced.{NoneIs}
+use Rattle.calc_measures.specs.PlainValues.{plain_value}
 use Rattle.calc_terms.specs.Trees.{Trees, add, count}
 use Rattle.sum_reduce.specs.Arranging.{AnswersFold}
 use Rattle.sum_reduce.proofs.Results.{passed_on}

@@ -1,5 +1,5 @@
 use Rattle.std.proofs.Common.{◌<◌, ◌+◌, ◌^◌, [], ◌∷◌, MatchOption, IfSome}
-use Rattle.calc_terms.specs.Reduced.{NoneIs}
+use Rattle.calc_algebra.specs.Reduced.{NoneIs}
 use Rattle.tree_handles.specs.Handed.{KeepsFront}
 use Rattle.tree_handles.specs.Standing.{Stands, forest, KeepsRefusals}
 use Rattle.sum_reduce.specs.Stages.{IsStage, widths}

@@ -1,5 +1,5 @@
 use Rattle.std.proofs.Common.{◌∙◌, ap, sym}
-use Rattle.calc_terms.specs.Reduced.{is_reduced}
+use Rattle.calc_algebra.specs.Reduced.{is_reduced}
 use Rattle.tree_handles.specs.Standing.{forest}
 use Rattle.sum_reduce.specs.Sums.{terms_in}
 use Rattle.sum_reduce.specs.Terms.{is_loose}

@@ -1,7 +1,6 @@
 use Rattle.std.proofs.Common.{◌≡◌, true, [], ◌∷◌}
-use Rattle.calc_terms.specs.PlainValues.{plain_value}
-use Rattle.calc_terms.specs.Trees.{add}
-use Rattle.reduce_port.specs.Children.{are_rationals}
+use Rattle.calc_measures.specs.PlainValues.{plain_value}
+use Rattle.calc_terms.specs.Trees.{add, are_rationals}
 use Rattle.tree_handles.specs.Handed.{KeepsFront}
 use Rattle.tree_handles.specs.Standing.{Stands, forest, KeepsRefusals}
 use Rattle.sum_reduce.specs.Arranging.{IsArranged, IsFolded}

@@ -1,8 +1,8 @@
 use Rattle.std.proofs.Common.{◌∙◌, ap}
-use Rattle.calc_terms.specs.Numbers.{is_number}
-use Rattle.calc_terms.specs.Reduced.{is_reduced}
+use Rattle.calc_algebra.specs.Numbers.{is_number}
+use Rattle.calc_algebra.specs.Reduced.{is_reduced}
 use Rattle.calc_terms.specs.Trees.{is_undef}
-use Rattle.calc_terms.proofs.NumberLaws.{number_test}
+use Rattle.calc_algebra.proofs.NumberLaws.{number_test}
 use Rattle.coefficients.specs.Coefficients.{coefficient_of}
 use Rattle.coefficients.proofs.Coefficients.{taken}
 use Rattle.tree_handles.specs.Expressions.{nth}

@@ -1,8 +1,7 @@
 use Rattle.std.proofs.Common.{ℕ, ◌<◌, [], ◌∷◌}
 use Rattle.calc_terms.specs.Trees.{Trees, count}
-use Rattle.reduce_port.specs.Rewritings.{tree_of}
+use Rattle.tree_handles.specs.Handed.{tree_of, KeepsFront}
 use Rattle.tree_handles.specs.Expressions.{nth}
-use Rattle.tree_handles.specs.Handed.{KeepsFront}
 use Rattle.tree_handles.specs.Forest.{Forest}
 use Rattle.tree_handles.specs.Standing.{Stands, forest, KeepsRefusals}
 use Rattle.sum_reduce.specs.Joining.{IsJoining}

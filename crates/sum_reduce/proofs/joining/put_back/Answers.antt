@@ -1,5 +1,5 @@
 use Rattle.std.proofs.Common.{◌∙◌, ap, arith}
-use Rattle.calc_terms.specs.Reduced.{is_reduced}
+use Rattle.calc_algebra.specs.Reduced.{is_reduced}
 use Rattle.calc_terms.specs.Trees.{more, none, count}
 use Rattle.coefficients.specs.Coefficients.{with_coefficient}
 use Rattle.tree_handles.specs.Expressions.{inserted}

@@ -1,6 +1,6 @@
 use Rattle.std.proofs.Common.{◌∙◌, ap, arith}
-use Rattle.calc_terms.specs.Numbers.{is_number}
-use Rattle.calc_terms.specs.Reduced.{is_reduced, part_of}
+use Rattle.calc_algebra.specs.Numbers.{is_number}
+use Rattle.calc_algebra.specs.Reduced.{is_reduced, part_of}
 use Rattle.calc_terms.specs.Trees.{more, none, count, is_undef}
 use Rattle.coefficients.specs.Coefficients.{coefficient_of}
 use Rattle.coefficients.proofs.Steps.{children_in}

@@ -1,9 +1,9 @@
 use Rattle.std.proofs.Common.{ap, arith}
-use Rattle.calc_terms.specs.PlainValues.{plain_value}
+use Rattle.calc_measures.specs.PlainValues.{plain_value}
 use Rattle.calc_terms.specs.Trees.{add, more, count}
-use Rattle.calc_terms.proofs.NumberLaws.{number_words}
+use Rattle.calc_algebra.proofs.NumberLaws.{number_words}
 use Rattle.coefficients.proofs.Forms.{number_parts}
-use Rattle.reduce_port.specs.Rewritings.{tree_of}
+use Rattle.tree_handles.specs.Handed.{tree_of}
 use Rattle.tree_handles.specs.Standing.{forest}
 use Rattle.tree_handles.proofs.Forests.{keeps_none, keeps_after}
 use Rattle.tree_handles.proofs.Fronts.{behind_first, front_same, front_after_two}

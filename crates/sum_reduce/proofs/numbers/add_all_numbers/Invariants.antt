@@ -1,11 +1,9 @@
 use Rattle.std.proofs.Common.{◌≡◌, true, [], ◌∷◌}
-use Rattle.calc_terms.specs.Numbers.{is_number}
-use Rattle.calc_terms.specs.PlainValues.{plain_value}
-use Rattle.calc_terms.specs.Reduced.{NoneIs}
-use Rattle.calc_terms.specs.Trees.{add, more, count, is_num}
-use Rattle.reduce_port.specs.Children.{are_rationals}
-use Rattle.reduce_port.specs.Rewritings.{tree_of}
-use Rattle.tree_handles.specs.Handed.{KeepsFront}
+use Rattle.calc_algebra.specs.Numbers.{is_number}
+use Rattle.calc_measures.specs.PlainValues.{plain_value}
+use Rattle.calc_algebra.specs.Reduced.{NoneIs}
+use Rattle.calc_terms.specs.Trees.{add, more, count, is_num, are_rationals}
+use Rattle.tree_handles.specs.Handed.{tree_of, KeepsFront}
 use Rattle.tree_handles.specs.Forest.{Forest}
 use Rattle.tree_handles.specs.Standing.{Stands, forest, KeepsRefusals}
 use Rattle.sum_reduce.specs.Stages.{IsStage}

@@ -1,5 +1,5 @@
 use Rattle.std.proofs.Common.{◌∙◌, ap}
-use Rattle.calc_terms.specs.Numbers.{is_number}
+use Rattle.calc_algebra.specs.Numbers.{is_number}
 use Rattle.tree_handles.proofs.Fronts.{behind_first, behind_later, front_after_two}
 use Rattle.tree_handles.proofs.Given.{given_told}
 use Rattle.tree_handles.proofs.Outcomes.{eqb-sym}

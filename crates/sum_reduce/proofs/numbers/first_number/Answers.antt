@@ -1,5 +1,5 @@
 use Rattle.std.proofs.Common.{ap, ◌∙◌, sym, arith, add-one}
-use Rattle.calc_terms.specs.Numbers.{is_number}
+use Rattle.calc_algebra.specs.Numbers.{is_number}
 use Rattle.tree_handles.specs.Standing.{forest}
 use Rattle.sum_reduce.specs.Sums.{terms_in}
 use Rattle.sum_reduce.proofs.Folds.{none_before_more}

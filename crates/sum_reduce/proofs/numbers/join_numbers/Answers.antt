@@ -1,6 +1,6 @@
 use Rattle.std.proofs.Common.{◌∙◌, ap}
-use Rattle.calc_terms.specs.Numbers.{is_number}
-use Rattle.calc_terms.specs.PlainValues.{plain_value}
+use Rattle.calc_algebra.specs.Numbers.{is_number}
+use Rattle.calc_measures.specs.PlainValues.{plain_value}
 use Rattle.calc_terms.specs.Trees.{add}
 use Rattle.sum_reduce.specs.Arranging.{AnswersFold}
 use Rattle.sum_reduce.proofs.Results.{passed_on}

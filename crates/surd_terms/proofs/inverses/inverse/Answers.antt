@@ -1,6 +1,6 @@
 use Rattle.std.proofs.Common.{pos, ◌∙◌, refl, ap, sym}
 use Rattle.calc_terms.specs.Fractions.{times, inverse as inverse_of_fraction, whole_fraction}
-use Rattle.calc_terms.specs.Surds.{term}
+use Rattle.calc_algebra.specs.Surds.{term}
 use Rattle.surd_terms.specs.Terms.{term_of}
 use Rattle.surd_terms.proofs.Rationals.{whole_not_zero, num_not_zero, fits_times_one}
 use Rattle.surd_terms.proofs.Values.{times_not_zero, inverse_not_zero, inverse_inverts}

@@ -1,7 +1,7 @@
 use Rattle.std.proofs.Common.{◌≡◌, ◌≢◌, ◌∙◌, refl, ap, sym}
 use Rattle.calc_terms.specs.Fractions.{plus, times, negative, inverse as inverse_of_fraction, zero_fraction}
 use Rattle.calc_terms.specs.Rat.{value_of}
-use Rattle.calc_terms.specs.Surds.{term}
+use Rattle.calc_algebra.specs.Surds.{term}
 use Rattle.surd_terms.specs.Inverses.{conjugate_product}
 use Rattle.surd_terms.specs.Terms.{term_of}
 use Rattle.surd_terms.proofs.Rationals.{num_not_zero}

@@ -1,7 +1,7 @@
 use Rattle.std.proofs.Common.{◌≡◌, ◌*◌, refl, ap, sym, ◌∙◌, arith}
 use Rattle.calc_terms.specs.Fractions.{times}
 use Rattle.calc_terms.specs.Rat.{value_of}
-use Rattle.calc_terms.specs.Surds.{Term, term, term_times}
+use Rattle.calc_algebra.specs.Surds.{Term, term, term_times}
 use Rattle.surd_terms.specs.Products.{IsExtracted}
 use Rattle.surd_terms.specs.Terms.{term_of}
 use Rattle.surd_terms.proofs.Rationals.{whole_not_zero}

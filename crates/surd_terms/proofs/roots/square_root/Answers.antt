@@ -4,9 +4,9 @@ use Rattle.std.specs.Int.{w128}
 use Rattle.std.proofs.lemmas.Int.{to_z_pos}
 use Rattle.calc_terms.specs.Fractions.{times, lowest, quotient, whole_fraction, mul_pos}
 use Rattle.calc_terms.specs.Fits.{fraction_fits}
-use Rattle.calc_terms.specs.Meanings.{IsRootOf}
+use Rattle.calc_algebra.specs.Meanings.{IsRootOf}
 use Rattle.calc_terms.specs.Rat.{value_of}
-use Rattle.calc_terms.specs.Surds.{Term, term}
+use Rattle.calc_algebra.specs.Surds.{Term, term}
 use Rattle.rational128.proofs.Signed.{told}
 use Rattle.surd_terms.specs.Terms.{term_of}
 use Rattle.surd_terms.proofs.Extraction.{positive_abs, IsSplit, split_root, root_of, positive_is, quotient_not_zero}

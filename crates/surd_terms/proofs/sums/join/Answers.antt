@@ -1,10 +1,10 @@
 use Rattle.std.proofs.Common.{◌≡◌, ◌*◌, pos, true, refl, sym, ◌∙◌, subst}
 use Rattle.std.specs.Int.{IsGcd}
-use Rattle.calc_terms.specs.Clean.{IsClean}
+use Rattle.calc_algebra.specs.Clean.{IsClean}
 use Rattle.calc_terms.specs.Fractions.{plus, times, whole_fraction}
 use Rattle.calc_terms.specs.Rat.{value_of}
-use Rattle.calc_terms.specs.SquareClasses.{are_alike}
-use Rattle.calc_terms.specs.Surds.{term}
+use Rattle.calc_algebra.specs.SquareClasses.{are_alike}
+use Rattle.calc_algebra.specs.Surds.{term}
 use Rattle.square_parts.proofs.CleanLaws.{clean_part}
 use Rattle.surd_terms.specs.Sums.{IsSum}
 use Rattle.surd_terms.specs.Terms.{term_of}

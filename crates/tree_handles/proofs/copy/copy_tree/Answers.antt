@@ -2,7 +2,7 @@ use Rattle.std.proofs.Common.{◌≡◌, ℕ, ap, sym, ◌∙◌, true, false, B
 use Rattle.calc_terms.specs.declared.leaf.Header.{Header}
 use Rattle.node_pool.specs.State.{free_of}
 use Rattle.tree_handles.proofs.Copying.{tree_here, copy_done, copy_given, fits_iff}
-use Rattle.tree_handles.proofs.Forests.{is_refused, stands_refused}
+use Rattle.tree_handles.proofs.Forests.{is_refused, not_within, stands_refused}
 use Rattle.tree_handles.proofs.Parts.{live_node}
 use Rattle.tree_handles.proofs.copy.copy_tree.Goals as goal
 
@@ -35,7 +35,7 @@ pub returns-in-Ok-clause-stands : goal.returns-in-Ok-clause-stands
 returns-in-Ok-clause-stands c = (copy_done c.args.source c.locate-from.result c.behind-end.result c.used-place.result c.args.pool.now c.ask.new.self c.copy_nodes.new.pool c.requires.stands (tree_here c.args.source c.locate-from.result c.behind-end.result c.args.pool.now c.requires.stands c.requires.live c.locate-from.ensures.value c.behind-end.ensures.boundary c.behind-end.ensures.rest) c.in-Ok.ensures.ok c.used-place.ensures.value c.copy_nodes.ensures).stands c.header.ensures.pool
 
 pub returns-in-Err-clause-full : goal.returns-in-Err-clause-full
-returns-in-Err-clause-full c = is_refused _ c.args.pool.now c.ask.new.self c.in-Err.full (c.in-Err.ensures.full ∙ ap (λ (n : ℕ). record { needed = n; free = free_of c.args.pool.now }) (tree_here c.args.source c.locate-from.result c.behind-end.result c.args.pool.now c.requires.stands c.requires.live c.locate-from.ensures.value c.behind-end.ensures.boundary c.behind-end.ensures.rest).size) c.in-Err.ensures.counted
+returns-in-Err-clause-full c = is_refused _ c.args.pool.now c.ask.new.self c.in-Err.full (c.in-Err.ensures.full ∙ ap (λ (n : ℕ). record { needed = n; free = free_of c.args.pool.now }) (tree_here c.args.source c.locate-from.result c.behind-end.result c.args.pool.now c.requires.stands c.requires.live c.locate-from.ensures.value c.behind-end.ensures.boundary c.behind-end.ensures.rest).size) c.in-Err.ensures.counted (not_within (fits_iff (◌≡◌ {A = Bool} false true) _ _ (free_of c.args.pool.now) (tree_here c.args.source c.locate-from.result c.behind-end.result c.args.pool.now c.requires.stands c.requires.live c.locate-from.ensures.value c.behind-end.ensures.boundary c.behind-end.ensures.rest).size c.in-Err.ensures.exactly))
 
 pub returns-in-Err-clause-exactly : goal.returns-in-Err-clause-exactly
 returns-in-Err-clause-exactly c = fits_iff (◌≡◌ {A = Bool} false true) _ _ (free_of c.args.pool.now) (tree_here c.args.source c.locate-from.result c.behind-end.result c.args.pool.now c.requires.stands c.requires.live c.locate-from.ensures.value c.behind-end.ensures.boundary c.behind-end.ensures.rest).size c.in-Err.ensures.exactly

@@ -6,7 +6,7 @@ use Rattle.tree_handles.specs.Forest.{empty, join, one_tree}
 use Rattle.tree_handles.specs.Handed.{Ends}
 use Rattle.tree_handles.specs.Inside.{holds}
 use Rattle.tree_handles.specs.Standing.{Stands, forest, IsCounted}
-use Rattle.tree_handles.proofs.Forests.{placed, stands, has-flatten, all-join, keeps, is_refused, stands_refused}
+use Rattle.tree_handles.proofs.Forests.{placed, stands, has-flatten, all-join, keeps, is_refused, not_within, stands_refused}
 use Rattle.tree_handles.proofs.Fronts.{front_same, front_end, front_at}
 use Rattle.tree_handles.proofs.Roots.{no_root}
 use Rattle.tree_handles.proofs.handle.place.Goals as goal
@@ -44,7 +44,7 @@ pub returns-in-Ok-clause-stands : goal.returns-in-Ok-clause-stands
 returns-in-Ok-clause-stands c = (all c).1
 
 pub returns-in-Err-clause-full : goal.returns-in-Err-clause-full
-returns-in-Err-clause-full c = is_refused _ c.args.pool.now c.place.new.self c.in-Err.full c.in-Err.ensures.full c.in-Err.ensures.counted
+returns-in-Err-clause-full c = is_refused _ c.args.pool.now c.place.new.self c.in-Err.full c.in-Err.ensures.full c.in-Err.ensures.counted (not_within c.in-Err.ensures.exactly)
 
 pub returns-in-Err-clause-stands : goal.returns-in-Err-clause-stands
 returns-in-Err-clause-stands c = stands_refused c.args.pool.now c.place.new.self c.in-Err.full c.in-Err.ensures.counted c.place.ensures.pool c.requires.stands

@@ -1,7 +1,7 @@
 use Rattle.std.specs.Prelude.{◌≡◌, ◌<◌, ◌≤◌, length}
 use Rattle.std.proofs.Common.{arith}
 use Rattle.calc_terms.specs.Trees.{Tree}
-use Rattle.calc_terms.specs.Grammar.{IsSum}
+use Rattle.calc_language.specs.Grammar.{IsSum}
 use Rattle.calc_tokens.specs.Tokens.{token_of}
 use Rattle.calc_parser.specs.Automaton.{run, start}
 use Rattle.calc_parser.specs.Reader.{tokens_in, token_in, nodes_in, state_in}

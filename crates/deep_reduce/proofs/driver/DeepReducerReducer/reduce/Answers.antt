@@ -1,6 +1,6 @@
 use Rattle.std.proofs.Common.{refl}
 use Rattle.breakers.specs.Watch.{states}
-use Rattle.reduce_port.specs.Rewritings.{tree_of}
+use Rattle.tree_handles.specs.Handed.{tree_of}
 use Rattle.coefficients.proofs.Steps.{if_map}
 use Rattle.tree_handles.proofs.Given.{gives_as, given_told}
 use Rattle.deep_reduce.proofs.Port.{if_full, if_overflow, if_interrupted, counts, rose}

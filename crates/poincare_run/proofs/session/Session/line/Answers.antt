@@ -1,5 +1,5 @@
 use Rattle.std.proofs.Common.{◌≡◌, ◌∙◌, ◌++◌, ap, sym, subst, arith}
-use Rattle.calc_terms.specs.Texts.{text, IsWritable}
+use Rattle.calc_language.specs.Texts.{text, IsWritable}
 use Rattle.line_text.specs.Content.{Content, spare_of}
 use Rattle.tree_handles.specs.Expressions.{plain}
 use Rattle.tree_handles.specs.Inside.{tree_at}

@@ -1,15 +1,15 @@
 use Rattle.std.proofs.Common.{ap, sym, subst, ◌∙◌, arith}
 use Rattle.breakers.specs.Breakers.{CalmChecks}
 use Rattle.breakers.specs.Watch.{states}
-use Rattle.calc_terms.specs.PlainValues.{plain_value}
+use Rattle.calc_measures.specs.PlainValues.{plain_value}
 use Rattle.calc_terms.specs.Trees.{Tree}
 use Rattle.reduce_port.proofs.Checks.{one_calm, calm_up_to, trips_at_once, calm_raised_none}
 use Rattle.reduce_port.proofs.Faults.{interrupted}
 use Rattle.reduce_port.proofs.Leaves.{leaf_of, one_node}
-use Rattle.reduce_port.proofs.Rewritings.{Rewrites-refl, reduces}
+use Rattle.calc_algebra.proofs.Rewritings.{Rewrites-refl, reduces}
 use Rattle.reduce_port.specs.EasyTrees.{Evaluates}
-use Rattle.reduce_port.specs.PlainTrees.{IsPlainAnswer}
-use Rattle.reduce_port.specs.Rewritings.{tree_of}
+use Rattle.calc_measures.specs.PlainTrees.{IsPlainAnswer}
+use Rattle.tree_handles.specs.Handed.{tree_of}
 use Rattle.tree_handles.proofs.Fronts.{behind_first, front_same, front_end, front_without, front_after}
 use Rattle.tree_handles.proofs.Given.{gives, represents_handed}
 use Rattle.tree_handles.proofs.Lasts.{last_tree}

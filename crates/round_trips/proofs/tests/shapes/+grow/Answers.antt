@@ -1,7 +1,7 @@
 use Rattle.std.proofs.Common.{◌≡◌, ◌∙◌, true, sym, subst}
 use Rattle.calc_terms.specs.declared.kind.Kind.{Kind}
 use Rattle.calc_terms.specs.declared.kind.Kind.TheVariants as kind
-use Rattle.calc_terms.specs.Texts.{IsWritable}
+use Rattle.calc_language.specs.Texts.{IsWritable}
 use Rattle.calc_terms.specs.Trees.{Tree, none, more}
 use Rattle.tree_handles.specs.Expressions.{plain, compound, takes_kind}
 use Rattle.tree_handles.specs.Forest.{Forest}

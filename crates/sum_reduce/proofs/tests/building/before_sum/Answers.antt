@@ -1,6 +1,6 @@
 use Rattle.std.proofs.Common.{◌∙◌, ap, refl, sym, inl}
-use Rattle.calc_terms.specs.Reduced.{is_reduced}
-use Rattle.calc_terms.proofs.NumberLaws.{number_words}
+use Rattle.calc_algebra.specs.Reduced.{is_reduced}
+use Rattle.calc_algebra.proofs.NumberLaws.{number_words}
 use Rattle.coefficients.proofs.Coefficients.{put_reduces}
 use Rattle.tree_handles.specs.Roots.{without_root}
 use Rattle.tree_handles.proofs.Given.{gives_as, owned, handed_beside, handed_at}

@@ -1,5 +1,5 @@
 use Rattle.std.proofs.Common.{◌∙◌, ap}
-use Rattle.calc_terms.specs.Reduced.{is_reduced}
+use Rattle.calc_algebra.specs.Reduced.{is_reduced}
 use Rattle.number_forms.proofs.SumChanges.{same_plain, read_expression}
 use Rattle.sum_reduce.specs.Terms.{is_loose}
 use Rattle.sum_reduce.proofs.tests.building.is_sum.Goals as goal

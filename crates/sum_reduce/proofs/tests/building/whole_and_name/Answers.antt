@@ -3,7 +3,7 @@ use Rattle.std.specs.Prelude.{◌≤◌}
 use Rattle.std.proofs.lemmas.Bool.{and_from}
 use Rattle.calc_terms.specs.Trees.{Tree, count, is_add}
 use Rattle.number_forms.proofs.Pairs.{first_handed, pair_apart, first_told, pair_rest}
-use Rattle.reduce_port.specs.Children.{are_reduced}
+use Rattle.calc_algebra.specs.Reduced.{are_reduced}
 use Rattle.tree_handles.specs.Expressions.{children_of}
 use Rattle.tree_handles.proofs.Given.{gives_as, given_handed, given_told, given_rest}
 use Rattle.sum_reduce.proofs.Results.{if_ok_map}

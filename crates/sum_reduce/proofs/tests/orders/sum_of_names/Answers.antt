@@ -1,7 +1,7 @@
 use Rattle.std.proofs.Common.{◌∙◌, ap, refl, arith}
 use Rattle.calc_terms.specs.Trees.{count}
-use Rattle.reduce_port.specs.Children.{are_reduced}
-use Rattle.reduce_port.specs.Rewritings.{tree_of}
+use Rattle.calc_algebra.specs.Reduced.{are_reduced}
+use Rattle.tree_handles.specs.Handed.{tree_of}
 use Rattle.tree_handles.specs.Standing.{forest}
 use Rattle.tree_handles.proofs.Given.{given_root, given_told, given_rest}
 use Rattle.tree_handles.proofs.Roots.{root_held}

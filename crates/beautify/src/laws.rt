@@ -1,0 +1,20 @@
+//! Laws of faces, each the contract of a function without a body.
+
+ghost use Rattle.std.specs.Prelude.{◌≡◌, false, true};
+ghost use Rattle.calc_terms.specs.Trees.{Tree, is_undef};
+ghost use Rattle.calc_algebra.specs.Surds.{Surd};
+ghost use Rattle.calc_algebra.specs.Meanings.{Assignment, Means};
+ghost use Rattle.calc_language.specs.Reads.{Reads};
+ghost use Rattle.calc_language.specs.Texts.{text as text_of, HasNames};
+ghost use Rattle.calc_language.specs.Faces.{face};
+ghost use Rattle.calc_algebra.specs.Reduced.{is_reduced};
+
+/// The face of a reduced tree keeps each of its meanings.
+pub fn face_keeps_meanings()
+    ensures { (t : Tree) (f : Assignment) (v : Surd) → is_reduced t ≡ true → Means t f v → Means (face t) f v }
+{}
+
+/// The text of its face reads as the face, where the symbols in it are names.
+pub fn face_text_reads()
+    ensures { (t : Tree) → is_reduced t ≡ true → is_undef t ≡ false → HasNames t → Reads (text_of (face t)) (face t) }
+{}

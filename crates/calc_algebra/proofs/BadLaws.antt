@@ -1,0 +1,88 @@
+-- A Bad tree has no value, and an Easy tree has one or is Bad.
+use Rattle.std.proofs.Common.{◌≡◌, ℕ, zero, suc, ◌⊎◌, ℤ, pos, negsuc, [], true, ap, ◌∙◌, arith}
+use Rattle.std.specs.Prelude.{◌≤ℤ◌}
+use Rattle.std.proofs.lemmas.Int.{ints}
+use Rattle.calc_terms.specs.Integers.{int_is_negative}
+use Rattle.calc_terms.specs.Fractions.{zero_fraction, one_fraction, whole_fraction, lowest}
+use Rattle.calc_terms.specs.Gcd.{gcd}
+use Rattle.calc_terms.specs.Trees.{Tree, undef, add, mult, power, root, neg, sub, div, Trees, none, more, IsPart, itself, in_add, in_mult, in_base, in_exponent, in_root, in_neg, in_left, in_right, in_dividend, in_divisor, IsPartOf, first, later}
+use Rattle.calc_algebra.specs.Surds.{Surd, surd_one}
+use Rattle.calc_algebra.specs.SquareClasses.{Inverts}
+use Rattle.calc_algebra.specs.Meanings.{MeansSum, MeansProduct, IsWholePower, IsRootOf, IsAssignment}
+use Rattle.calc_algebra.specs.BadAndEasy.{HasValue, IsBadNode, IsBad, IsEasy}
+use Rattle.calc_algebra.proofs.SurdLaws.{Agree, Agree-Same, Agree-sym, Agree-trans, Agree-eq, Agree-surd_times_right, surd_times-nil}
+use Rattle.calc_algebra.proofs.SquareClassLaws.{Same-Agree}
+use Rattle.calc_algebra.proofs.MeaningLaws.{one_meaning, surd_of_one, whole_one, class_coefficient-surd_of}
+
+-- a value of a tree comes from values of its parts
+Valued : Tree → Type 0
+Valued t = (v : Surd) × HasValue t v
+
+mutual
+  unfolding Valued
+
+  part_valued : (p t : Tree) → IsPart p t → (v : Surd) → HasValue t v → Valued p
+  part_valued p t itself v m = (v, m)
+  part_valued p (add ts) (in_add h) v (w, m, e) = sum_part p ts h w m
+  part_valued p (mult ts) (in_mult h) v (w, m, e) = product_part p ts h w m
+  part_valued p (power b e) (in_base h) v (w, x, m, n, i) = part_valued p b h w m
+  part_valued p (power b e) (in_exponent h) v (w, x, m, n, i) = part_valued p e h x n
+  part_valued p (root a) (in_root h) v (x, m, i) = part_valued p a h x m
+  part_valued p (neg a) (in_neg h) v (w, m, e) = part_valued p a h w m
+  part_valued p (sub a b) (in_left h) v (w, u, m, n, e) = part_valued p a h w m
+  part_valued p (sub a b) (in_right h) v (w, u, m, n, e) = part_valued p b h u n
+  part_valued p (div a b) (in_dividend h) v (w, u, y, m, n, i, e) = part_valued p a h w m
+  part_valued p (div a b) (in_divisor h) v (w, u, y, m, n, i, e) = part_valued p b h u n
+
+  sum_part : (p : Tree) (ts : Trees) → IsPartOf p ts → (v : Surd) → MeansSum ts [] v → Valued p
+  sum_part p none h v m = elim h [ ]
+  sum_part p (more t ts) (first h) v (a, b, m, n, e) = part_valued p t h a m
+  sum_part p (more t ts) (later h) v (a, b, m, n, e) = sum_part p ts h b n
+
+  product_part : (p : Tree) (ts : Trees) → IsPartOf p ts → (v : Surd) → MeansProduct ts [] v → Valued p
+  product_part p none h v m = elim h [ ]
+  product_part p (more t ts) (first h) v (a, b, m, n, e) = part_valued p t h a m
+  product_part p (more t ts) (later h) v (a, b, m, n, e) = product_part p ts h b n
+
+empty_once : IsAssignment []
+empty_once = tt
+
+one_value : (t : Tree) (v w : Surd) → HasValue t v → HasValue t w → Agree v w
+one_value t v w m n = one_meaning [] empty_once t v w m n
+
+zero_is_not_one : zero_fraction ≡ one_fraction → ⊥
+unfolding zero_fraction one_fraction lowest gcd
+zero_is_not_one e = let f : pos 0 ≡ pos 1 = ap (λ q. q.num) e in cc
+
+-- zero has no inverse
+no_inverse : (y w : Surd) → Agree w [] → Inverts y w → ⊥
+no_inverse y w z i =
+    let h : Agree [] surd_one = Agree-trans (Agree-sym (Agree-trans (Agree-surd_times_right y z) (Agree-eq (surd_times-nil y)))) (Same-Agree i) in
+    zero_is_not_one (h.at 1 ∙ class_coefficient-surd_of one_fraction)
+
+no_power : (k : ℤ) (w v : Surd) → Agree w [] → k ≤ℤ pos 0 → IsWholePower k w v → ⊥
+no_power (pos zero) w v z l (h, e) = h (Agree-Same z)
+no_power (pos (suc n)) w v z l h = absurd (omega (arith, ints))
+no_power (negsuc n) w v z l (y, i, e) = no_inverse y w z i
+
+no_root : (z : ℤ) (d : ℕ) (v : Surd) → int_is_negative z ≡ true → IsRootOf z d v → ⊥
+no_root (pos n) d v h i = cc
+no_root (negsuc n) d v h i = i
+
+bad_node : (p : Tree) → IsBadNode p → (v : Surd) → HasValue p v → ⊥
+bad_node undef h v m = m
+bad_node (div a b) z v (w, u, y, m, n, i, e) = no_inverse y u (one_value b u [] n z) i
+bad_node (power b e) (z, k, l, g) v (w, x, m, n, (k', s, i)) =
+    let same : k' ≡ k = whole_one k' k (surd_of_one (whole_fraction k') (whole_fraction k) (Agree-trans (Agree-sym (Same-Agree s)) (one_value e x _ n g))) in
+    no_power k w v (one_value b w [] m z) l (rw same at i)
+bad_node (root a) (q, g, n) v (x, m, (q', s, i)) =
+    let same : q' ≡ q = surd_of_one q' q (Agree-trans (Agree-sym (Same-Agree s)) (one_value a x _ m n)) in
+    no_root q.num q.den v g (rw same at i)
+bad_node _ h v m = h
+
+pub bad_has_no_value : (t : Tree) (v : Surd) → IsBad t → HasValue t v → ⊥
+unfolding Valued
+bad_has_no_value t v (p, h, b) m = let (w, n) = part_valued p t h v m in bad_node p b w n
+
+pub easy_decided : (t : Tree) → IsEasy t → IsBad t ⊎ ((v : Surd) × HasValue t v)
+easy_decided t e = e.decided t itself

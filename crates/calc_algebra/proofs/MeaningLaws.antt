@@ -1,0 +1,117 @@
+-- A meaning is closed under sameness, and unique up to it.
+use Rattle.std.specs.Prelude.{ℕ, zero, suc, ◌≡◌, ℤ, pos, negsuc, List, [], ◌∷◌, Contains, ◌⊎◌, ◌*ℤ◌}
+use Rattle.std.proofs.Common.{inl, inr, subst, sym, ap, ◌∙◌, arith}
+use Rattle.std.proofs.lemmas.List.{get_or-map, length-map}
+use Rattle.calc_terms.specs.FractionLaws.{times_comm, one_times, zero_plus}
+use Rattle.calc_terms.specs.Fractions.{Fraction, lowest, zero_fraction, one_fraction, plus_comm, lowest_cross, den_pos, whole_fraction, minus_one_fraction}
+use Rattle.calc_terms.specs.Integers.{cancel_pos}
+use Rattle.calc_algebra.specs.Meanings.{Gives, Binding, bound_names, Assignment, IsAssignment, Means, MeansSum, MeansProduct, IsWholePower, IsRootOf}
+use Rattle.calc_algebra.specs.SquareClasses.{Same, Inverts, class_coefficient}
+use Rattle.calc_algebra.specs.SquareRoots.{square_root}
+use Rattle.calc_algebra.specs.Surds.{Surd, surd_one, surd_of}
+use Rattle.calc_terms.specs.Trees.{Tree, num, symbol, undef, add, mult, power, root, neg, sub, div, Trees, none, more}
+use Rattle.calc_algebra.proofs.SquareClassLaws.{Same-trans, Same-Agree}
+use Rattle.calc_algebra.proofs.SurdLaws.{Agree, Agree-refl, Agree-sym, Agree-trans, Agree-eq, Agree-append, Agree-surd_scale, Agree-surd_times, Agree-surd_times_right, Agree-surd_power, one_inverse}
+
+pub Same-sym : {v w : Surd} → Same v w → Same w v
+Same-sym h = record { of_first = λ s c. sym (h.of_second s c); of_second = λ s c. sym (h.of_first s c) }
+
+power_same : (n : ℤ) (w v u : Surd) → IsWholePower n w v → Same v u → IsWholePower n w u
+power_same (pos zero) w v u (h, k) e = (h, Same-trans (Same-sym e) k)
+power_same (pos (suc n)) w v u h e = Same-trans (Same-sym e) h
+power_same (negsuc n) w v u (y, h, k) e = (y, h, Same-trans (Same-sym e) k)
+
+root_same : (p : ℤ) (q : ℕ) (v u : Surd) → IsRootOf p q v → Same v u → IsRootOf p q u
+root_same (pos zero) q v u h e = Same-trans (Same-sym e) h
+root_same (pos (suc p)) q v u h e = Same-trans (Same-sym e) h
+root_same (negsuc p) q v u h e = h
+
+pub Means-Same : (t : Tree) (f : Assignment) (v u : Surd) → Means t f v → Same v u → Means t f u
+Means-Same (num q) f v u h e = Same-trans (Same-sym e) h
+Means-Same (symbol x) f v u (q, m, h) e = (q, m, Same-trans (Same-sym e) h)
+Means-Same undef f v u h e = h
+Means-Same (add ts) f v u (w, m, h) e = (w, m, Same-trans (Same-sym e) h)
+Means-Same (mult ts) f v u (w, m, h) e = (w, m, Same-trans (Same-sym e) h)
+Means-Same (neg a) f v u (w, m, h) e = (w, m, Same-trans (Same-sym e) h)
+Means-Same (sub a b) f v u (w, x, m, n, h) e = (w, x, m, n, Same-trans (Same-sym e) h)
+Means-Same (div a b) f v u (w, x, y, m, n, i, h) e = (w, x, y, m, n, i, Same-trans (Same-sym e) h)
+Means-Same (power b p) f v u (w, x, m, k, (n, i, h)) e = (w, x, m, k, (n, i, power_same n w v u h e))
+Means-Same (root a) f v u (x, m, (q, i, h)) e = (x, m, (q, i, root_same q.num q.den v u h e))
+
+pub class_coefficient-surd_of : (q : Fraction) → class_coefficient (surd_of q) 1 ≡ q
+unfolding square_root one_fraction
+class_coefficient-surd_of q = plus_comm _ zero_fraction ∙ zero_plus _ ∙ times_comm q (lowest (pos 1) 1) ∙ one_times q
+
+pub surd_of_one : (p q : Fraction) → Agree (surd_of p) (surd_of q) → p ≡ q
+surd_of_one p q h = sym (class_coefficient-surd_of p) ∙ h.at 1 ∙ class_coefficient-surd_of q
+
+pub whole_one : (m n : ℤ) → whole_fraction m ≡ whole_fraction n → m ≡ n
+whole_one m n e = cancel_pos m n (whole_fraction m).den (den_pos (whole_fraction m)) (sym (lowest_cross m 1 (omega arith)) ∙ ap (λ x. x.num *ℤ pos 1) e ∙ lowest_cross n 1 (omega arith) ∙ ap (λ x. n *ℤ pos x.den) (sym e))
+
+join : {v u w x : Surd} → Same v w → Same u x → Agree w x → Agree v u
+join a b c = Agree-trans (Same-Agree a) (Agree-trans c (Agree-sym (Same-Agree b)))
+
+one_inverse' : (y x w u : Surd) → Inverts y w → Inverts x u → Agree w u → Agree y x
+one_inverse' y x w u a b c = one_inverse y x w (Same-Agree a) (Agree-trans (Agree-surd_times_right x c) (Same-Agree b))
+
+one_power : (n : ℤ) (w x v u : Surd) → Agree w x → IsWholePower n w v → IsWholePower n x u → Agree v u
+one_power (pos zero) w x v u a (h, k) (h', k') = join k k' (Agree-refl surd_one)
+one_power (pos (suc n)) w x v u a h k = join h k (Agree-surd_power (suc n) a)
+one_power (negsuc n) w x v u a (y, i, h) (y', i', h') = join h h' (Agree-surd_power (suc n) (one_inverse' y y' w x i i' a))
+
+one_root : (p : ℤ) (q : ℕ) (v u : Surd) → IsRootOf p q v → IsRootOf p q u → Agree v u
+one_root (pos zero) q v u h k = join h k (Agree-refl [])
+one_root (pos (suc p)) q v u h k = join h k (Agree-refl _)
+one_root (negsuc p) q v u h k = absurd h
+
+-- one element is the first or is contained in the rest
+at_front : {X : Type 0} (x : X) (xs : List X) (z : X) → Contains (x ∷ xs) z → (x ≡ z) ⊎ Contains xs z
+at_front x xs z (zero, l, e) = inl e
+at_front x xs z (suc k, l, e) = inr (k, omega arith, e)
+
+name_bound : (f : Assignment) (b : Binding) → Contains f b → Contains (bound_names f) b.name
+name_bound f b (k, l, e) = (k, rw length-map l, get_or-map (λ b. b.name) f k b b.name l ∙ ap (λ b. b.name) e)
+
+-- an assignment gives a name at most one value
+pub one_value : (f : Assignment) → IsAssignment f → (x : List ℕ) (p q : Fraction) → Gives f x p → Gives f x q → p ≡ q
+one_value [] once x p q m n = absurd (none_in m)
+  where
+    none_in : {X : Type 0} {x : X} → Contains [] x → ⊥
+    none_in (k, l, e) = absurd (omega arith)
+one_value (b ∷ f) (new, once) x p q m n = by (λ m' n'. one_value f once x p q m' n') (at_front b f _ m) (at_front b f _ n)
+  where
+    bind : Fraction → Binding
+    bind v = record { name = x; value = v }
+
+    by : (Contains f (bind p) → Contains f (bind q) → p ≡ q) → (b ≡ bind p) ⊎ Contains f (bind p) → (b ≡ bind q) ⊎ Contains f (bind q) → p ≡ q
+    by go (inl e) (inl g) = ap (λ b. b.value) (sym e ∙ g)
+    by go (inl e) (inr n') = absurd (new (subst (λ y. Contains (bound_names f) y) (ap (λ b. b.name) (sym e)) (name_bound f (bind q) n')))
+    by go (inr m') (inl g) = absurd (new (subst (λ y. Contains (bound_names f) y) (ap (λ b. b.name) (sym g)) (name_bound f (bind p) m')))
+    by go (inr m') (inr n') = go m' n'
+
+module _ (f : Assignment) (once : IsAssignment f) where
+  mutual
+    pub one_meaning : (t : Tree) (v u : Surd) → Means t f v → Means t f u → Agree v u
+    one_meaning (num q) v u h k = join h k (Agree-refl (surd_of q))
+    one_meaning (symbol x) v u (p, m, h) (q, n, k) = join h k (Agree-eq (ap surd_of (one_value f once x p q m n)))
+    one_meaning undef v u h k = absurd h
+    one_meaning (add ts) v u (w, m, h) (x, n, k) = join h k (one_sum ts w x m n)
+    one_meaning (mult ts) v u (w, m, h) (x, n, k) = join h k (one_product ts w x m n)
+    one_meaning (neg a) v u (w, m, h) (x, n, k) = join h k (Agree-surd_scale minus_one_fraction (one_meaning a w x m n))
+    one_meaning (sub a b) v u (w, y, m, n, h) (w', y', m', n', k) = join h k (Agree-append (one_meaning a w w' m m') (Agree-surd_scale minus_one_fraction (one_meaning b y y' n n')))
+    one_meaning (div a b) v u (w, x, y, m, n, i, h) (w', x', y', m', n', i', k) = join h k (Agree-surd_times (one_meaning a w w' m m') (one_inverse' y y' x x' i i' (one_meaning b x x' n n')))
+    one_meaning (power b e) v u (w, x, mb, me, (n, i, h)) (w', x', mb', me', (n', i', h')) =
+        let s : Agree (surd_of (whole_fraction n)) (surd_of (whole_fraction n')) = Agree-trans (Agree-sym (Same-Agree i)) (Agree-trans (one_meaning e x x' me me') (Same-Agree i')) in
+        let z : n' ≡ n = sym (whole_one n n' (surd_of_one (whole_fraction n) (whole_fraction n') s)) in
+        one_power n w w' v u (one_meaning b w w' mb mb') h (rw z at h')
+    one_meaning (root a) v u (x, m, (q, i, h)) (x', m', (q', i', h')) =
+        let z : q' ≡ q = sym (surd_of_one q q' (Agree-trans (Agree-sym (Same-Agree i)) (Agree-trans (one_meaning a x x' m m') (Same-Agree i')))) in
+        one_root q.num q.den v u h (rw z at h')
+
+    pub one_sum : (ts : Trees) (v u : Surd) → MeansSum ts f v → MeansSum ts f u → Agree v u
+    one_sum none v u h k = Agree-eq (h ∙ sym k)
+    one_sum (more t ts) v u (a, b, m, n, e) (a', b', m', n', e') = Agree-trans (Agree-eq e) (Agree-trans (Agree-append (one_meaning t a a' m m') (one_sum ts b b' n n')) (Agree-eq (sym e')))
+
+    pub one_product : (ts : Trees) (v u : Surd) → MeansProduct ts f v → MeansProduct ts f u → Agree v u
+    one_product none v u h k = Agree-eq (h ∙ sym k)
+    one_product (more t ts) v u (a, b, m, n, e) (a', b', m', n', e') = Agree-trans (Agree-eq e) (Agree-trans (Agree-surd_times (one_meaning t a a' m m') (one_product ts b b' n n')) (Agree-eq (sym e')))

@@ -1,0 +1,138 @@
+-- The shapes of a Number, and that it is told by its value.
+use Rattle.std.proofs.Common.{◌≡◌, ◌≢◌, ℕ, ◌≤◌, ◌⊎◌, inl, inr, pos, [], ◌∷◌, Bool, true, false, if◌then◌else◌, length, refl, sym, ap, ◌∙◌, arith}
+use Rattle.std.proofs.lemmas.Bool.{not_from_false}
+use Rattle.calc_algebra.specs.Clean.{IsClean}
+use Rattle.calc_terms.specs.Fractions.{Fraction, lowest, zero_fraction, one_fraction, is_zero_fraction, lowest_parts, whole_fraction}
+use Rattle.calc_algebra.specs.Numbers.{IsNumber, IsTerm, AreTerms, value, term_of, terms_of, natural_of}
+use Rattle.calc_algebra.specs.Surds.{Term, Surd, term, surd_of}
+use Rattle.calc_terms.specs.Trees.{Tree, num, add, mult, root, Trees, none, more}
+use Rattle.calc_terms.proofs.FractionFacts.{zero_is, no_zero}
+
+-- ---- terms as trees
+
+pub record AsRational (t : Tree) : Type 0 where
+  pub q : Fraction
+  pub is : t ≡ num q
+  pub term_is : term_of t ≡ term q 1
+  pub not_zero : q ≢ zero_fraction
+
+pub record AsRoot (t : Tree) : Type 0 where
+  pub n : ℕ
+  pub is : t ≡ root (num (whole_fraction (pos n)))
+  pub term_is : term_of t ≡ term one_fraction n
+  pub two : 2 ≤ n
+  pub clean : IsClean n
+
+pub record AsMultiple (t : Tree) : Type 0 where
+  pub q : Fraction
+  pub n : ℕ
+  pub is : t ≡ mult (more (num q) (more (root (num (whole_fraction (pos n)))) none))
+  pub term_is : term_of t ≡ term q n
+  pub not_zero : q ≢ zero_fraction
+  pub not_one : q ≢ one_fraction
+  pub two : 2 ≤ n
+  pub clean : IsClean n
+
+-- a rational, a root, or a multiple of a root
+abbrev pub AsTerm : Tree → Type 0
+AsTerm t = AsRational t ⊎ (AsRoot t ⊎ AsMultiple t)
+
+whole_is : (r : Fraction) (n : ℕ) → r.den ≡ 1 → r.num ≡ pos n → r ≡ whole_fraction (pos n)
+whole_is r n d e = lowest_parts r ∙ (λ i. lowest (e i) (d i))
+
+pub as_term : (t : Tree) → IsTerm t → AsTerm t
+as_term (num q) h = inl (record { q = q; is = refl; term_is = refl; not_zero = h })
+as_term (root (num r)) (d, n, e, l, c) = inr (inl (record { n = n; is = ap (λ x. root (num x)) (whole_is r n d e); term_is = ap (λ z. term one_fraction (natural_of z)) e; two = l; clean = c }))
+as_term (mult (more (num q) (more (root (num r)) none))) (y, z, (d, n, e, l, c)) = inr (inr (record {
+  q = q;
+  n = n;
+  is = ap (λ x. mult (more (num q) (more (root (num x)) none))) (whole_is r n d e);
+  term_is = ap (λ z. term q (natural_of z)) e;
+  not_zero = y;
+  not_one = z;
+  two = l;
+  clean = c;
+}))
+as_term t h = absurd h
+
+coefficients : {t u : Term} → t ≡ u → t.coefficient ≡ u.coefficient
+coefficients e = ap (λ x. x.coefficient) e
+
+radicands_of : {t u : Term} → t ≡ u → t.radicand ≡ u.radicand
+radicands_of e = ap (λ x. x.radicand) e
+
+by_term : (t u : Tree) → term_of t ≡ term_of u → AsTerm t → AsTerm u → t ≡ u
+by_term t u e (inl a) (inl b) = a.is ∙ ap num (coefficients (sym a.term_is ∙ e ∙ b.term_is)) ∙ sym b.is
+by_term t u e (inl a) (inr (inl b)) = absurd (let f : 1 ≡ b.n = radicands_of (sym a.term_is ∙ e ∙ b.term_is) in omega arith)
+by_term t u e (inl a) (inr (inr b)) = absurd (let f : 1 ≡ b.n = radicands_of (sym a.term_is ∙ e ∙ b.term_is) in omega arith)
+by_term t u e (inr (inl a)) (inl b) = absurd (let f : a.n ≡ 1 = radicands_of (sym a.term_is ∙ e ∙ b.term_is) in omega arith)
+by_term t u e (inr (inl a)) (inr (inl b)) = a.is ∙ ap (λ n. root (num (whole_fraction (pos n)))) (radicands_of (sym a.term_is ∙ e ∙ b.term_is)) ∙ sym b.is
+by_term t u e (inr (inl a)) (inr (inr b)) = absurd (b.not_one (sym (coefficients (sym a.term_is ∙ e ∙ b.term_is))))
+by_term t u e (inr (inr a)) (inl b) = absurd (let f : a.n ≡ 1 = radicands_of (sym a.term_is ∙ e ∙ b.term_is) in omega arith)
+by_term t u e (inr (inr a)) (inr (inl b)) = absurd (a.not_one (coefficients (sym a.term_is ∙ e ∙ b.term_is)))
+by_term t u e (inr (inr a)) (inr (inr b)) =
+    let f : term a.q a.n ≡ term b.q b.n = sym a.term_is ∙ e ∙ b.term_is in
+    a.is ∙ (λ i. mult (more (num (coefficients f i)) (more (root (num (whole_fraction (pos (radicands_of f i))))) none))) ∙ sym b.is
+
+-- a term is told by its coefficient and its radicand
+pub one_term : (t u : Tree) → IsTerm t → IsTerm u → term_of t ≡ term_of u → t ≡ u
+one_term t u h k e = by_term t u e (as_term t h) (as_term u k)
+
+first_is : {t u : Term} {v w : Surd} → t ∷ v ≡ u ∷ w → t ≡ u
+first_is e = cc
+
+rest_is : {t u : Term} {v w : Surd} → t ∷ v ≡ u ∷ w → v ≡ w
+rest_is e = cc
+
+pub one_list_of_terms : (ts us : Trees) → AreTerms ts → AreTerms us → terms_of ts ≡ terms_of us → ts ≡ us
+one_list_of_terms none none h k e = refl
+one_list_of_terms none (more u us) h k e = cc
+one_list_of_terms (more t ts) none h k e = cc
+one_list_of_terms (more t ts) (more u us) (h, hs) (k, ks) e = λ i. more (one_term t u h k (first_is e) i) (one_list_of_terms ts us hs ks (rest_is e) i)
+
+-- ---- Numbers
+
+pub record AsZero (t : Tree) : Type 0 where
+  pub is : t ≡ num zero_fraction
+  pub value_is : value t ≡ []
+
+pub record AsSingle (t : Tree) : Type 0 where
+  pub one : IsTerm t
+  pub value_is : value t ≡ term_of t ∷ []
+
+pub record AsSum (t : Tree) : Type 0 where
+  pub ts : Trees
+  pub is : t ≡ add ts
+  pub are : AreTerms ts
+  pub two : 2 ≤ length (terms_of ts)
+  pub value_is : value t ≡ terms_of ts
+
+-- zero, a term, or a sum of terms
+abbrev pub AsNumber : Tree → Type 0
+AsNumber t = AsZero t ⊎ (AsSingle t ⊎ AsSum t)
+
+pub as_number : (t : Tree) → IsNumber t → AsNumber t
+as_number (num q) h = by (is_zero_fraction q) refl
+  where
+    by : (b : Bool) → is_zero_fraction q ≡ b → AsZero (num q) ⊎ (AsSingle (num q) ⊎ AsSum (num q))
+    by true e = inl (record { is = ap num (zero_is q e); value_is = ap (λ b. if b then [] else surd_of q) e })
+    by false e = inr (inl (record { one = no_zero q (not_from_false _ e); value_is = ap (λ b. if b then [] else surd_of q) e }))
+as_number (add ts) (l, h, r) = inr (inr (record { ts = ts; is = refl; are = h; two = l; value_is = refl }))
+as_number (root a) h = inr (inl (record { one = h; value_is = refl }))
+as_number (mult ts) h = inr (inl (record { one = h; value_is = refl }))
+as_number t h = absurd h
+
+by_value : (t u : Tree) → value t ≡ value u → AsNumber t → AsNumber u → t ≡ u
+by_value t u e (inl a) (inl b) = a.is ∙ sym b.is
+by_value t u e (inl a) (inr (inl b)) = let f : [] ≡ term_of u ∷ [] = sym a.value_is ∙ e ∙ b.value_is in cc
+by_value t u e (inl a) (inr (inr b)) = absurd (let f : 0 ≡ length (terms_of b.ts) = ap length (sym a.value_is ∙ e ∙ b.value_is) in let g : 2 ≤ length (terms_of b.ts) = b.two in omega arith)
+by_value t u e (inr (inl a)) (inl b) = let f : term_of t ∷ [] ≡ [] = sym a.value_is ∙ e ∙ b.value_is in cc
+by_value t u e (inr (inl a)) (inr (inl b)) = one_term t u a.one b.one (first_is (sym a.value_is ∙ e ∙ b.value_is))
+by_value t u e (inr (inl a)) (inr (inr b)) = absurd (let f : 1 ≡ length (terms_of b.ts) = ap length (sym a.value_is ∙ e ∙ b.value_is) in let g : 2 ≤ length (terms_of b.ts) = b.two in omega arith)
+by_value t u e (inr (inr a)) (inl b) = absurd (let f : length (terms_of a.ts) ≡ 0 = ap length (sym a.value_is ∙ e ∙ b.value_is) in let g : 2 ≤ length (terms_of a.ts) = a.two in omega arith)
+by_value t u e (inr (inr a)) (inr (inl b)) = absurd (let f : length (terms_of a.ts) ≡ 1 = ap length (sym a.value_is ∙ e ∙ b.value_is) in let g : 2 ≤ length (terms_of a.ts) = a.two in omega arith)
+by_value t u e (inr (inr a)) (inr (inr b)) = a.is ∙ ap add (one_list_of_terms a.ts b.ts a.are b.are (sym a.value_is ∙ e ∙ b.value_is)) ∙ sym b.is
+
+-- a Number is told by its value
+pub one_number_of_value : (t u : Tree) → IsNumber t → IsNumber u → value t ≡ value u → t ≡ u
+one_number_of_value t u h k e = by_value t u e (as_number t h) (as_number u k)

@@ -1,0 +1,75 @@
+-- A Number means its terms under every assignment.
+use Rattle.std.proofs.Common.{◌≡◌, ℕ, zero, suc, ◌*◌, ◌≤◌, ℤ, pos, negsuc, [], ◌∷◌, Bool, true, false, if◌then◌else◌, refl, sym, ap, ◌∙◌, arith}
+use native.Mathlib.Nat.{mul-one}
+use Rattle.calc_terms.specs.FractionLaws.{times_comm, one_times, zero_times, zero_plus}
+use Rattle.calc_terms.specs.Fractions.{Fraction, lowest, times, zero_fraction, one_fraction, plus, quotient}
+use Rattle.calc_terms.specs.Integers.{int_is_zero}
+use Rattle.calc_algebra.specs.Meanings.{Assignment, Means, MeansSum, IsRootOf}
+use Rattle.calc_algebra.specs.Numbers.{IsNumber, IsTerm, IsRadicand, value, term_of, terms_of, natural_of, AreTerms}
+use Rattle.calc_algebra.specs.SquareClasses.{Same, term_share, are_alike}
+use Rattle.calc_algebra.specs.SquareRoots.{square_root}
+use Rattle.calc_algebra.specs.Surds.{Surd, term, surd_one, surd_times, surd_of}
+use Rattle.calc_terms.specs.Trees.{Tree, num, add, mult, root, Trees, none, more}
+use Rattle.calc_algebra.proofs.SurdLaws.{Agree, Agree-refl, Agree-trans, Agree-eq, Agree-Same}
+use Rattle.calc_terms.proofs.FractionFacts.{zero_is}
+
+Same-refl : (v : Surd) → Same v v
+Same-refl v = Agree-Same (Agree-refl v)
+
+root_of_whole : (p : ℤ) (n r : ℕ) → n ≡ 1 → p ≡ pos r → 2 ≤ r → IsRootOf p n (term one_fraction (natural_of p) ∷ [])
+unfolding one_fraction
+root_of_whole (pos zero) n r d e h = absurd (zero_two r e h)
+  where
+    zero_two : (r : ℕ) → pos zero ≡ pos r → 2 ≤ r → ⊥
+    zero_two zero e h = omega arith
+    zero_two (suc r) e h = cc
+root_of_whole (pos (suc k)) n r d e h = Agree-Same (Agree-eq (λ i. term (lowest (pos 1) (sym d i)) (size i) ∷ []))
+  where
+    size : suc k ≡ suc k * n
+    size = sym (ap (λ x. suc k * x) d ∙ mul-one (suc k))
+root_of_whole (negsuc k) n r d e h = cc
+
+root_means : (q : Fraction) (f : Assignment) → IsRadicand q → Means (root (num q)) f (term one_fraction (natural_of q.num) ∷ [])
+root_means q f (d, r, e, h, c) = (surd_of q, Same-refl (surd_of q), (q, Same-refl (surd_of q), root_of_whole q.num q.den r d e h))
+
+pub term_means : (t : Tree) (f : Assignment) → IsTerm t → Means t f (term_of t ∷ [])
+term_means (num q) f h = Same-refl (surd_of q)
+term_means (root (num q)) f h = root_means q f h
+term_means (mult (more (num q) (more (root (num r)) none))) f (a, b, h) =
+    let v : Surd = term one_fraction (natural_of r.num) ∷ [] in (
+      surd_times (surd_of q) (surd_times v surd_one),
+      (surd_of q, surd_times v surd_one, Same-refl (surd_of q), (v, surd_one, root_means r f h, refl, refl), refl),
+      Agree-Same (Agree-eq (λ i. term (factors i) (radicands i) ∷ [])),
+    )
+  where
+    factors : q ≡ times q (times one_fraction one_fraction)
+    factors = sym (ap (times q) (one_times one_fraction) ∙ times_comm q one_fraction ∙ one_times q)
+
+    radicands : natural_of r.num ≡ 1 * (natural_of r.num * 1)
+    radicands = omega arith
+term_means t f h = absurd h
+
+terms_mean : (ts : Trees) (f : Assignment) → AreTerms ts → MeansSum ts f (terms_of ts)
+terms_mean none f h = refl
+terms_mean (more t ts) f h = (term_of t ∷ [], terms_of ts, term_means t f h.0, terms_mean ts f h.1, refl)
+
+zero_share : (s : ℕ) → term_share (term zero_fraction 1) s ≡ zero_fraction
+zero_share s = by (are_alike 1 s) (quotient (square_root (1 * s)) s)
+  where
+    by : (b : Bool) (x : Fraction) → (if b then times zero_fraction x else zero_fraction) ≡ zero_fraction
+    by true x = zero_times x
+    by false x = refl
+
+zero_alone : (q : Fraction) → int_is_zero q.num ≡ true → Agree [] (surd_of q)
+zero_alone q h = Agree-trans (record { at = λ s. sym (ap (λ x. plus x zero_fraction) (zero_share s) ∙ zero_plus zero_fraction) }) (Agree-eq (ap surd_of (sym (zero_is q h))))
+
+pub number_means : (t : Tree) (f : Assignment) → IsNumber t → Means t f (value t)
+number_means (num q) f h = by (int_is_zero q.num) refl
+  where
+    by : (b : Bool) → int_is_zero q.num ≡ b → Same (if b then [] else surd_of q) (surd_of q)
+    by true e = Agree-Same (zero_alone q e)
+    by false e = Same-refl (surd_of q)
+number_means (add ts) f h = (terms_of ts, terms_mean ts f h.1, Same-refl (terms_of ts))
+number_means (root a) f h = term_means (root a) f h
+number_means (mult ts) f h = term_means (mult ts) f h
+number_means t f h = absurd h

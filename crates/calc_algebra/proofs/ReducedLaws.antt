@@ -1,0 +1,305 @@
+-- The test for reduced trees says what its words say.
+use Rattle.std.proofs.Common.{◌≡◌, ◌⊎◌, inl, inr, Bool, true, false, not, ◌&&◌, ◌||◌, ◌==◌, nat_le, if◌then◌else◌, refl, ap}
+use Rattle.std.specs.declared.cmp.Ordering.{Ordering}
+use Rattle.std.specs.declared.cmp.Ordering.TheVariants.{Less, Equal, Greater}
+use Rattle.std.specs.Ordering.{is_lt}
+use Rattle.std.proofs.lemmas.Bool.{and_parts, and_from, or_left, or_right, not-true, not_from_false, eqb-true, eq-eqb, leb-true, le-leb}
+use Rattle.calc_terms.specs.Integers.{int_is_negative, int_is_even}
+use Rattle.calc_terms.specs.Fractions.{Fraction, is_zero_fraction, is_one_fraction}
+use Rattle.calc_terms.specs.Trees.{Tree, num, symbol, undef, add, mult, power, root, neg, sub, div, Trees, none, more, has_two, HasTwo, AllParts, AllPartsOf, is_num, is_add, is_mult, is_root, is_undef}
+use Rattle.calc_algebra.specs.TreeOrder.{tree_cmp}
+use Rattle.calc_algebra.specs.Numbers.{is_number, terms_of, rises, classes}
+use Rattle.calc_algebra.specs.Reduced.{is_transparent_power, base_of, whole_power_form, power_form, split_product, part_of, none_is, rises_by, number_terms, other_terms, sum_form, front_form, is_undistributed, product_form, node_form, has_form, all_parts, all_parts_of, is_reduced, NoneIs, RisesBy, IsWholePowerForm, IsOtherPowerForm, IsPowerForm, IsSumForm, IsFrontForm, IsProductForm, IsNodeForm, HasForm, IsReduced}
+use Rattle.calc_algebra.proofs.NumberLaws.{number_words, number_test, rises_words, rises_test}
+use Rattle.calc_terms.proofs.FractionFacts.{no_zero, no_one, zero_test, one_test}
+
+-- ---- Booleans
+
+from_not : (b : Bool) → not b ≡ true → b ≡ false
+from_not b h = not-true b h
+
+true_or_false : (b : Bool) → (b ≡ true) ⊎ (b ≡ false)
+true_or_false true = inl refl
+true_or_false false = inr refl
+
+-- a implies b
+implies : (a b : Bool) → (not a || b) ≡ true → a ≡ true → b ≡ true
+implies true b h e = h
+implies false b h e = cc
+
+implied : (a b : Bool) → (a ≡ true → b ≡ true) → (not a || b) ≡ true
+implied true b h = h refl
+implied false b h = refl
+
+-- ---- lists
+
+two_words : (ts : Trees) → has_two ts ≡ true → HasTwo ts
+two_words (more t (more u ts)) h = tt
+two_words _ h = cc
+
+two_test : (ts : Trees) → HasTwo ts → has_two ts ≡ true
+two_test (more t (more u ts)) h = refl
+two_test _ h = absurd h
+
+pub none_words : (p : Tree → Bool) (ts : Trees) → none_is p ts ≡ true → NoneIs p ts
+none_words p none h = tt
+none_words p (more t ts) h = let (a, b) = and_parts (not (p t)) (none_is p ts) h in (from_not (p t) a, none_words p ts b)
+
+pub none_test : (p : Tree → Bool) (ts : Trees) → NoneIs p ts → none_is p ts ≡ true
+none_test p none h = refl
+none_test p (more t ts) h = and_from (not (p t)) (none_is p ts) (not_from_false (p t) h.0) (none_test p ts h.1)
+
+lt_words : (o : Ordering) → is_lt o ≡ true → o ≡ Less
+lt_words Less h = refl
+lt_words Equal h = cc
+lt_words Greater h = cc
+
+pub rises_by_words : (key : Tree → Tree) (ts : Trees) → rises_by key ts ≡ true → RisesBy key ts
+rises_by_words key none h = tt
+rises_by_words key (more t none) h = tt
+rises_by_words key (more t (more u ts)) h =
+    let (a, b) = and_parts (is_lt (tree_cmp (key t) (key u))) (rises_by key (more u ts)) h in
+    (lt_words (tree_cmp (key t) (key u)) a, rises_by_words key (more u ts) b)
+
+pub rises_by_test : (key : Tree → Tree) (ts : Trees) → RisesBy key ts → rises_by key ts ≡ true
+rises_by_test key none h = refl
+rises_by_test key (more t none) h = refl
+rises_by_test key (more t (more u ts)) h = and_from (is_lt (tree_cmp (key t) (key u))) (rises_by key (more u ts)) (ap is_lt h.0) (rises_by_test key (more u ts) h.1)
+
+-- ---- powers
+
+pub whole_power_words : (b : Tree) (n : Fraction) → whole_power_form b n ≡ true → IsWholePowerForm b n
+whole_power_words b n h =
+    let (h4, wide) = and_parts (not (is_zero_fraction n) && not (is_one_fraction n) && not (is_mult b) && not (is_transparent_power b) && (not (int_is_even n.num) || not (is_root b))) _ h in
+    let (h3, root_free) = and_parts (not (is_zero_fraction n) && not (is_one_fraction n) && not (is_mult b) && not (is_transparent_power b)) _ h4 in
+    let (h2, powers) = and_parts (not (is_zero_fraction n) && not (is_one_fraction n) && not (is_mult b)) _ h3 in
+    let (h1, product) = and_parts (not (is_zero_fraction n) && not (is_one_fraction n)) _ h2 in
+    let (nonzero, nonone) = and_parts (not (is_zero_fraction n)) _ h1 in
+    record {
+      not_zero = no_zero n nonzero;
+      not_one = no_one n nonone;
+      no_product = from_not (is_mult b) product;
+      no_power = from_not (is_transparent_power b) powers;
+      no_root = λ e. from_not (is_root b) (implies (int_is_even n.num) (not (is_root b)) root_free e);
+      wide = λ e. let (l, m) = and_parts (int_is_negative n.num) (nat_le 3 (classes b)) (implies (is_number b) _ wide e) in (l, leb-true 3 (classes b) m);
+    }
+
+pub whole_power_test : (b : Tree) (n : Fraction) → IsWholePowerForm b n → whole_power_form b n ≡ true
+whole_power_test b n h =
+    and_from _ _ (and_from _ _ (and_from _ _ (and_from _ _ (and_from _ _ (not_from_false _ (zero_test n h.not_zero)) (not_from_false _ (one_test n h.not_one)))
+    (not_from_false _ h.no_product)) (not_from_false _ h.no_power))
+    (implied (int_is_even n.num) (not (is_root b)) (λ e. not_from_false _ (h.no_root e))))
+    (implied (is_number b) _ (λ e. and_from _ _ (h.wide e).0 (le-leb 3 (classes b) (h.wide e).1)))
+
+other_power_words : (b e : Tree) → (is_number e || not (is_transparent_power b) && (not (is_mult b) || is_number b)) ≡ true → is_number e ≡ false → IsOtherPowerForm b
+other_power_words b e h k =
+    let (p, q) = and_parts (not (is_transparent_power b)) (not (is_mult b) || is_number b) (second (is_number e) _ k h) in
+    record { no_power = from_not (is_transparent_power b) p; no_product = implies (is_mult b) (is_number b) q }
+  where
+    second : (a c : Bool) → a ≡ false → (a || c) ≡ true → c ≡ true
+    second true c e f = cc
+    second false c e f = f
+
+other_power_test : (b e : Tree) → (is_number e ≡ false → IsOtherPowerForm b) → (is_number e || not (is_transparent_power b) && (not (is_mult b) || is_number b)) ≡ true
+other_power_test b e h = by (is_number e) refl
+  where
+    by : (k : Bool) → is_number e ≡ k → (k || not (is_transparent_power b) && (not (is_mult b) || is_number b)) ≡ true
+    by true f = refl
+    by false f = and_from _ _ (not_from_false _ (h f).no_power) (implied (is_mult b) (is_number b) (h f).no_product)
+
+-- an exponent that is no rational is opaque where it is a Number
+opaque_is : (k : Bool) → (k && true) ≡ k
+opaque_is true = refl
+opaque_is false = refl
+
+pub power_words : (b e : Tree) → power_form b e ≡ true → IsPowerForm b e
+power_words b (num q) h = λ d. whole_power_words b q (taken (q.den == 1) (eq-eqb q.den 1 d) h)
+  where
+    taken : (k : Bool) → k ≡ true → (if k then whole_power_form b q else true) ≡ true → whole_power_form b q ≡ true
+    taken true e f = f
+    taken false e f = cc
+power_words b e h = other_power_words b e (rw opaque_is at h)
+
+pub power_test : (b e : Tree) → IsPowerForm b e → power_form b e ≡ true
+power_test b (num q) h = by (q.den == 1) refl
+  where
+    by : (k : Bool) → (q.den == 1) ≡ k → (if k then whole_power_form b q else true) ≡ true
+    by true e = whole_power_test b q (h (eqb-true q.den 1 e))
+    by false e = refl
+power_test b e h = rw opaque_is (other_power_test b e h)
+
+-- ---- sums and products
+
+pub sum_words : (ts : Trees) → sum_form ts ≡ true → IsSumForm ts
+sum_words ts h =
+    let (h3, rising) = and_parts (has_two ts && none_is is_add ts && rises (terms_of (number_terms ts)) && none_is is_number (other_terms ts)) _ h in
+    let (h2, others) = and_parts (has_two ts && none_is is_add ts && rises (terms_of (number_terms ts))) _ h3 in
+    let (h1, number) = and_parts (has_two ts && none_is is_add ts) _ h2 in
+    let (two, sums) = and_parts (has_two ts) _ h1 in
+    record {
+      two = two_words ts two;
+      no_sum = none_words is_add ts sums;
+      number = rises_words (terms_of (number_terms ts)) number;
+      no_number = none_words is_number (other_terms ts) others;
+      rising = rises_by_words part_of (other_terms ts) rising;
+    }
+
+pub sum_test : (ts : Trees) → IsSumForm ts → sum_form ts ≡ true
+sum_test ts h =
+    and_from _ _ (and_from _ _ (and_from _ _ (and_from _ _ (two_test ts h.two) (none_test is_add ts h.no_sum)) (rises_test (terms_of (number_terms ts)) h.number))
+    (none_test is_number (other_terms ts) h.no_number)) (rises_by_test part_of (other_terms ts) h.rising)
+
+front_words : (ts : Trees) → front_form ts ≡ true → IsFrontForm ts
+front_words (more (num q) ts) h = let (a, b) = and_parts (not (is_zero_fraction q)) _ h in (no_zero q a, no_one q b)
+front_words _ h = tt
+
+front_test : (ts : Trees) → IsFrontForm ts → front_form ts ≡ true
+front_test (more (num q) ts) h = and_from _ _ (not_from_false _ (zero_test q h.0)) (not_from_false _ (one_test q h.1))
+front_test _ h = refl
+
+pub product_words : (ts : Trees) → product_form ts ≡ true → IsProductForm ts
+product_words ts h =
+    let (h4, distributed) = and_parts (has_two ts && none_is is_mult ts && front_form ts && none_is is_number (split_product ts).factors && rises_by base_of (split_product ts).factors) _ h in
+    let (h3, rising) = and_parts (has_two ts && none_is is_mult ts && front_form ts && none_is is_number (split_product ts).factors) _ h4 in
+    let (h2, others) = and_parts (has_two ts && none_is is_mult ts && front_form ts) _ h3 in
+    let (h1, front) = and_parts (has_two ts && none_is is_mult ts) _ h2 in
+    let (two, products) = and_parts (has_two ts) _ h1 in
+    record {
+      two = two_words ts two;
+      no_product = none_words is_mult ts products;
+      front = front_words ts front;
+      no_number = none_words is_number (split_product ts).factors others;
+      rising = rises_by_words base_of (split_product ts).factors rising;
+      distributed = from_not (is_undistributed (split_product ts)) distributed;
+    }
+
+pub product_test : (ts : Trees) → IsProductForm ts → product_form ts ≡ true
+product_test ts h =
+    and_from _ _ (and_from _ _ (and_from _ _ (and_from _ _ (and_from _ _ (two_test ts h.two) (none_test is_mult ts h.no_product)) (front_test ts h.front))
+    (none_test is_number (split_product ts).factors h.no_number)) (rises_by_test base_of (split_product ts).factors h.rising)) (not_from_false _ h.distributed)
+
+-- ---- nodes and parts
+
+node_words : (t : Tree) → node_form t ≡ true → IsNodeForm t
+node_words (symbol x) h = tt
+node_words (root a) h = from_not (is_num a) h
+node_words (power b e) h = power_words b e h
+node_words (add ts) h = sum_words ts h
+node_words (mult ts) h = product_words ts h
+node_words _ h = cc
+
+node_test : (t : Tree) → IsNodeForm t → node_form t ≡ true
+node_test (symbol x) h = refl
+node_test (root a) h = not_from_false _ h
+node_test (power b e) h = power_test b e h
+node_test (add ts) h = sum_test ts h
+node_test (mult ts) h = product_test ts h
+node_test _ h = absurd h
+
+pub form_words : (t : Tree) → has_form t ≡ true → HasForm t
+form_words t h = by (is_number t) refl h
+  where
+    by : (k : Bool) → is_number t ≡ k → (k || node_form t) ≡ true → HasForm t
+    by true e h = inl (number_words t e)
+    by false e h = inr (node_words t h)
+
+pub form_test : (t : Tree) → HasForm t → has_form t ≡ true
+form_test t (inl h) = or_left _ _ (number_test t h)
+form_test t (inr h) = or_right (is_number t) _ (node_test t h)
+
+module _ (p : Tree → Bool) (P : Tree → Type 0) where
+  mutual
+    pub all_parts_words : ((t : Tree) → p t ≡ true → P t) → (t : Tree) → all_parts p t ≡ true → AllParts P t
+    all_parts_words f (add ts) h = let (a, b) = and_parts (p (add ts)) _ h in (f (add ts) a, all_parts_of_words f ts b)
+    all_parts_words f (mult ts) h = let (a, b) = and_parts (p (mult ts)) _ h in (f (mult ts) a, all_parts_of_words f ts b)
+    all_parts_words f (power b e) h =
+        let (ab, c) = and_parts (p (power b e) && all_parts p b) _ h in
+        let (a, d) = and_parts (p (power b e)) _ ab in
+        (f (power b e) a, all_parts_words f b d, all_parts_words f e c)
+    all_parts_words f (root a) h = let (x, y) = and_parts (p (root a)) _ h in (f (root a) x, all_parts_words f a y)
+    all_parts_words f (neg a) h = let (x, y) = and_parts (p (neg a)) _ h in (f (neg a) x, all_parts_words f a y)
+    all_parts_words f (sub a b) h =
+        let (xy, z) = and_parts (p (sub a b) && all_parts p a) _ h in
+        let (x, y) = and_parts (p (sub a b)) _ xy in
+        (f (sub a b) x, all_parts_words f a y, all_parts_words f b z)
+    all_parts_words f (div a b) h =
+        let (xy, z) = and_parts (p (div a b) && all_parts p a) _ h in
+        let (x, y) = and_parts (p (div a b)) _ xy in
+        (f (div a b) x, all_parts_words f a y, all_parts_words f b z)
+    all_parts_words f (num q) h = f (num q) h
+    all_parts_words f (symbol x) h = f (symbol x) h
+    all_parts_words f undef h = f undef h
+
+    pub all_parts_of_words : ((t : Tree) → p t ≡ true → P t) → (ts : Trees) → all_parts_of p ts ≡ true → AllPartsOf P ts
+    all_parts_of_words f none h = tt
+    all_parts_of_words f (more t ts) h = let (a, b) = and_parts (all_parts p t) _ h in (all_parts_words f t a, all_parts_of_words f ts b)
+
+  mutual
+    pub all_parts_test : ((t : Tree) → P t → p t ≡ true) → (t : Tree) → AllParts P t → all_parts p t ≡ true
+    all_parts_test f (add ts) h = and_from _ _ (f (add ts) h.0) (all_parts_of_test f ts h.1)
+    all_parts_test f (mult ts) h = and_from _ _ (f (mult ts) h.0) (all_parts_of_test f ts h.1)
+    all_parts_test f (power b e) h = and_from _ _ (and_from _ _ (f (power b e) h.0) (all_parts_test f b h.1)) (all_parts_test f e h.2)
+    all_parts_test f (root a) h = and_from _ _ (f (root a) h.0) (all_parts_test f a h.1)
+    all_parts_test f (neg a) h = and_from _ _ (f (neg a) h.0) (all_parts_test f a h.1)
+    all_parts_test f (sub a b) h = and_from _ _ (and_from _ _ (f (sub a b) h.0) (all_parts_test f a h.1)) (all_parts_test f b h.2)
+    all_parts_test f (div a b) h = and_from _ _ (and_from _ _ (f (div a b) h.0) (all_parts_test f a h.1)) (all_parts_test f b h.2)
+    all_parts_test f (num q) h = f (num q) h
+    all_parts_test f (symbol x) h = f (symbol x) h
+    all_parts_test f undef h = f undef h
+
+    pub all_parts_of_test : ((t : Tree) → P t → p t ≡ true) → (ts : Trees) → AllPartsOf P ts → all_parts_of p ts ≡ true
+    all_parts_of_test f none h = refl
+    all_parts_of_test f (more t ts) h = and_from _ _ (all_parts_test f t h.0) (all_parts_of_test f ts h.1)
+
+module _ (P Q : Tree → Type 0) (f : (t : Tree) → P t → Q t) where
+  mutual
+    pub AllParts-map : (t : Tree) → AllParts P t → AllParts Q t
+    AllParts-map (num q) h = f (num q) h
+    AllParts-map (symbol x) h = f (symbol x) h
+    AllParts-map undef h = f undef h
+    AllParts-map (add ts) h = (f (add ts) h.0, AllPartsOf-map ts h.1)
+    AllParts-map (mult ts) h = (f (mult ts) h.0, AllPartsOf-map ts h.1)
+    AllParts-map (power b e) h = (f (power b e) h.0, AllParts-map b h.1, AllParts-map e h.2)
+    AllParts-map (root a) h = (f (root a) h.0, AllParts-map a h.1)
+    AllParts-map (neg a) h = (f (neg a) h.0, AllParts-map a h.1)
+    AllParts-map (sub a b) h = (f (sub a b) h.0, AllParts-map a h.1, AllParts-map b h.2)
+    AllParts-map (div a b) h = (f (div a b) h.0, AllParts-map a h.1, AllParts-map b h.2)
+
+    pub AllPartsOf-map : (ts : Trees) → AllPartsOf P ts → AllPartsOf Q ts
+    AllPartsOf-map none h = tt
+    AllPartsOf-map (more t ts) h = (AllParts-map t h.0, AllPartsOf-map ts h.1)
+
+module _ (P Q R : Tree → Type 0) (f : (t : Tree) → P t → Q t → R t) where
+  mutual
+    pub AllParts-zip : (t : Tree) → AllParts P t → AllParts Q t → AllParts R t
+    AllParts-zip (num q) h k = f (num q) h k
+    AllParts-zip (symbol x) h k = f (symbol x) h k
+    AllParts-zip undef h k = f undef h k
+    AllParts-zip (add ts) h k = (f (add ts) h.0 k.0, AllPartsOf-zip ts h.1 k.1)
+    AllParts-zip (mult ts) h k = (f (mult ts) h.0 k.0, AllPartsOf-zip ts h.1 k.1)
+    AllParts-zip (power b e) h k = (f (power b e) h.0 k.0, AllParts-zip b h.1 k.1, AllParts-zip e h.2 k.2)
+    AllParts-zip (root a) h k = (f (root a) h.0 k.0, AllParts-zip a h.1 k.1)
+    AllParts-zip (neg a) h k = (f (neg a) h.0 k.0, AllParts-zip a h.1 k.1)
+    AllParts-zip (sub a b) h k = (f (sub a b) h.0 k.0, AllParts-zip a h.1 k.1, AllParts-zip b h.2 k.2)
+    AllParts-zip (div a b) h k = (f (div a b) h.0 k.0, AllParts-zip a h.1 k.1, AllParts-zip b h.2 k.2)
+
+    pub AllPartsOf-zip : (ts : Trees) → AllPartsOf P ts → AllPartsOf Q ts → AllPartsOf R ts
+    AllPartsOf-zip none h k = tt
+    AllPartsOf-zip (more t ts) h k = (AllParts-zip t h.0 k.0, AllPartsOf-zip ts h.1 k.1)
+
+undef_words : (t : Tree) → is_undef t ≡ true → t ≡ undef
+undef_words undef h = refl
+undef_words _ h = cc
+
+pub reduced_words : (t : Tree) → is_reduced t ≡ true → IsReduced t
+unfolding is_reduced
+reduced_words t h = by (is_undef t) refl h
+  where
+    by : (k : Bool) → is_undef t ≡ k → (k || all_parts has_form t) ≡ true → IsReduced t
+    by true e h = inl (undef_words t e)
+    by false e h = inr (all_parts_words has_form HasForm form_words t h)
+
+pub reduced_test : (t : Tree) → IsReduced t → is_reduced t ≡ true
+unfolding is_reduced
+reduced_test t (inl e) = ap (λ u. is_undef u || all_parts has_form u) e
+reduced_test t (inr h) = or_right (is_undef t) _ (all_parts_test has_form HasForm form_test t h)

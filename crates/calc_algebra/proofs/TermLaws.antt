@@ -1,0 +1,227 @@
+-- Surds term by term: what respects sameness, terms of one class joined, squares taken out, products of two terms, and the order of terms.
+use Rattle.std.proofs.Common.{length, get_or, set, subst, ◌≡◌, ℕ, zero, suc, ◌*◌, ◌/◌, ◌<◌, pos, [], ◌∷◌, ◌++◌, Bool, true, false, if◌then◌else◌, refl, sym, ap, ◌∙◌, arith, append_assoc}
+use Rattle.std.specs.List.Sorted.{IsPermutation}
+use Rattle.std.proofs.lemmas.List.Edits.{swap_is}
+use Rattle.std.proofs.lemmas.List.Sorted.{IsPermutation-keeps}
+use Rattle.std.specs.Int.{◌∣◌}
+use Rattle.std.proofs.Math.Nat.{mul-div_cancel'}
+use native.Mathlib.Nat.{one-mul}
+use Rattle.calc_terms.specs.FractionLaws.{times_comm, times_assoc, times_plus, zero_plus, zero_times}
+use Rattle.calc_terms.specs.Fractions.{Fraction, lowest, plus, times, zero_fraction, plus_assoc, times_lowest, mul_pos, quotient, whole_fraction}
+use Rattle.calc_algebra.specs.SquareClasses.{are_alike, term_share, Same}
+use Rattle.calc_algebra.specs.SquareRoots.{square_root}
+use Rattle.calc_algebra.specs.Surds.{Term, Surd, term, surd_scale, surd_times, surd_power}
+use Rattle.calc_algebra.proofs.SquareRootLaws.{square_root-square, square_from_scaled}
+use Rattle.calc_algebra.proofs.SurdLaws.{Agree, Agree-refl, Agree-sym, Agree-trans, Agree-eq, Agree-Same, Agree-append, append_comm, Agree-surd_scale, Agree-surd_times, Agree-surd_power, times_zero}
+use Rattle.calc_algebra.proofs.SquareClassLaws.{Alike, alike_from, alike_true, Same-Agree}
+use Rattle.std.proofs.lemmas.Bool.{false_from_ne_true}
+
+-- ---- sameness is respected
+
+pub Same-refl : (v : Surd) → Same v v
+Same-refl v = Agree-Same (Agree-refl v)
+
+pub Same-eq : {v w : Surd} → v ≡ w → Same v w
+Same-eq e = Agree-Same (Agree-eq e)
+
+pub Same-append : {v v' w w' : Surd} → Same v v' → Same w w' → Same (v ++ w) (v' ++ w')
+Same-append h k = Agree-Same (Agree-append (Same-Agree h) (Same-Agree k))
+
+pub Same-cons : (t : Term) {v w : Surd} → Same v w → Same (t ∷ v) (t ∷ w)
+Same-cons t h = Same-append (Same-refl (t ∷ [])) h
+
+pub Same-surd_scale : (c : Fraction) {v w : Surd} → Same v w → Same (surd_scale c v) (surd_scale c w)
+Same-surd_scale c h = Agree-Same (Agree-surd_scale c (Same-Agree h))
+
+pub Same-surd_times : {v v' w w' : Surd} → Same v v' → Same w w' → Same (surd_times v w) (surd_times v' w')
+Same-surd_times h k = Agree-Same (Agree-surd_times (Same-Agree h) (Same-Agree k))
+
+pub Same-surd_power : (n : ℕ) {v w : Surd} → Same v w → Same (surd_power v n) (surd_power w n)
+Same-surd_power n h = Agree-Same (Agree-surd_power n (Same-Agree h))
+
+-- ---- the order of terms
+
+-- two parts of a sum change places
+pub Same-append_comm : (v w : Surd) → Same (v ++ w) (w ++ v)
+Same-append_comm v w = Agree-Same (append_comm v w)
+
+-- a term goes to the front
+pub Agree-to_front : (v : Surd) (t : Term) (w : Surd) → Agree (v ++ (t ∷ w)) (t ∷ (v ++ w))
+Agree-to_front v t w =
+    Agree-trans (Agree-eq (sym (append_assoc v (t ∷ []) w)))
+    (Agree-append (append_comm v (t ∷ [])) (Agree-refl w))
+
+pub Same-to_front : (v : Surd) (t : Term) (w : Surd) → Same (v ++ (t ∷ w)) (t ∷ (v ++ w))
+Same-to_front v t w = Agree-Same (Agree-to_front v t w)
+
+exchanged_first : (t : Term) (v : Surd) (j : ℕ) (d : Term) → j < length v → Agree (t ∷ v) (get_or v j d ∷ set v j t)
+exchanged_first t [] j d h = absurd (omega arith)
+exchanged_first t (u ∷ v) zero d h = Agree-to_front (t ∷ []) u v
+exchanged_first t (u ∷ v) (suc j) d h =
+    Agree-trans (Agree-to_front (t ∷ []) u v)
+    (Agree-trans (Agree-append {v = u ∷ []} {v' = u ∷ []} (Agree-refl (u ∷ [])) (exchanged_first t v j d (omega arith))) (Agree-to_front (u ∷ []) (get_or v j d) (set v j t)))
+
+exchanged : (v : Surd) (i j : ℕ) (d : Term) → i < length v → j < length v → Agree v (set (set v i (get_or v j d)) j (get_or v i d))
+exchanged [] i j d h k = absurd (omega arith)
+exchanged (t ∷ v) zero zero d h k = Agree-refl (t ∷ v)
+exchanged (t ∷ v) zero (suc j) d h k = exchanged_first t v j d (omega arith)
+exchanged (t ∷ v) (suc i) zero d h k = exchanged_first t v i d (omega arith)
+exchanged (t ∷ v) (suc i) (suc j) d h k = Agree-append {v = t ∷ []} {v' = t ∷ []} (Agree-refl (t ∷ [])) (exchanged v i j d (omega arith) (omega arith))
+
+-- the same terms in another order
+pub Same-permutation : (v w : Surd) → IsPermutation v w → Same v w
+Same-permutation v w h =
+    let d : Term = term zero_fraction 1 in
+    Agree-Same (IsPermutation-keeps v (λ x. Agree v x) (Agree-refl v) (λ x i j p q k. Agree-trans k (subst (λ y. Agree x y) (swap_is x i j d p q) (exchanged x i j d p q))) w h)
+
+-- ---- the share of one term
+
+pub alike_right : (r s t : ℕ) → Alike r s t → 0 < s
+alike_right r s t a = factor r s (omega (arith, a.square, mul_pos t t (a.positive) (a.positive)))
+  where
+    factor : (r s : ℕ) → 0 < r * s → 0 < s
+    factor r zero h = absurd (omega arith)
+    factor r (suc s) h = omega arith
+
+share_at : (b : Bool) (q : Fraction) (n t s : ℕ) → b ≡ true → n ≡ t → (if b then times q (quotient n s) else zero_fraction) ≡ times q (quotient t s)
+share_at true q n t s h e = ap (λ n. times q (quotient n s)) e
+share_at false q n t s h e = cc
+
+-- the share of a term that is alike
+pub share_alike : (q : Fraction) (r s t : ℕ) → Alike r s t → term_share (term q r) s ≡ times q (quotient t s)
+share_alike q r s t a = share_at (are_alike r s) q (square_root (r * s)) t s (alike_true r s t a) (ap square_root (sym (a.square)) ∙ square_root-square t)
+
+share_off : (b : Bool) (x : Fraction) → b ≡ false → (if b then x else zero_fraction) ≡ zero_fraction
+share_off true x h = cc
+share_off false x h = refl
+
+-- the share of a term that is not
+pub share_apart : (q : Fraction) (r s : ℕ) → are_alike r s ≡ false → term_share (term q r) s ≡ zero_fraction
+share_apart q r s h = share_off (are_alike r s) (times q (quotient (square_root (r * s)) s)) h
+
+share_zero : (b : Bool) (x : Fraction) → (if b then times zero_fraction x else zero_fraction) ≡ zero_fraction
+share_zero true x = zero_times x
+share_zero false x = refl
+
+-- a term with coefficient 0 gives nothing
+pub share_of_zero : (r s : ℕ) → term_share (term zero_fraction r) s ≡ zero_fraction
+share_of_zero r s = share_zero (are_alike r s) (quotient (square_root (r * s)) s)
+
+share_sum : (b : Bool) (p q x : Fraction) → plus (if b then times p x else zero_fraction) (if b then times q x else zero_fraction) ≡ (if b then times (plus p q) x else zero_fraction)
+share_sum true p q x = (λ i. plus (times_comm p x i) (times_comm q x i)) ∙ sym (times_plus x p q) ∙ times_comm x (plus p q)
+share_sum false p q x = zero_plus zero_fraction
+
+pub Agree-term : (t u : Term) → ((s : ℕ) → term_share t s ≡ term_share u s) → Agree (t ∷ []) (u ∷ [])
+Agree-term t u h = record { at = λ s. ap (λ x. plus x zero_fraction) (h s) }
+
+-- ---- terms that go
+
+pub Agree-zero_term : (r : ℕ) → Agree (term zero_fraction r ∷ []) []
+Agree-zero_term r = record { at = λ s. ap (λ x. plus x zero_fraction) (share_of_zero r s) ∙ zero_plus zero_fraction }
+
+-- a term with coefficient 0 is nothing
+pub zero_term : (r : ℕ) → Same (term zero_fraction r ∷ []) []
+zero_term r = Agree-Same (Agree-zero_term r)
+
+-- and goes
+pub zero_term_goes : (r : ℕ) (v : Surd) → Same (term zero_fraction r ∷ v) v
+zero_term_goes r v = Same-append {v = term zero_fraction r ∷ []} {v' = []} (zero_term r) (Same-refl v)
+
+-- ---- squares are taken out
+
+no_class_of_zero : (s : ℕ) → are_alike 0 s ≡ false
+no_class_of_zero s = false_from_ne_true (are_alike 0 s) (λ h. let a = alike_from 0 s h in absurd (omega (arith, a.square, mul_pos (square_root (0 * s)) (square_root (0 * s)) (a.positive) (a.positive))))
+
+-- a term with radicand 0 is nothing
+pub Agree-zero_radicand : (q : Fraction) → Agree (term q 0 ∷ []) []
+Agree-zero_radicand q = record { at = λ s. ap (λ x. plus x zero_fraction) (share_apart q 0 s (no_class_of_zero s)) ∙ zero_plus zero_fraction }
+
+pub zero_radicand : (q : Fraction) → Same (term q 0 ∷ []) []
+zero_radicand q = Agree-Same (Agree-zero_radicand q)
+
+whole_times_quotient : (s u x : ℕ) → 0 < x → times (whole_fraction (pos s)) (quotient u x) ≡ quotient (s * u) x
+whole_times_quotient s u x h = times_lowest (pos s) (pos u) 1 x (omega arith) h ∙ ap (lowest (pos (s * u))) (one-mul x)
+
+square_alike : (s t x u : ℕ) → 0 < s → Alike t x u → Alike (s * s * t) x (s * u)
+square_alike s t x u h a = record { square = omega (arith, ap (λ n. s * s * n) a.square); positive = mul_pos s u h (a.positive) }
+
+square_in_class : (s t x m : ℕ) → 0 < s → Alike (s * s * t) x m → are_alike t x ≡ true
+square_in_class s t x m h a =
+    let (u, f) = square_from_scaled (t * x) s m h (omega (arith, a.square)) in
+    alike_true t x u (record { square = omega (arith, f); positive = nonzero u t x s m f a.square a.positive })
+  where
+    nonzero : (u t x s m : ℕ) → t * x ≡ u * u → m * m ≡ s * s * t * x → 0 < m → 0 < u
+    nonzero zero t x s m e f h = absurd (omega (arith, ap (λ n. s * s * n) e, mul_pos m m h h))
+    nonzero (suc u) t x s m e f h = omega arith
+
+square_apart : (s t x : ℕ) → 0 < s → are_alike t x ≡ false → are_alike (s * s * t) x ≡ false
+square_apart s t x h e = false_from_ne_true (are_alike (s * s * t) x) (λ k.
+    let g : are_alike t x ≡ true = square_in_class s t x (square_root (s * s * t * x)) h (alike_from (s * s * t) x k) in
+    cc)
+
+share_extracted : (q : Fraction) (s t x : ℕ) → 0 < s → term_share (term q (s * s * t)) x ≡ term_share (term (times q (whole_fraction (pos s))) t) x
+share_extracted q s t x h = by (are_alike t x) refl
+  where
+    by : (b : Bool) → are_alike t x ≡ b → term_share (term q (s * s * t)) x ≡ term_share (term (times q (whole_fraction (pos s))) t) x
+    by true e =
+        let u : ℕ = square_root (t * x) in
+        let a : Alike t x u = alike_from t x e in
+        share_alike q (s * s * t) x (s * u) (square_alike s t x u h a)
+        ∙ ap (times q) (sym (whole_times_quotient s u x (alike_right t x u a)))
+        ∙ sym (times_assoc q (whole_fraction (pos s)) (quotient u x))
+        ∙ sym (share_alike (times q (whole_fraction (pos s))) t x u a)
+    by false e = share_apart q (s * s * t) x (square_apart s t x h e) ∙ sym (share_apart (times q (whole_fraction (pos s))) t x e)
+
+pub Agree-extracted : (q : Fraction) (s t : ℕ) → Agree (term q (s * s * t) ∷ []) (term (times q (whole_fraction (pos s))) t ∷ [])
+unfolding zero_fraction
+Agree-extracted q zero t =
+    Agree-trans (Agree-eq (ap (λ r. term q r ∷ []) (omega arith)))
+    (Agree-trans (Agree-zero_radicand q)
+    (Agree-trans (Agree-sym (Agree-zero_term t)) (Agree-eq (ap (λ c. term c t ∷ []) (sym (times_zero q))))))
+Agree-extracted q (suc s) t = Agree-term _ _ (λ x. share_extracted q (suc s) t x (omega arith))
+
+-- the root of s * s * t is s times that of t
+pub extracted : (q : Fraction) (r s t : ℕ) → r ≡ s * s * t → Same (term q r ∷ []) (term (times q (whole_fraction (pos s))) t ∷ [])
+extracted q r s t e = Agree-Same (Agree-trans (Agree-eq (ap (λ r. term q r ∷ []) e)) (Agree-extracted q s t))
+
+-- ---- terms of one class are joined
+
+pub Agree-joined : (p q : Fraction) (r : ℕ) → Agree (term p r ∷ term q r ∷ []) (term (plus p q) r ∷ [])
+Agree-joined p q r = record { at = λ s. sym (plus_assoc (term_share (term p r) s) (term_share (term q r) s) zero_fraction) ∙ ap (λ x. plus x zero_fraction) (share_sum (are_alike r s) p q (quotient (square_root (r * s)) s)) }
+
+-- two terms with one radicand
+pub joined_radicand : (p q : Fraction) (r : ℕ) → Same (term p r ∷ term q r ∷ []) (term (plus p q) r ∷ [])
+joined_radicand p q r = Agree-Same (Agree-joined p q r)
+
+-- two terms of one class: with r = g * a * a and s = g * b * b, c * √r + d * √s is (c * a + d * b) * √g
+pub joined : (c d : Fraction) (r s g a b : ℕ) → r ≡ g * a * a → s ≡ g * b * b
+    → Same (term c r ∷ term d s ∷ []) (term (plus (times c (whole_fraction (pos a))) (times d (whole_fraction (pos b)))) g ∷ [])
+joined c d r s g a b e f =
+    Agree-Same (Agree-trans
+    (Agree-append {v = term c r ∷ []} (Same-Agree (extracted c r a g (omega arith))) (Same-Agree (extracted d s b g (omega arith))))
+    (Agree-joined (times c (whole_fraction (pos a))) (times d (whole_fraction (pos b))) g))
+
+-- the same inside a sum
+pub joined_inside : (c d : Fraction) (r s g a b : ℕ) (u v w : Surd) → r ≡ g * a * a → s ≡ g * b * b
+    → Same (u ++ (term c r ∷ (v ++ (term d s ∷ w)))) (u ++ (term (plus (times c (whole_fraction (pos a))) (times d (whole_fraction (pos b)))) g ∷ (v ++ w)))
+joined_inside c d r s g a b u v w e f =
+    Same-append (Same-refl u) (Agree-Same (Agree-trans
+    (Agree-append {v = term c r ∷ []} {v' = term c r ∷ []} (Agree-refl _) (Agree-to_front v (term d s) w))
+    (Agree-append {v = term c r ∷ term d s ∷ []} {v' = term _ g ∷ []} (Same-Agree (joined c d r s g a b e f)) (Agree-refl (v ++ w)))))
+
+-- ---- products of two terms
+
+pub surd_times-terms : (q c : Fraction) (r s : ℕ) → surd_times (term q r ∷ []) (term c s ∷ []) ≡ term (times q c) (r * s) ∷ []
+surd_times-terms q c r s = refl
+
+-- with g dividing both radicands, √r * √s is g * √((r/g) * (s/g))
+pub product_of_terms : (q c : Fraction) (r s g a b : ℕ) → r ≡ g * a → s ≡ g * b
+    → Same (surd_times (term q r ∷ []) (term c s ∷ [])) (term (times (times q c) (whole_fraction (pos g))) (a * b) ∷ [])
+product_of_terms q c r s g a b e f = extracted (times q c) (r * s) g (a * b) (by e f)
+  where
+    by : r ≡ g * a → s ≡ g * b → r * s ≡ g * g * (a * b)
+    by e f = omega (arith, ap (λ n. n * s) e, ap (λ n. g * a * n) f)
+
+pub product_of_terms_over : (q c : Fraction) (r s g : ℕ) → g ∣ r → g ∣ s
+    → Same (surd_times (term q r ∷ []) (term c s ∷ [])) (term (times (times q c) (whole_fraction (pos g))) ((r / g) * (s / g)) ∷ [])
+product_of_terms_over q c r s g h k = product_of_terms q c r s g (r / g) (s / g) (sym (mul-div_cancel' g h)) (sym (mul-div_cancel' g k))

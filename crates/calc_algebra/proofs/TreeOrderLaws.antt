@@ -1,0 +1,217 @@
+-- The order of trees is total, and Equal exactly for identical trees.
+use Rattle.std.specs.Prelude.{ℕ, ◌+◌, ◌*◌, ◌≡◌, ℤ, pos, ◌*ℤ◌, ◌<ℤ◌, ◌<◌, List, [], ◌∷◌, Bool, true, false, ◌&&◌, ◌≤◌, nat_eq}
+use Rattle.std.proofs.Common.{refl, sym, ap, ◌∙◌, arith}
+use Rattle.std.specs.declared.cmp.Ordering.{Ordering}
+use Rattle.std.specs.declared.cmp.Ordering.TheVariants.{Less, Equal, Greater}
+use Rattle.std.specs.Ordering.{nat_cmp, int_cmp, ordering_then, ordering_reverse, MatchOrdering}
+use Rattle.std.specs.Cmp.Lexicographic.{slice_cmp, nat_list_cmp_total}
+use Rattle.std.specs.Cmp.{int_cmp_total, nat_cmp_total, tied_itself, ranked, int_ranked, IsTotalOrder}
+use Rattle.std.proofs.lemmas.Int.{ints}
+use borrow.Author.Differences.{up, down}
+use lib.Dec.{T}
+use Rattle.std.proofs.lemmas.Bool.Decides.{nat_tests}
+use Rattle.calc_terms.specs.Fractions.{Fraction, same_fraction, den_pos, fraction_cmp}
+use Rattle.calc_algebra.specs.TreeOrder.{tree_cmp, trees_cmp}
+use Rattle.calc_terms.specs.Trees.{root_code, Tree, num, symbol, undef, add, mult, power, root, neg, sub, div, Trees, none, more}
+
+then_equal : (a b : Ordering) → a ≡ Equal → b ≡ Equal → ordering_then a b ≡ Equal
+then_equal a b p q = rw (p, q) refl
+
+pub fraction_cmp_refl : (p : Fraction) → fraction_cmp p p ≡ Equal
+fraction_cmp_refl p = tied_itself int_cmp_total (p.num *ℤ pos p.den)
+
+bytes_refl : (x : List ℕ) → slice_cmp nat_cmp x x ≡ Equal
+bytes_refl [] = refl
+bytes_refl (x ∷ xs) = then_equal _ _ (tied_itself nat_cmp_total x) (bytes_refl xs)
+
+mutual
+  pub tree_cmp_refl : (t : Tree) → tree_cmp t t ≡ Equal
+  tree_cmp_refl (num q) = fraction_cmp_refl q
+  tree_cmp_refl (symbol x) = bytes_refl x
+  tree_cmp_refl undef = refl
+  tree_cmp_refl (add ts) = trees_cmp_refl ts
+  tree_cmp_refl (mult ts) = trees_cmp_refl ts
+  tree_cmp_refl (power a b) = then_equal _ _ (tree_cmp_refl a) (tree_cmp_refl b)
+  tree_cmp_refl (root a) = tree_cmp_refl a
+  tree_cmp_refl (neg a) = tree_cmp_refl a
+  tree_cmp_refl (sub a b) = then_equal _ _ (tree_cmp_refl a) (tree_cmp_refl b)
+  tree_cmp_refl (div a b) = then_equal _ _ (tree_cmp_refl a) (tree_cmp_refl b)
+
+  pub trees_cmp_refl : (ts : Trees) → trees_cmp ts ts ≡ Equal
+  trees_cmp_refl none = refl
+  trees_cmp_refl (more t ts) = then_equal _ _ (tree_cmp_refl t) (trees_cmp_refl ts)
+
+both_equal : (a b : Ordering) → ordering_then a b ≡ Equal → (a ≡ Equal) × (b ≡ Equal)
+both_equal Less b h = cc
+both_equal Equal b h = (refl, h)
+both_equal Greater b h = cc
+
+is_equal : (A B C : Type 0) (r : Ordering) → MatchOrdering r A B C → r ≡ Equal → B
+is_equal A B C r m h = rw h at m
+
+fraction_cmp_equal : (p q : Fraction) → fraction_cmp p q ≡ Equal → p ≡ q
+fraction_cmp_equal p q h = same_fraction p q (let x = p.num *ℤ pos q.den in let y = q.num *ℤ pos p.den in is_equal (x <ℤ y) (x ≡ y) (y <ℤ x) _ (int_ranked x y _ refl) h)
+
+bytes_equal : (x y : List ℕ) → slice_cmp nat_cmp x y ≡ Equal → x ≡ y
+bytes_equal [] [] h = refl
+bytes_equal (x ∷ xs) (y ∷ ys) h = let (p, q) = both_equal _ _ h in let e = is_equal (x < y) (x ≡ y) (y < x) _ (ranked x y _ refl) p in λ i. e i ∷ bytes_equal xs ys q i
+bytes_equal _ _ h = cc
+
+mutual
+  pub tree_cmp_equal : (t u : Tree) → tree_cmp t u ≡ Equal → t ≡ u
+  tree_cmp_equal (num p) (num q) h = ap num (fraction_cmp_equal p q h)
+  tree_cmp_equal (symbol x) (symbol y) h = ap symbol (bytes_equal x y h)
+  tree_cmp_equal undef undef h = refl
+  tree_cmp_equal (add ts) (add us) h = ap add (trees_cmp_equal ts us h)
+  tree_cmp_equal (mult ts) (mult us) h = ap mult (trees_cmp_equal ts us h)
+  tree_cmp_equal (power a b) (power c d) h = let (p, q) = both_equal _ _ h in λ i. power (tree_cmp_equal a c p i) (tree_cmp_equal b d q i)
+  tree_cmp_equal (root a) (root c) h = ap root (tree_cmp_equal a c h)
+  tree_cmp_equal (neg a) (neg c) h = ap neg (tree_cmp_equal a c h)
+  tree_cmp_equal (sub a b) (sub c d) h = let (p, q) = both_equal _ _ h in λ i. sub (tree_cmp_equal a c p i) (tree_cmp_equal b d q i)
+  tree_cmp_equal (div a b) (div c d) h = let (p, q) = both_equal _ _ h in λ i. div (tree_cmp_equal a c p i) (tree_cmp_equal b d q i)
+  tree_cmp_equal _ _ h = cc
+
+  pub trees_cmp_equal : (ts us : Trees) → trees_cmp ts us ≡ Equal → ts ≡ us
+  trees_cmp_equal none none h = refl
+  trees_cmp_equal (more t ts) (more u us) h = let (p, q) = both_equal _ _ h in λ i. more (tree_cmp_equal t u p i) (trees_cmp_equal ts us q i)
+  trees_cmp_equal _ _ h = cc
+
+then_turned : (a b c d : Ordering) → a ≡ ordering_reverse c → b ≡ ordering_reverse d → ordering_then a b ≡ ordering_reverse (ordering_then c d)
+then_turned a b Less d p q = rw p refl
+then_turned a b Equal d p q = rw (p, q) refl
+then_turned a b Greater d p q = rw p refl
+
+mutual
+  pub tree_cmp_turned : (t u : Tree) → tree_cmp t u ≡ ordering_reverse (tree_cmp u t)
+  tree_cmp_turned (num p) (num q) = int_cmp_total.antisymm (p.num *ℤ pos q.den) (q.num *ℤ pos p.den)
+  tree_cmp_turned (symbol x) (symbol y) = nat_list_cmp_total.antisymm x y
+  tree_cmp_turned undef undef = refl
+  tree_cmp_turned (add ts) (add us) = trees_cmp_turned ts us
+  tree_cmp_turned (mult ts) (mult us) = trees_cmp_turned ts us
+  tree_cmp_turned (power a b) (power c d) = then_turned _ _ _ _ (tree_cmp_turned a c) (tree_cmp_turned b d)
+  tree_cmp_turned (root a) (root c) = tree_cmp_turned a c
+  tree_cmp_turned (neg a) (neg c) = tree_cmp_turned a c
+  tree_cmp_turned (sub a b) (sub c d) = then_turned _ _ _ _ (tree_cmp_turned a c) (tree_cmp_turned b d)
+  tree_cmp_turned (div a b) (div c d) = then_turned _ _ _ _ (tree_cmp_turned a c) (tree_cmp_turned b d)
+  tree_cmp_turned _ _ = refl
+
+  pub trees_cmp_turned : (ts us : Trees) → trees_cmp ts us ≡ ordering_reverse (trees_cmp us ts)
+  trees_cmp_turned none none = refl
+  trees_cmp_turned (more t ts) (more u us) = then_turned _ _ _ _ (tree_cmp_turned t u) (trees_cmp_turned ts us)
+  trees_cmp_turned _ _ = refl
+
+chain_then : (ab bc ac ab' bc' ac' : Ordering)
+    → (ab ≡ Less → bc ≡ Less → ac ≡ Less) → (ab ≡ Equal → ac ≡ bc) → (bc ≡ Equal → ac ≡ ab)
+    → (ab' ≡ Less → bc' ≡ Less → ac' ≡ Less)
+    → ordering_then ab ab' ≡ Less → ordering_then bc bc' ≡ Less → ordering_then ac ac' ≡ Less
+chain_then Less Less ac ab' bc' ac' f g k m p q = rw (f refl refl) refl
+chain_then Less Equal ac ab' bc' ac' f g k m p q = rw (k refl) refl
+chain_then Less Greater ac ab' bc' ac' f g k m p q = cc
+chain_then Equal Less ac ab' bc' ac' f g k m p q = rw (g refl) refl
+chain_then Equal Equal ac ab' bc' ac' f g k m p q = rw (g refl) (m p q)
+chain_then Equal Greater ac ab' bc' ac' f g k m p q = cc
+chain_then Greater bc ac ab' bc' ac' f g k m p q = cc
+
+equal_left : (t u z : Tree) → tree_cmp t u ≡ Equal → tree_cmp t z ≡ tree_cmp u z
+equal_left t u z h = rw (tree_cmp_equal t u h) refl
+
+equal_right : (t u z : Tree) → tree_cmp u z ≡ Equal → tree_cmp t z ≡ tree_cmp t u
+equal_right t u z h = rw (tree_cmp_equal u z h) refl
+
+is_less : (A B C : Type 0) (r : Ordering) → MatchOrdering r A B C → r ≡ Less → A
+is_less A B C r m h = rw h at m
+
+less_int : (x y : ℤ) → x <ℤ y → int_cmp x y ≡ Less
+less_int x y h = rw (true_from _ (h.lt)) refl
+  where
+    true_from : (b : Bool) → T b → b ≡ true
+    true_from true t = refl
+    true_from false t = absurd t
+
+scale_lt : (x y k : ℕ) → 0 < k → x < y → x * k < y * k
+scale_lt x y k p h = grind arith
+
+unscale_lt : (x y k : ℕ) → k * x < k * y → x < y
+unscale_lt x y k h = grind arith
+
+nat_chain : (a a' b b' c c' p q r : ℕ) → 0 < p → 0 < r → a * q + b' * p < b * p + a' * q → b * r + c' * q < c * q + b' * r → a * r + c' * p < c * p + a' * r
+nat_chain a a' b b' c c' p q r hp hr h k = unscale_lt _ _ q (omega (arith, scale_lt _ _ r hr h, scale_lt _ _ p hp k))
+
+cross_chain : (a b c : ℤ) (p q r : ℕ) → 0 < p → 0 < q → 0 < r → (a *ℤ pos q) <ℤ (b *ℤ pos p) → (b *ℤ pos r) <ℤ (c *ℤ pos q) → (a *ℤ pos r) <ℤ (c *ℤ pos p)
+cross_chain a b c p q r hp hq hr h k =
+    let h' : up a * q + down b * p < up b * p + down a * q = omega (arith, ints) in
+    let k' : up b * r + down c * q < up c * q + down b * r = omega (arith, ints) in
+    let g : up a * r + down c * p < up c * p + down a * r = nat_chain (up a) (down a) (up b) (down b) (up c) (down c) p q r hp hr h' k' in
+    omega (arith, ints)
+
+-- the kinds decide first
+by_code : (t u : Tree) → tree_cmp t u ≡ ordering_then (nat_cmp (root_code t) (root_code u)) (tree_cmp t u)
+by_code (num p) (num q) = refl
+by_code (symbol x) (symbol y) = refl
+by_code undef undef = refl
+by_code (add ts) (add us) = refl
+by_code (mult ts) (mult us) = refl
+by_code (power a b) (power c d) = refl
+by_code (root a) (root c) = refl
+by_code (neg a) (neg c) = refl
+by_code (sub a b) (sub c d) = refl
+by_code (div a b) (div c d) = refl
+by_code _ _ = refl
+
+then_code : (m n : ℕ) (r : Ordering) → ordering_then (nat_cmp m n) r ≡ Less → m ≤ n
+then_code m n r h = split _ (ranked m n _ refl) h
+  where
+    split : (o : Ordering) → MatchOrdering o (m < n) (m ≡ n) (n < m) → ordering_then o r ≡ Less → m ≤ n
+    split Less l e = omega arith
+    split Equal l e = omega arith
+    split Greater l e = cc
+
+then_less : (m n : ℕ) (r : Ordering) → m < n → ordering_then (nat_cmp m n) r ≡ Less
+then_less m n r h = split _ (ranked m n _ refl)
+  where
+    split : (o : Ordering) → MatchOrdering o (m < n) (m ≡ n) (n < m) → ordering_then o r ≡ Less
+    split Less l = refl
+    split Equal l = absurd (omega arith)
+    split Greater l = absurd (omega arith)
+
+mixed : (t u z : Tree) → (nat_eq (root_code t) (root_code u) && nat_eq (root_code u) (root_code z)) ≡ false → tree_cmp t u ≡ Less → tree_cmp u z ≡ Less → tree_cmp t z ≡ Less
+mixed t u z d h k =
+    let a : root_code t ≤ root_code u = then_code _ _ _ (sym (by_code t u) ∙ h) in
+    let b : root_code u ≤ root_code z = then_code _ _ _ (sym (by_code u z) ∙ k) in
+    by_code t z ∙ then_less _ _ _ (apart (root_code t) (root_code u) (root_code z) d a b)
+  where
+    apart : (x y z : ℕ) → (nat_eq x y && nat_eq y z) ≡ false → x ≤ y → y ≤ z → x < z
+    apart x y z d a b = grind (arith, nat_tests)
+
+fraction_chain : (p q r : Fraction) → fraction_cmp p q ≡ Less → fraction_cmp q r ≡ Less → fraction_cmp p r ≡ Less
+fraction_chain p q r h k =
+    let x = p.num *ℤ pos q.den in let y = q.num *ℤ pos p.den in let x' = q.num *ℤ pos r.den in let y' = r.num *ℤ pos q.den in
+    less_int _ _ (cross_chain p.num q.num r.num p.den q.den r.den (den_pos p) (den_pos q) (den_pos r)
+    (is_less (x <ℤ y) (x ≡ y) (y <ℤ x) _ (int_ranked x y _ refl) h)
+    (is_less (x' <ℤ y') (x' ≡ y') (y' <ℤ x') _ (int_ranked x' y' _ refl) k))
+
+mutual
+  pub tree_chain : (t u z : Tree) → tree_cmp t u ≡ Less → tree_cmp u z ≡ Less → tree_cmp t z ≡ Less
+  tree_chain (num p) (num q) (num r) h k = fraction_chain p q r h k
+  tree_chain (symbol x) (symbol y) (symbol z) h k = nat_list_cmp_total.trans x y z h k
+  tree_chain undef undef undef h k = cc
+  tree_chain (add ts) (add us) (add zs) h k = trees_chain ts us zs h k
+  tree_chain (mult ts) (mult us) (mult zs) h k = trees_chain ts us zs h k
+  tree_chain (power a b) (power c d) (power e f) h k = chain_then _ _ _ _ _ _ (tree_chain a c e) (equal_left a c e) (equal_right a c e) (tree_chain b d f) h k
+  tree_chain (root a) (root c) (root e) h k = tree_chain a c e h k
+  tree_chain (neg a) (neg c) (neg e) h k = tree_chain a c e h k
+  tree_chain (sub a b) (sub c d) (sub e f) h k = chain_then _ _ _ _ _ _ (tree_chain a c e) (equal_left a c e) (equal_right a c e) (tree_chain b d f) h k
+  tree_chain (div a b) (div c d) (div e f) h k = chain_then _ _ _ _ _ _ (tree_chain a c e) (equal_left a c e) (equal_right a c e) (tree_chain b d f) h k
+  tree_chain t u z h k = mixed t u z refl h k
+
+  pub trees_chain : (ts us zs : Trees) → trees_cmp ts us ≡ Less → trees_cmp us zs ≡ Less → trees_cmp ts zs ≡ Less
+  trees_chain none (more u us) none h k = cc
+  trees_chain none (more u us) (more z zs) h k = refl
+  trees_chain (more t ts) (more u us) (more z zs) h k = chain_then _ _ _ _ _ _ (tree_chain t u z) (equal_left t u z) (equal_right t u z) (trees_chain ts us zs) h k
+  trees_chain _ _ _ h k = cc
+
+pub tree_cmp_same : (t u : Tree) → t ≡ u → tree_cmp t u ≡ Equal
+tree_cmp_same t u e = ap (tree_cmp t) (sym e) ∙ tree_cmp_refl t
+
+pub tree_cmp_total : IsTotalOrder tree_cmp
+tree_cmp_total = record { antisymm = tree_cmp_turned; trans = tree_chain; congr = equal_left }

@@ -1,0 +1,66 @@
+use Rattle.std.proofs.Common.{◌≡◌, refl, [], ◌∷◌, ◌++◌, ℤ, pos, negsuc, subst}
+use Rattle.calc_terms.specs.Gcd.{gcd}
+use Rattle.calc_terms.specs.Fractions.{Fraction, lowest, quotient, plus, times, zero_fraction, one_fraction, whole_fraction, minus_one_fraction}
+use Rattle.calc_algebra.specs.SquareRoots.{square_root}
+use Rattle.calc_algebra.specs.Surds.{Surd, term, surd_of}
+use Rattle.calc_algebra.specs.SquareClasses.{Same}
+use Rattle.calc_algebra.specs.Meanings.{IsWholePower, IsRootOf}
+use Rattle.calc_algebra.proofs.SurdLaws.{Agree-sym, Agree-trans}
+use Rattle.calc_algebra.proofs.SquareClassLaws.{Same-Agree, Same-trans}
+use Rattle.calc_algebra.proofs.MeaningLaws.{surd_of_one, whole_one}
+use Rattle.calc_algebra.proofs.Compared.{compared_same}
+use Rattle.calc_algebra.proofs.examples.meanings_found.Goals as goal
+
+-- two rationals that one surd is
+one_rational : (x : Surd) (p q : Fraction) → Same x (surd_of p) → Same x (surd_of q) → p ≡ q
+one_rational x p q h k = surd_of_one p q (Agree-trans (Agree-sym (Same-Agree h)) (Same-Agree k))
+
+pub returns-clause-an_inverse : goal.returns-clause-an_inverse
+unfolding square_root gcd lowest plus times zero_fraction one_fraction
+returns-clause-an_inverse c = λ f.
+    let one = surd_of (lowest (pos 1) 1) in
+    let two = surd_of (lowest (pos 2) 1) in
+    let three = surd_of (lowest (pos 3) 1) in
+    let a = term (lowest (pos 1) 1) 2 ∷ [] in
+    let b = term (lowest (pos 1) 1) 3 ∷ [] in
+    let y = term minus_one_fraction 2 ∷ term one_fraction 3 ∷ [] in (
+      one,
+      a ++ (b ++ []),
+      y,
+      compared_same _ _ refl,
+      (
+        a ++ (b ++ []),
+        (
+          a,
+          b ++ [],
+          (two, compared_same _ _ refl, (lowest (pos 2) 1, compared_same _ _ refl, compared_same _ _ refl)),
+          (b, [], (three, compared_same _ _ refl, (lowest (pos 3) 1, compared_same _ _ refl, compared_same _ _ refl)), refl, refl),
+          refl,
+        ),
+        compared_same _ _ refl,
+      ),
+      compared_same _ _ refl,
+      compared_same _ _ refl,
+    )
+
+pub returns-clause-a_root_of_a_ratio : goal.returns-clause-a_root_of_a_ratio
+unfolding square_root gcd lowest plus times zero_fraction one_fraction
+returns-clause-a_root_of_a_ratio c = λ f. (surd_of (quotient 1 2), compared_same _ _ refl, (quotient 1 2, compared_same _ _ refl, compared_same _ _ refl))
+
+no_zero_power : (k : ℤ) (w v : Surd) → k ≡ pos 0 → Same w [] → IsWholePower k w v → ⊥
+no_zero_power k w v e z i = let j = subst (λ n. IsWholePower n w v) e i in j.0 z
+
+pub returns-clause-zero_to_the_zero : goal.returns-clause-zero_to_the_zero
+unfolding square_root gcd lowest plus times zero_fraction one_fraction
+returns-clause-zero_to_the_zero c = λ f v (w, x, m, n, (k, s, i)).
+    no_zero_power k w v (whole_one k (pos 0) (one_rational x (whole_fraction k) (whole_fraction (pos 0)) s n)) (Same-trans m (compared_same _ _ refl)) i
+
+no_negative_root : (q : Fraction) (v : Surd) → q ≡ lowest (negsuc 0) 1 → IsRootOf q.num q.den v → ⊥
+unfolding gcd lowest
+no_negative_root q v e i = subst (λ x. IsRootOf x.num x.den v) e i
+
+pub returns-clause-a_root_of_a_negative : goal.returns-clause-a_root_of_a_negative
+returns-clause-a_root_of_a_negative c = λ f v (x, m, (q, s, i)). no_negative_root q v (one_rational x q (lowest (negsuc 0) 1) s m) i
+
+pub returns-clause-undefined : goal.returns-clause-undefined
+returns-clause-undefined c = λ f v m. m

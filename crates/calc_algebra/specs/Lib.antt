@@ -1,0 +1,10 @@
+pub mod TreeOrder
+pub mod SquareRoots
+pub mod Surds
+pub mod SquareClasses
+pub mod Meanings
+pub mod Clean
+pub mod Numbers
+pub mod Reduced
+pub mod BadAndEasy
+pub mod Rewritings

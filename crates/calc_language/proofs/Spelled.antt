@@ -1,0 +1,462 @@
+-- The text of a tree is cut into its tokens.
+use Rattle.std.specs.Prelude.{ℕ, zero, suc, ◌+◌, ◌/◌, ◌%◌, ◌≡◌, ◌<◌, ⊤, List, [], ◌∷◌, ◌++◌, length, Bool, true, false, not, ◌&&◌, ◌||◌, ◌==◌, nat_le, if◌then◌else◌, Some, None, pos, nat_abs, codes, nat_eq}
+use Rattle.std.proofs.Common.{refl, sym, ap, ◌∙◌, arith, append_assoc, append-nil, subst}
+use Rattle.std.proofs.lemmas.Bool.{leb-true, le-leb, and_parts, and_from, or_left, or_right, or_parts, not-true}
+use Rattle.std.specs.List.{list_all}
+use Rattle.std.specs.Cmp.Lexicographic.{pointwise}
+use Rattle.calc_terms.specs.Name.{is_name, is_reserved, begins_with_letter, is_digit, is_letter, is_name_byte}
+use Rattle.std.proofs.lemmas.Bool.Decides.{nat_tests}
+use Rattle.calc_terms.specs.Fractions.{lowest}
+use Rattle.calc_language.specs.Texts.{decimal, digits_before, Place, first_of_sum, later_of_sum, first_of_product, left_of_quotient, later_of_product, base, exponent, admits, at_place, in_parentheses, text, text_of_sum, text_of_terms, text_of_product, text_of_factors, IsNatural, IsWritable, AreWritable}
+use Rattle.calc_language.specs.Tokens.{literal_at, word_at, Scans, at_end, at_token, name, times_sign, root_sign, Token, literal, undef_mark, root_mark, plus_mark, minus_mark, times_mark, slash_mark, caret_mark, left_mark, right_mark, arrow_mark, leading_run, keep, digits_value, decimals, same_bytes, token_of_word, token_at, or_else, if_so}
+use Rattle.calc_terms.specs.Trees.{Tree, num, symbol, undef, add, mult, power, root, neg, sub, div, Trees, none, more}
+use Rattle.calc_terms.proofs.FractionFacts.{whole_numerator}
+use Rattle.calc_language.proofs.Written.{inside, placed, tokens, tokens_of_sum, tokens_of_terms, tokens_of_product, tokens_of_factors}
+
+abbrev pub spell : Token → List ℕ
+spell (literal q) = decimal (nat_abs q.num)
+spell (name x) = x
+spell undef_mark = codes "undef"
+spell root_mark = root_sign
+spell plus_mark = codes "+"
+spell minus_mark = codes "-"
+spell times_mark = times_sign
+spell slash_mark = codes "/"
+spell caret_mark = codes "^"
+spell left_mark = codes "("
+spell right_mark = codes ")"
+spell arrow_mark = codes "->"
+
+abbrev pub spelled : List Token → List ℕ
+spelled [] = []
+spelled (t ∷ ts) = spell t ++ spelled ts
+
+pub spelled-append : (a b : List Token) → spelled (a ++ b) ≡ spelled a ++ spelled b
+spelled-append [] b = refl
+spelled-append (t ∷ a) b = ap (λ x. spell t ++ x) (spelled-append a b) ∙ sym (append_assoc (spell t) (spelled a) (spelled b))
+
+inside_spelled : (ts : List Token) (bs : List ℕ) → bs ≡ spelled ts → in_parentheses bs ≡ spelled (inside ts)
+inside_spelled ts bs e = ap (λ x. codes "(" ++ (x ++ codes ")")) e ∙ ap (λ x. codes "(" ++ x) (sym (spelled-append ts (right_mark ∷ [])))
+
+place_spelled : (p : Place) (t : Tree) (ts : List Token) (bs : List ℕ) → bs ≡ spelled ts → at_place p t bs ≡ spelled (placed (admits p t) ts)
+place_spelled p t ts bs e = by (admits p t)
+  where
+    by : (b : Bool) → (if b then bs else in_parentheses bs) ≡ spelled (placed b ts)
+    by true = e
+    by false = inside_spelled ts bs e
+
+joined_spelled : (a b : List Token) (m : Token) (x y : List ℕ) → x ≡ spelled a → y ≡ spelled b → x ++ spell m ++ y ≡ spelled (a ++ m ∷ b)
+joined_spelled a b m x y p q = append_assoc x (spell m) y ∙ (λ i. p i ++ (spell m ++ q i)) ∙ sym (spelled-append a (m ∷ b))
+
+mutual
+  pub text_spelled : (t : Tree) → text t ≡ spelled (tokens t)
+  text_spelled (num q) = sym (append-nil (decimal (nat_abs q.num)))
+  text_spelled (symbol x) = sym (append-nil x)
+  text_spelled undef = refl
+  text_spelled (add ts) = sum_spelled ts
+  text_spelled (mult ts) = product_spelled ts
+  text_spelled (power b e) = joined_spelled (placed (admits base b) (tokens b)) (placed (admits exponent e) (tokens e)) caret_mark _ _ (place_spelled base b (tokens b) (text b) (text_spelled b)) (place_spelled exponent e (tokens e) (text e) (text_spelled e))
+  text_spelled (root a) = ap (λ x. root_sign ++ x) (inside_spelled (tokens a) (text a) (text_spelled a))
+  text_spelled (neg a) = ap (λ x. codes "-" ++ x) (place_spelled later_of_sum a (tokens a) (text a) (text_spelled a))
+  text_spelled (sub a b) = joined_spelled (tokens a) (placed (admits later_of_sum b) (tokens b)) minus_mark _ _ (text_spelled a) (place_spelled later_of_sum b (tokens b) (text b) (text_spelled b))
+  text_spelled (div a b) = joined_spelled (placed (admits left_of_quotient a) (tokens a)) (placed (admits later_of_product b) (tokens b)) slash_mark _ _ (place_spelled left_of_quotient a (tokens a) (text a) (text_spelled a)) (place_spelled later_of_product b (tokens b) (text b) (text_spelled b))
+
+  sum_spelled : (ts : Trees) → text_of_sum ts ≡ spelled (tokens_of_sum ts)
+  sum_spelled none = refl
+  sum_spelled (more t ts) = (λ i. place_spelled first_of_sum t (tokens t) (text t) (text_spelled t) i ++ terms_spelled ts i) ∙ sym (spelled-append (placed (admits first_of_sum t) (tokens t)) (tokens_of_terms ts))
+
+  terms_spelled : (ts : Trees) → text_of_terms ts ≡ spelled (tokens_of_terms ts)
+  terms_spelled none = refl
+  terms_spelled (more t ts) = (λ i. (codes "+" ++ place_spelled later_of_sum t (tokens t) (text t) (text_spelled t) i) ++ terms_spelled ts i) ∙ sym (spelled-append (plus_mark ∷ placed (admits later_of_sum t) (tokens t)) (tokens_of_terms ts))
+
+  product_spelled : (ts : Trees) → text_of_product ts ≡ spelled (tokens_of_product ts)
+  product_spelled none = refl
+  product_spelled (more t ts) = (λ i. place_spelled first_of_product t (tokens t) (text t) (text_spelled t) i ++ factors_spelled ts i) ∙ sym (spelled-append (placed (admits first_of_product t) (tokens t)) (tokens_of_factors ts))
+
+  factors_spelled : (ts : Trees) → text_of_factors ts ≡ spelled (tokens_of_factors ts)
+  factors_spelled none = refl
+  factors_spelled (more t ts) = (λ i. (times_sign ++ place_spelled later_of_product t (tokens t) (text t) (text_spelled t) i) ++ factors_spelled ts i) ∙ sym (spelled-append (times_mark ∷ placed (admits later_of_product t) (tokens t)) (tokens_of_factors ts))
+
+-- ---- runs
+abbrev pub stops : (ℕ → Bool) → List ℕ → Bool
+stops p [] = true
+stops p (b ∷ bs) = not (p b)
+
+run_stop : (p : ℕ → Bool) (rest : List ℕ) → stops p rest ≡ true → leading_run p rest ≡ ([], rest)
+run_stop p [] h = refl
+run_stop p (b ∷ bs) h = by (p b) h
+  where
+    by : (x : Bool) → not x ≡ true → keep x b bs (leading_run p bs) ≡ ([], b ∷ bs)
+    by true e = cc
+    by false e = refl
+
+run_all : (p : ℕ → Bool) (a rest : List ℕ) → list_all p a ≡ true → stops p rest ≡ true → leading_run p (a ++ rest) ≡ (a, rest)
+run_all p [] rest h s = run_stop p rest s
+run_all p (b ∷ bs) rest h s =
+    let (x, y) = and_parts (p b) (list_all p bs) h in
+    by (p b) x (run_all p bs rest y s)
+  where
+    by : (x : Bool) → x ≡ true → leading_run p (bs ++ rest) ≡ (bs, rest) → keep x b (bs ++ rest) (leading_run p (bs ++ rest)) ≡ (b ∷ bs, rest)
+    by true e f = ap (λ r. (b ∷ r.0, r.1)) f
+    by false e f = cc
+
+-- ---- decimals
+digit_is : (n : ℕ) → n < 10 → is_digit (48 + n) ≡ true
+digit_is n h = and_from _ _ (le-leb 48 (48 + n) (omega arith)) (le-leb (48 + n) 57 (omega arith))
+
+digits_pass : (fuel n : ℕ) (acc : List ℕ) → list_all is_digit acc ≡ true → list_all is_digit (digits_before fuel n acc) ≡ true
+digits_pass zero n acc h = h
+digits_pass (suc fuel) n acc h = by (n / 10) refl (λ acc' h'. digits_pass fuel (n / 10) acc' h')
+  where
+    by : (m : ℕ) → n / 10 ≡ m → ((acc' : List ℕ) → list_all is_digit acc' ≡ true → list_all is_digit (digits_before fuel (n / 10) acc') ≡ true)
+        → list_all is_digit (elim m [ zero ↦ (48 + n) ∷ acc | suc m' ↦ digits_before fuel (n / 10) ((48 + n % 10) ∷ acc) ]) ≡ true
+    by zero e go = and_from _ _ (digit_is n (omega arith)) h
+    by (suc m) e go = go ((48 + n % 10) ∷ acc) (and_from _ _ (digit_is (n % 10) (omega arith)) h)
+
+digits_before-value : (fuel n : ℕ) (acc : List ℕ) → n < fuel → digits_value 0 (digits_before fuel n acc) ≡ digits_value n acc
+digits_before-value zero n acc h = absurd (omega arith)
+digits_before-value (suc fuel) n acc h = by (n / 10) refl (λ acc' h'. digits_before-value fuel (n / 10) acc' h')
+  where
+    by : (m : ℕ) → n / 10 ≡ m → ((acc' : List ℕ) → n / 10 < fuel → digits_value 0 (digits_before fuel (n / 10) acc') ≡ digits_value (n / 10) acc')
+        → digits_value 0 (elim m [ zero ↦ (48 + n) ∷ acc | suc m' ↦ digits_before fuel (n / 10) ((48 + n % 10) ∷ acc) ]) ≡ digits_value n acc
+    by zero e go = ap (λ x. digits_value x acc) (omega arith)
+    by (suc m) e go = go ((48 + n % 10) ∷ acc) (omega arith) ∙ ap (λ x. digits_value x acc) (omega arith)
+
+digits_long : (fuel n : ℕ) (acc : List ℕ) → 0 < length acc → 0 < length (digits_before fuel n acc)
+digits_long zero n acc h = h
+digits_long (suc fuel) n acc h = by (n / 10) (λ acc' h'. digits_long fuel (n / 10) acc' h')
+  where
+    by : (m : ℕ) → ((acc' : List ℕ) → 0 < length acc' → 0 < length (digits_before fuel (n / 10) acc'))
+        → 0 < length {A = ℕ} (elim m [ zero ↦ (48 + n) ∷ acc | suc m' ↦ digits_before fuel (n / 10) ((48 + n % 10) ∷ acc) ])
+    by zero go = omega arith
+    by (suc m) go = go ((48 + n % 10) ∷ acc) (omega arith)
+
+digits_some : (fuel n : ℕ) → 0 < length (digits_before (suc fuel) n [])
+digits_some fuel n = by (n / 10)
+  where
+    by : (m : ℕ) → 0 < length {A = ℕ} (elim m [ zero ↦ (48 + n) ∷ [] | suc m' ↦ digits_before fuel (n / 10) ((48 + n % 10) ∷ []) ])
+    by zero = omega arith
+    by (suc m) = digits_long fuel (n / 10) ((48 + n % 10) ∷ []) (omega arith)
+
+-- a number's text: its first byte, its bytes and its value
+pub record DecimalText (n : ℕ) (ds : List ℕ) : Type 0 where
+  pub all : list_all is_digit ds ≡ true
+  pub some : 0 < length ds
+  pub value : digits_value 0 ds ≡ n
+
+pub decimal_is : (n : ℕ) → DecimalText n (decimal n)
+unfolding decimal
+decimal_is n = record { all = digits_pass (suc n) n [] refl; some = digits_some n n; value = digits_before-value (suc n) n [] (omega arith) }
+
+-- ---- one token
+-- the first byte behind an operand
+abbrev pub is_clear : List ℕ → Bool
+is_clear [] = true
+is_clear (b ∷ bs) = not (is_name_byte b) && not (b == 46)
+
+abbrev pub no_greater : List ℕ → Bool
+no_greater [] = true
+no_greater (b ∷ bs) = not (62 == b)
+
+not_digit : (b : ℕ) → not (is_name_byte b) ≡ true → not (is_digit b) ≡ true
+not_digit b h = by (is_letter b) (is_digit b) h
+  where
+    by : (x y : Bool) → not (x || y) ≡ true → not y ≡ true
+    by true y e = cc
+    by false y e = e
+
+clear_digit : (rest : List ℕ) → is_clear rest ≡ true → stops is_digit rest ≡ true
+clear_digit [] h = refl
+clear_digit (b ∷ bs) h = let (p, q) = and_parts (not (is_name_byte b)) (not (b == 46)) h in not_digit b p
+
+clear_name : (rest : List ℕ) → is_clear rest ≡ true → stops is_name_byte rest ≡ true
+clear_name [] h = refl
+clear_name (b ∷ bs) h = let (p, q) = and_parts (not (is_name_byte b)) (not (b == 46)) h in p
+
+clear_decimals : (rest : List ℕ) → is_clear rest ≡ true → decimals rest ≡ ([], rest)
+clear_decimals [] h = refl
+clear_decimals (b ∷ []) h = refl
+clear_decimals (b ∷ c ∷ bs) h =
+    let (p, q) = and_parts (not (is_name_byte b)) (not (b == 46)) h in
+    by (b == 46) q
+  where
+    by : (x : Bool) → not x ≡ true → ◌≡◌ {A = List ℕ × List ℕ} (elim (x && is_digit c) [ true ↦ leading_run is_digit (c ∷ bs) | false ↦ ([], b ∷ c ∷ bs) ]) ([], b ∷ c ∷ bs)
+    by true e = cc
+    by false e = refl
+
+literal_read : (n : ℕ) (ds rest : List ℕ) → DecimalText n ds → is_clear rest ≡ true → literal_at (ds ++ rest) ≡ (literal (lowest (pos n) 1), rest)
+unfolding literal_at
+literal_read n ds rest h c =
+    let e = run_all is_digit ds rest h.all (clear_digit rest c) in
+    let f = clear_decimals rest c in
+    rw (e, f, append-nil, h.value) refl
+
+-- ---- one token is taken
+first_branch : {A : Type 0} (a : Bool) (x y : A) → a ≡ true → (if a then x else y) ≡ x
+first_branch true x y e = refl
+first_branch false x y e = cc
+
+second_branch : {A : Type 0} (a b : Bool) (x y z : A) → a ≡ false → b ≡ true → (if a then x else if b then y else z) ≡ y
+second_branch true b x y z e f = cc
+second_branch false true x y z e f = refl
+second_branch false false x y z e f = cc
+
+no_decimal : (ds : List ℕ) → list_all is_digit ds ≡ true → 0 < length ds → (b : ℕ) × (bs : List ℕ) × (ds ≡ b ∷ bs) × (is_digit b ≡ true)
+no_decimal [] h l = absurd (omega arith)
+no_decimal (b ∷ bs) h l = (b, bs, refl, (and_parts (is_digit b) (list_all is_digit bs) h).0)
+
+literal_taken : (n : ℕ) (ds rest : List ℕ) → DecimalText n ds → is_clear rest ≡ true → token_at (ds ++ rest) ≡ Some (literal (lowest (pos n) 1), rest)
+literal_taken n ds rest h c = at_first ds (no_decimal ds h.all h.some) (literal_read n ds rest h c)
+  where
+    at_first : (ds : List ℕ) → (b : ℕ) × (bs : List ℕ) × (ds ≡ b ∷ bs) × (is_digit b ≡ true) → literal_at (ds ++ rest) ≡ (literal (lowest (pos n) 1), rest) → token_at (ds ++ rest) ≡ Some (literal (lowest (pos n) 1), rest)
+    at_first [] (b, bs, e, d) f = cc
+    at_first (x ∷ xs) (b, bs, e, d) f =
+        let g : x ≡ b = cc in
+        let d' : is_digit x ≡ true = ap is_digit g ∙ d in
+        first_branch (is_digit x) (Some (literal_at (x ∷ (xs ++ rest)))) _ d' ∙ ap Some f
+
+same_bytes-pointwise : (x y : List ℕ) → same_bytes x y ≡ pointwise nat_eq x y
+same_bytes-pointwise [] [] = refl
+same_bytes-pointwise [] (b ∷ y) = refl
+same_bytes-pointwise (a ∷ x) [] = refl
+same_bytes-pointwise (a ∷ x) (b ∷ y) = ap (λ r. (a == b) && r) (same_bytes-pointwise x y)
+
+-- what scanning needs of a name
+record NameText (x : List ℕ) : Type 0 where
+  first : ℕ
+  others : List ℕ
+  is : x ≡ first ∷ others
+  letter : is_letter first ≡ true
+  all : list_all is_name_byte x ≡ true
+  short : nat_le (length x) 7 ≡ true
+  no_root : same_bytes x (codes "sqrt") ≡ false
+  no_undef : same_bytes x (codes "undef") ≡ false
+
+name_text : (x : List ℕ) → is_name x ≡ true → NameText x
+name_text x h =
+    let (h2, free) = and_parts (begins_with_letter x && list_all is_name_byte x && nat_le (length x) 7) (not (is_reserved x)) h in
+    let (h1, short) = and_parts (begins_with_letter x && list_all is_name_byte x) (nat_le (length x) 7) h2 in
+    let (letter, all) = and_parts (begins_with_letter x) (list_all is_name_byte x) h1 in
+    let (a, b) = or_parts (pointwise nat_eq x (codes "sqrt")) (pointwise nat_eq x (codes "undef")) (not-true (is_reserved x) free) in
+    let (c, d, e, l) = front x letter in
+    record { first = c; others = d; is = e; letter = l; all = all; short = short; no_root = same_bytes-pointwise x (codes "sqrt") ∙ a; no_undef = same_bytes-pointwise x (codes "undef") ∙ b }
+  where
+    front : (x : List ℕ) → begins_with_letter x ≡ true → (c : ℕ) × (d : List ℕ) × (x ≡ c ∷ d) × (is_letter c ≡ true)
+    front [] h = cc
+    front (c ∷ d) h = (c, d, refl, h)
+
+letter_no_digit : (b : ℕ) → is_letter b ≡ true → is_digit b ≡ false
+letter_no_digit b h = by (nat_le 65 b) (nat_le b 90) (nat_le 97 b) (nat_le b 122) (nat_le b 57) refl refl refl h
+  where
+    by : (v w x y z : Bool) → nat_le 65 b ≡ v → nat_le 97 b ≡ x → nat_le b 57 ≡ z → (v && w || x && y) ≡ true → (nat_le 48 b && z) ≡ false
+    by v w x y false p q r e = and_false (nat_le 48 b)
+      where
+        and_false : (a : Bool) → (a && false) ≡ false
+        and_false true = refl
+        and_false false = refl
+    by true w x y true p q r e = absurd (omega (arith, leb-true 65 b p, leb-true b 57 r))
+    by false w true y true p q r e = absurd (omega (arith, leb-true 97 b q, leb-true b 57 r))
+    by false w false y true p q r e = cc
+
+name_read : (x rest : List ℕ) → is_clear rest ≡ true → list_all is_name_byte x ≡ true → nat_le (length x) 7 ≡ true → same_bytes x (codes "sqrt") ≡ false → same_bytes x (codes "undef") ≡ false → word_at (x ++ rest) ≡ Some (name x, rest)
+unfolding word_at
+name_read x rest c a s r u = rw (run_all is_name_byte x rest a (clear_name rest c), s, r, u) refl
+
+name_taken : (x rest : List ℕ) → NameText x → is_clear rest ≡ true → token_at (x ++ rest) ≡ Some (name x, rest)
+name_taken x rest h c = at_first x h.is (name_read x rest c h.all h.short h.no_root h.no_undef)
+  where
+    at_first : (y : List ℕ) → y ≡ h.first ∷ h.others → word_at (y ++ rest) ≡ Some (name x, rest) → token_at (y ++ rest) ≡ Some (name x, rest)
+    at_first [] e f = cc
+    at_first (b ∷ bs) e f =
+        let g : b ≡ h.first = cc in
+        let l : is_letter b ≡ true = ap is_letter g ∙ h.letter in
+        second_branch (is_digit b) (is_letter b) _ (word_at (b ∷ (bs ++ rest))) _ (letter_no_digit b l) l ∙ f
+
+undef_taken : (rest : List ℕ) → is_clear rest ≡ true → token_at (codes "undef" ++ rest) ≡ Some (undef_mark, rest)
+unfolding word_at
+undef_taken rest c = read rest (run_all is_name_byte (codes "undef") rest refl (clear_name rest c))
+  where
+    read : (rest : List ℕ) → leading_run is_name_byte (codes "undef" ++ rest) ≡ (codes "undef", rest) → token_at (codes "undef" ++ rest) ≡ Some (undef_mark, rest)
+    read rest e = ap (λ r. if nat_le (length (r.0)) 7 then Some (token_of_word (r.0), r.1) else None) e
+
+minus_taken : (rest : List ℕ) → no_greater rest ≡ true → token_at (codes "-" ++ rest) ≡ Some (minus_mark, rest)
+minus_taken [] h = refl
+minus_taken (b ∷ bs) h = by (62 == b) h
+  where
+    by : (x : Bool) → not x ≡ true → or_else (if_so x (Some bs)) arrow_mark (Some (minus_mark, b ∷ bs)) ≡ Some (minus_mark, b ∷ bs)
+    by true e = cc
+    by false e = refl
+
+abbrev pub is_operand : Token → Bool
+is_operand (literal q) = true
+is_operand (name x) = true
+is_operand undef_mark = true
+is_operand _ = false
+
+-- as it is written
+abbrev pub IsWritten : Token → Type 0
+IsWritten (literal q) = IsNatural q
+IsWritten (name x) = is_name x ≡ true
+IsWritten arrow_mark = ⊥
+IsWritten _ = ⊤
+
+taken : (t : Token) → IsWritten t → (rest : List ℕ) → (is_operand t ≡ true → is_clear rest ≡ true) → no_greater rest ≡ true → token_at (spell t ++ rest) ≡ Some (t, rest)
+taken (literal q) (n, e) rest c g = rw (ap (λ x. nat_abs x.num) e ∙ ap nat_abs (whole_numerator (pos n))) (literal_taken n (decimal n) rest (decimal_is n) (c refl)) ∙ ap (λ x. Some (literal x, rest)) (sym e)
+taken (name x) w rest c g = name_taken x rest (name_text x w) (c refl)
+taken undef_mark w rest c g = undef_taken rest (c refl)
+taken root_mark w rest c g = refl
+taken plus_mark w rest c g = refl
+taken minus_mark w rest c g = minus_taken rest g
+taken times_mark w rest c g = refl
+taken slash_mark w rest c g = refl
+taken caret_mark w rest c g = refl
+taken left_mark w rest c g = refl
+taken right_mark w rest c g = refl
+taken arrow_mark w rest c g = absurd w
+
+-- ---- all tokens
+-- no two operands side by side
+abbrev pub Apart : List Token → Type 0
+Apart [] = ⊤
+Apart (t ∷ []) = ⊤
+Apart (t ∷ u ∷ ts) = (is_operand t ≡ true → is_operand u ≡ false) × Apart (u ∷ ts)
+
+abbrev pub AllWritten : List Token → Type 0
+AllWritten [] = ⊤
+AllWritten (t ∷ ts) = IsWritten t × AllWritten ts
+
+name_byte_no_greater : (b : ℕ) → is_name_byte b ≡ true → (62 == b) ≡ false
+name_byte_no_greater b h = grind (arith, nat_tests)
+
+-- how a token begins
+pub record Begins (t : Token) : Type 0 where
+  pub first : ℕ
+  pub others : List ℕ
+  pub is : spell t ≡ first ∷ others
+  pub no_greater : (62 == first) ≡ false
+  pub clear : is_operand t ≡ false → is_clear (first ∷ []) ≡ true
+
+as_mark : (t : Token) (b : ℕ) (bs : List ℕ) → spell t ≡ b ∷ bs → (62 == b) ≡ false → is_clear (b ∷ []) ≡ true → Begins t
+as_mark t b bs e g h = record { first = b; others = bs; is = e; no_greater = g; clear = λ o. h }
+
+begin : (t : Token) → IsWritten t → Begins t
+begin (literal q) w =
+    let d = decimal_is (nat_abs q.num) in
+    let (b, bs, e, f) = no_decimal (decimal (nat_abs q.num)) d.all d.some in
+    let n : is_name_byte b ≡ true = or_right (is_letter b) (is_digit b) f in
+    record { first = b; others = bs; is = e; no_greater = name_byte_no_greater b n; clear = λ o. cc }
+begin (name x) h =
+    let w = name_text x h in
+    let n : is_name_byte w.first ≡ true = or_left (is_letter w.first) (is_digit w.first) w.letter in
+    record { first = w.first; others = w.others; is = w.is; no_greater = name_byte_no_greater w.first n; clear = λ o. cc }
+begin undef_mark w = record { first = 117; others = codes "ndef"; is = refl; no_greater = refl; clear = λ o. cc }
+begin root_mark w = as_mark root_mark 226 (136 ∷ 154 ∷ []) refl refl refl
+begin plus_mark w = as_mark plus_mark 43 [] refl refl refl
+begin minus_mark w = as_mark minus_mark 45 [] refl refl refl
+begin times_mark w = as_mark times_mark 195 (151 ∷ []) refl refl refl
+begin slash_mark w = as_mark slash_mark 47 [] refl refl refl
+begin caret_mark w = as_mark caret_mark 94 [] refl refl refl
+begin left_mark w = as_mark left_mark 40 [] refl refl refl
+begin right_mark w = as_mark right_mark 41 [] refl refl refl
+begin arrow_mark w = absurd w
+
+greater_first : (ts : List Token) → AllWritten ts → no_greater (spelled ts) ≡ true
+greater_first [] w = refl
+greater_first (t ∷ ts) w = let g = begin t w.0 in ap (λ x. no_greater (x ++ spelled ts)) g.is ∙ ap not g.no_greater
+
+clear_first : (t : Token) (ts : List Token) → is_operand t ≡ false → IsWritten t → is_clear (spelled (t ∷ ts)) ≡ true
+clear_first t ts o w = let g = begin t w in ap (λ x. is_clear (x ++ spelled ts)) g.is ∙ g.clear o
+
+pub scanned : (ts : List Token) → AllWritten ts → Apart ts → Scans (spelled ts) ts
+scanned [] w a = at_end
+scanned (t ∷ []) w a = at_token (taken t w.0 [] (λ o. refl) refl) at_end
+scanned (t ∷ u ∷ ts) w a =
+    at_token (taken t w.0 (spelled (u ∷ ts)) (λ o. clear_first u ts (a.0 o) w.1.0) (greater_first (u ∷ ts) w.1)) (scanned (u ∷ ts) w.1 a.1)
+
+-- ---- the tokens of a tree
+pub record Good (ts : List Token) : Type 0 where
+  pub written : AllWritten ts
+  pub apart : Apart ts
+
+written-append : (a b : List Token) → AllWritten a → AllWritten b → AllWritten (a ++ b)
+written-append [] b v w = w
+written-append (t ∷ a) b v w = (v.0, written-append a b v.1 w)
+
+apart_before : (m : Token) (b : List Token) → is_operand m ≡ false → Apart b → Apart (m ∷ b)
+apart_before m [] o a = tt
+apart_before m (t ∷ b) o a = (λ h. absurd (true_false (is_operand m) h o), a)
+  where
+    true_false : (x : Bool) → x ≡ true → x ≡ false → ⊥
+    true_false x e f = cc
+
+apart_join : (a : List Token) (m : Token) (b : List Token) → is_operand m ≡ false → Apart a → Apart (m ∷ b) → Apart (a ++ m ∷ b)
+apart_join [] m b o v w = w
+apart_join (t ∷ []) m b o v w = (λ h. o, w)
+apart_join (t ∷ u ∷ a) m b o v w = (v.0, apart_join (u ∷ a) m b o v.1 w)
+
+good_before : (m : Token) (b : List Token) → is_operand m ≡ false → IsWritten m → Good b → Good (m ∷ b)
+good_before m b o w g = record { written = (w, g.written); apart = apart_before m b o g.apart }
+
+good_join : (a : List Token) (m : Token) (b : List Token) → is_operand m ≡ false → IsWritten m → Good a → Good b → Good (a ++ m ∷ b)
+good_join a m b o w g h =
+    record { written = written-append a (m ∷ b) g.written (w, h.written); apart = apart_join a m b o g.apart (apart_before m b o h.apart) }
+
+good_nothing : Good []
+good_nothing = record { written = tt; apart = tt }
+
+good_inside : (a : List Token) → Good a → Good (inside a)
+good_inside a g = good_before left_mark (a ++ right_mark ∷ []) refl tt (good_join a right_mark [] refl tt g good_nothing)
+
+good_placed : (b : Bool) (a : List Token) → Good a → Good (placed b a)
+good_placed true a g = g
+good_placed false a g = good_inside a g
+
+-- behind a, what begins with a mark or is nothing
+abbrev pub MarkFirst : List Token → Type 0
+MarkFirst [] = ⊤
+MarkFirst (t ∷ ts) = is_operand t ≡ false
+
+good_append : (a b : List Token) → MarkFirst b → Good a → Good b → Good (a ++ b)
+good_append a [] m g h = rw append-nil g
+good_append a (t ∷ b) m g h = record { written = written-append a (t ∷ b) g.written h.written; apart = apart_join a t b m g.apart h.apart }
+
+terms_first : (ts : Trees) → MarkFirst (tokens_of_terms ts)
+terms_first none = tt
+terms_first (more t ts) = refl
+
+factors_first : (ts : Trees) → MarkFirst (tokens_of_factors ts)
+factors_first none = tt
+factors_first (more t ts) = refl
+
+mutual
+  pub good : (t : Tree) → IsWritable t → Good (tokens t)
+  good (num q) w = record { written = (w, tt); apart = tt }
+  good (symbol x) w = record { written = (w, tt); apart = tt }
+  good undef w = record { written = (tt, tt); apart = tt }
+  good (add none) w = good_nothing
+  good (add (more t ts)) w = good_append (placed (admits first_of_sum t) (tokens t)) (tokens_of_terms ts) (terms_first ts) (good_placed (admits first_of_sum t) (tokens t) (good t w.0)) (good_terms ts w.1)
+  good (mult none) w = good_nothing
+  good (mult (more t ts)) w = good_append (placed (admits first_of_product t) (tokens t)) (tokens_of_factors ts) (factors_first ts) (good_placed (admits first_of_product t) (tokens t) (good t w.0)) (good_factors ts w.1)
+  good (power b e) w = good_join (placed (admits base b) (tokens b)) caret_mark (placed (admits exponent e) (tokens e)) refl tt (good_placed (admits base b) (tokens b) (good b w.0)) (good_placed (admits exponent e) (tokens e) (good e w.1))
+  good (root a) w = good_before root_mark (inside (tokens a)) refl tt (good_inside (tokens a) (good a w))
+  good (neg a) w = good_before minus_mark (placed (admits later_of_sum a) (tokens a)) refl tt (good_placed (admits later_of_sum a) (tokens a) (good a w))
+  good (sub a b) w = good_join (tokens a) minus_mark (placed (admits later_of_sum b) (tokens b)) refl tt (good a w.0) (good_placed (admits later_of_sum b) (tokens b) (good b w.1))
+  good (div a b) w = good_join (placed (admits left_of_quotient a) (tokens a)) slash_mark (placed (admits later_of_product b) (tokens b)) refl tt (good_placed (admits left_of_quotient a) (tokens a) (good a w.0)) (good_placed (admits later_of_product b) (tokens b) (good b w.1))
+
+  good_terms : (ts : Trees) → AreWritable ts → Good (tokens_of_terms ts)
+  good_terms none w = good_nothing
+  good_terms (more t ts) w =
+      good_append (plus_mark ∷ placed (admits later_of_sum t) (tokens t)) (tokens_of_terms ts) (terms_first ts)
+      (good_before plus_mark (placed (admits later_of_sum t) (tokens t)) refl tt (good_placed (admits later_of_sum t) (tokens t) (good t w.0))) (good_terms ts w.1)
+
+  good_factors : (ts : Trees) → AreWritable ts → Good (tokens_of_factors ts)
+  good_factors none w = good_nothing
+  good_factors (more t ts) w =
+      good_append (times_mark ∷ placed (admits later_of_product t) (tokens t)) (tokens_of_factors ts) (factors_first ts)
+      (good_before times_mark (placed (admits later_of_product t) (tokens t)) refl tt (good_placed (admits later_of_product t) (tokens t) (good t w.0))) (good_factors ts w.1)
+
+-- the text of a tree that can be written is scanned as its tokens
+pub text_scanned : (t : Tree) → IsWritable t → Scans (text t) (tokens t)
+text_scanned t w =
+    let g = good t w in
+    subst (λ bs. Scans bs (tokens t)) (sym (text_spelled t)) (scanned (tokens t) g.written g.apart)

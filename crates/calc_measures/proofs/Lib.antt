@@ -1,0 +1,2 @@
+pub mod CeilLog2
+pub mod Nests

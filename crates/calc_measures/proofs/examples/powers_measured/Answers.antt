@@ -1,0 +1,55 @@
+use Rattle.std.proofs.Common.{refl}
+use Rattle.calc_algebra.specs.Clean.{is_clean, left_of}
+use Rattle.calc_terms.specs.Fractions.{lowest, one_fraction, zero_fraction}
+use Rattle.calc_terms.specs.Gcd.{gcd}
+use Rattle.calc_algebra.specs.Numbers.{is_number}
+use Rattle.calc_algebra.specs.SquareRoots.{square_root}
+use Rattle.calc_measures.proofs.examples.powers_measured.Goals as goal
+
+pub returns-clause-a_negative_power : goal.returns-clause-a_negative_power
+unfolding is_number is_clean left_of square_root gcd lowest one_fraction zero_fraction
+returns-clause-a_negative_power c = refl
+
+pub returns-clause-its_denominator : goal.returns-clause-its_denominator
+unfolding is_number is_clean left_of square_root gcd lowest one_fraction zero_fraction
+returns-clause-its_denominator c = refl
+
+pub returns-clause-a_computed_exponent : goal.returns-clause-a_computed_exponent
+unfolding is_number is_clean left_of square_root gcd lowest one_fraction zero_fraction
+returns-clause-a_computed_exponent c = refl
+
+pub returns-clause-its_bits : goal.returns-clause-its_bits
+unfolding is_number is_clean left_of square_root gcd lowest one_fraction zero_fraction
+returns-clause-its_bits c = refl
+
+pub returns-clause-no_literal : goal.returns-clause-no_literal
+unfolding is_number is_clean left_of square_root gcd lowest one_fraction zero_fraction
+returns-clause-no_literal c = refl
+
+pub returns-clause-a_symbol_as_exponent : goal.returns-clause-a_symbol_as_exponent
+unfolding is_number is_clean left_of square_root gcd lowest one_fraction zero_fraction
+returns-clause-a_symbol_as_exponent c = refl
+
+pub returns-clause-nested_exponents : goal.returns-clause-nested_exponents
+unfolding is_number is_clean left_of square_root gcd lowest one_fraction zero_fraction
+returns-clause-nested_exponents c = refl
+
+pub returns-clause-a_number_as_exponent : goal.returns-clause-a_number_as_exponent
+unfolding is_number is_clean left_of square_root gcd lowest one_fraction zero_fraction
+returns-clause-a_number_as_exponent c = refl
+
+pub returns-clause-a_weight : goal.returns-clause-a_weight
+unfolding is_number is_clean left_of square_root gcd lowest one_fraction zero_fraction
+returns-clause-a_weight c = refl
+
+pub returns-clause-the_weight_of_roots : goal.returns-clause-the_weight_of_roots
+unfolding is_number is_clean left_of square_root gcd lowest one_fraction zero_fraction
+returns-clause-the_weight_of_roots c = refl
+
+pub returns-clause-a_load : goal.returns-clause-a_load
+unfolding is_number is_clean left_of square_root gcd lowest one_fraction zero_fraction
+returns-clause-a_load c = refl
+
+pub returns-clause-the_load_of_a_number : goal.returns-clause-the_load_of_a_number
+unfolding is_number is_clean left_of square_root gcd lowest one_fraction zero_fraction
+returns-clause-the_load_of_a_number c = refl

@@ -1,0 +1,5 @@
+pub mod Literals
+pub mod Measures
+pub mod Loads
+pub mod PlainValues
+pub mod PlainTrees

@@ -1,6 +1,0 @@
-use Rattle.calc_terms.proofs.NumberLaws.{number_words}
-use Rattle.calc_terms.proofs.NumberValues.{number_means}
-use Rattle.calc_terms.proofs.laws.number_means_its_value.Goals as goal
-
-pub returns : goal.returns
-returns c = λ t f h. number_means t f (number_words t h)

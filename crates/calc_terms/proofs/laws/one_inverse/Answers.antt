@@ -1,6 +1,0 @@
-use Rattle.calc_terms.proofs.SurdLaws.{Agree-Same, one_inverse}
-use Rattle.calc_terms.proofs.SquareClassLaws.{Same-Agree}
-use Rattle.calc_terms.proofs.laws.one_inverse.Goals as goal
-
-pub returns : goal.returns
-returns c = λ y z w h k. Agree-Same (one_inverse y z w (Same-Agree h) (Same-Agree k))

@@ -1,6 +1,0 @@
-use Rattle.calc_terms.proofs.MeaningLaws.{one_meaning}
-use Rattle.calc_terms.proofs.SurdLaws.{Agree-Same}
-use Rattle.calc_terms.proofs.laws.one_meaning.Goals as goal
-
-pub returns : goal.returns
-returns c = λ f t v w once h k. Agree-Same (one_meaning f once t v w h k)

@@ -1,6 +1,0 @@
-use Rattle.calc_terms.proofs.NumberLaws.{number_words}
-use Rattle.calc_terms.proofs.NumberUniqueness.{one_number}
-use Rattle.calc_terms.proofs.laws.one_number.Goals as goal
-
-pub returns : goal.returns
-returns c = λ t u h k s x e. one_number t u (number_words t h) (number_words u k) s x e

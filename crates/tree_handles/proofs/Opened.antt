@@ -1,0 +1,12 @@
+-- A pool that was opened.
+use Rattle.std.proofs.Common.{◌≡◌, [], arith, ap, sym, subst}
+use Rattle.node_pool.specs.Nodes.{used, AreNodes, AreDistinct}
+use Rattle.node_pool.specs.State.{State, IsPool, IsPoolSize}
+use Rattle.tree_handles.proofs.Forests.{stands}
+use Rattle.tree_handles.specs.Forest.{empty}
+use Rattle.tree_handles.specs.Standing.{Stands}
+
+pub stands_open : (s : State) → s.nodes ≡ [] → IsPoolSize s.size → Stands s
+stands_open s e size =
+    let pool : IsPool s = record { nodes = subst AreNodes (sym e) tt; distinct = subst AreDistinct (sym e) tt; fits = omega (arith, ap used e); size = size } in
+    (stands s empty e pool tt).1

@@ -1,0 +1,35 @@
+use Rattle.std.proofs.Common.{ℕ, suc, ◌≡◌, [], ◌∷◌, ◌++◌, length, refl, ap, ◌∙◌, sym, arith}
+use Rattle.std.proofs.lemmas.List.{length-append}
+use Rattle.calc_terms.specs.Trees.{is_undef, has_undef}
+use Rattle.tree_handles.proofs.UndefChildren.{behind, undef_here, undef_later, undef_end}
+use Rattle.tree_handles.proofs.NextChildren.{next_child, last_child}
+use Rattle.tree_handles.specs.Children.{root_ids}
+use Rattle.tree_handles.specs.Expressions.{children_of, plain}
+use Rattle.tree_handles.specs.Forest.{rest_trees}
+use Rattle.tree_handles.specs.Inside.{tree_at, kids_of}
+use Rattle.tree_handles.specs.Standing.{forest}
+use Rattle.tree_handles.proofs.undef.has_undefined_child.Goals as goal
+
+pub is_undefined-requires-clause-expression : goal.is_undefined-requires-clause-expression
+is_undefined-requires-clause-expression c = (next_child c.requires.stands c.requires.expression c.loop-child.invariant.ids c.in-Some.ensures.steps).expression
+
+pub returns-then-is_undefined : goal.returns-then-is_undefined
+returns-then-is_undefined c =
+    let t = next_child c.requires.stands c.requires.expression c.loop-child.invariant.ids c.in-Some.ensures.steps in
+    let ts = children_of (plain (tree_at c.args.id (forest c.args.pool.now))) in
+    sym (c.loop-child.invariant.undef ∙ undef_here (length c.loop-child.yielded) ts t.within (ap is_undef (sym t.tree) ∙ sym c.is_undefined.ensures ∙ c.if-is_undefined.true))
+
+pub loop-child-preserved : goal.loop-child-preserved
+loop-child-preserved c =
+    let t = next_child c.requires.stands c.requires.expression c.loop-child.invariant.ids c.in-Some.ensures.steps in
+    let ts = children_of (plain (tree_at c.args.id (forest c.args.pool.now))) in
+    let more : suc (length c.loop-child.yielded) ≡ length (c.loop-child.yielded ++ c.in-Some.child ∷ []) = omega (arith, length-append c.loop-child.yielded (c.in-Some.child ∷ [])) in
+    record {
+      ids = t.left-are ∙ ap (λ (n : ℕ). root_ids (rest_trees n (kids_of c.args.id (forest c.args.pool.now)))) more;
+      undef = c.loop-child.invariant.undef ∙ undef_later (length c.loop-child.yielded) ts t.within (ap is_undef (sym t.tree) ∙ sym c.is_undefined.ensures ∙ c.if-is_undefined.false) ∙ ap (λ (n : ℕ). has_undef (behind n ts)) more;
+    }
+
+pub returns : goal.returns
+returns c =
+    let ts = children_of (plain (tree_at c.args.id (forest c.args.pool.now))) in
+    sym (c.loop-child.invariant.undef ∙ undef_end (length c.loop-child.yielded) ts (last_child c.requires.stands c.requires.expression c.loop-child.invariant.ids c.in-None.ensures.steps.0))
