@@ -13,13 +13,13 @@ use Rattle.calc_tokens.specs.declared.tokens.What.{What}
 use Rattle.calc_tokens.specs.declared.tokens.What.TheVariants as what
 use Rattle.calc_tokens.specs.Tokens.{token_of}
 use Rattle.node_pool.specs.declared.full.Full.{Full}
-use Rattle.tree_handles.specs.Forest.{Forest, empty, one_tree}
+use Rattle.tree_handles.specs.Forest.{Forest, empty, one_tree, before_last, last_trees}
 use Rattle.tree_handles.specs.Handed.{Ends}
 use Rattle.tree_handles.proofs.Lasts.{ends_as}
 use Rattle.calc_parser.specs.Postfix.{leaf}
 use Rattle.calc_parser.specs.Building.{bytes_of_node}
-use Rattle.calc_parser.specs.Growing.{tree_over, before_last, last_trees, Grows}
-use Rattle.calc_parser.proofs.Gathering.{before_none, last_none}
+use Rattle.calc_parser.specs.Growing.{tree_over, Grows}
+use Rattle.tree_handles.proofs.Gathering.{before_none, last_none}
 
 pub ok_as : {P Q : ℕ → Type 0} (r : Result ℕ Full) → IfOk r P → ((h : ℕ) → P h → Q h) → IfOk r Q
 ok_as (Ok h) p q = q h p

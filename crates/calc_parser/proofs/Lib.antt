@@ -12,7 +12,6 @@ pub mod Measures
 pub mod Checks
 pub mod Answered
 pub mod Replay
-pub mod Gathering
 pub mod Leaves
 pub mod UnderWay
 pub mod Sizes

@@ -10,7 +10,7 @@ use Rattle.node_pool.specs.State.{State, free_of}
 use Rattle.node_pool.specs.declared.full.Full.{Full}
 use Rattle.tree_handles.specs.Standing.{LacksBytes, Stands, forest, KeepsRefusals, IsRefused, Refuses}
 use Rattle.tree_handles.specs.Expressions.{takes, plains, IsWhole}
-use Rattle.tree_handles.specs.Forest.{Forest, empty, tree, join, arity, one_tree, bytes_in}
+use Rattle.tree_handles.specs.Forest.{Forest, empty, tree, join, arity, one_tree, bytes_in, before_last, last_trees}
 use Rattle.tree_handles.specs.Handed.{Ends, Gives, Represents, KeepsFront, IsOnce}
 use Rattle.tree_handles.proofs.Forests.{arity-join, bytes_in-join, join_assoc, all-first_trees, all-rest_trees, keeps_after, keeps_none, refuses_after, join-empty}
 use Rattle.tree_handles.proofs.Fronts.{starts_join, starts_same, front_at}
@@ -22,8 +22,8 @@ use Rattle.tree_handles.proofs.Outcomes.{by_test}
 use Rattle.calc_parser.specs.declared.postfix.Step.{Step}
 use Rattle.calc_parser.specs.Postfix.{Node, postfix}
 use Rattle.calc_parser.specs.Building.{bytes_of_node, placing}
-use Rattle.calc_parser.specs.Growing.{children_in, tree_over, takes_children, before_last, last_trees, Grows}
-use Rattle.calc_parser.proofs.Gathering.{before-last, arity-last_trees, before_last-join, last_trees-join}
+use Rattle.calc_parser.specs.Growing.{children_in, tree_over, takes_children, Grows}
+use Rattle.tree_handles.proofs.Gathering.{before-last, arity-last_trees, before_last-join, last_trees-join}
 use Rattle.calc_parser.proofs.Replay.{Takes, Makes, count-append, same_parts, replayed}
 
 -- ---- where trees begin

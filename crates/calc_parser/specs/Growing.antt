@@ -1,10 +1,10 @@
 -- What one node in postfix order makes of the last trees.
-use Rattle.std.specs.Prelude.{ℕ, ◌-◌, ◌≡◌, Bool, true}
+use Rattle.std.specs.Prelude.{ℕ, ◌≡◌, Bool, true}
 use Rattle.calc_terms.specs.Payload.{Payload, size_of_payload}
 use Rattle.calc_language.specs.Tokens.{literal, name}
 use Rattle.calc_terms.specs.Trees.{Tree, Trees, num, symbol, undef}
 use Rattle.tree_handles.specs.Expressions.{compound, grown, takes, takes_kind}
-use Rattle.tree_handles.specs.Forest.{Forest, arity, first_trees, rest_trees, one_tree}
+use Rattle.tree_handles.specs.Forest.{Forest, one_tree, before_last, last_trees}
 use Rattle.tree_handles.specs.Handed.{Ends}
 use Rattle.calc_parser.specs.Postfix.{Node, leaf, parent}
 use Rattle.calc_parser.specs.Building.{bytes_of_node}
@@ -25,13 +25,6 @@ tree_over (parent k n) ts = compound k ts
 abbrev pub takes_children : Node → Bool
 takes_children (leaf t) = true
 takes_children (parent k n) = takes_kind k n
-
--- the trees before its children, and its children
-abbrev pub before_last : ℕ → Forest → Forest
-before_last n f = first_trees (arity f - n) f
-
-abbrev pub last_trees : ℕ → Forest → Forest
-last_trees n f = rest_trees (arity f - n) f
 
 -- the node was placed over the last trees
 pub record Grows (n : Node) (old new : Forest) (id : ℕ) : Type 0 where

@@ -1,16 +1,15 @@
 //! The tree of a line, in the pool.
 ghost use Rattle.std.specs.Prelude.{◌≡◌, ◌<◌, ◌≤◌, ◌-◌, ◌+◌, ◌↔◌, ℕ, List, length, map, take, slice_index_or, true, Err, IfOk, IfErr, IsOk, OnOk, Ok, []};
 ghost use Rattle.arrayvec.specs.ArrayVec.{array_vec_len};
-ghost use Rattle.calc_terms.specs.Payload.{bare as bare_kind, is_bare, size_of_payload};
 ghost use Rattle.calc_terms.specs.Trees.{Tree};
 ghost use Rattle.calc_tokens.specs.Placed.{bare};
 ghost use Rattle.calc_tokens.specs.Tokens.{token_of, tokens_of};
 ghost use Rattle.node_pool.specs.State.{free_of};
 ghost use Rattle.tree_handles.specs.Standing.{LacksBytes, Stands, forest, KeepsRefusals, IsRefused, Refuses};
-ghost use Rattle.tree_handles.specs.Forest.{arity, bytes_in, one_tree};
-ghost use Rattle.tree_handles.specs.Handed.{Ends, Gives, KeepsFront};
+ghost use Rattle.tree_handles.specs.Forest.{arity, bytes_in, before_last};
+ghost use Rattle.tree_handles.specs.Handed.{Gives, KeepsFront};
 ghost use Rattle.calc_parser.specs.Building.{building, placing, bytes_of_node};
-ghost use Rattle.calc_parser.specs.Growing.{before_last, last_trees, children_in, takes_children, Grows};
+ghost use Rattle.calc_parser.specs.Growing.{children_in, takes_children, Grows};
 ghost use Rattle.calc_parser.specs.Lines.{IsTreeOf};
 ghost use Rattle.calc_parser.specs.Postfix.{leaf, parent, postfix as postfix_of};
 ghost use Rattle.calc_parser.specs.Reader.{node_of, token_in, tokens_in};
@@ -22,7 +21,7 @@ use arrayvec::ArrayVec;
 use calc_terms::Kind;
 use calc_tokens::{Token, Tokens, What};
 use node_pool::{Full, Pool};
-use tree_handles::{Handle, node, number, symbol};
+use tree_handles::{Handle, node, node_over_last, number, symbol};
 
 /// The tree of a line as a new last root. Its nodes are placed in postfix order: the children from
 /// left to right, and then their parent.
@@ -118,7 +117,7 @@ fn place(pool: &mut Pool, tokens: &[Token], step: Step, from: u32) -> Result<Han
 {
     match step {
         Step::Leaf(at) => place_leaf(pool, what_at(tokens, at)),
-        Step::Node(kind, children) => place_over(pool, kind, children, from),
+        Step::Node(kind, children) => node_over_last(pool, kind, children, from),
     }
 }
 
@@ -146,27 +145,6 @@ fn place_leaf(pool: &mut Pool, what: What) -> Result<Handle, Full>
         What::Name(name) => symbol(pool, name),
         _ => node(pool, Kind::Undef),
     }
-}
-
-/// Places a parent before the last trees, which begin at a place and become its children.
-fn place_over(pool: &mut Pool, kind: Kind, children: u16, from: u32) -> Result<Handle, Full>
-    requires stands { Stands pool.old }
-    requires bare { is_bare kind ≡ true }
-    requires few { children ≤ arity (forest pool.old) }
-    requires begin { from ≡ bytes_in (before_last children (forest pool.old)) }
-    ensures ok { let old = forest pool.old in
-        IfOk result (λ h. Ends h (one_tree h (bare_kind kind) (last_trees children old)) (before_last children old) (forest pool.new)) }
-    ensures kept { OnOk result (KeepsRefusals pool.old pool.new) }
-    ensures full { IfErr result (IsRefused (size_of_payload (bare_kind kind)) pool.old pool.new) }
-    ensures exactly { IsOk result ↔ (size_of_payload (bare_kind kind) ≤ free_of pool.old) }
-    ensures stands { Stands pool.new }
-{
-    let end = pool.used();
-    let parent = node(pool, kind)?;
-    let len = pool.used() - end;
-    pool.move_block(end, len, from);
-    pool.set_children(parent.id(), children);
-    Ok(parent)
 }
 
 #[cfg(test)]

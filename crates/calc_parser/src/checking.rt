@@ -14,6 +14,7 @@ use crate::depth::depth;
 use crate::reader::Reader;
 use calc_terms::Name;
 use calc_tokens::{Token, Tokens, What};
+use thiserror::Error;
 
 /// The largest depth of a line's tree.
 const MAX_DEPTH: u32 = 64;
@@ -30,11 +31,13 @@ pub struct Shape {
 }
 
 /// Why tokens are refused.
-#[derive(Clone, Copy, Debug, PartialEq, Eq)]
+#[derive(Clone, Copy, Debug, PartialEq, Eq, Error)]
 pub enum ParseFault {
     /// They are no line of the grammar.
+    #[error("the tokens are no line of the grammar")]
     Syntax,
     /// They are one, and its tree is over 64 deep.
+    #[error("the tree is more than 64 deep")]
     Deep,
 }
 

@@ -3,6 +3,7 @@ ghost use Rattle.std.specs.Prelude.{◌≡◌, ◌<◌, ◌≤◌, [], ◌∷◌
 
 use arrayvec::ArrayVec;
 use calc_terms::{Name, Rat};
+use thiserror::Error;
 
 /// What a token is.
 #[derive(Clone, Copy, Debug)]
@@ -38,11 +39,13 @@ impl Default for Token {
 }
 
 /// Why a line has no tokens; `at` is the place of a byte in the line, counted from 1.
-#[derive(Clone, Copy, Debug, PartialEq, Eq)]
+#[derive(Clone, Copy, Debug, PartialEq, Eq, Error)]
 pub enum TokenFault {
     /// No token begins here.
+    #[error("no token begins at byte {at}")]
     Character { at: u16 },
     /// The literal that begins here is too wide.
+    #[error("the literal at byte {at} is too wide")]
     Number { at: u16 },
 }
 

@@ -1,5 +1,6 @@
 //! What an operation answers whose result does not fit.
 use calc_terms::Rat;
+use thiserror::Error;
 
 /// The operations that may not fit.
 #[derive(Clone, Copy, Debug, PartialEq, Eq)]
@@ -10,7 +11,8 @@ pub enum Op {
 }
 
 /// An operation that does not fit, with the operands of its call. The second operand of a power is the whole exponent.
-#[derive(Clone, Copy, Debug)]
+#[derive(Clone, Copy, Debug, Error)]
+#[error("an operation does not fit into 128 bits")]
 pub struct Overflow {
     pub op: Op,
     pub a: Rat,

@@ -28,3 +28,4 @@ pub mod UndefChildren
 pub mod NextChildren
 pub mod Room
 pub mod Opened
+pub mod Gathering

@@ -1,5 +1,5 @@
 -- Forests of labelled trees, and their nodes in prefix order.
-use Rattle.std.specs.Prelude.{ℕ, zero, suc, ◌+◌, max, List, [], ◌∷◌, ◌++◌}
+use Rattle.std.specs.Prelude.{ℕ, zero, suc, ◌+◌, ◌-◌, max, List, [], ◌∷◌, ◌++◌}
 use Rattle.calc_terms.specs.declared.kind.Kind.TheVariants as kind
 use Rattle.calc_terms.specs.Payload.{Payload, bare, size_of_payload}
 use Rattle.calc_terms.specs.Node.{Node}
@@ -44,6 +44,13 @@ abbrev pub rest_trees : ℕ → Forest → Forest
 rest_trees zero f = f
 rest_trees (suc n) empty = empty
 rest_trees (suc n) (tree l k r) = rest_trees n r
+
+-- the trees before the last ones, and these
+abbrev pub before_last : ℕ → Forest → Forest
+before_last n f = first_trees (arity f - n) f
+
+abbrev pub last_trees : ℕ → Forest → Forest
+last_trees n f = rest_trees (arity f - n) f
 
 abbrev pub label_of : Node → Label
 label_of n = record { id = n.id; count = n.count; payload = n.payload }

@@ -1,10 +1,11 @@
 //! Nodes over trees that are handed.
 ghost use Rattle.std.specs.Prelude.{◌≡◌, ◌≤◌, ◌↔◌, ◌==◌, true, false, IfOk, IfErr, IsOk, OnOk, [], ◌∷◌};
-ghost use Rattle.calc_terms.specs.Payload.{bare, size_of_payload};
+ghost use Rattle.calc_terms.specs.Payload.{bare, is_bare, size_of_payload};
 ghost use Rattle.calc_terms.specs.Trees.{none, more};
 ghost use Rattle.node_pool.specs.State.{free_of};
 ghost use Rattle.tree_handles.specs.Expressions.{plain, compound, takes_kind};
-ghost use Rattle.tree_handles.specs.Handed.{IsHanded, Gives, KeepsFront};
+ghost use Rattle.tree_handles.specs.Forest.{arity, bytes_in, one_tree, before_last, last_trees};
+ghost use Rattle.tree_handles.specs.Handed.{IsHanded, Ends, Gives, KeepsFront};
 ghost use Rattle.tree_handles.specs.Roots.{root_tree, without_root};
 ghost use Rattle.tree_handles.specs.Standing.{Stands, forest, KeepsRefusals, IsRefused};
 
@@ -51,8 +52,30 @@ pub fn node_over_two(
     ensures exactly { IsOk result ↔ (size_of_payload (bare kind) ≤ free_of pool.old) }
     ensures stands { Stands pool.new }
 {
-    let over = node(pool, kind)?;
-    add_child(pool, &over, 0, left);
-    add_child(pool, &over, 1, right);
-    Ok(over)
+    let pair = node(pool, kind)?;
+    add_child(pool, &pair, 0, left);
+    add_child(pool, &pair, 1, right);
+    Ok(pair)
+}
+
+/// A new last tree over the last `trees` trees, which become its children where they stand. The bytes of all
+/// trees before them are `begin`.
+pub fn node_over_last(pool: &mut Pool, kind: Kind, trees: u16, begin: u32) -> Result<Handle, Full>
+    requires stands { Stands pool.old }
+    requires bare { is_bare kind ≡ true }
+    requires few { trees ≤ arity (forest pool.old) }
+    requires begin { begin ≡ bytes_in (before_last trees (forest pool.old)) }
+    ensures ok { let old = forest pool.old in
+        IfOk result (λ h. Ends h (one_tree h (bare kind) (last_trees trees old)) (before_last trees old) (forest pool.new)) }
+    ensures kept { OnOk result (KeepsRefusals pool.old pool.new) }
+    ensures full { IfErr result (IsRefused (size_of_payload (bare kind)) pool.old pool.new) }
+    ensures exactly { IsOk result ↔ (size_of_payload (bare kind) ≤ free_of pool.old) }
+    ensures stands { Stands pool.new }
+{
+    let end = pool.used();
+    let parent = node(pool, kind)?;
+    let len = pool.used() - end;
+    pool.move_block(end, len, begin);
+    pool.set_children(parent.id(), trees);
+    Ok(parent)
 }

@@ -4,11 +4,14 @@ ghost use Rattle.tree_handles.specs.declared.fault.NumberFault.TheVariants as fa
 
 use node_pool::Full;
 use rational128::Overflow;
+use thiserror::Error;
 
 /// A call on numbers needs more bytes than are free, or an operation does not fit.
-#[derive(Clone, Copy, Debug)]
+#[derive(Clone, Copy, Debug, Error)]
 pub enum NumberFault {
+    #[error(transparent)]
     Full(Full),
+    #[error(transparent)]
     Overflow(Overflow),
 }
 

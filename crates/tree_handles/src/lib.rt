@@ -14,7 +14,7 @@ mod siblings;
 mod undef;
 mod walk;
 
-pub use building::{node_over, node_over_two};
+pub use building::{node_over, node_over_last, node_over_two};
 pub use copy::copy_tree;
 pub use counts::{child, retain};
 pub use fault::NumberFault;

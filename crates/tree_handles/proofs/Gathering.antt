@@ -9,7 +9,7 @@ use Rattle.node_pool.specs.State.{State, IsPool}
 use Rattle.node_pool.proofs.Found.{end_boundary}
 use Rattle.node_pool.proofs.Sizes.{used-append}
 use Rattle.node_pool.proofs.Splits.{boundary-append, moved_left, with_children-append}
-use Rattle.tree_handles.specs.Forest.{Forest, empty, join, arity, flatten, first_trees, rest_trees, one_tree, bytes_in, AllNodes}
+use Rattle.tree_handles.specs.Forest.{Forest, empty, join, arity, flatten, first_trees, rest_trees, one_tree, bytes_in, AllNodes, before_last, last_trees}
 use Rattle.tree_handles.specs.Handed.{Ends}
 use Rattle.tree_handles.specs.Inside.{holds}
 use Rattle.tree_handles.specs.Roots.{has_root}
@@ -20,7 +20,6 @@ use Rattle.tree_handles.proofs.Outcomes.{by_test, not_left}
 use Rattle.tree_handles.proofs.Parts.{has_mid}
 use Rattle.tree_handles.proofs.Places.{used_forest}
 use Rattle.tree_handles.proofs.Roots.{root_held}
-use Rattle.calc_parser.specs.Growing.{before_last, last_trees}
 
 pub arity-last_trees : (n : ℕ) (f : Forest) → n ≤ arity f → arity (last_trees n f) ≡ n
 arity-last_trees n f h = omega (arith, arity-rest_trees (arity f - n) f)
