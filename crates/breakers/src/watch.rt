@@ -5,9 +5,11 @@ ghost use Rattle.std.specs.Bool.{OnFalse};
 ghost use Rattle.breakers.specs.Breakers.{Check, TripsRose, armed_first, kept};
 
 use crate::breaker::Breaker;
+use thiserror::Error;
 
 /// The calculation is to stop.
-#[derive(Clone, Copy, PartialEq, Eq, Debug)]
+#[derive(Clone, Copy, PartialEq, Eq, Debug, Error)]
+#[error("interrupted by the breaker at place {by}")]
 pub struct Interrupted {
     /// The place in the watch, counted from 0, of the breaker that tripped.
     pub by: u32,

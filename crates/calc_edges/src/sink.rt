@@ -1,7 +1,7 @@
 ghost use Rattle.std.specs.Prelude.{◌≡◌, ℕ, ◌<◌, Option, List, length, take, IfOk, OnOk, OnErr};
 ghost use Rattle.std.specs.Io.{WritesAtMost};
 ghost use Rattle.std.specs.Io.KnownBytes.{Appends, Keeps};
-ghost use Rattle.calc_edges.specs.Faults.{HasCause};
+ghost use Rattle.calc_edges.specs.Faults.{HasCause, StopsAtFailure};
 ghost use Rattle.calc_edges.specs.Taken.{AppendsPart};
 
 use crate::Failed;
@@ -22,7 +22,7 @@ pub trait Sink {
         ensures appended { IfOk result (λ n. Appends (taken self.old) (taken self.new) (take n from.now)) }
         ensures progress { IfOk result (λ n. 0 < length from.now → 0 < n) }
 
-        // A write that fails takes nothing, and the count of failures rose.
+        // A write that fails takes nothing, and the count of failures rose. Else the count is as before.
         ensures kept { OnErr result (Keeps (taken self.old) (taken self.new)) }
         ensures cause { HasCause (faults self.old) (faults self.new) result };
 }
@@ -32,11 +32,15 @@ pub fn write_all<K: Sink>(sink: &mut K, bytes: &[u8]) -> Result<(), Failed>
     ensures appended { OnOk result (Appends (K.taken sink.old) (K.taken sink.new) bytes.now) }
     // The bytes taken before a write that failed are a prefix, and some were not taken.
     ensures part { OnErr result (AppendsPart (K.taken sink.old) (K.taken sink.new) bytes.now) }
+    // No write failed before, and none came behind the one that failed.
+    ensures stops { OnErr result (StopsAtFailure K.taken K.faults sink.old sink.new) }
     ensures cause { HasCause (K.faults sink.old) (K.faults sink.new) result }
 {
     let mut rest = bytes;
     while !rest.is_empty() {
-        let count = sink.write(rest)?;
+        let Ok(count) = sink.write(rest) else {
+            return Err(Failed);
+        };
         rest = &rest[count..];
     }
     Ok(())

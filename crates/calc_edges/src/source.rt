@@ -3,8 +3,11 @@ ghost use Rattle.std.specs.Io.{ReadsAtMost};
 ghost use Rattle.std.specs.Io.KnownBytes.{Consumes, IsAtEnd, Keeps};
 ghost use Rattle.calc_edges.specs.Faults.{HasCause};
 
+use thiserror::Error;
+
 /// A read that gave nothing, or a write that took nothing, since the source or the sink failed.
-#[derive(Clone, Copy, Debug, PartialEq, Eq)]
+#[derive(Clone, Copy, Debug, PartialEq, Eq, Error)]
+#[error("the input or the output failed")]
 pub struct Failed;
 
 /// What bytes are read from.
@@ -25,7 +28,7 @@ pub trait Source {
         ensures given { IfOk result (λ n. Consumes (told self.old) (told self.new) (take n into.new)) }
         ensures end { IfOk result (λ n. n ≡ 0 → 0 < length into.new → IsAtEnd (told self.new)) }
 
-        // A read that fails gives nothing, and the count of failures rose.
+        // A read that fails gives nothing, and the count of failures rose. Else the count is as before.
         ensures kept { OnErr result (Keeps (told self.old) (told self.new)) }
         ensures cause { HasCause (faults self.old) (faults self.new) result };
 }

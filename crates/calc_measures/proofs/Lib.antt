@@ -1,2 +1,3 @@
 pub mod CeilLog2
 pub mod Nests
+pub mod OverflowNodes

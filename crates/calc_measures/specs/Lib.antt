@@ -2,4 +2,5 @@ pub mod Literals
 pub mod Measures
 pub mod Loads
 pub mod PlainValues
+pub mod PlainOverflows
 pub mod PlainTrees

@@ -6,6 +6,7 @@ ghost use Rattle.calc_terms.specs.Trees.{undef, mult, power, root, neg, sub, div
 ghost use Rattle.calc_measures.specs.Measures.{room, high, low, bits};
 ghost use Rattle.calc_measures.specs.Loads.{nest, weight, load};
 ghost use Rattle.calc_terms.specs.Fits.{mul_op, pow_op};
+ghost use Rattle.calc_measures.specs.PlainOverflows.{nodes_to_overflow};
 ghost use Rattle.calc_measures.specs.PlainValues.{plain_value, exactly, undefined, overflow, nothing};
 ghost use Rattle.calc_terms.specs.Examples.{x, y, z, root_of, three, sum, product, third_and_sixth, one_over_two_roots};
 
@@ -66,4 +67,13 @@ pub fn plain_values()
     ensures a_broken_exponent { plain_value (power (whole_num 2) (div (whole_num 1) (whole_num 2))) ≡ nothing }
     ensures a_symbol { plain_value (sum (div (whole_num 1) (whole_num 0)) x) ≡ nothing }
     ensures a_root { plain_value (root_of 4) ≡ nothing }
+{}
+
+/// How many nodes stand up to an overflow, children before their parent: `2^127+1`, `1+2^127`, `(1/0)×2^127×2` and
+/// `2^126×2×3`, of which the last node overflows.
+pub fn nodes_up_to_overflows()
+    ensures in_the_first_term { nodes_to_overflow (sum (power (whole_num 2) (whole_num 127)) (whole_num 1)) ≡ 3 }
+    ensures in_the_second_term { nodes_to_overflow (sum (whole_num 1) (power (whole_num 2) (whole_num 127))) ≡ 4 }
+    ensures behind_undefined { nodes_to_overflow (mult (three (div (whole_num 1) (whole_num 0)) (power (whole_num 2) (whole_num 127)) (whole_num 2))) ≡ 6 }
+    ensures at_the_last_node { nodes_to_overflow (mult (three (power (whole_num 2) (whole_num 126)) (whole_num 2) (whole_num 3))) ≡ 6 }
 {}

@@ -16,3 +16,5 @@ pub mod LedFactors
 pub mod Rewritten
 pub mod Puttings
 pub mod Openings
+pub mod Bytes
+pub mod Named

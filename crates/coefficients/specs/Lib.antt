@@ -1,3 +1,5 @@
 pub mod Multiples
 pub mod Coefficients
 pub mod Pairs
+pub mod Bytes
+pub mod Overflows

@@ -1,6 +1,7 @@
 //! The coefficient of a term or a product: taken off, and put back.
 #![tactic(auto)]
 
+pub mod laws;
 mod multiples;
 mod products;
 mod putting;

@@ -6,6 +6,7 @@ ghost use Rattle.calc_algebra.specs.Reduced.{is_reduced};
 ghost use Rattle.calc_terms.specs.Trees.{is_add, is_mult, num};
 ghost use Rattle.coefficients.specs.Coefficients.{spliced};
 ghost use Rattle.coefficients.specs.Multiples.{leads_sum, rational_times as times, rational_times_factors as times_factors, rational_times_number as times_number, rational_times_term as times_term, rational_times_sum as times_sum};
+ghost use Rattle.coefficients.specs.Overflows.{Leads, LeadsIn, LeadsTerm, IsMultiple, OfOverflow};
 ghost use Rattle.tree_handles.specs.Causes.{IsCaused};
 ghost use Rattle.tree_handles.specs.Standing.{LacksBytes, Stands, forest, KeepsRefusals, Refuses};
 ghost use Rattle.tree_handles.specs.Handed.{tree_of, IsHanded, Gives, KeepsFront};
@@ -35,6 +36,7 @@ pub fn distribute(pool: &mut Pool, q: Rat, sum: Handle) -> Result<Handle, Number
     ensures kept { OnOk result (KeepsRefusals pool.old pool.new) }
     ensures faults { IfErr result (Faults pool.old pool.new) }
     ensures caused { IfErr result (IsCaused pool.new) }
+    ensures named { IfErr result (OfOverflow (IsMultiple (value_of q) (λ c. LeadsIn LeadsTerm c (children_of (tree_of sum pool.old))))) }
     ensures stands { Stands pool.new }
 {
     let terms = children(pool, sum.id());
@@ -57,6 +59,7 @@ fn rational_times_term(pool: &mut Pool, q: Rat, term: Handle) -> Result<Handle, 
     ensures kept { OnOk result (KeepsRefusals pool.old pool.new) }
     ensures faults { IfErr result (Faults pool.old pool.new) }
     ensures caused { IfErr result (IsCaused pool.new) }
+    ensures named { IfErr result (OfOverflow (IsMultiple (value_of q) (λ c. LeadsTerm c (tree_of term pool.old)))) }
     ensures stands { Stands pool.new }
 {
     if !is_led_by_sum(pool, term.id()) {
@@ -99,6 +102,7 @@ fn rational_times_number(pool: &mut Pool, q: Rat, sum: Handle) -> Result<Handle,
     ensures kept { OnOk result (KeepsRefusals pool.old pool.new) }
     ensures faults { IfErr result (Faults pool.old pool.new) }
     ensures caused { IfErr result (IsCaused pool.new) }
+    ensures named { IfErr result (OfOverflow (IsMultiple (value_of q) (λ c. LeadsIn Leads c (children_of (tree_of sum pool.old))))) }
     ensures stands { Stands pool.new }
 {
     let terms = children(pool, sum.id());
@@ -121,6 +125,7 @@ fn rational_times(pool: &mut Pool, q: Rat, term: Handle) -> Result<Handle, Numbe
     ensures kept { OnOk result (KeepsRefusals pool.old pool.new) }
     ensures faults { IfErr result (Faults pool.old pool.new) }
     ensures caused { IfErr result (IsCaused pool.new) }
+    ensures named { IfErr result (OfOverflow (IsMultiple (value_of q) (λ c. Leads c (tree_of term pool.old)))) }
     ensures stands { Stands pool.new }
 {
     match kind(pool, term.id()) {
@@ -160,6 +165,7 @@ fn rational_times_factors(pool: &mut Pool, q: Rat, product: Handle) -> Result<Ha
     ensures kept { OnOk result (KeepsRefusals pool.old pool.new) }
     ensures faults { IfErr result (Faults pool.old pool.new) }
     ensures caused { IfErr result (IsCaused pool.new) }
+    ensures named { IfErr result (OfOverflow (IsMultiple (value_of q) (λ c. Leads c (tree_of product pool.old)))) }
     ensures stands { Stands pool.new }
 {
     let first = child_id(pool, product.id(), 0);

@@ -1,10 +1,13 @@
 //! A tree as a product of factors, and a product of one factor as that factor.
-ghost use Rattle.std.specs.Prelude.{◌≡◌, ◌≤◌, IfOk, IfErr, OnOk, [], ◌∷◌, true};
-ghost use Rattle.calc_terms.specs.Rat.{value_of};
+ghost use Rattle.std.specs.Prelude.{◌≡◌, ◌≤◌, ◌↔◌, IfOk, IfErr, IsOk, OnOk, [], ◌∷◌, true};
+ghost use Rattle.calc_terms.specs.Payload.{rational, bare, size_of_payload};
+ghost use Rattle.calc_terms.specs.Rat.{ratio_of, value_of};
 ghost use Rattle.calc_algebra.specs.Reduced.{product_tree};
 ghost use Rattle.calc_terms.specs.Trees.{mult, num, more, count, is_mult};
+ghost use Rattle.coefficients.specs.Bytes.{bytes_as_product};
 ghost use Rattle.coefficients.specs.Coefficients.{factors_of};
-ghost use Rattle.tree_handles.specs.Standing.{LacksBytes, Stands, forest, KeepsRefusals, Refuses};
+ghost use Rattle.node_pool.specs.State.{free_of};
+ghost use Rattle.tree_handles.specs.Standing.{Stands, forest, KeepsRefusals, IsRefused};
 ghost use Rattle.tree_handles.specs.Handed.{tree_of, IsHanded, Gives, KeepsFront};
 ghost use Rattle.tree_handles.specs.Expressions.{children_of};
 ghost use Rattle.tree_handles.specs.Roots.{without_root};
@@ -22,8 +25,8 @@ pub fn as_product(pool: &mut Pool, tree: Handle) -> Result<Handle, Full>
     ensures ok { IfOk result (λ h. Gives (without_root tree (forest pool.old)) (forest pool.new) h (λ t. t ≡ mult (factors_of (tree_of tree pool.old)))) }
     ensures front { KeepsFront (tree ∷ []) (forest pool.old) (forest pool.new) }
     ensures kept { OnOk result (KeepsRefusals pool.old pool.new) }
-    ensures full { IfErr result (Refuses pool.old pool.new) }
-    ensures caused { IfErr result (LacksBytes pool.new) }
+    ensures full { IfErr result (IsRefused (size_of_payload (bare Kind.Mult)) pool.old pool.new) }
+    ensures exactly { IsOk result ↔ (bytes_as_product (tree_of tree pool.old) ≤ free_of pool.old) }
     ensures stands { Stands pool.new }
 {
     match kind(pool, tree.id()) {
@@ -68,8 +71,8 @@ pub(crate) fn put_first(pool: &mut Pool, q: Rat, product: Handle) -> Result<Hand
     ensures ok { IfOk result (λ h. Gives (without_root product (forest pool.old)) (forest pool.new) h (λ t. t ≡ mult (more (num (value_of q)) (children_of (tree_of product pool.old))))) }
     ensures front { KeepsFront (product ∷ []) (forest pool.old) (forest pool.new) }
     ensures kept { OnOk result (KeepsRefusals pool.old pool.new) }
-    ensures full { IfErr result (Refuses pool.old pool.new) }
-    ensures caused { IfErr result (LacksBytes pool.new) }
+    ensures full { IfErr result (IsRefused (size_of_payload (rational (ratio_of q))) pool.old pool.new) }
+    ensures exactly { IsOk result ↔ (size_of_payload (rational (ratio_of q)) ≤ free_of pool.old) }
     ensures stands { Stands pool.new }
 {
     let factor = number(pool, q)?;

@@ -5,6 +5,7 @@ ghost use Rattle.calc_terms.specs.Rat.{value_of};
 ghost use Rattle.calc_algebra.specs.Reduced.{is_reduced};
 ghost use Rattle.calc_terms.specs.Trees.{num};
 ghost use Rattle.coefficients.specs.Coefficients.{rational_before, with_coefficient};
+ghost use Rattle.coefficients.specs.Overflows.{NamesPut, OfOverflow};
 ghost use Rattle.tree_handles.specs.Causes.{IsCaused};
 ghost use Rattle.tree_handles.specs.Handed.{tree_of, IsHanded, Gives, KeepsFront};
 ghost use Rattle.tree_handles.specs.Faults.{Faults};
@@ -35,6 +36,7 @@ pub fn put_coefficient(
     ensures kept { OnOk result (KeepsRefusals pool.old pool.new) }
     ensures faults { IfErr result (Faults pool.old pool.new) }
     ensures caused { IfErr result (IsCaused pool.new) }
+    ensures named { IfErr result (OfOverflow (NamesPut (tree_of coefficient pool.old) (tree_of part pool.old))) }
     ensures stands { Stands pool.new }
 {
     match kind(pool, coefficient.id()) {
@@ -57,6 +59,7 @@ fn put_rational(pool: &mut Pool, q: Rat, part: Handle) -> Result<Handle, NumberF
     ensures kept { OnOk result (KeepsRefusals pool.old pool.new) }
     ensures faults { IfErr result (Faults pool.old pool.new) }
     ensures caused { IfErr result (IsCaused pool.new) }
+    ensures named { IfErr result (OfOverflow (NamesPut (num (value_of q)) (tree_of part pool.old))) }
     ensures stands { Stands pool.new }
 {
     if is_zero(q) {
@@ -80,6 +83,7 @@ fn put_other_rational(pool: &mut Pool, q: Rat, part: Handle) -> Result<Handle, N
     ensures kept { OnOk result (KeepsRefusals pool.old pool.new) }
     ensures faults { IfErr result (Faults pool.old pool.new) }
     ensures caused { IfErr result (IsCaused pool.new) }
+    ensures named { IfErr result (OfOverflow (NamesPut (num (value_of q)) (tree_of part pool.old))) }
     ensures stands { Stands pool.new }
 {
     match kind(pool, part.id()) {

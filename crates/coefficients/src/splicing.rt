@@ -1,8 +1,11 @@
 //! A coefficient is written before the factors of a part.
-ghost use Rattle.std.specs.Prelude.{◌≡◌, ◌==◌, IfOk, IfErr, OnOk, [], ◌∷◌, true, false};
+ghost use Rattle.std.specs.Prelude.{◌≡◌, ◌==◌, ◌≤◌, ◌↔◌, IfOk, IfErr, IsOk, OnOk, [], ◌∷◌, true, false};
+ghost use Rattle.calc_terms.specs.Payload.{bare, size_of_payload};
 ghost use Rattle.calc_terms.specs.Trees.{mult, more, append, is_mult};
+ghost use Rattle.coefficients.specs.Bytes.{bytes_as_product};
 ghost use Rattle.coefficients.specs.Coefficients.{spliced};
-ghost use Rattle.tree_handles.specs.Standing.{LacksBytes, Stands, forest, KeepsRefusals, Refuses};
+ghost use Rattle.node_pool.specs.State.{free_of};
+ghost use Rattle.tree_handles.specs.Standing.{Stands, forest, KeepsRefusals, IsRefused};
 ghost use Rattle.tree_handles.specs.Handed.{tree_of, IsHanded, Gives, KeepsFront};
 ghost use Rattle.tree_handles.specs.Expressions.{children_of};
 ghost use Rattle.tree_handles.specs.Roots.{without_root};
@@ -22,8 +25,8 @@ pub fn splice(pool: &mut Pool, coefficient: Handle, part: Handle) -> Result<Hand
     ensures ok { IfOk result (λ h. Gives (without_root coefficient (without_root part (forest pool.old))) (forest pool.new) h (λ t. t ≡ spliced (tree_of coefficient pool.old) (tree_of part pool.old))) }
     ensures front { KeepsFront (coefficient ∷ part ∷ []) (forest pool.old) (forest pool.new) }
     ensures kept { OnOk result (KeepsRefusals pool.old pool.new) }
-    ensures full { IfErr result (Refuses pool.old pool.new) }
-    ensures caused { IfErr result (LacksBytes pool.new) }
+    ensures full { IfErr result (IsRefused (size_of_payload (bare Kind.Mult)) pool.old pool.new) }
+    ensures exactly { IsOk result ↔ (bytes_as_product (tree_of part pool.old) ≤ free_of pool.old) }
     ensures stands { Stands pool.new }
 {
     match kind(pool, coefficient.id()) {

@@ -1,11 +1,13 @@
 //! The coefficient of a reduced tree is taken off.
-ghost use Rattle.std.specs.Prelude.{◌≡◌, IfOk, IfErr, OnOk, [], ◌∷◌, true, false};
+ghost use Rattle.std.specs.Prelude.{◌≡◌, ◌≤◌, ◌↔◌, IfOk, IfErr, IsOk, OnOk, [], ◌∷◌, true, false};
 ghost use Rattle.calc_algebra.specs.Numbers.{is_number};
 ghost use Rattle.calc_algebra.specs.Reduced.{is_reduced, part_of, split_product as split_of};
 ghost use Rattle.calc_terms.specs.Trees.{mult, is_mult, is_undef};
+ghost use Rattle.coefficients.specs.Bytes.{bytes_of_coefficient, bytes_of_taking, IsShort};
 ghost use Rattle.coefficients.specs.Coefficients.{coefficient_of, coefficient_length as length_of};
 ghost use Rattle.coefficients.specs.Pairs.{GivesTwo, LeavesRest};
-ghost use Rattle.tree_handles.specs.Standing.{LacksBytes, Stands, forest, KeepsRefusals, Refuses};
+ghost use Rattle.node_pool.specs.State.{free_of};
+ghost use Rattle.tree_handles.specs.Standing.{Stands, forest, KeepsRefusals};
 ghost use Rattle.tree_handles.specs.Handed.{tree_of, IsHanded, KeepsFront};
 ghost use Rattle.tree_handles.specs.Expressions.{IsExpression, plain, children_of};
 ghost use Rattle.tree_handles.specs.Inside.{tree_at};
@@ -46,8 +48,8 @@ pub fn take_coefficient(pool: &mut Pool, term: Handle) -> Result<(Handle, Handle
         IfOk result (λ r. GivesTwo (without_root term (forest pool.old)) (forest pool.new) r.0 r.1 (λ c. c ≡ coefficient_of t) (λ p. p ≡ part_of t)) }
     ensures front { KeepsFront (term ∷ []) (forest pool.old) (forest pool.new) }
     ensures kept { OnOk result (KeepsRefusals pool.old pool.new) }
-    ensures full { IfErr result (Refuses pool.old pool.new) }
-    ensures caused { IfErr result (LacksBytes pool.new) }
+    ensures full { IfErr result (IsShort (bytes_of_taking (tree_of term pool.old)) pool.old pool.new) }
+    ensures exactly { IsOk result ↔ (bytes_of_taking (tree_of term pool.old) ≤ free_of pool.old) }
     ensures stands { Stands pool.new }
 {
     match kind(pool, term.id()) {
@@ -75,8 +77,8 @@ pub fn split_product(pool: &mut Pool, product: Handle) -> Result<(Handle, Handle
         IfOk result (λ r. GivesTwo (without_root product (forest pool.old)) (forest pool.new) r.0 r.1 (λ c. c ≡ s.coefficient) (λ p. p ≡ mult s.factors)) }
     ensures front { KeepsFront (product ∷ []) (forest pool.old) (forest pool.new) }
     ensures kept { OnOk result (KeepsRefusals pool.old pool.new) }
-    ensures full { IfErr result (Refuses pool.old pool.new) }
-    ensures caused { IfErr result (LacksBytes pool.new) }
+    ensures full { IfErr result (IsShort (bytes_of_coefficient (children_of (tree_of product pool.old))) pool.old pool.new) }
+    ensures exactly { IsOk result ↔ (bytes_of_coefficient (children_of (tree_of product pool.old)) ≤ free_of pool.old) }
     ensures stands { Stands pool.new }
 {
     let coefficient = take_leading(pool, &product)?;
@@ -94,8 +96,8 @@ fn take_leading(pool: &mut Pool, product: &Handle) -> Result<Handle, Full>
         IfOk result (λ h. LeavesRest product.now (forest pool.old) (forest pool.new) h s.coefficient s.factors) }
     ensures front { KeepsFront (product.now ∷ []) (forest pool.old) (forest pool.new) }
     ensures kept { OnOk result (KeepsRefusals pool.old pool.new) }
-    ensures full { IfErr result (Refuses pool.old pool.new) }
-    ensures caused { IfErr result (LacksBytes pool.new) }
+    ensures full { IfErr result (IsShort (bytes_of_coefficient (children_of (tree_of product.now pool.old))) pool.old pool.new) }
+    ensures exactly { IsOk result ↔ (bytes_of_coefficient (children_of (tree_of product.now pool.old)) ≤ free_of pool.old) }
     ensures stands { Stands pool.new }
 {
     let length = coefficient_length(pool, product.id());

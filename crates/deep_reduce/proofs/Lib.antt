@@ -16,6 +16,7 @@ mod Falls
 mod Arms
 pub mod NodeRewrites
 pub mod PlainNodes
+pub mod Overflowing
 pub mod EasyNodes
 pub mod NodeAnswers
 pub mod Rationals

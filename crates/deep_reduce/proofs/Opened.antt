@@ -1,8 +1,8 @@
 -- What a rewriting of a power leaves to be reduced: it nests no more, and weighs less.
-use Rattle.std.proofs.Common.{◌≡◌, ℕ, ℤ, suc, ◌+◌, ◌≤◌, ◌<◌, ◌⊎◌, inl, inr, Bool, true, false, ◌&&◌, ◌==◌, not, if◌then◌else◌, Some, refl, sym, ap, ◌∙◌, subst, arith}
+use Rattle.std.proofs.Common.{◌≡◌, ℕ, ℤ, suc, ◌+◌, ◌≤◌, ◌<◌, ◌⊎◌, inl, inr, Bool, true, false, ◌&&◌, ◌==◌, not, if◌then◌else◌, pos, Some, None, refl, sym, ap, ◌∙◌, subst, arith}
 use Rattle.std.specs.Prelude.{max}
 use Rattle.std.proofs.lemmas.Bool.{and_parts}
-use Rattle.calc_terms.specs.Fractions.{whole_fraction, is_one_fraction}
+use Rattle.calc_terms.specs.Fractions.{whole_fraction, zero_fraction, one_fraction, is_one_fraction}
 use Rattle.calc_measures.specs.Loads.{nest, nest_of, weight, has_coefficient}
 use Rattle.calc_algebra.specs.Numbers.{is_number}
 use Rattle.calc_algebra.specs.Reduced.{Split, is_reduced, is_opaque_exponent, is_num_one, num_one, split_product, HasForm, IsProductForm}
@@ -18,9 +18,10 @@ use Rattle.deep_reduce.specs.Answers.{IsReducedPower}
 use Rattle.deep_reduce.specs.Unfinished.{nest_over, nest_of_rewritten, weight_of_bases, weight_below, IsTransparent, AreTransparent, IsNested, IsUnfinished, Finishes}
 use Rattle.deep_reduce.proofs.Heavy.{base_reduced, exponent_reduced}
 use Rattle.deep_reduce.proofs.Nests.{to_number, base_nest}
-use Rattle.power_reduce.specs.PowerAnswers.{has_no_power, has_number_power, IsPowerAnswer}
+use Rattle.power_reduce.specs.PowerAnswers.{has_no_power, has_number_power, IsWrittenPower, IsPowerAnswer}
 use Rattle.power_reduce.specs.PowerSteps.{goes_inside, half, is_even_whole, parts_of, raised, rewritten}
 use Rattle.power_reduce.proofs.ByRule.{is_rewritable}
+use Rattle.power_reduce.proofs.Cases.{zero_kept, one_kept}
 use Rattle.power_reduce.proofs.Rules.{chosen, nothing}
 use Rattle.power_reduce.proofs.Weights.{weights, weights_none, weights_more, power_nest, product_parts}
 use Rattle.calc_algebra.specs.Rewritings.{Rewrites}
@@ -144,6 +145,15 @@ opened b e t r s h = nothing t (IsOpened b e) h
 clash : {x : Bool} {A : Type 0} → x ≡ true → x ≡ false → A
 clash e f = absurd cc
 
+-- no rule names the tree for a power that is rewritten
+rewritten_written : (b e t r : Tree) → rewritten b e ≡ Some t → IsWrittenPower b e r
+unfolding zero_fraction one_fraction
+rewritten_written b e t r h = record {
+  zero = λ k. let n : rewritten b e ≡ None = zero_kept b e (pos 0) k refl in cc;
+  one = λ k. let n : rewritten b e ≡ None = one_kept b e (pos 1) k refl in cc;
+  kept = λ k. let n : rewritten b e ≡ None = k.not_rewritten in cc;
+}
+
 pub power_after : (b e t r : Tree) → is_reduced b ≡ true → is_reduced e ≡ true → (rewritten b e ≡ Some t) × Rewrites (power b e) t → Finishes t r → IsReducedPower b e r
 power_after b e t r h k s f =
     let o = opened b e t h k s.0 in
@@ -152,6 +162,7 @@ power_after b e t r h k s f =
       reduces = reduces_after s.1 f.reduces;
       undefined = λ x. clash x w.has_power;
       number = λ x y. clash x w.no_number;
+      written = λ x. rewritten_written b e t r s.0;
       nest = omega (arith, f.nest, o.nests);
       load = λ x. omega (arith, f.load, o.weighs);
       opaque_load = omega (arith, f.load, o.weighs);
@@ -166,6 +177,7 @@ power_finished b e t a = record {
   reduces = a.reduces;
   undefined = λ h. undef_is t (a.undefined ∙ h);
   number = a.number;
+  written = a.written;
   nest = a.nest_bound;
   opaque_load = a.opaque_bound;
   load = a.load_bound;

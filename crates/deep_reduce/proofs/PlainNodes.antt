@@ -23,14 +23,14 @@ as_plain P t n h = by (is_plain t) refl
     by true e = h e
     by false e = n
 
-is_plain_value : (t : Tree) → is_plain t ≡ true → plain_value t ≡ plain_of t
+pub is_plain_value : (t : Tree) → is_plain t ≡ true → plain_value t ≡ plain_of t
 is_plain_value t e = ap (λ (b : Bool). if b then plain_of t else nothing) e
 
-and_left : (a b : Bool) → a && b ≡ true → a ≡ true
+pub and_left : (a b : Bool) → a && b ≡ true → a ≡ true
 and_left true b e = refl
 and_left false b e = e
 
-and_right : (a b : Bool) → a && b ≡ true → b ≡ true
+pub and_right : (a b : Bool) → a && b ≡ true → b ≡ true
 and_right true b e = e
 and_right false b e = cc
 
@@ -217,7 +217,7 @@ overflowed_plain t u o h a = node_kept (λ v. IsPlainOverflow v o) tt t u h (λ 
 
 -- ---- an overflow in a child
 
-abbrev Decides : Gathered → Overflow → Type 0
+abbrev pub Decides : Gathered → Overflow → Type 0
 Decides (decided v) o = IsPlainOverflow v o
 Decides (values qs) o = ⊥
 
@@ -235,7 +235,7 @@ later_decides undefined u (values qs) o a h = absurd h
 later_decides (overflow op x y) u g o a h = absurd a
 later_decides nothing u g o a h = tt
 
-child_decides : (done answers : Trees) (t : Tree) (rest : Trees) (o : Overflow) → AreReducedFrom done answers → are_plain (append done (more t rest)) ≡ true → IsPlainOverflow (plain_value t) o
+pub child_decides : (done answers : Trees) (t : Tree) (rest : Trees) (o : Overflow) → AreReducedFrom done answers → are_plain (append done (more t rest)) ≡ true → IsPlainOverflow (plain_value t) o
     → Decides (plain_of_children (append done (more t rest))) o
 child_decides none none t rest o h e k = this_decides (plain_of t) (plain_of_children rest) o (subst (λ (v : PlainValue). IsPlainOverflow v o) (is_plain_value t (and_left (is_plain t) (are_plain rest) e)) k)
 child_decides none (more u us) t rest o h e k = absurd h

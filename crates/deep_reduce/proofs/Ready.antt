@@ -17,6 +17,7 @@ use Rattle.deep_reduce.proofs.EasyNodes.{and_true}
 use Rattle.deep_reduce.proofs.NodeAnswers.{node_answered}
 use Rattle.deep_reduce.proofs.NodeRewrites.{AreReducedFrom, IsOver, over_number, over_symbol, over_undef, over_sum, over_product, over_power, over_root, over_neg, over_sub, over_div}
 use Rattle.deep_reduce.proofs.Parents.{held_at, handed_node, parent_is_handed, parent_plain}
+use Rattle.deep_reduce.proofs.Overflowing.{last_overflow}
 use Rattle.deep_reduce.proofs.PlainNodes.{overflowed_plain}
 use Rattle.deep_reduce.proofs.Walks.{AllWalked, nodes_by_children, reduced_count}
 use Rattle.node_pool.specs.State.{State}
@@ -127,7 +128,7 @@ pub node_stops : {s t : State} (u : State) (before after : List BreakerState) (t
     → Stops tree s u before after (fault_of e)
 node_stops u before after tree node (number.Full full) h c k f w x = (w, refuses_after k f, calm_up_to (nodes tree) (nodes tree) before after (some_nodes tree) (omega arith) c)
 node_stops u before after tree node (number.Overflow o) h c k f w x =
-    (w, kept_after k f, calm_up_to (nodes tree) (nodes tree) before after (some_nodes tree) (omega arith) c, overflowed_plain tree node o h x)
+    (w, kept_after k f, calm_up_to (nodes tree) (nodes tree) before after (some_nodes tree) (omega arith) c, overflowed_plain tree node o h x, λ v. subst (λ (n : ℕ). CalmChecks n before after) (sym (last_overflow tree node h v)) c)
 
 -- what is said of an overflow, where it is the error
 pub no_fit : (e : NumberFault) (P : Overflow → Type 0) → IfOverflow {A = ℕ} (Err e) P → IfNoFit e P

@@ -4,18 +4,21 @@ use Rattle.std.specs.Prelude.{IfErr, IsErr, IsErrAnd}
 use Rattle.breakers.proofs.Runs.{CalmChecks-append}
 use Rattle.breakers.specs.Breakers.{CalmChecks}
 use Rattle.breakers.specs.State.{State as BreakerState}
+use Rattle.calc_measures.specs.PlainOverflows.{is_overflow, nodes_to_overflow}
 use Rattle.calc_measures.specs.PlainValues.{plain_value}
 use Rattle.calc_terms.specs.Trees.{Tree, num, symbol, undef, add, mult, power, root, neg, sub, div, Trees, none, more, append, count, nodes, nodes_of}
 use Rattle.coefficients.proofs.Steps.{expression, seen}
-use Rattle.deep_reduce.specs.Reductions.{IsReducedFrom, Stops}
+use Rattle.deep_reduce.specs.Reductions.{IsReducedFrom, IsAtItsNode, Stops}
 use Rattle.deep_reduce.proofs.NodeRewrites.{AreReducedFrom}
 use Rattle.deep_reduce.proofs.Parents.{IsParent, held_at, parent_handed, IsTakenOut, taken_out, put_back}
+use Rattle.deep_reduce.proofs.Overflowing.{first_overflow}
 use Rattle.deep_reduce.proofs.PlainNodes.{child_overflow}
 use Rattle.node_pool.specs.State.{State}
 use Rattle.number_forms.proofs.Loops.{kept_after, refuses_after}
 use Rattle.reduce_port.proofs.Checks.{calm_up_to_after, trips_within_after}
 use Rattle.reduce_port.specs.Checks.{CalmUpTo, TripsWithin}
 use Rattle.calc_measures.specs.PlainTrees.{IsPlainOverflow}
+use Rattle.rational128.specs.declared.overflow.Overflow.{Overflow}
 use Rattle.tree_handles.specs.Handed.{tree_of, IsHanded, Ends, Gives, KeepsFront}
 use Rattle.reduce_port.specs.declared.fault.ReduceFault.{ReduceFault}
 use Rattle.reduce_port.specs.declared.fault.ReduceFault.TheVariants as fault
@@ -219,15 +222,23 @@ calm_more h l = record { checks = h.checks; some = h.some; few = omega (arith, h
 pub trips_more : {n m p : ℕ} {before after : List BreakerState} → TripsWithin n before after p → n ≤ m → TripsWithin m before after p
 trips_more h l = record { passed = h.passed; few = omega (arith, h.few); between = h.between; calm = h.calm; trips = h.trips }
 
+-- an overflow in a child is the first one of its parent, if that has one
+child_at_its_node : {i at : ℕ} {old new : Forest} {before after : List BreakerState} (last : List BreakerState) (n : IsNextChild i at old new before after) (o : Overflow)
+    → IsPlainOverflow (plain_value n.child) o → IsAtItsNode n.child after last → IsAtItsNode (plain (root_tree i old)) before last
+child_at_its_node {i = i} {old = old} {before = before} {after = after} last n o p h x =
+    let f = first_overflow n.done n.answers n.child n.rest o n.reduced p (plain (root_tree i old)) n.split x in
+    subst (λ (m : ℕ). CalmChecks m before last) (sym f.many-is) (CalmChecks-append (nodes_of n.done) (nodes_to_overflow n.child) before after last n.calm (h f.overflows))
+
 pub child_stops : {i at : ℕ} {old new : Forest} {before after : List BreakerState} {s t : State} (last : List BreakerState) (u : State) (n : IsNextChild i at old new before after) (c : Tree) (e : ReduceFault)
     → c ≡ n.child → KeepsRefusals s t → Stops c t u after last e → Stops (plain (root_tree i old)) s u before last e
 child_stops {i = i} {old = old} {before = before} {after = after} last u n c (fault.Full full) same k (l, r, m) =
     (l, refuses_after k r, calm_more (calm_up_to_after (nodes_of n.done) (nodes c) before after last n.calm m) (omega (arith, fewer_nodes n, ap nodes same)))
-child_stops {i = i} {old = old} {before = before} {after = after} last u n c (fault.Overflow o) same k (w, r, m, p) = (
+child_stops {i = i} {old = old} {before = before} {after = after} last u n c (fault.Overflow o) same k (w, r, m, p, q) = (
   w,
   kept_after k r,
   calm_more (calm_up_to_after (nodes_of n.done) (nodes c) before after last n.calm m) (omega (arith, fewer_nodes n, ap nodes same)),
   child_overflow n.done n.answers n.child n.rest o n.reduced (subst (λ (t : Tree). IsPlainOverflow (plain_value t) o) same p) (plain (root_tree i old)) n.split,
+  child_at_its_node last n o (subst (λ (t : Tree). IsPlainOverflow (plain_value t) o) same p) (subst (λ (t : Tree). IsAtItsNode t after last) same q),
 )
 child_stops {before = before} {after = after} last u n c (fault.Interrupted by) same k (r, m) =
     (kept_after k r, trips_more (trips_within_after (nodes_of n.done) (nodes c) before after last by.by n.calm m) (omega (arith, fewer_nodes n, ap nodes same)))

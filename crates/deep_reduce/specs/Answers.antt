@@ -4,7 +4,7 @@ use Rattle.calc_measures.specs.Loads.{nest, load, weight}
 use Rattle.calc_algebra.specs.Numbers.{is_number, are_numbers}
 use Rattle.calc_algebra.specs.Reduced.{is_opaque_exponent}
 use Rattle.calc_terms.specs.Trees.{Tree, undef, mult, power, Trees, has_undef}
-use Rattle.power_reduce.specs.PowerAnswers.{has_no_power, has_number_power}
+use Rattle.power_reduce.specs.PowerAnswers.{has_no_power, has_number_power, IsWrittenPower}
 use Rattle.product_reduce.specs.Answers.{AreJoinable, IsWrittenProduct}
 use Rattle.calc_algebra.specs.Rewritings.{Reduces}
 
@@ -25,6 +25,7 @@ pub record IsReducedPower (b e t : Tree) : Type 0 where
   pub reduces : Reduces (power b e) t
   pub undefined : has_no_power b e ≡ true → t ≡ undef
   pub number : has_number_power b e ≡ true → has_no_power b e ≡ false → is_number t ≡ true
+  pub written : has_no_power b e ≡ false → IsWrittenPower b e t
   pub nest : nest t ≤ nest (power b e)
   pub opaque_load : load t ≤ 1 + weight b
   pub load : is_opaque_exponent e ≡ false → load t ≤ weight b

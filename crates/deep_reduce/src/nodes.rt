@@ -19,7 +19,9 @@ use calc_terms::{Kind, Rat};
 use node_pool::{Id, Pool};
 use radical_forms::reduce_root;
 use sum_reduce::reduce_sum;
-use tree_handles::{Handle, NumberFault, children, has_undefined_child, kind, move_last, number, release, undefined};
+use tree_handles::{
+    Handle, NumberFault, children, has_undefined_child, kind, move_last, number, release, undefined,
+};
 
 /// A node over reduced children, as the rules of its kind reduce it.
 pub(crate) fn reduce_node(pool: &mut Pool, tree: Handle) -> Result<Handle, NumberFault>

@@ -2,18 +2,17 @@
 use Rattle.std.proofs.Common.{◌≡◌, [], ◌∷◌, Some, length, true, false, sym, ap, subst, arith}
 use Rattle.std.specs.Prelude.{slice_get}
 use Rattle.calc_algebra.specs.Numbers.{is_number, is_term, term_of, value, Rises}
-use Rattle.calc_algebra.specs.SquareClasses.{are_alike, Same, Inverts}
+use Rattle.calc_algebra.specs.SquareClasses.{are_alike, Inverts}
 use Rattle.calc_algebra.specs.Surds.{Term, Surd}
-use Rattle.calc_terms.specs.Trees.{Tree}
+use Rattle.calc_terms.specs.Trees.{Tree, add, more, none}
 use Rattle.calc_algebra.proofs.InverseLaws.{Inverts-Same}
 use Rattle.calc_algebra.proofs.NumberClasses.{value_rises}
 use Rattle.calc_algebra.proofs.NumberLaws.{number_words, term_words}
 use Rattle.calc_algebra.proofs.SquareClassLaws.{Same-trans}
-use Rattle.calc_algebra.proofs.TermLaws.{Same-eq, Same-cons}
+use Rattle.calc_algebra.proofs.TermLaws.{Same-eq}
 use Rattle.number_forms.specs.Answers.{IsNumberOf}
 use Rattle.number_forms.specs.Inverses.{IsInverseOf}
-use Rattle.number_forms.specs.Sums.{IsSumOf}
-use Rattle.number_forms.proofs.Shaped.{single_number}
+use Rattle.number_forms.proofs.Shaped.{single_number, sum_number}
 use Rattle.number_forms.proofs.Worth.{Same-sym}
 
 some_term : {x y : Term} → Some x ≡ Some y → x ≡ y
@@ -44,6 +43,16 @@ inverse_term v t x y e i h f =
 pub inverse_number : (v w : Surd) (t : Tree) (u : Surd) → v ≡ w → Inverts u w → IsNumberOf u t → IsInverseOf v t
 inverse_number v w t u e i n = record { number = n.number; inverts = Inverts-Same (Same-sym n.worth) (Same-eq (sym e)) i }
 
--- two terms joined to a sum of none
-pub joined_two : (t u x : Tree) (a b : Term) → value t ≡ [] → IsSumOf (b ∷ value t) u → IsSumOf (a ∷ value u) x → Same (value x) (a ∷ b ∷ [])
-joined_two t u x a b e h k = Same-trans k.worth (Same-cons a (Same-trans h.worth (Same-eq (ap (λ (v : Surd). b ∷ v) e))))
+-- the terms of a Number of two classes rise, and so do terms with their radicands
+pub two_rise : (t : Tree) (x y p q : Term) → is_number t ≡ true → value t ≡ x ∷ y ∷ [] → p.radicand ≡ x.radicand → q.radicand ≡ y.radicand → Rises (p ∷ q ∷ [])
+two_rise t x y p q h e f g =
+    let r : Rises (x ∷ y ∷ []) = subst Rises e (value_rises t (number_words t h)) in
+    ((rw (f, g) (r.0.0), rw (f, g) (r.0.1), tt), (tt, tt))
+
+-- the sum of two terms whose radicands rise
+pub placed_two : (t u x : Tree) (a b : Term) → t ≡ add (more u (more x none)) → is_term u ≡ true → term_of u ≡ a → is_term x ≡ true → term_of x ≡ b → Rises (a ∷ b ∷ []) → IsNumberOf (a ∷ b ∷ []) t
+placed_two t u x a b e h f k g r =
+    let these : term_of u ∷ term_of x ∷ [] ≡ a ∷ b ∷ [] = λ i. f i ∷ g i ∷ [] in
+    subst (λ (s : Tree). IsNumberOf (a ∷ b ∷ []) s) (sym e)
+    (subst (λ (v : Surd). IsNumberOf v (add (more u (more x none)))) these
+    (sum_number (more u (more x none)) (omega arith) (term_words u h, (term_words x k, tt)) (subst Rises (sym these) r)))

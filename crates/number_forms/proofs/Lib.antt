@@ -16,3 +16,4 @@ pub mod Pairs
 pub mod Rising
 pub mod Recognized
 pub mod SquareFreeSums
+pub mod Overflows

@@ -1,5 +1,5 @@
 -- Powers by squares.
-use Rattle.std.proofs.Common.{◌≡◌, ◌≢◌, ℕ, suc, ◌*◌, ◌/◌, ◌%◌, ◌≤◌, subst, arith}
+use Rattle.std.proofs.Common.{◌≡◌, ◌≢◌, ℕ, suc, ◌+◌, ◌*◌, ◌/◌, ◌%◌, ◌≤◌, subst, arith}
 use Rattle.calc_algebra.specs.SquareClasses.{Same}
 use Rattle.calc_algebra.specs.Surds.{Surd, surd_times, surd_power}
 use Rattle.calc_algebra.proofs.PowerLaws.{surd_power-squared, surd_power-multiplied}
@@ -10,6 +10,12 @@ half_even n e = omega arith
 
 half_odd : (n : ℕ) → n % 2 ≢ 0 → suc (2 * (n / 2)) ≡ n
 half_odd n e = omega arith
+
+pub half_below : (n : ℕ) → n / 2 ≤ n
+half_below n = omega arith
+
+pub half_odd_within : (n : ℕ) → n % 2 ≢ 0 → 2 * (n / 2) + 1 ≤ n
+half_odd_within n e = omega arith
 
 pub half_positive : (n : ℕ) → 1 ≤ n → n ≢ 1 → 1 ≤ n / 2
 half_positive n h e = omega arith

@@ -1,6 +1,7 @@
 -- What a sum is worth, from one joined term to the next.
 use Rattle.std.proofs.Common.{◌≡◌, ℕ, zero, suc, [], ◌∷◌, ◌++◌, Some, length, map, refl, ap, subst, append_assoc}
 use Rattle.std.specs.Prelude.{slice_get}
+pub use Rattle.number_forms.specs.Overflows.{terms_from}
 use Rattle.calc_algebra.specs.SquareClasses.{Same}
 use Rattle.calc_algebra.specs.Surds.{Term, Surd, term_times, surd_times}
 use Rattle.calc_algebra.proofs.SquareClassLaws.{Same-trans, Same-Agree}
@@ -9,12 +10,6 @@ use Rattle.calc_algebra.proofs.TermLaws.{Same-refl, Same-eq, Same-append, Same-a
 
 pub Same-sym : {v w : Surd} → Same v w → Same w v
 Same-sym h = Agree-Same (Agree-sym (Same-Agree h))
-
--- the terms from a place on
-abbrev pub terms_from : ℕ → Surd → Surd
-terms_from zero v = v
-terms_from (suc n) [] = []
-terms_from (suc n) (x ∷ v) = terms_from n v
 
 some_term : {x y : Term} → Some x ≡ Some y → x ≡ y
 some_term e = cc

@@ -4,3 +4,4 @@ pub mod Sums
 pub mod Answers
 pub mod Joins
 pub mod Inverses
+pub mod Overflows

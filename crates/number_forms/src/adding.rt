@@ -1,11 +1,12 @@
 //! Sums of Numbers.
-ghost use Rattle.std.specs.Prelude.{◌≡◌, ◌==◌, ◌∷◌, ◌++◌, [], true, false, IfOk, IfErr, OnOk};
+ghost use Rattle.std.specs.Prelude.{◌≡◌, ◌==◌, ◌&&◌, ◌∷◌, ◌++◌, [], true, false, IfOk, IfErr, OnOk};
 ghost use Rattle.calc_terms.specs.Fits.{add_op};
 ghost use Rattle.calc_terms.specs.Fractions.{Fraction};
 ghost use Rattle.calc_algebra.specs.Numbers.{is_number, value};
 ghost use Rattle.calc_measures.specs.PlainValues.{calculated};
 ghost use Rattle.calc_terms.specs.Trees.{num, is_num, is_add};
 ghost use Rattle.number_forms.specs.Answers.{IsNumberOf, AnswersRationals};
+ghost use Rattle.number_forms.specs.Overflows.{OfOverflow, SumOverflows};
 ghost use Rattle.number_forms.specs.Sums.{IsSum, IsSumOf};
 ghost use Rattle.tree_handles.specs.Standing.{LacksBytes, Stands, forest, KeepsRefusals, Refuses};
 ghost use Rattle.tree_handles.specs.Causes.{IsCaused};
@@ -37,6 +38,7 @@ pub fn add_numbers(pool: &mut Pool, a: Handle, b: Handle) -> Result<Handle, Numb
     ensures front { KeepsFront (a ∷ b ∷ []) (forest pool.old) (forest pool.new) }
     ensures kept { OnOk result (KeepsRefusals pool.old pool.new) }
     ensures faults { IfErr result (Faults pool.old pool.new) }
+    ensures overflow { (is_num (tree_of a pool.old) && is_num (tree_of b pool.old)) ≡ false → IfErr result (OfOverflow (SumOverflows (value (tree_of a pool.old)) (value (tree_of b pool.old)))) }
     ensures caused { IfErr result (IsCaused pool.new) }
     ensures stands { Stands pool.new }
 {
@@ -80,6 +82,7 @@ fn add_terms(pool: &mut Pool, a: Handle, b: Handle) -> Result<Handle, NumberFaul
     ensures front { KeepsFront (a ∷ b ∷ []) (forest pool.old) (forest pool.new) }
     ensures kept { OnOk result (KeepsRefusals pool.old pool.new) }
     ensures faults { IfErr result (Faults pool.old pool.new) }
+    ensures overflow { IfErr result (OfOverflow (SumOverflows (value (tree_of a pool.old)) (value (tree_of b pool.old)))) }
     ensures caused { IfErr result (IsCaused pool.new) }
     ensures stands { Stands pool.new }
 {
@@ -143,6 +146,7 @@ pub(crate) fn join_terms(pool: &mut Pool, sum: &Handle, number: Id) -> Result<()
     ensures front { KeepsFront (sum.now ∷ []) (forest pool.old) (forest pool.new) }
     ensures kept { OnOk result (KeepsRefusals pool.old pool.new) }
     ensures faults { IfErr result (Faults pool.old pool.new) }
+    ensures overflow { IfErr result (OfOverflow (SumOverflows (value (tree_of sum.now pool.old)) (value (tree_of number pool.old)))) }
     ensures caused { IfErr result (IsCaused pool.new) }
     ensures stands { Stands pool.new }
 {

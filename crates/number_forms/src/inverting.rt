@@ -1,24 +1,23 @@
 //! Inverses of Numbers.
 ghost use Rattle.std.specs.Prelude.{◌≡◌, ◌∷◌, [], true, IfOk, IfErr, OnOk};
-ghost use Rattle.calc_algebra.specs.Numbers.{is_number, value, classes};
+ghost use Rattle.calc_algebra.specs.Numbers.{is_number, value, classes, Rises};
 ghost use Rattle.number_forms.specs.Answers.{IsNumberOf};
 ghost use Rattle.number_forms.specs.Inverses.{AnswersInverse, IsInverseOf};
+ghost use Rattle.number_forms.specs.Overflows.{OfOverflow, InverseOverflows};
 ghost use Rattle.tree_handles.specs.Causes.{IsCaused};
 ghost use Rattle.tree_handles.specs.Handed.{tree_of, IsHanded, Gives, KeepsFront};
 ghost use Rattle.surd_terms.specs.Terms.{term_of};
 ghost use Rattle.tree_handles.specs.Faults.{Faults};
 ghost use Rattle.tree_handles.specs.Roots.{without_root};
-ghost use Rattle.tree_handles.specs.Standing.{Stands, forest, KeepsRefusals};
+ghost use Rattle.tree_handles.specs.Standing.{Stands, forest, KeepsRefusals, LacksBytes, Refuses};
 
-use crate::adding::number_of;
-use crate::joining::join_term;
 use crate::placing::place_term;
 use crate::read::term_count;
 use crate::term::nth_term;
 use calc_terms::Kind;
-use node_pool::Pool;
+use node_pool::{Full, Pool};
 use surd_terms::{Term, inverse, inverse_of_sum};
-use tree_handles::{Handle, NumberFault, move_last, node, release};
+use tree_handles::{Handle, NumberFault, add_child, node, release};
 
 /// What inverting a Number comes to.
 #[derive(Drop)]
@@ -31,16 +30,17 @@ pub enum Inverse {
     Wide(Handle),
 }
 
-/// The inverse of a Number of one class or two, by the conjugate. The Number goes, but for three classes
-/// or more.
+/// The inverse of a Number of one class or two, by the conjugate. The Number is consumed, but for three
+/// classes or more.
 pub fn invert_number(pool: &mut Pool, a: Handle) -> Result<Inverse, NumberFault>
     requires stands { Stands pool.old }
     requires handed { IsHanded a (forest pool.old) }
     requires number { is_number (tree_of a pool.old) ≡ true }
-    ensures ok { IfOk result (AnswersInverse (tree_of a pool.old) (without_root a (forest pool.old)) (forest pool.new)) }
+    ensures ok { IfOk result (AnswersInverse a (tree_of a pool.old) (forest pool.old) (forest pool.new)) }
     ensures front { KeepsFront (a ∷ []) (forest pool.old) (forest pool.new) }
     ensures kept { OnOk result (KeepsRefusals pool.old pool.new) }
     ensures faults { IfErr result (Faults pool.old pool.new) }
+    ensures overflow { IfErr result (OfOverflow (InverseOverflows (value (tree_of a pool.old)))) }
     ensures caused { IfErr result (IsCaused pool.new) }
     ensures stands { Stands pool.new }
 {
@@ -53,7 +53,6 @@ pub fn invert_number(pool: &mut Pool, a: Handle) -> Result<Inverse, NumberFault>
     } else if terms == 2 {
         Ok(Inverse::Value(invert_two(pool, a)?))
     } else {
-        move_last(pool, &a);
         Ok(Inverse::Wide(a))
     }
 }
@@ -68,6 +67,7 @@ fn invert_one(pool: &mut Pool, a: Handle) -> Result<Handle, NumberFault>
     ensures front { KeepsFront (a ∷ []) (forest pool.old) (forest pool.new) }
     ensures kept { OnOk result (KeepsRefusals pool.old pool.new) }
     ensures faults { IfErr result (Faults pool.old pool.new) }
+    ensures overflow { IfErr result (OfOverflow (InverseOverflows (value (tree_of a pool.old)))) }
     ensures caused { IfErr result (IsCaused pool.new) }
     ensures stands { Stands pool.new }
 {
@@ -86,6 +86,7 @@ fn invert_two(pool: &mut Pool, a: Handle) -> Result<Handle, NumberFault>
     ensures front { KeepsFront (a ∷ []) (forest pool.old) (forest pool.new) }
     ensures kept { OnOk result (KeepsRefusals pool.old pool.new) }
     ensures faults { IfErr result (Faults pool.old pool.new) }
+    ensures overflow { IfErr result (OfOverflow (InverseOverflows (value (tree_of a pool.old)))) }
     ensures caused { IfErr result (IsCaused pool.new) }
     ensures stands { Stands pool.new }
 {
@@ -93,21 +94,24 @@ fn invert_two(pool: &mut Pool, a: Handle) -> Result<Handle, NumberFault>
     let second = nth_term(pool, a.id(), 1);
     let inverse = inverse_of_sum(first, second)?;
     release(pool, a);
-    place_sum(pool, inverse.0, inverse.1)
+    Ok(place_sum(pool, inverse.0, inverse.1)?)
 }
 
-/// A new last tree that is the sum of two terms.
-fn place_sum(pool: &mut Pool, a: Term, b: Term) -> Result<Handle, NumberFault>
+/// A new last tree that is the sum of two terms whose radicands rise.
+fn place_sum(pool: &mut Pool, a: Term, b: Term) -> Result<Handle, Full>
     requires stands { Stands pool.old }
+    requires rises { Rises (term_of a ∷ term_of b ∷ []) }
     ensures ok { IfOk result (λ h. Gives (forest pool.old) (forest pool.new) h (IsNumberOf (term_of a ∷ term_of b ∷ []))) }
     ensures front { KeepsFront [] (forest pool.old) (forest pool.new) }
     ensures kept { OnOk result (KeepsRefusals pool.old pool.new) }
-    ensures faults { IfErr result (Faults pool.old pool.new) }
-    ensures caused { IfErr result (IsCaused pool.new) }
+    ensures full { IfErr result (Refuses pool.old pool.new) }
+    ensures caused { IfErr result (LacksBytes pool.new) }
     ensures stands { Stands pool.new }
 {
+    let first = place_term(pool, a)?;
+    let second = place_term(pool, b)?;
     let sum = node(pool, Kind::Add)?;
-    join_term(pool, &sum, b)?;
-    join_term(pool, &sum, a)?;
-    Ok(number_of(pool, sum)?)
+    add_child(pool, &sum, 0, second);
+    add_child(pool, &sum, 0, first);
+    Ok(sum)
 }

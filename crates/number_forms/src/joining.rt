@@ -4,6 +4,7 @@ ghost use Rattle.calc_algebra.specs.Numbers.{value, term_of as term_of_tree};
 ghost use Rattle.calc_terms.specs.Trees.{add, count};
 ghost use Rattle.number_forms.specs.Sums.{IsSum, IsSumOf, IsApart, IsPlace, AreBelow, removed};
 ghost use Rattle.number_forms.specs.Joins.{IsMatch};
+ghost use Rattle.number_forms.specs.Overflows.{OfOverflow, JoinOverflows};
 ghost use Rattle.tree_handles.specs.Standing.{LacksBytes, Stands, forest, KeepsRefusals, Refuses};
 ghost use Rattle.tree_handles.specs.Causes.{IsCaused, Overflows};
 ghost use Rattle.tree_handles.specs.Handed.{tree_of, Gives, KeepsFront};
@@ -42,6 +43,7 @@ pub(crate) fn join_term(pool: &mut Pool, sum: &Handle, term: Term) -> Result<(),
     ensures front { KeepsFront (sum.now ∷ []) (forest pool.old) (forest pool.new) }
     ensures kept { OnOk result (KeepsRefusals pool.old pool.new) }
     ensures faults { IfErr result (Faults pool.old pool.new) }
+    ensures overflow { IfErr result (OfOverflow (JoinOverflows (tree_of sum.now pool.old) (term_of term))) }
     ensures caused { IfErr result (IsCaused pool.new) }
     ensures stands { Stands pool.new }
 {
@@ -63,6 +65,7 @@ fn match_in(pool: &Pool, sum: Id, term: Term) -> Result<Match, Overflow>
     requires expression { IsExpression sum (forest pool.now) }
     requires sum { IsSum (plain (tree_at sum (forest pool.now))) }
     ensures ok { IfOk result (IsMatch (term_of term) (children_of (plain (tree_at sum (forest pool.now))))) }
+    ensures overflow { IfErr result (JoinOverflows (plain (tree_at sum (forest pool.now))) (term_of term)) }
     ensures caused { IfErr result Overflows }
 {
     if term.radicand() < SQUARE_FREE_BELOW && are_square_free(pool, sum) {
@@ -95,6 +98,7 @@ fn match_at_place(pool: &Pool, sum: Id, term: Term) -> Result<Match, Overflow>
     requires term_below { (term_of term).radicand < 10 ^ 12 }
     requires sum_below { AreBelow (10 ^ 12) (children_of (plain (tree_at sum (forest pool.now)))) }
     ensures ok { IfOk result (IsMatch (term_of term) (children_of (plain (tree_at sum (forest pool.now))))) }
+    ensures overflow { IfErr result (JoinOverflows (plain (tree_at sum (forest pool.now))) (term_of term)) }
     ensures caused { IfErr result Overflows }
 {
     let at = place_of(pool, sum, term.radicand());
@@ -116,6 +120,7 @@ fn match_anywhere(pool: &Pool, sum: Id, term: Term) -> Result<Match, Overflow>
     requires expression { IsExpression sum (forest pool.now) }
     requires sum { IsSum (plain (tree_at sum (forest pool.now))) }
     ensures ok { IfOk result (IsMatch (term_of term) (children_of (plain (tree_at sum (forest pool.now))))) }
+    ensures overflow { IfErr result (JoinOverflows (plain (tree_at sum (forest pool.now))) (term_of term)) }
     ensures caused { IfErr result Overflows }
 {
     let mut at = 0;

@@ -1,5 +1,5 @@
 //! Products of Numbers.
-ghost use Rattle.std.specs.Prelude.{◌≡◌, ◌==◌, ◌∷◌, ◌++◌, [], true, false, map, IfOk, IfErr, OnOk};
+ghost use Rattle.std.specs.Prelude.{◌≡◌, ◌==◌, ◌&&◌, ◌∷◌, ◌++◌, [], true, false, map, IfOk, IfErr, OnOk};
 ghost use Rattle.calc_terms.specs.Fits.{mul_op};
 ghost use Rattle.calc_terms.specs.Fractions.{Fraction};
 ghost use Rattle.calc_algebra.specs.Numbers.{is_number, value};
@@ -7,6 +7,7 @@ ghost use Rattle.calc_measures.specs.PlainValues.{calculated};
 ghost use Rattle.calc_algebra.specs.Surds.{term_times, surd_times};
 ghost use Rattle.calc_terms.specs.Trees.{num, is_num};
 ghost use Rattle.number_forms.specs.Answers.{IsNumberOf, AnswersRationals};
+ghost use Rattle.number_forms.specs.Overflows.{OfOverflow, RowOverflows, ProductOverflows};
 ghost use Rattle.number_forms.specs.Sums.{IsSum, IsSumOf};
 ghost use Rattle.tree_handles.specs.Causes.{IsCaused};
 ghost use Rattle.tree_handles.specs.Handed.{tree_of, IsHanded, Gives, KeepsFront};
@@ -39,6 +40,7 @@ pub fn multiply_numbers(pool: &mut Pool, a: Handle, b: Handle) -> Result<Handle,
     ensures front { KeepsFront (a ∷ b ∷ []) (forest pool.old) (forest pool.new) }
     ensures kept { OnOk result (KeepsRefusals pool.old pool.new) }
     ensures faults { IfErr result (Faults pool.old pool.new) }
+    ensures overflow { (is_num (tree_of a pool.old) && is_num (tree_of b pool.old)) ≡ false → IfErr result (OfOverflow (ProductOverflows (value (tree_of a pool.old)) (value (tree_of b pool.old)))) }
     ensures caused { IfErr result (IsCaused pool.new) }
     ensures stands { Stands pool.new }
 {
@@ -82,6 +84,7 @@ fn multiply_terms(pool: &mut Pool, a: Handle, b: Handle) -> Result<Handle, Numbe
     ensures front { KeepsFront (a ∷ b ∷ []) (forest pool.old) (forest pool.new) }
     ensures kept { OnOk result (KeepsRefusals pool.old pool.new) }
     ensures faults { IfErr result (Faults pool.old pool.new) }
+    ensures overflow { IfErr result (OfOverflow (ProductOverflows (value (tree_of a pool.old)) (value (tree_of b pool.old)))) }
     ensures caused { IfErr result (IsCaused pool.new) }
     ensures stands { Stands pool.new }
 {
@@ -102,6 +105,7 @@ pub(crate) fn product_of(pool: &mut Pool, a: &Handle, b: &Handle) -> Result<Hand
     ensures front { KeepsFront [] (forest pool.old) (forest pool.new) }
     ensures kept { OnOk result (KeepsRefusals pool.old pool.new) }
     ensures faults { IfErr result (Faults pool.old pool.new) }
+    ensures overflow { IfErr result (OfOverflow (ProductOverflows (value (tree_of a.now pool.old)) (value (tree_of b.now pool.old)))) }
     ensures caused { IfErr result (IsCaused pool.new) }
     ensures stands { Stands pool.new }
 {
@@ -123,6 +127,7 @@ fn join_rows(pool: &mut Pool, sum: &Handle, a: Id, b: Id) -> Result<(), NumberFa
     ensures front { KeepsFront (sum.now ∷ []) (forest pool.old) (forest pool.new) }
     ensures kept { OnOk result (KeepsRefusals pool.old pool.new) }
     ensures faults { IfErr result (Faults pool.old pool.new) }
+    ensures overflow { value (tree_of sum.now pool.old) ≡ [] → IfErr result (OfOverflow (ProductOverflows (value (tree_of a pool.old)) (value (tree_of b pool.old)))) }
     ensures caused { IfErr result (IsCaused pool.new) }
     ensures stands { Stands pool.new }
 {
@@ -143,6 +148,7 @@ fn join_products(pool: &mut Pool, sum: &Handle, term: Term, number: Id) -> Resul
     ensures front { KeepsFront (sum.now ∷ []) (forest pool.old) (forest pool.new) }
     ensures kept { OnOk result (KeepsRefusals pool.old pool.new) }
     ensures faults { IfErr result (Faults pool.old pool.new) }
+    ensures overflow { IfErr result (OfOverflow (RowOverflows (value (tree_of sum.now pool.old)) (term_of term) (value (tree_of number pool.old)))) }
     ensures caused { IfErr result (IsCaused pool.new) }
     ensures stands { Stands pool.new }
 {

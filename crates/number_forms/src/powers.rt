@@ -1,5 +1,5 @@
 //! Powers of Numbers.
-ghost use Rattle.std.specs.Prelude.{◌≡◌, ◌∷◌, ◌≤◌, ◌≤ℤ◌, pos, nat_abs, [], true, IfOk, IfErr, OnOk};
+ghost use Rattle.std.specs.Prelude.{◌≡◌, ◌∷◌, ◌≤◌, ◌≤ℤ◌, pos, nat_abs, [], true, false, IfOk, IfErr, OnOk};
 ghost use Rattle.calc_terms.specs.Fits.{pow_op};
 ghost use Rattle.calc_terms.specs.Fractions.{Fraction, whole_fraction};
 ghost use Rattle.calc_algebra.specs.Numbers.{is_number, value};
@@ -7,6 +7,7 @@ ghost use Rattle.calc_measures.specs.PlainValues.{calculated};
 ghost use Rattle.calc_algebra.specs.Surds.{surd_times, surd_power};
 ghost use Rattle.calc_terms.specs.Trees.{num, is_num};
 ghost use Rattle.number_forms.specs.Answers.{IsNumberOf, AnswersRationals};
+ghost use Rattle.number_forms.specs.Overflows.{OfOverflow, ProductOverflows, PowerOverflows};
 ghost use Rattle.tree_handles.specs.Causes.{IsCaused};
 ghost use Rattle.tree_handles.specs.Handed.{tree_of, IsHanded, Gives, KeepsFront};
 ghost use Rattle.tree_handles.specs.Faults.{Faults};
@@ -30,6 +31,7 @@ pub fn power_number(pool: &mut Pool, a: Handle, n: i128) -> Result<Handle, Numbe
     ensures front { KeepsFront (a ∷ []) (forest pool.old) (forest pool.new) }
     ensures kept { OnOk result (KeepsRefusals pool.old pool.new) }
     ensures faults { IfErr result (Faults pool.old pool.new) }
+    ensures overflow { is_num (tree_of a pool.old) ≡ false → IfErr result (OfOverflow (PowerOverflows (value (tree_of a pool.old)) (nat_abs n))) }
     ensures caused { IfErr result (IsCaused pool.new) }
     ensures stands { Stands pool.new }
 {
@@ -72,6 +74,7 @@ fn power_of(pool: &mut Pool, a: &Handle, n: u128) -> Result<Handle, NumberFault>
     ensures front { KeepsFront [] (forest pool.old) (forest pool.new) }
     ensures kept { OnOk result (KeepsRefusals pool.old pool.new) }
     ensures faults { IfErr result (Faults pool.old pool.new) }
+    ensures overflow { IfErr result (OfOverflow (PowerOverflows (value (tree_of a.now pool.old)) n)) }
     ensures caused { IfErr result (IsCaused pool.new) }
     ensures stands { Stands pool.new }
 {
@@ -96,6 +99,7 @@ fn squared(pool: &mut Pool, a: Handle) -> Result<Handle, NumberFault>
     ensures front { KeepsFront (a ∷ []) (forest pool.old) (forest pool.new) }
     ensures kept { OnOk result (KeepsRefusals pool.old pool.new) }
     ensures faults { IfErr result (Faults pool.old pool.new) }
+    ensures overflow { IfErr result (OfOverflow (ProductOverflows (value (tree_of a pool.old)) (value (tree_of a pool.old)))) }
     ensures caused { IfErr result (IsCaused pool.new) }
     ensures stands { Stands pool.new }
 {
@@ -115,6 +119,7 @@ fn multiplied(pool: &mut Pool, a: Handle, b: &Handle) -> Result<Handle, NumberFa
     ensures front { KeepsFront (a ∷ []) (forest pool.old) (forest pool.new) }
     ensures kept { OnOk result (KeepsRefusals pool.old pool.new) }
     ensures faults { IfErr result (Faults pool.old pool.new) }
+    ensures overflow { IfErr result (OfOverflow (ProductOverflows (value (tree_of a pool.old)) (value (tree_of b.now pool.old)))) }
     ensures caused { IfErr result (IsCaused pool.new) }
     ensures stands { Stands pool.new }
 {

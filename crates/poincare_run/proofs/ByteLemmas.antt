@@ -1,9 +1,8 @@
 -- Lemmas on the bytes that a source and a sink tell.
-use Rattle.std.proofs.Common.{◌∙◌, ℕ, ◌+◌, ◌≤◌, List, [], ◌++◌, length, take, Option, Some, None, inl, inr, refl, sym, ap, subst, arith, append_assoc, append-nil, length-append}
+use Rattle.std.proofs.Common.{◌∙◌, ℕ, ◌+◌, ◌≤◌, List, [], ◌++◌, length, take, Option, Some, None, refl, sym, ap, subst, arith, append_assoc, append-nil, length-append}
 use Rattle.std.proofs.Math.Seq.{take-append-add}
 use Rattle.std.proofs.lemmas.List.{take-append-le}
 use Rattle.std.specs.Io.KnownBytes.{Appends, Consumes, Keeps}
-use Rattle.calc_edges.specs.Faults.{Rose}
 use Rattle.calc_edges.specs.Taken.{AppendsPart}
 
 pub Appends-nil : (a : Option (List ℕ)) → Appends a a []
@@ -44,8 +43,3 @@ Consumes-kept None b c bs p q = tt
 Consumes-kept (Some x) None c bs p q = absurd p
 Consumes-kept (Some x) (Some y) None bs p q = absurd q
 Consumes-kept (Some x) (Some y) (Some z) bs p q = p ∙ ap (λ l. bs ++ l) (sym q)
-
--- a count that rose later rose in all
-pub Rose-later : (a b c : ℕ) → a ≤ b → Rose b c → Rose a c
-Rose-later a b c le (inl r) = inl (omega arith)
-Rose-later a b c le (inr r) = inr r

@@ -2,7 +2,7 @@
 use Rattle.std.specs.Prelude.{◌≡◌, ℕ, ◌+◌, List, ◌++◌, length, Option}
 use Rattle.std.specs.Str.Lines.{strip_carriage_return}
 use Rattle.std.specs.Io.KnownBytes.{Appends, Consumes}
-use Rattle.calc_edges.specs.Faults.{Rose}
+use Rattle.calc_edges.specs.Faults.{StopsAtFailure}
 use Rattle.calc_edges.specs.Taken.{AppendsPart}
 use Rattle.poincare_run.specs.declared.dialog.Dialog.{Dialog}
 use Rattle.poincare_run.specs.declared.dialog.Ending.{Ending}
@@ -61,12 +61,22 @@ pub record IsUnderWay (start : State) (told told' taken taken' : Option (List �
   pub answered : Answered start input out dialog
   pub appended : Appends taken taken' out
 
--- how it ended: the bytes that the source and the sink tell, and their counts of faults
-abbrev pub EndsAs : Ending → State → Option (List ℕ) → Option (List ℕ) → Option (List ℕ) → Option (List ℕ) → ℕ → ℕ → ℕ → ℕ → Type 0
-EndsAs ReadToEnd start told told' taken taken' f f' g g' = ReadsAll start told told' taken taken'
-EndsAs ReadFailed start told told' taken taken' f f' g g' = Rose f f' × ReadsPart start told told' taken taken'
-EndsAs WriteFailed start told told' taken taken' f f' g g' = Rose g g' × WriteStops start told told' taken taken'
-EndsAs LimitReached start told told' taken taken' f f' g g' = ReadsLimit start told told' taken taken'
+-- how it ended, by the bytes that the source and the sink tell
+abbrev pub EndsAs : Ending → State → Option (List ℕ) → Option (List ℕ) → Option (List ℕ) → Option (List ℕ) → Type 0
+EndsAs ReadToEnd = ReadsAll
+EndsAs ReadFailed = ReadsPart
+EndsAs WriteFailed = WriteStops
+EndsAs LimitReached = ReadsLimit
+
+-- the reading stopped at a read that failed, or no read failed
+abbrev pub StopsReading : {X : Type 0} → Ending → (X → Option (List ℕ)) → (X → ℕ) → X → X → Type 0
+StopsReading ReadFailed told faults old new = StopsAtFailure told faults old new
+StopsReading _ told faults old new = faults new ≡ faults old
+
+-- the writing stopped at a write that failed, or no write failed
+abbrev pub StopsWriting : {X : Type 0} → Ending → (X → Option (List ℕ)) → (X → ℕ) → X → X → Type 0
+StopsWriting WriteFailed taken faults old new = StopsAtFailure taken faults old new
+StopsWriting _ taken faults old new = faults new ≡ faults old
 
 -- the status of the program
 abbrev pub status : Ending → ℕ

@@ -1,13 +1,13 @@
 //! The dialog between a source and a sink: each line that comes is answered.
 ghost use Rattle.std.specs.Prelude.{◌≡◌, ℕ, ◌<◌, ◌≤◌, List, [], ◌∷◌, ◌++◌, length, take, OnOk, OnErr, IfOk};
 ghost use Rattle.std.specs.Io.KnownBytes.{Appends, Consumes, IsAtEnd, Keeps};
-ghost use Rattle.calc_edges.specs.Faults.{HasCause};
+ghost use Rattle.calc_edges.specs.Faults.{HasCause, StopsAtFailure};
 ghost use Rattle.calc_edges.specs.Taken.{AppendsPart};
 ghost use Rattle.poincare_run.specs.Lines.{lines_of, whole_lines};
 ghost use Rattle.poincare_run.specs.States.{State};
 ghost use Rattle.poincare_run.specs.Steps.{Step};
 ghost use Rattle.poincare_run.specs.Buffer.{Holds};
-ghost use Rattle.poincare_run.specs.Progress.{Answered, AnswersLine, FailsAtLine, Continues, Breaks, Goes, EndsAs};
+ghost use Rattle.poincare_run.specs.Progress.{Answered, AnswersLine, FailsAtLine, Continues, Breaks, Goes, EndsAs, StopsReading, StopsWriting};
 
 use crate::buffer::LineBuffer;
 use crate::{LineAnswer, Session};
@@ -52,9 +52,10 @@ impl Dialog {
     ) -> Ending
         requires piece { 0 < length piece.old }
         requires fresh { Holds self.old.line [] }
-        ensures { EndsAs result self.old.session.state (S.told source.old) (S.told source.new)
-            (K.taken sink.old) (K.taken sink.new) (S.faults source.old) (S.faults source.new)
-            (K.faults sink.old) (K.faults sink.new) }
+        ensures ends { EndsAs result self.old.session.state (S.told source.old) (S.told source.new)
+            (K.taken sink.old) (K.taken sink.new) }
+        ensures reads { StopsReading result S.told S.faults source.old source.new }
+        ensures writes { StopsWriting result K.taken K.faults sink.old sink.new }
     {
         let mut left = SESSION_LIMIT;
         while left > 0 {
@@ -81,6 +82,7 @@ impl Dialog {
             → Goes start before bytes.now out self.new (K.taken sink.old) (K.taken sink.new)) }
         ensures err { OnErr result ((start : State) (before out : List ℕ) → Answered start before out self.old
             → Breaks start (whole_lines (before ++ bytes.now)) out (K.taken sink.old) (K.taken sink.new)) }
+        ensures stops { OnErr result (StopsAtFailure K.taken K.faults sink.old sink.new) }
         ensures cause { HasCause (K.faults sink.old) (K.faults sink.new) result }
     {
         for byte in bytes {
@@ -94,6 +96,7 @@ impl Dialog {
             → Goes start before (byte ∷ []) out self.new (K.taken sink.old) (K.taken sink.new)) }
         ensures err { OnErr result ((start : State) (before out : List ℕ) → Answered start before out self.old
             → Breaks start (whole_lines (before ++ byte ∷ [])) out (K.taken sink.old) (K.taken sink.new)) }
+        ensures stops { OnErr result (StopsAtFailure K.taken K.faults sink.old sink.new) }
         ensures cause { HasCause (K.faults sink.old) (K.faults sink.new) result }
     {
         if byte == b'\n' {
@@ -109,6 +112,7 @@ impl Dialog {
             → Continues start (lines_of input) out (K.taken sink.old) (K.taken sink.new)) }
         ensures err { OnErr result ((start : State) (input out : List ℕ) → Answered start input out self.old
             → Breaks start (lines_of input) out (K.taken sink.old) (K.taken sink.new)) }
+        ensures stops { OnErr result (StopsAtFailure K.taken K.faults sink.old sink.new) }
         ensures cause { HasCause (K.faults sink.old) (K.faults sink.new) result }
     {
         if self.line.is_empty() {
@@ -123,6 +127,7 @@ impl Dialog {
             → AnswersLine self.old self.new bytes (K.taken sink.old) (K.taken sink.new)) }
         ensures err { OnErr result ((bytes : List ℕ) → Holds self.old.line bytes
             → FailsAtLine self.old bytes (K.taken sink.old) (K.taken sink.new)) }
+        ensures stops { OnErr result (StopsAtFailure K.taken K.faults sink.old sink.new) }
         ensures cleared { Holds self.new.line [] }
         ensures cause { HasCause (K.faults sink.old) (K.faults sink.new) result }
     {
@@ -153,6 +158,7 @@ fn read_piece<S: Source>(source: &mut S, piece: &mut [u8], left: usize) -> Resul
 fn write_line<K: Sink>(sink: &mut K, text: &[u8]) -> Result<(), Failed>
     ensures appended { OnOk result (Appends (K.taken sink.old) (K.taken sink.new) (text.now ++ 10 ∷ [])) }
     ensures part { OnErr result (AppendsPart (K.taken sink.old) (K.taken sink.new) (text.now ++ 10 ∷ [])) }
+    ensures stops { OnErr result (StopsAtFailure K.taken K.faults sink.old sink.new) }
     ensures cause { HasCause (K.faults sink.old) (K.faults sink.new) result }
 {
     write_all(sink, text)?;

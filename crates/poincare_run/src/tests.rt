@@ -1,7 +1,7 @@
 ghost use Rattle.std.specs.Prelude.{◌≤◌};
 
 use super::*;
-use calc_edges::{MemSink, MemSource};
+use calc_edges::{CalmSource, Failed, MemSink, MemSource, Source};
 use std::alloc::{AllocError, Global};
 use std::test::Fail;
 
@@ -32,6 +32,26 @@ fn converse(
     let status = run(alloc, texts.as_slice(), &mut source, &mut sink);
     let taken = sink.bytes().to_vec(alloc)?;
     Ok(Outcome { status, taken })
+}
+
+/// A source that notes how it is read.
+#[derive(Drop)]
+struct NotingSource<S> {
+    source: S,
+    greatest: usize,
+    reads: u32,
+}
+
+impl<S: Source> Source for NotingSource<S> {
+    ghost told = { λ s. S.told s.source };
+
+    ghost faults = { λ s. S.faults s.source };
+
+    fn read(&mut self, into: &mut [u8]) -> Result<usize, Failed> {
+        self.greatest = self.greatest.max(into.len());
+        self.reads = self.reads.saturating_add(1);
+        self.source.read(into)
+    }
 }
 
 #[test]
@@ -236,6 +256,25 @@ fn other_words_are_refused(rt: HostRuntime) -> Result<(), Fail> {
         let got = converse(rt.alloc(), words, b"1", 4096, 100, &[1])?;
         assert_eq!(rt; got.status, 2, "{words:?}");
         assert!(rt; got.taken.is_empty(), "{words:?}");
+    }
+    Ok(())
+}
+
+#[test]
+fn pieces_of_4096_bytes_are_asked_for(rt: HostRuntime) -> Result<(), Fail> {
+    let alloc = rt.alloc();
+    // The bytes of the input, and the reads: the last one gives no byte.
+    for (count, reads) in [(0usize, 1), (4095, 2), (4096, 2), (4097, 3), (9000, 4)] {
+        let mut source = NotingSource {
+            source: CalmSource::new(vec![in alloc; b'\n'; count]?),
+            greatest: 0,
+            reads: 0,
+        };
+        let mut sink = MemSink::new(alloc, 0, 1, Vec::new(alloc))?;
+        let status = run(alloc, &[], &mut source, &mut sink);
+        assert_eq!(rt; status, 0, "{count} newlines");
+        assert_eq!(rt; source.greatest, 4096, "{count} newlines");
+        assert_eq!(rt; source.reads, reads, "{count} newlines");
     }
     Ok(())
 }

@@ -1,5 +1,5 @@
-ghost use Rattle.std.specs.Prelude.{◌≡◌, ℕ, ◌≤◌, ◌⊎◌, ◌↔◌, List, [], ◌∷◌, ◌++◌, length, map, Contains, None, Some, IfSome, string_bytes};
-ghost use Rattle.calc_edges.specs.Faults.{Rose};
+ghost use Rattle.std.specs.Prelude.{◌≡◌, ◌≢◌, ℕ, ◌≤◌, ◌⊎◌, ◌↔◌, List, [], ◌∷◌, ◌++◌, length, map, Contains, None, Some, IfSome, string_bytes};
+ghost use Rattle.calc_edges.specs.Faults.{Rose, StopsAtFailure};
 ghost use Rattle.poincare_run.specs.Options.{opening};
 ghost use Rattle.poincare_run.specs.Progress.{status};
 ghost use Rattle.poincare_run.specs.Endings.{session_limit, ReadsAll, ReadsPart, ReadsLimit, WriteStops};
@@ -26,13 +26,19 @@ pub fn run<S: Source, K: Sink>(alloc: Global, words: &[String], source: &mut S, 
     ensures answered { result ≡ 0 → IfSome (opening (map string_bytes words.now)) (λ start.
         ReadsAll start (S.told source.old) (S.told source.new) (K.taken sink.old) (K.taken sink.new)) }
 
-    // Status 3: the source failed. The answers to the lines that were whole were written.
+    // Status 3: the source failed, and nothing was read behind that. The answers to the lines that were whole were
+    // written. At another status no read failed.
     ensures read_failed { result ≡ 3 → Rose (S.faults source.old) (S.faults source.new) }
+    ensures read_stops { result ≡ 3 → StopsAtFailure S.told S.faults source.old source.new }
+    ensures reads_calm { result ≢ 3 → S.faults source.new ≡ S.faults source.old }
     ensures read_in_part { result ≡ 3 → IfSome (opening (map string_bytes words.now)) (λ start.
         ReadsPart start (S.told source.old) (S.told source.new) (K.taken sink.old) (K.taken sink.new)) }
 
-    // Status 4: the sink failed. A part of the answers was written.
+    // Status 4: the sink failed, and nothing was written behind that. A part of the answers was written.
+    // At another status no write failed.
     ensures write_failed { result ≡ 4 → Rose (K.faults sink.old) (K.faults sink.new) }
+    ensures write_stops { result ≡ 4 → StopsAtFailure K.taken K.faults sink.old sink.new }
+    ensures writes_calm { result ≢ 4 → K.faults sink.new ≡ K.faults sink.old }
     ensures written_in_part { result ≡ 4 → IfSome (opening (map string_bytes words.now)) (λ start.
         WriteStops start (S.told source.old) (S.told source.new) (K.taken sink.old) (K.taken sink.new)) }
 

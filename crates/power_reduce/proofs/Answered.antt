@@ -17,7 +17,9 @@ use Rattle.coefficients.proofs.Forms.{reduced_parts}
 use Rattle.calc_algebra.specs.Rewritings.{HasNoNewName, KeepsMeanings}
 use Rattle.calc_algebra.proofs.Rewritings.{keeps, Rewrites-refl, reduces}
 use Rattle.number_forms.specs.Readers.{is_zero}
-use Rattle.power_reduce.specs.PowerAnswers.{has_no_power, has_number_power, IsPowerAnswer}
+use Rattle.power_reduce.specs.PowerAnswers.{has_no_power, has_number_power, IsWrittenPower, IsPowerAnswer}
+use Rattle.power_reduce.specs.PowerSteps.{is_zero_or_one}
+use Rattle.power_reduce.proofs.Written.{zero_written, one_written, kept_written}
 use Rattle.power_reduce.proofs.Bounds.{load_at_most_weight, transparent_load, opaque_load}
 
 no_names : (t u : Tree) → names u ≡ [] → HasNoNewName t u
@@ -75,12 +77,13 @@ no_load : (t : Tree) → is_number t ≡ true → load t ≡ 0
 no_load t h = rw h refl
 
 -- a Number that keeps the meanings of the power
-pub number_answer : (b e t : Tree) → is_number t ≡ true → has_no_power b e ≡ false → KeepsMeanings (power b e) t → IsPowerAnswer b e t
-number_answer b e t h d k =
+pub number_answer : (b e t : Tree) → is_number t ≡ true → has_no_power b e ≡ false → KeepsMeanings (power b e) t → IsWrittenPower b e t → IsPowerAnswer b e t
+number_answer b e t h d k w =
     let p = number_plain t (number_words t h) in record {
       reduces = record { reduced = p.reduced; no_new_name = no_names (power b e) t p.no_name; meanings = k };
       undefined = p.defined ∙ sym d;
       number = λ k x. h;
+      written = λ x. w;
       nest_bound = omega (arith, p.flat);
       load_bound = λ o. omega (arith, no_load t h);
       opaque_bound = omega (arith, no_load t h);
@@ -90,7 +93,7 @@ number_answer b e t h d k =
 
 -- b ^ 0 is 1, where b is neither Undef nor 0
 pub zero_exponent_answer : (b : Tree) → has_no_power b (num zero_fraction) ≡ false → IsPowerAnswer b (num zero_fraction) num_one
-zero_exponent_answer b d = number_answer b (num zero_fraction) num_one (number_test num_one tt) d (keeps (power_zero_is_one b))
+zero_exponent_answer b d = number_answer b (num zero_fraction) num_one (number_test num_one tt) d (keeps (power_zero_is_one b)) (zero_written b)
 
 number_nest : (b : Tree) (q : Fraction) → nest (power b (num q)) ≡ nest b
 number_nest b q = rw (number_test (num q) tt) refl
@@ -105,6 +108,7 @@ one_exponent_answer b h u d = record {
   reduces = record { reduced = h; no_new_name = record { name = λ x k. Contains-append_left (names b) [] x k }; meanings = keeps (power_one_is_base b) };
   undefined = u ∙ sym d;
   number = λ k x. number_base b one_fraction k;
+  written = λ x. one_written b;
   nest_bound = omega (arith, number_nest b one_fraction);
   load_bound = λ o. load_at_most_weight b;
   opaque_bound = omega (arith, load_at_most_weight b);
@@ -122,6 +126,7 @@ undefined_answer b e h k = record {
   reduces = record { reduced = reduced_test undef (inl refl); no_new_name = no_names (power b e) undef refl; meanings = k };
   undefined = sym h;
   number = λ k d. absurd cc;
+  written = λ d. absurd cc;
   nest_bound = omega arith;
   load_bound = λ o. omega (arith, undef_load);
   opaque_bound = omega (arith, undef_load);
@@ -164,12 +169,13 @@ kept_number : (b e : Tree) → is_reduced (power b e) ≡ true → has_number_po
 kept_number b (num q) h k = absurd (whole_number b q (own_power_form b (num q) h) k)
 kept_number b e h k = cc
 
-pub kept_answer : (b e : Tree) → is_reduced (power b e) ≡ true → has_no_power b e ≡ false → IsPowerAnswer b e (power b e)
-kept_answer b e h d = record {
+pub kept_answer : (b e : Tree) → is_reduced (power b e) ≡ true → has_no_power b e ≡ false → is_zero_or_one e ≡ false → IsPowerAnswer b e (power b e)
+kept_answer b e h d o = record {
   reduces = reduces (Rewrites-refl (power b e)) h;
   undefined = sym d;
   number = λ k x. kept_number b e h k;
+  written = λ x. kept_written b e o;
   nest_bound = omega arith;
-  load_bound = λ o. transparent_load b e o;
+  load_bound = λ x. transparent_load b e x;
   opaque_bound = opaque_load b e;
 }

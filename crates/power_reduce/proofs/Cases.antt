@@ -336,7 +336,7 @@ kept_power_answer t s z n r =
     let b = base_in t in
     let e = exponent_in t in
     let form = reduced_power b e s.base s.exponent s.base_defined s.exponent_defined (kept_form b e s.exponent_defined z n r) in
-    subst (IsPowerAnswer b e) (sym (power_is t s.power)) (kept_answer b e form (rw (s.base_defined, s.exponent_defined) (no_zero_power b e n)))
+    subst (IsPowerAnswer b e) (sym (power_is t s.power)) (kept_answer b e form (rw (s.base_defined, s.exponent_defined) (no_zero_power b e n)) z)
 
 -- ---- one rewriting
 

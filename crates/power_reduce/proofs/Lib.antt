@@ -1,6 +1,7 @@
 pub mod Rules
 pub mod Kept
 pub mod Bounds
+pub mod Written
 pub mod Answered
 pub mod Weights
 pub mod ByRule

@@ -1,7 +1,7 @@
 -- Whole powers of Numbers that are no rationals.
-use Rattle.std.proofs.Common.{◌≡◌, ℕ, ◌≤◌, ◌≤ℤ◌, ◌<ℤ◌, ℤ, pos, negsuc, neg_ℤ, zero, suc, true, false, refl, sym, ap, ◌∙◌, subst, arith}
+use Rattle.std.proofs.Common.{◌≡◌, ◌≢◌, ◌||◌, not, ℕ, ◌≤◌, ◌≤ℤ◌, ◌<ℤ◌, ℤ, pos, negsuc, neg_ℤ, zero, suc, true, false, refl, sym, ap, ◌∙◌, subst, arith}
 use Rattle.std.proofs.lemmas.Int.{ints}
-use Rattle.std.specs.Prelude.{nat_abs}
+use Rattle.std.specs.Prelude.{nat_abs, nat_le}
 use Rattle.calc_terms.specs.Fractions.{whole_fraction, zero_fraction, one_fraction}
 use Rattle.calc_terms.specs.Integers.{int_is_negative}
 use Rattle.calc_algebra.specs.Numbers.{is_number, classes, value, IsNumber}
@@ -9,7 +9,7 @@ use Rattle.calc_algebra.specs.SquareClasses.{Inverts}
 use Rattle.calc_algebra.specs.Surds.{Surd, surd_power}
 use Rattle.calc_algebra.specs.Reduced.{is_reduced, num_one}
 use Rattle.calc_terms.specs.Trees.{Tree, num, undef, add, power, is_num, is_undef}
-use Rattle.calc_terms.proofs.FractionFacts.{whole_numerator}
+use Rattle.calc_terms.proofs.FractionFacts.{whole_numerator, whole_denominator}
 use Rattle.calc_algebra.proofs.NumberLaws.{number_words}
 use Rattle.calc_algebra.proofs.NumberRewrites.{power_of_number, power_of_inverse}
 use Rattle.number_forms.specs.Answers.{IsNumberOf}
@@ -21,8 +21,11 @@ use Rattle.power_reduce.specs.PowerAnswers.{IsPowerAnswer, has_no_power, base_in
 use Rattle.power_reduce.proofs.Answered.{number_answer, zero_exponent_answer, one_exponent_answer, kept_answer}
 use Rattle.power_reduce.proofs.ByRule.{has_power}
 use Rattle.power_reduce.proofs.Kept.{wide_power}
+use Rattle.power_reduce.proofs.Written.{number_power, few_classes, number_written}
+use Rattle.power_reduce.specs.PowerSteps.{is_zero_or_one}
 use Rattle.power_reduce.proofs.Powers.{power_is}
 use Rattle.calc_algebra.proofs.Rewritings.{keeps}
+use Rattle.tree_handles.specs.Roots.{without_root}
 use Rattle.tree_handles.specs.Forest.{Forest}
 use Rattle.tree_handles.specs.Handed.{Gives}
 
@@ -55,15 +58,17 @@ one_answer b e z t h k r u d v =
 
 -- ---- exponents above 0
 
-above_answer : (b t : Tree) (z : ℤ) → pos 1 ≤ℤ z → is_number b ≡ true → has_no_power b (num (whole_fraction z)) ≡ false → IsNumberOf (surd_power (value b) (nat_abs z)) t → IsPowerAnswer b (num (whole_fraction z)) t
-above_answer b t (pos zero) l n d h = absurd (omega (arith, ints))
-above_answer b t (pos (suc m)) l n d h = number_answer b (num (whole_fraction (pos (suc m)))) t h.number d (keeps (power_of_number b t m (number_words b n) (number_words t h.number) h.worth))
-above_answer b t (negsuc m) l n d h = absurd (omega (arith, ints))
+above_answer : (b t : Tree) (z : ℤ) → pos 1 ≤ℤ z → z ≢ pos 1 → is_number b ≡ true → has_no_power b (num (whole_fraction z)) ≡ false → IsNumberOf (surd_power (value b) (nat_abs z)) t → IsPowerAnswer b (num (whole_fraction z)) t
+above_answer b t (pos zero) l o n d h = absurd (omega (arith, ints))
+above_answer b t (pos (suc m)) l o n d h =
+    number_answer b (num (whole_fraction (pos (suc m)))) t h.number d (keeps (power_of_number b t m (number_words b n) (number_words t h.number) h.worth))
+    (number_written b t (pos (suc m)) (number_power b (pos (suc m)) n refl) (λ e. cc) o)
+above_answer b t (negsuc m) l o n d h = absurd (omega (arith, ints))
 
-pub power_answer : (b e a t : Tree) (y z : ℤ) → e ≡ num (whole_fraction z) → pos 1 ≤ℤ z → is_number b ≡ true → has_no_power b e ≡ false → a ≡ b → y ≡ z → IsNumberOf (surd_power (value a) (nat_abs y)) t → IsPowerAnswer b e t
-power_answer b e a t y z k l n d p q h =
+pub power_answer : (b e a t : Tree) (y z : ℤ) → e ≡ num (whole_fraction z) → pos 1 ≤ℤ z → z ≢ pos 1 → is_number b ≡ true → has_no_power b e ≡ false → a ≡ b → y ≡ z → IsNumberOf (surd_power (value a) (nat_abs y)) t → IsPowerAnswer b e t
+power_answer b e a t y z k l o n d p q h =
     subst (λ (x : Tree). IsPowerAnswer b x t) (sym k)
-    (above_answer b t z l n (ap (has_no_power b) (sym k) ∙ d) (subst (λ (v : Surd). IsNumberOf v t) (λ i. surd_power (value (p i)) (nat_abs (q i))) h))
+    (above_answer b t z l o n (ap (has_no_power b) (sym k) ∙ d) (subst (λ (v : Surd). IsNumberOf v t) (λ i. surd_power (value (p i)) (nat_abs (q i))) h))
 
 -- ---- exponents below 0
 
@@ -71,33 +76,39 @@ pub negative_is : (z : ℤ) → z <ℤ pos 0 → int_is_negative z ≡ true
 negative_is (pos n) h = absurd (omega (arith, ints))
 negative_is (negsuc n) h = refl
 
+negative_other : (z : ℤ) → z <ℤ pos 0 → is_zero_or_one (num (whole_fraction z)) ≡ false
+negative_other (pos n) h = absurd (omega (arith, ints))
+negative_other (negsuc n) h = rw (whole_numerator (negsuc n)) refl
+
 -- a Number of three classes or more is kept
 pub wide_answer : (t : Tree) (z : ℤ) → HasReducedSides t → exponent_in t ≡ num (whole_fraction z) → z <ℤ pos 0 → 3 ≤ classes (base_in t) → has_no_power (base_in t) (exponent_in t) ≡ false → IsPowerAnswer (base_in t) (exponent_in t) t
 wide_answer t z s e l c d =
     let w : is_reduced (power (base_in t) (num (whole_fraction z))) ≡ true = wide_power (base_in t) (whole_fraction z) s.base c (ap int_is_negative (whole_numerator z) ∙ negative_is z l) in
     subst (IsPowerAnswer (base_in t) (exponent_in t)) (sym (power_is t s.power))
-    (kept_answer (base_in t) (exponent_in t) (ap (λ (x : Tree). is_reduced (power (base_in t) x)) e ∙ w) d)
+    (kept_answer (base_in t) (exponent_in t) (ap (λ (x : Tree). is_reduced (power (base_in t) x)) e ∙ w) d (ap is_zero_or_one e ∙ negative_other z l))
 
-below_answer : (b t : Tree) (v : Surd) (z : ℤ) → z <ℤ pos 0 → is_number b ≡ true → has_no_power b (num (whole_fraction z)) ≡ false → Inverts v (value b) → IsNumberOf (surd_power v (nat_abs (neg_ℤ z))) t → IsPowerAnswer b (num (whole_fraction z)) t
-below_answer b t v (pos m) l n d i h = absurd (omega (arith, ints))
-below_answer b t v (negsuc m) l n d i h = number_answer b (num (whole_fraction (negsuc m))) t h.number d (keeps (power_of_inverse b t v m (number_words b n) (number_words t h.number) i h.worth))
+below_answer : (b t : Tree) (v : Surd) (z : ℤ) → z <ℤ pos 0 → classes b ≤ 2 → is_number b ≡ true → has_no_power b (num (whole_fraction z)) ≡ false → Inverts v (value b) → IsNumberOf (surd_power v (nat_abs (neg_ℤ z))) t → IsPowerAnswer b (num (whole_fraction z)) t
+below_answer b t v (pos m) l c n d i h = absurd (omega (arith, ints))
+below_answer b t v (negsuc m) l c n d i h =
+    number_answer b (num (whole_fraction (negsuc m))) t h.number d (keeps (power_of_inverse b t v m (number_words b n) (number_words t h.number) i h.worth))
+    (number_written b t (negsuc m) (number_power b (negsuc m) n (few_classes b (negsuc m) c)) (λ e. cc) (λ e. cc))
 
-pub inverse_answer : (b e a t : Tree) (v : Surd) (y z : ℤ) → e ≡ num (whole_fraction z) → z <ℤ pos 0 → is_number b ≡ true → has_no_power b e ≡ false → a ≡ b → y ≡ neg_ℤ z → Inverts v (value a) → IsNumberOf (surd_power v (nat_abs y)) t → IsPowerAnswer b e t
-inverse_answer b e a t v y z k l n d p q i h =
+pub inverse_answer : (b e a t : Tree) (v : Surd) (y z : ℤ) → e ≡ num (whole_fraction z) → z <ℤ pos 0 → classes b ≤ 2 → is_number b ≡ true → has_no_power b e ≡ false → a ≡ b → y ≡ neg_ℤ z → Inverts v (value a) → IsNumberOf (surd_power v (nat_abs y)) t → IsPowerAnswer b e t
+inverse_answer b e a t v y z k l c n d p q i h =
     subst (λ (x : Tree). IsPowerAnswer b x t) (sym k)
-    (below_answer b t v z l n (ap (has_no_power b) (sym k) ∙ d) (subst (λ (x : Tree). Inverts v (value x)) p i) (subst (λ (x : Surd). IsNumberOf x t) (λ j. surd_power v (nat_abs (q j))) h))
+    (below_answer b t v z l c n (ap (has_no_power b) (sym k) ∙ d) (subst (λ (x : Tree). Inverts v (value x)) p i) (subst (λ (x : Surd). IsNumberOf x t) (λ j. surd_power v (nat_abs (q j))) h))
 
 -- ---- the inverse
 
-pub inverse_given : (a : Tree) (f g : Forest) (x : Inverse) (h : ℕ) → x ≡ inverse.Value h → AnswersInverse a f g x → Gives f g h (IsInverseOf (value a))
-inverse_given a f g x h e k = (subst (AnswersInverse a f g) e k).2
+pub inverse_given : (i : ℕ) (a : Tree) (f g : Forest) (x : Inverse) (h : ℕ) → x ≡ inverse.Value h → AnswersInverse i a f g x → Gives (without_root i f) g h (IsInverseOf (value a))
+inverse_given i a f g x h e k = (subst (AnswersInverse i a f g) e k).2
 
 some_class : (t : Tree) → is_number t ≡ true → is_num t ≡ false → classes t ≡ 0 → ⊥
 some_class (num q) n r e = cc
 some_class (add ts) n r e = let l : 2 ≤ 0 = subst (λ k. 2 ≤ k) e (number_words (add ts) n).0 in omega arith
 some_class t n r e = omega arith
 
-pub has_inverse : (a b : Tree) (f g : Forest) (x : Inverse) → a ≡ b → is_number b ≡ true → is_num b ≡ false → classes b ≤ 2 → AnswersInverse a f g x → ((h : ℕ) → x ≡ inverse.Value h → ⊥) → ⊥
-has_inverse a b f g (inverse.Value h) e n r l k other = other h refl
-has_inverse a b f g inverse.Zero e n r l k other = some_class b n r (ap classes (sym e) ∙ k.0)
-has_inverse a b f g (inverse.Wide h) e n r l k other = let c : 3 ≤ classes b = subst (λ (t : Tree). 3 ≤ classes t) e k.0 in omega arith
+pub has_inverse : (i : ℕ) (a b : Tree) (f g : Forest) (x : Inverse) → a ≡ b → is_number b ≡ true → is_num b ≡ false → classes b ≤ 2 → AnswersInverse i a f g x → ((h : ℕ) → x ≡ inverse.Value h → ⊥) → ⊥
+has_inverse i a b f g (inverse.Value h) e n r l k other = other h refl
+has_inverse i a b f g inverse.Zero e n r l k other = some_class b n r (ap classes (sym e) ∙ k.0)
+has_inverse i a b f g (inverse.Wide h) e n r l k other = let c : 3 ≤ classes b = subst (λ (t : Tree). 3 ≤ classes t) e k.0 in omega arith

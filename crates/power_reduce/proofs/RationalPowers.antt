@@ -23,8 +23,9 @@ use Rattle.calc_algebra.proofs.UndefRewrites.{zero_to_nothing}
 use Rattle.node_pool.specs.State.{State}
 use Rattle.number_forms.proofs.RationalCalls.{plain_overflow}
 use Rattle.number_forms.specs.Answers.{AnswersRationals}
-use Rattle.power_reduce.specs.PowerAnswers.{IsPowerAnswer, has_no_power, is_at_most_zero}
+use Rattle.power_reduce.specs.PowerAnswers.{IsPowerAnswer, has_no_power, is_at_most_zero, IsWrittenPower}
 use Rattle.power_reduce.proofs.Answered.{number_answer, undefined_answer}
+use Rattle.power_reduce.proofs.Written.{zero_exponent, one_exponent, number_power, few_classes, rational_classes, first_power}
 use Rattle.rational128.proofs.LowestTerms.{ratio_parts}
 use Rattle.rational128.proofs.Signed.{told}
 use Rattle.rational128.specs.Refusals.{operation_of}
@@ -235,11 +236,29 @@ value_keeps q (negsuc n) r h e = by_test (λ b. is_zero_fraction q ≡ b → rew
         let s : r ≡ fraction_power (inverse q) (suc n) = calculated_exactly pow_op (inverse q) (whole_fraction (pos (suc n))) r v ∙ ap (λ z. fraction_power (inverse q) (nat_abs z)) (whole_numerator (pos (suc n))) in
         subst (λ (p : Fraction). rewrites.KeepsMeanings (power (num q) (num (whole_fraction (negsuc n)))) (num p)) (sym s) (negative_power_of_rational q n (no_zero q (not_from_false _ k)))
 
+-- the powers 0 and 1 of a rational are 1 and the rational
+value_written : (q : Fraction) (z : ℤ) (r : Fraction) → powered q z 1 ≡ exactly r → IsWrittenPower (num q) (num (whole_fraction z)) (num r)
+value_written q z r v = record {
+  zero = λ e. ap num (zero_value (zero_exponent e));
+  one = λ e. ap num (one_value (one_exponent e));
+  kept = λ h. absurd (cc (number_power (num q) z (number_test (num q) tt) (few_classes (num q) z (rational_classes q)), h.no_number));
+}
+  where
+    undefined_or_one : (b : Bool) → (if b then undefined else exactly one_fraction) ≡ exactly r → r ≡ one_fraction
+    undefined_or_one true e = cc
+    undefined_or_one false e = cc
+
+    zero_value : z ≡ pos 0 → r ≡ one_fraction
+    zero_value e = undefined_or_one (is_zero_fraction q) (sym (ap (λ x. powered q x 1) e) ∙ v)
+
+    one_value : z ≡ pos 1 → r ≡ q
+    one_value e = calculated_exactly pow_op q (whole_fraction (pos 1)) r (sym (ap (λ x. powered q x 1) e) ∙ v) ∙ ap (λ x. fraction_power q (nat_abs x)) (whole_numerator (pos 1)) ∙ first_power q
+
 -- and any other power is a rational
 pub value_answer : (b e : Tree) (q : Fraction) (z : ℤ) (t : Tree) (r : Fraction) → b ≡ num q → e ≡ num (whole_fraction z) → (is_zero_fraction q ≡ true → pos 1 ≤ℤ z) → powered q z 1 ≡ exactly r → t ≡ num r → IsPowerAnswer b e t
 value_answer b e q z t r h k o v u =
     subst (λ (x : Tree). IsPowerAnswer x e t) (sym h) (subst (λ (x : Tree). IsPowerAnswer (num q) x t) (sym k) (subst (IsPowerAnswer (num q) (num (whole_fraction z))) (sym u)
-    (number_answer (num q) (num (whole_fraction z)) (num r) (number_test (num r) tt) (has_power q z o) (keeps (value_keeps q z r o v)))))
+    (number_answer (num q) (num (whole_fraction z)) (num r) (number_test (num r) tt) (has_power q z o) (keeps (value_keeps q z r o v)) (value_written q z r v))))
 
 -- ---- in other words
 

@@ -3,11 +3,12 @@ use Rattle.std.specs.Prelude.{◌≡◌, ◌≤◌, ◌+◌, Bool, true, false, 
 use Rattle.calc_terms.specs.Integers.{int_is_negative, int_is_zero}
 use Rattle.calc_measures.specs.Loads.{nest, load, weight}
 use Rattle.calc_algebra.specs.Numbers.{is_number, classes}
-use Rattle.calc_algebra.specs.Reduced.{is_opaque_exponent, is_reduced}
+use Rattle.calc_algebra.specs.Reduced.{is_opaque_exponent, is_reduced, num_one}
+use Rattle.calc_terms.specs.Fractions.{zero_fraction, one_fraction}
 use Rattle.calc_terms.specs.Trees.{Tree, num, power, undef, is_undef}
 use Rattle.node_pool.specs.State.{State}
 use Rattle.number_forms.specs.Readers.{is_zero}
-use Rattle.power_reduce.specs.PowerSteps.{rewritten}
+use Rattle.power_reduce.specs.PowerSteps.{is_zero_or_one, rewritten}
 use Rattle.calc_algebra.specs.Rewritings.{Reduces, Rewrites}
 use Rattle.reduce_port.specs.declared.step.Step.{Step}
 use Rattle.reduce_port.specs.declared.step.Step.TheVariants as step
@@ -50,11 +51,24 @@ abbrev pub has_number_power : Tree → Tree → Bool
 has_number_power b (num q) = is_number b && q.den == 1 && (not (int_is_negative q.num) || nat_le (classes b) 2)
 has_number_power b e = false
 
+-- no rule changes b to the power e: the exponent is neither 0 nor 1, it is no Number's power, and it is not rewritten
+pub record HasNoRule (b e : Tree) : Type 0 where
+  pub other : is_zero_or_one e ≡ false
+  pub no_number : has_number_power b e ≡ false
+  pub not_rewritten : rewritten b e ≡ None
+
+-- which tree stands for b to the power e: 1 where e is 0, b where e is 1, and the power itself where no rule changes it
+pub record IsWrittenPower (b e t : Tree) : Type 0 where
+  pub zero : e ≡ num zero_fraction → t ≡ num_one
+  pub one : e ≡ num one_fraction → t ≡ b
+  pub kept : HasNoRule b e → t ≡ power b e
+
 -- a reduced tree for b to the power e
 pub record IsPowerAnswer (b e t : Tree) : Type 0 where
   pub reduces : Reduces (power b e) t
   pub undefined : is_undef t ≡ has_no_power b e
   pub number : has_number_power b e ≡ true → has_no_power b e ≡ false → is_number t ≡ true
+  pub written : has_no_power b e ≡ false → IsWrittenPower b e t
   pub nest_bound : nest t ≤ nest (power b e)
   pub load_bound : is_opaque_exponent e ≡ false → load t ≤ weight b
   pub opaque_bound : load t ≤ 1 + weight b

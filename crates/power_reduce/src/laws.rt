@@ -6,7 +6,7 @@ ghost use Rattle.calc_algebra.specs.Numbers.{is_number, classes};
 ghost use Rattle.calc_algebra.specs.Reduced.{is_reduced, is_whole_num, is_opaque_exponent, num_one};
 ghost use Rattle.calc_terms.specs.Trees.{Tree, num, power, undef, is_undef};
 ghost use Rattle.calc_terms.specs.Fractions.{Fraction, one_fraction, zero_fraction};
-ghost use Rattle.power_reduce.specs.PowerAnswers.{has_no_power, IsPowerAnswer};
+ghost use Rattle.power_reduce.specs.PowerAnswers.{has_no_power, IsWrittenPower, IsPowerAnswer};
 ghost use Rattle.power_reduce.specs.PowerRules.{IsByRule, IsRewritable};
 ghost use Rattle.power_reduce.specs.PowerSteps.{is_zero_or_one, rewritten};
 ghost use Rattle.calc_algebra.specs.Rewritings.{Rewrites, Reduces, KeepsMeanings};
@@ -62,6 +62,8 @@ pub fn answers_are_reduced()
     ensures zero { (b : Tree) → has_no_power b (num zero_fraction) ≡ false → IsPowerAnswer b (num zero_fraction) num_one }
     ensures one { (b : Tree) → is_reduced b ≡ true → is_undef b ≡ false → has_no_power b (num one_fraction) ≡ false
         → IsPowerAnswer b (num one_fraction) b }
-    ensures number { (b e t : Tree) → is_number t ≡ true → has_no_power b e ≡ false → KeepsMeanings (power b e) t → IsPowerAnswer b e t }
-    ensures kept { (b e : Tree) → is_reduced (power b e) ≡ true → has_no_power b e ≡ false → IsPowerAnswer b e (power b e) }
+    ensures number { (b e t : Tree) → is_number t ≡ true → has_no_power b e ≡ false → KeepsMeanings (power b e) t
+        → IsWrittenPower b e t → IsPowerAnswer b e t }
+    ensures kept { (b e : Tree) → is_reduced (power b e) ≡ true → has_no_power b e ≡ false → is_zero_or_one e ≡ false
+        → IsPowerAnswer b e (power b e) }
 {}

@@ -50,30 +50,31 @@ pub(crate) fn halve_root(pool: &mut Pool, power: Handle, n: i128) -> Handle
     }
 }
 
-/// A power of a power as one of the inner base, with the product of the exponents.
-pub(crate) fn join_exponents(pool: &mut Pool, power: Handle) -> Result<Handle, Full>
+/// A power of a power as one of the inner base, with the product of the exponents. The bytes of the inner power's
+/// node suffice for the product's.
+pub(crate) fn join_exponents(pool: &mut Pool, power: Handle) -> Handle
     requires stands { Stands pool.old }
     requires handed { IsHanded power (forest pool.old) }
     requires sides { HasReducedSides (tree_of power pool.old) }
     requires inside { goes_inside (exponent_in (tree_of power pool.old)) ≡ true }
     requires base { is_power (base_in (tree_of power pool.old)) ≡ true }
     requires transparent { is_opaque_exponent (exponent_in (base_in (tree_of power pool.old))) ≡ false }
-    ensures ok { IfOk result (λ h. Gives (without_root power (forest pool.old)) (forest pool.new) h (λ u. rewritten (base_in (tree_of power pool.old)) (exponent_in (tree_of power pool.old)) ≡ Some u)) }
+    ensures gives { Gives (without_root power (forest pool.old)) (forest pool.new) result (λ u. rewritten (base_in (tree_of power pool.old)) (exponent_in (tree_of power pool.old)) ≡ Some u) }
     ensures front { KeepsFront (power ∷ []) (forest pool.old) (forest pool.new) }
-    ensures kept { OnOk result (KeepsRefusals pool.old pool.new) }
-    ensures full { IfErr result (Refuses pool.old pool.new) }
-    ensures caused { IfErr result (LacksBytes pool.new) }
+    ensures kept { KeepsRefusals pool.old pool.new }
     ensures stands { Stands pool.new }
 {
     merge_children(pool, &power, 0);
     let first = take_child(pool, &power, 1);
     let exponent = take_child(pool, &power, 1);
-    let product = node(pool, Kind::Mult)?;
+    let Ok(product) = node(pool, Kind::Mult) else {
+        unreachable!();
+    };
     add_child(pool, &product, 0, exponent);
     add_child(pool, &product, 0, first);
     add_child(pool, &power, 1, product);
     move_last(pool, &power);
-    Ok(power)
+    power
 }
 
 /// A power of a product as the product of the powers of its parts.

@@ -113,6 +113,7 @@ started n ts l r h b = record {
   worth = Same-eq (ap product_of_values (numbers_removed n ts l h b));
   others = others_removed n ts l h;
   reduced = reduced_removed n ts l r;
+  fewer = λ m. omega (arith, ap count (numbers_removed n ts l h b));
   folded = λ q m. by n ts l q (first_rational n ts l q b);
 }
   where
@@ -141,6 +142,7 @@ started_at_one ts r b = record {
   worth = by (numbers_in ts) (numbers_none ts b);
   others = refl;
   reduced = r;
+  fewer = λ m. absurd (omega (arith, ap count (numbers_none ts b)));
   folded = λ q m. absurd (none_rational ts q m b);
 }
   where
@@ -194,6 +196,7 @@ multiplied n ts us d e l h b g k w a =
           (Same-surd_times (Same-sym w) (Same-refl rest)));
       others = others_removed n us l h ∙ g.others;
       reduced = reduced_removed n us l g.reduced;
+      fewer = λ m. let c : count (numbers_in us) ≡ suc (count (numbers_in (removed n us))) = ap count (numbers_removed n us l h b) in let f : count (numbers_in us) < count (numbers_in ts) = g.fewer (omega arith) in omega arith;
       folded = λ q m.
           let f = g.folded q m in
           let z = first_rational n us l f.rationals b in
@@ -256,3 +259,10 @@ faulted n ts us d new (fault.Overflow o) l b g a q m = overflowed n ts us d o l 
 pub some_number : (ts : Trees) → NoNumberBefore (count ts) ts → are_rationals ts ≡ true → 1 ≤ count ts → ⊥
 some_number none b q m = absurd (omega arith)
 some_number (more t ts) b q m = let a = num_number t (and_parts (is_num t) (are_rationals ts) q).0 in let e = b 0 (omega arith) in absurd cc
+
+-- where one more is to be multiplied in, there were two
+pub two_numbers : (n : ℕ) (ts us : Trees) (d : Tree) → n < count us → is_number (nth n us) ≡ true → NoNumberBefore n us → IsProgress ts us d → 2 ≤ count (numbers_in ts)
+two_numbers n ts us d l h b g =
+    let c : count (numbers_in us) ≡ suc (count (numbers_in (removed n us))) = ap count (numbers_removed n us l h b) in
+    let f : count (numbers_in us) < count (numbers_in ts) = g.fewer (omega arith) in
+    omega arith

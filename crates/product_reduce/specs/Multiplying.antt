@@ -35,6 +35,7 @@ pub record IsProgress (ts us : Trees) (d : Tree) : Type 0 where
   pub worth : Same (product_of_values (numbers_in ts)) (surd_times (value d) (product_of_values (numbers_in us)))
   pub others : others_in us ≡ others_in ts
   pub reduced : are_reduced us ≡ true
+  pub fewer : 1 ≤ count (numbers_in us) → count (numbers_in us) < count (numbers_in ts)
   pub folded : are_rationals ts ≡ true → 1 ≤ count ts → AreFolded ts us d
 
 -- no factor before a place is a Number

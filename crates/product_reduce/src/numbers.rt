@@ -8,10 +8,11 @@ ghost use Rattle.calc_terms.specs.Fractions.{Fraction};
 ghost use Rattle.calc_algebra.specs.Numbers.{is_number, value};
 ghost use Rattle.calc_measures.specs.PlainValues.{calculated, plain_value};
 ghost use Rattle.calc_algebra.specs.Surds.{surd_times};
-ghost use Rattle.product_reduce.specs.Factors.{others_in, IsCoefficient};
+ghost use Rattle.product_reduce.specs.Factors.{numbers_in, others_in, IsCoefficient};
 ghost use Rattle.product_reduce.specs.Multiplying.{NoNumberBefore, IsFirstNumber, IsUnderway};
 ghost use Rattle.product_reduce.specs.Products.{IsProduct, IsTakenOut, factors_in};
 ghost use Rattle.number_forms.specs.Answers.{IsNumberOf, AnswersRationals};
+ghost use Rattle.reduce_port.specs.Faults.{IfNumberOverflow};
 ghost use Rattle.tree_handles.specs.Causes.{IsCaused};
 ghost use Rattle.tree_handles.specs.Standing.{LacksBytes, Stands, forest, KeepsRefusals, Refuses};
 ghost use Rattle.tree_handles.specs.Handed.{tree_of, IsHanded, KeepsFront};
@@ -100,6 +101,7 @@ pub fn take_coefficient(pool: &mut Pool, product: &Handle) -> Result<Handle, Num
     ensures coefficient { IfOk result (λ h. IsCoefficient (tree_of h pool.new) (factors_in product.now (forest pool.old))) }
     ensures rationals { let ts = factors_in product.now (forest pool.old) in
         are_rationals ts ≡ true → 1 ≤ count ts → AnswersRationals (plain_value (mult ts)) pool.new result }
+    ensures overflow { IfNumberOverflow result (λ _. 2 ≤ count (numbers_in (factors_in product.now (forest pool.old)))) }
     ensures front { KeepsFront (product.now ∷ []) (forest pool.old) (forest pool.new) }
     ensures kept { OnOk result (KeepsRefusals pool.old pool.new) }
     ensures faults { IfErr result (Faults pool.old pool.new) }

@@ -2,3 +2,5 @@ pub mod Checks
 pub mod Filling
 pub mod Leaves
 pub mod Faults
+pub mod Unfits
+pub mod ChildBytes

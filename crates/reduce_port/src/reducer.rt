@@ -11,10 +11,11 @@ use tree_handles::Handle;
 /// only for a tree whose `room` is more than was free with the tree's own bytes, and an operation overflows only
 /// for a tree of more `bits` than that.
 pub trait Reducer {
-    ghost use Rattle.std.specs.Prelude.{◌≡◌, ◌↔◌, ◌+◌, ◌*◌, ℕ, Option, IfOk, OnOk, [], ◌∷◌};
+    ghost use Rattle.std.specs.Prelude.{◌≡◌, ◌↔◌, ◌+◌, ◌*◌, ℕ, Option, IfOk, OnOk, true, [], ◌∷◌};
     ghost use Rattle.breakers.specs.Breakers.{CalmChecks, TripsRose};
     ghost use Rattle.breakers.specs.Watch.{states};
     ghost use Rattle.calc_algebra.specs.BadAndEasy.{IsEasy};
+    ghost use Rattle.calc_measures.specs.PlainOverflows.{is_overflow, nodes_to_overflow};
     ghost use Rattle.calc_measures.specs.PlainValues.{plain_value};
     ghost use Rattle.calc_terms.specs.Trees.{Tree, undef, nodes, size};
     ghost use Rattle.node_pool.specs.State.{free_of};
@@ -59,6 +60,8 @@ pub trait Reducer {
         ensures bad_parts { IfOk result (λ answer. HasEasyBadPart (tree_of tree pool.old) → tree_of answer pool.new ≡ undef) }
         ensures plain_answers { IfOk result (λ answer. IsPlainAnswer (plain_value (tree_of tree pool.old)) (tree_of answer pool.new)) }
         ensures plain_overflows { IfOverflow result (IsPlainOverflow (plain_value (tree_of tree pool.old))) }
+        ensures plain_overflow_at_its_node { IfOverflow result (λ _. is_overflow (plain_value (tree_of tree pool.old)) ≡ true
+            → CalmChecks (nodes_to_overflow (tree_of tree pool.old)) (states B.state watch.old) (states B.state watch.new)) }
 
         // An interruption.
         ensures interrupted { IfInterrupted result

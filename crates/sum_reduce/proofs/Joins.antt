@@ -2,17 +2,20 @@
 use Rattle.std.specs.declared.cmp.Ordering.{Ordering}
 use Rattle.std.specs.declared.cmp.Ordering.TheVariants.{Less, Equal, Greater}
 use Rattle.std.specs.Ordering.{is_eq}
-use Rattle.std.proofs.Common.{ℕ, zero, suc, ◌+◌, ◌≤◌, ◌<◌, ◌≡◌, ◌++◌, Bool, true, false, ◌&&◌, not, refl, sym, ap, ◌∙◌, subst, arith}
+use Rattle.std.proofs.Common.{ℕ, zero, suc, ◌+◌, ◌≤◌, ◌<◌, ◌≡◌, ◌++◌, Bool, true, false, ◌&&◌, not, refl, sym, ap, ◌∙◌, subst, arith, append-nil}
 use Rattle.std.proofs.lemmas.Bool.{and_parts}
 use Rattle.calc_algebra.specs.Numbers.{is_number, value, are_numbers}
 use Rattle.calc_algebra.specs.Reduced.{part_of, NoneIs, is_reduced}
 use Rattle.calc_algebra.specs.SquareClasses.{Same}
+use Rattle.calc_algebra.specs.Surds.{Surd}
 use Rattle.calc_algebra.specs.TreeOrder.{tree_cmp}
-use Rattle.calc_terms.specs.Trees.{Tree, add, mult, Trees, none, more, count, names, names_of, nodes, is_add, is_undef}
-use Rattle.calc_algebra.proofs.MeaningRewrites.{KeepsMeanings, KeepsMeanings-refl, KeepsMeanings-eq, KeepsMeanings-trans, KeepsMeanings-sum_more, Permuted, Permuted-sym, permuted_more, permuted_sum, joined_in_sum, same_factor}
+use Rattle.calc_terms.specs.Trees.{Tree, add, mult, Trees, none, more, append, count, names, names_of, nodes, is_add, is_undef}
+use Rattle.calc_algebra.proofs.MeaningRewrites.{KeepsMeanings, KeepsMeanings-refl, KeepsMeanings-eq, KeepsMeanings-trans, KeepsMeanings-sum_more, Permuted, Permuted-sym, Permuted-append_right, Permuted-to_front, permuted_more, permuted_trans, permuted_sum, joined_in_sum, same_factor}
 use Rattle.calc_algebra.proofs.NumberLaws.{number_words, number_test}
 use Rattle.calc_algebra.proofs.NumberRewrites.{sum_of_numbers, coefficient_times_part, with_coefficient as coefficient_for}
-use Rattle.calc_algebra.proofs.TreeOrderLaws.{tree_cmp_equal}
+use Rattle.calc_algebra.proofs.SquareClassLaws.{Same-Agree}
+use Rattle.calc_algebra.proofs.SurdLaws.{Agree-refl, Agree-trans, Agree-eq, Agree-Same, Agree-append, append_comm}
+use Rattle.calc_algebra.proofs.TreeOrderLaws.{tree_cmp_equal, tree_cmp_refl}
 use Rattle.coefficients.specs.Coefficients.{coefficient_of, with_coefficient}
 use Rattle.coefficients.proofs.Bounds.{coefficient_nest}
 use Rattle.coefficients.proofs.Coefficients.{taken, coefficient_same, put_formed, put_reduces}
@@ -21,16 +24,18 @@ use Rattle.coefficients.proofs.Forms.{parts_reduced, parts_defined}
 use Rattle.coefficients.proofs.Keeps.{coefficient_keeps}
 use Rattle.calc_algebra.proofs.Rewritings.{keeps, kept}
 use Rattle.tree_handles.specs.Expressions.{nth, inserted}
-use Rattle.sum_reduce.specs.Joining.{IsJoining}
+use Rattle.sum_reduce.specs.Collected.{others_in, AreUnlike, AreLike, sum_of_coefficients, collects_ordered, collects_like, collects_then}
+use Rattle.sum_reduce.specs.Joining.{IsAdded, IsJoining}
 use Rattle.sum_reduce.specs.Stages.{IsStage, widths}
 use Rattle.number_forms.specs.Sums.{removed}
-use Rattle.sum_reduce.specs.Terms.{AreFormed, is_loose, is_partner, IsPair}
+use Rattle.sum_reduce.specs.Terms.{AreFormed, is_loose, is_partner, opened, IsPair}
 use Rattle.number_forms.specs.Answers.{IsNumberOf}
 use Rattle.calc_algebra.proofs.Names.{Within, no_new_name, within_of, within_same, within_both, within_beside, within_trans, within_right, within_none, within_eq, names_permuted, number_names}
 use Rattle.sum_reduce.proofs.Names.{names_of_part}
 use Rattle.calc_measures.proofs.Nests.{nest_permuted, nest_number}
 use Rattle.sum_reduce.proofs.Nests.{nest_of_part}
 use Rattle.sum_reduce.proofs.Places.{taken_permuted, inserted_permuted, count_inserted, count_removed, nth_inserted, nth_behind_inserted, removed_inserted, nth_removed, nth_behind_removed, removed_two}
+use Rattle.sum_reduce.proofs.Rearranged.{of_lists, to_lists, tight_opened, other_in, others_permuted, unlike_permuted}
 use Rattle.sum_reduce.proofs.Stages.{none_permuted, formed_permuted, stage_after, stage_permuted}
 use Rattle.sum_reduce.proofs.Widths.{widths_permuted, width_other, coefficient_width}
 
@@ -74,6 +79,9 @@ none_numbers t ts h = ap (λ (b : Bool). b && are_numbers ts) h
 
 -- ---- a coefficient is taken off
 
+same_eq : {v w : Surd} → v ≡ w → Same v w
+same_eq e = Agree-Same (Agree-eq e)
+
 pub joining_first : (t : Tree) (ts rest : Trees) → Permuted ts (more t rest) → AreFormed ts → NoneIs is_loose ts → is_number t ≡ false → are_numbers ts ≡ false → IsJoining ts (coefficient_of t) (part_of t) rest 0
 joining_first t ts rest p f s n o =
     let g = formed_permuted p f in
@@ -89,9 +97,31 @@ joining_first t ts rest p f s n o =
       nest = omega (arith, nest_permuted p, nest_of_part t);
       other = o;
       width = omega (arith, widths_permuted p, width_other t n (tight_other t l.0 n));
+      added = record {
+        like = more t none;
+        flat = s;
+        moved = to_lists p;
+        are = (n, refl, tt);
+        some = omega arith;
+        two = λ h. absurd (omega (arith, h));
+        worth = same_eq (sym (append-nil (value (coefficient_of t))));
+      };
     }
 
 -- ---- a partner's coefficient is added
+
+-- one more term with that part
+added_more : (ts : Trees) (c e p : Tree) (rest others : Trees) (u : Tree) (less : ℕ) → IsAdded ts c p rest less → Permuted rest (more u others) → is_number u ≡ false → part_of u ≡ p
+    → Same (value e) (value c ++ value (coefficient_of u)) → IsAdded ts e p others (less + nodes p)
+added_more ts c e p rest others u less a perm n same w = record {
+  like = more u a.like;
+  flat = a.flat;
+  moved = to_lists (permuted_trans (of_lists ts (append a.like rest) a.moved) (permuted_trans (Permuted-append_right a.like perm) (Permuted-to_front a.like u others)));
+  are = (n, same, a.are);
+  some = omega arith;
+  two = λ h. let l = a.some in omega (arith, l);
+  worth = Agree-Same (Agree-trans (Same-Agree w) (Agree-trans (Agree-append (Same-Agree a.worth) (Agree-refl (value (coefficient_of u)))) (append_comm (sum_of_coefficients a.like) (value (coefficient_of u)))));
+}
 
 more_meanings : (c d e p u : Tree) (rest : Trees) → is_number c ≡ true → is_number d ≡ true → is_number e ≡ true → Same (value e) (value c ++ value d) → KeepsMeanings u (mult (more d (more p none)))
     → KeepsMeanings (add (more (mult (more c (more p none))) (more u rest))) (add (more (mult (more e (more p none))) rest))
@@ -123,6 +153,7 @@ joining_more ts c p rest less at e j l q he w =
       nest = omega (arith, j.nest, nest_permuted perm);
       other = j.other;
       width = omega (arith, j.width, widths_permuted perm, width_other u a.second (tight_other u s.0 a.second), ap nodes same);
+      added = added_more ts c e p rest (removed at rest) u less j.added perm a.second same w;
     }
 
 -- fewer may be told
@@ -137,7 +168,34 @@ joining_less fewer l j = record {
   nest = j.nest;
   other = j.other;
   width = omega (arith, j.width);
+  added = let a = j.added in record { like = a.like; flat = a.flat; moved = a.moved; are = a.are; some = a.some; two = λ h. a.two (omega (arith, h, l)); worth = a.worth };
 }
+
+-- ---- terms that were added are not unlike
+
+equal_test : (t : Tree) → is_eq (tree_cmp t t) ≡ true
+equal_test t = ap is_eq (tree_cmp_refl t)
+
+like_partners : (p t u : Tree) → is_number t ≡ false → is_number u ≡ false → part_of t ≡ p → part_of u ≡ p → is_partner t u ≡ true
+like_partners p t u n m e f =
+    (λ i. not (n i) && not (m i) && is_eq (tree_cmp (e i) (f i))) ∙ equal_test p
+
+two_like : (p : Tree) (us rest : Trees) → AreLike p us → 2 ≤ count us → AreUnlike (others_in (append us rest)) → ⊥
+two_like p none rest a l h = absurd (omega arith)
+two_like p (more t none) rest a l h = absurd (omega arith)
+two_like p (more t (more u us)) rest a l h =
+    let all : others_in (append (more t (more u us)) rest) ≡ more t (more u (others_in (append us rest))) =
+    other_in t (more u (append us rest)) a.0 ∙ ap (more t) (other_in u (append us rest) a.2.0) in
+    let k = subst AreUnlike all h in
+    clash_tests (sym (like_partners p t u a.0 a.2.0 a.1 a.2.1) ∙ k.0.0)
+  where
+    clash_tests : true ≡ false → ⊥
+    clash_tests e = cc
+
+not_unlike : (ts : Trees) (c p : Tree) (rest : Trees) (less : ℕ) → IsAdded ts c p rest less → 1 ≤ less → AreUnlike (others_in (opened ts)) → ⊥
+not_unlike ts c p rest less a l h =
+    let u : AreUnlike (others_in ts) = subst (λ (x : Trees). AreUnlike (others_in x)) (tight_opened ts a.flat) h in
+    two_like p a.like rest a.are (a.two l) (unlike_permuted (others_permuted (of_lists ts (append a.like rest) a.moved)) u)
 
 -- ---- the coefficient is put back
 
@@ -164,6 +222,8 @@ written c p ts rest less j l =
         nest = omega (arith, j.nest, coefficient_nest c p, nest_number c j.number);
         numbers = λ h. absurd (clash (sym h ∙ j.other));
         width = omega (arith, fewer);
+        collects = collects_then (collects_ordered j.added.moved) (collects_like j.added.like c p (j.added.two l) j.added.are (record { number = j.number; worth = j.added.worth }));
+        rearranged = λ u. absurd (not_unlike ts c p rest less j.added l u);
       };
       fewer = fewer;
     }

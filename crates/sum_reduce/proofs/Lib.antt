@@ -4,6 +4,7 @@ pub mod Nests
 pub mod Widths
 pub mod Opened
 pub mod Sums
+pub mod Rearranged
 pub mod Stages
 pub mod Joins
 pub mod WrittenSums
@@ -19,3 +20,6 @@ pub mod Pairs
 pub mod Orders
 pub mod Rationals
 pub mod Tested
+pub mod Collected
+pub mod OneOrder
+pub mod Hindered

@@ -10,11 +10,13 @@ use Rattle.calc_algebra.proofs.NumberLaws.{number_words}
 use Rattle.calc_algebra.proofs.NumberRewrites.{sum_of_numbers}
 use Rattle.coefficients.proofs.Forms.{number_parts}
 use Rattle.calc_algebra.proofs.Rewritings.{keeps, Rewrites-trans}
+use Rattle.sum_reduce.specs.Collected.{collects_opened, collects_ordered, collects_numbers, collects_then}
 use Rattle.sum_reduce.specs.Stages.{IsStage}
 use Rattle.sum_reduce.specs.Terms.{AreFormed, opened}
 use Rattle.calc_algebra.proofs.Names.{no_new_name, within_both, within_trans, within_right, within_none, within_eq, names_permuted, number_names}
 use Rattle.calc_measures.proofs.Nests.{nest_permuted, nest_number}
-use Rattle.sum_reduce.proofs.Opened.{opened_keeps, names_opened, nest_opened, widths_opened, opened_formed, opened_some, opened_numbers}
+use Rattle.sum_reduce.proofs.Opened.{opened_keeps, names_opened, nest_opened, widths_opened, opened_formed, opened_some, opened_numbers, opened_tight}
+use Rattle.sum_reduce.proofs.Rearranged.{to_lists, tight_opened, unlike_after, rearranged_permuted, rearranged_opened, rearranged_after, rearranged_added}
 use Rattle.sum_reduce.proofs.Widths.{widths_permuted, width_number}
 
 -- ---- the same terms in another order
@@ -59,6 +61,8 @@ stage_after a b = record {
   nest = omega (arith, a.nest, b.nest);
   numbers = λ h. b.numbers (a.numbers h);
   width = omega (arith, a.width, b.width);
+  collects = collects_then a.collects b.collects;
+  rearranged = λ h. let x = a.rearranged h in rearranged_after x (b.rearranged (unlike_after x h));
 }
 
 pub stage_permuted : {ts us : Trees} → Permuted ts us → AreFormed ts → 1 ≤ count ts → IsStage ts us
@@ -69,6 +73,8 @@ stage_permuted h f l = record {
   nest = omega (arith, nest_permuted h);
   numbers = λ e. sym (numbers_permuted h) ∙ e;
   width = omega (arith, widths_permuted h);
+  collects = collects_ordered (to_lists h);
+  rearranged = λ u. rearranged_permuted h;
 }
 
 pub stage_same : (ts : Trees) → AreFormed ts → 1 ≤ count ts → IsStage ts ts
@@ -82,6 +88,8 @@ stage_opened ts f l = record {
   nest = omega (arith, nest_opened ts);
   numbers = λ e. ap are_numbers (opened_numbers ts e) ∙ e;
   width = omega (arith, widths_opened ts);
+  collects = collects_opened;
+  rearranged = λ u. rearranged_opened ts (opened ts) (tight_opened (opened ts) (opened_tight ts f));
 }
 
 -- two Numbers become one
@@ -101,4 +109,6 @@ stage_added d n e ts hd hn he w f = record {
       let (x, y) = and_parts (is_number n) (are_numbers ts) b in
       and_from _ _ he y;
   width = omega (arith, width_number d hd, width_number n hn, width_number e he);
+  collects = collects_numbers hd hn (record { number = he; worth = w });
+  rearranged = λ u. rearranged_added d n e ts hd hn he w;
 }

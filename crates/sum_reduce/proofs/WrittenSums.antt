@@ -37,7 +37,7 @@ zero_is_zero = by (is_zero_fraction zero_fraction) refl
 pub zero_terms : (a : Tree) → a ≡ num zero_fraction → terms_of_number a ≡ none
 zero_terms a e = ap terms_of_number e ∙ ap (λ b. if b then none else more (num zero_fraction) none) zero_is_zero
 
-term_in : (a : Tree) → IsTerm a → terms_of_number a ≡ more a none
+pub term_in : (a : Tree) → IsTerm a → terms_of_number a ≡ more a none
 term_in (num q) h = ap (λ b. if b then none else more (num q) none) (zero_test q h)
 term_in (root a) h = refl
 term_in (mult ts) h = refl

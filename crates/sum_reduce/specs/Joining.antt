@@ -1,13 +1,26 @@
 -- A part whose coefficient stands beside the sum.
-use Rattle.std.specs.Prelude.{ℕ, ◌+◌, ◌≡◌, ◌≤◌, true, false}
+use Rattle.std.specs.Prelude.{ℕ, ◌+◌, ◌≡◌, ◌≤◌, true, false, IsPermutation}
 use Rattle.calc_measures.specs.Loads.{nest_of}
-use Rattle.calc_algebra.specs.Numbers.{is_number, are_numbers}
+use Rattle.calc_algebra.specs.Numbers.{is_number, value, are_numbers}
 use Rattle.calc_algebra.specs.Reduced.{NoneIs}
-use Rattle.calc_terms.specs.Trees.{Tree, add, mult, Trees, none, more, nodes}
+use Rattle.calc_algebra.specs.SquareClasses.{Same}
+use Rattle.calc_terms.specs.Trees.{Tree, add, mult, Trees, none, more, append, count, nodes}
 use Rattle.coefficients.specs.Coefficients.{IsMonic}
 use Rattle.calc_algebra.specs.Rewritings.{HasNoNewName, KeepsMeanings}
+use Rattle.node_order.specs.Sorting.{list_of}
+use Rattle.sum_reduce.specs.Collected.{AreLike, sum_of_coefficients}
 use Rattle.sum_reduce.specs.Stages.{widths}
 use Rattle.sum_reduce.specs.Terms.{AreFormed, is_loose}
+
+-- these terms of ts have that part, and their coefficients were added
+pub record IsAdded (ts : Trees) (c p : Tree) (rest : Trees) (less : ℕ) : Type 0 where
+  pub like : Trees
+  pub flat : NoneIs is_loose ts
+  pub moved : IsPermutation (list_of ts) (list_of (append like rest))
+  pub are : AreLike p like
+  pub some : 1 ≤ count like
+  pub two : 1 ≤ less → 2 ≤ count like
+  pub worth : Same (value c) (sum_of_coefficients like)
 
 -- ts is a part times a coefficient, and other terms, and so many less in width
 pub record IsJoining (ts : Trees) (c p : Tree) (rest : Trees) (less : ℕ) : Type 0 where
@@ -20,3 +33,4 @@ pub record IsJoining (ts : Trees) (c p : Tree) (rest : Trees) (less : ℕ) : Typ
   pub nest : nest_of (more p rest) ≤ nest_of ts
   pub other : are_numbers ts ≡ false
   pub width : nodes p + widths rest + less ≤ widths ts
+  pub added : IsAdded ts c p rest less

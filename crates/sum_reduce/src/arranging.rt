@@ -2,6 +2,8 @@
 ghost use Rattle.std.specs.Prelude.{◌≡◌, ◌<◌, ◌≤◌, ◌+◌, ◌^◌, true, false, IfErr, IfSome, MatchOption, OnOk, [], ◌∷◌};
 ghost use Rattle.calc_measures.specs.PlainValues.{plain_value};
 ghost use Rattle.calc_terms.specs.Trees.{add, count, are_rationals};
+ghost use Rattle.coefficients.specs.Overflows.{OfOverflow};
+ghost use Rattle.sum_reduce.specs.Overflows.{Overflows};
 ghost use Rattle.tree_handles.specs.Causes.{IsCaused};
 ghost use Rattle.sum_reduce.specs.Arranging.{IsLed, IsArranged, IsSettled, AnswersFold};
 ghost use Rattle.sum_reduce.specs.Stages.{IsStage, widths};
@@ -72,6 +74,7 @@ fn arrange(pool: &mut Pool, sum: &Handle) -> Result<(), NumberFault>
     ensures kept { OnOk result (KeepsRefusals pool.old pool.new) }
     ensures faults { IfErr result (Faults pool.old pool.new) }
     ensures caused { IfErr result (IsCaused pool.new) }
+    ensures overflow { IfErr result (OfOverflow (Overflows (terms_in sum.now (forest pool.old)))) }
     ensures stands { Stands pool.new }
 {
     open_sums(pool, sum);
@@ -114,6 +117,7 @@ fn join_pairs(pool: &mut Pool, sum: &Handle, first: u16) -> Result<(), NumberFau
     ensures kept { OnOk result (KeepsRefusals pool.old pool.new) }
     ensures faults { IfErr result (Faults pool.old pool.new) }
     ensures caused { IfErr result (IsCaused pool.new) }
+    ensures overflow { IfErr result (OfOverflow (Overflows (terms_in sum.now (forest pool.old)))) }
     ensures stands { Stands pool.new }
 {
     let mut next = Some(first);
@@ -139,6 +143,7 @@ pub fn settle(pool: &mut Pool, sum: &Handle) -> Result<(), NumberFault>
     ensures kept { OnOk result (KeepsRefusals pool.old pool.new) }
     ensures faults { IfErr result (Faults pool.old pool.new) }
     ensures caused { IfErr result (IsCaused pool.new) }
+    ensures overflow { IfErr result (OfOverflow (Overflows (terms_in sum.now (forest pool.old)))) }
     ensures stands { Stands pool.new }
 {
     arrange(pool, sum)?;

@@ -5,6 +5,8 @@ ghost use Rattle.calc_algebra.specs.Reduced.{is_reduced, part_of, NoneIs};
 ghost use Rattle.calc_terms.specs.Trees.{Trees, count, is_undef, none, more};
 ghost use Rattle.coefficients.specs.Coefficients.{coefficient_of, with_coefficient};
 ghost use Rattle.number_forms.specs.Answers.{IsNumberOf};
+ghost use Rattle.coefficients.specs.Overflows.{NamesPut, OfOverflow};
+ghost use Rattle.sum_reduce.specs.Overflows.{NamesSum, Overflows};
 ghost use Rattle.tree_handles.specs.Causes.{IsCaused};
 ghost use Rattle.tree_handles.specs.Standing.{LacksBytes, Stands, forest, KeepsRefusals, Refuses};
 ghost use Rattle.tree_handles.specs.Handed.{tree_of, IsHanded, Gives, KeepsFront};
@@ -91,6 +93,7 @@ fn add_partner(
     ensures kept { OnOk result (KeepsRefusals pool.old pool.new) }
     ensures faults { IfErr result (Faults pool.old pool.new) }
     ensures caused { IfErr result (IsCaused pool.new) }
+    ensures overflow { IfErr result (OfOverflow (NamesSum (tree_of so_far pool.old) (coefficient_of (nth at (terms_in sum.now (forest pool.old)))))) }
     ensures stands { Stands pool.new }
 {
     let term = take_child(pool, sum, at);
@@ -118,6 +121,8 @@ fn add_partners(
     ensures kept { OnOk result (KeepsRefusals pool.old pool.new) }
     ensures faults { IfErr result (Faults pool.old pool.new) }
     ensures caused { IfErr result (IsCaused pool.new) }
+    ensures overflow { let us = terms_in sum.now (forest pool.old) in (ts : Trees) (less : ℕ) → IsJoining ts (tree_of coefficient pool.old) (nth at us) (removed at us) less
+        → IfErr result (OfOverflow (Overflows ts)) }
     ensures stands { Stands pool.new }
 {
     let mut total = coefficient;
@@ -145,6 +150,7 @@ fn put_back(pool: &mut Pool, sum: &Handle, at: u16, coefficient: Handle) -> Resu
     ensures kept { OnOk result (KeepsRefusals pool.old pool.new) }
     ensures faults { IfErr result (Faults pool.old pool.new) }
     ensures caused { IfErr result (IsCaused pool.new) }
+    ensures overflow { IfErr result (OfOverflow (NamesPut (tree_of coefficient pool.old) (nth at (terms_in sum.now (forest pool.old))))) }
     ensures stands { Stands pool.new }
 {
     let part = take_child(pool, sum, at);
@@ -170,6 +176,7 @@ pub fn join_terms(pool: &mut Pool, sum: &Handle, at: u16) -> Result<(), NumberFa
     ensures kept { OnOk result (KeepsRefusals pool.old pool.new) }
     ensures faults { IfErr result (Faults pool.old pool.new) }
     ensures caused { IfErr result (IsCaused pool.new) }
+    ensures overflow { IfErr result (OfOverflow (Overflows (terms_in sum.now (forest pool.old)))) }
     ensures stands { Stands pool.new }
 {
     let coefficient = take_coefficient_at(pool, sum, at)?;

@@ -4,6 +4,7 @@
 mod arranging;
 mod endings;
 mod joining;
+pub mod laws;
 mod numbers;
 mod partners;
 mod reducing;

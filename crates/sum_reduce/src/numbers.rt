@@ -6,6 +6,8 @@ ghost use Rattle.calc_algebra.specs.Numbers.{is_number, value};
 ghost use Rattle.calc_measures.specs.PlainValues.{calculated, plain_value};
 ghost use Rattle.calc_terms.specs.Trees.{num, is_num, add, more, count, are_rationals};
 ghost use Rattle.number_forms.specs.Answers.{IsNumberOf, AnswersRationals};
+ghost use Rattle.coefficients.specs.Overflows.{OfOverflow};
+ghost use Rattle.sum_reduce.specs.Overflows.{NamesSum, Overflows};
 ghost use Rattle.tree_handles.specs.Causes.{IsCaused};
 ghost use Rattle.tree_handles.specs.Handed.{tree_of, IsHanded, KeepsFront};
 ghost use Rattle.sum_reduce.specs.Arranging.{IsGathered, IsNumbered, AnswersTotal, AnswersFold};
@@ -59,6 +61,7 @@ fn add_number(pool: &mut Pool, sum: &Handle, at: u16, so_far: Handle) -> Result<
     ensures kept { OnOk result (KeepsRefusals pool.old pool.new) }
     ensures faults { IfErr result (Faults pool.old pool.new) }
     ensures caused { IfErr result (IsCaused pool.new) }
+    ensures overflow { IfErr result (OfOverflow (NamesSum (tree_of so_far pool.old) (nth at (terms_in sum.now (forest pool.old))))) }
     ensures stands { Stands pool.new }
 {
     let number = take_child(pool, sum, at);
@@ -80,6 +83,7 @@ fn add_all_numbers(pool: &mut Pool, sum: &Handle, number: Handle) -> Result<Hand
     ensures kept { OnOk result (KeepsRefusals pool.old pool.new) }
     ensures faults { IfErr result (Faults pool.old pool.new) }
     ensures caused { IfErr result (IsCaused pool.new) }
+    ensures overflow { IfErr result (OfOverflow (Overflows (more (tree_of number pool.old) (terms_in sum.now (forest pool.old))))) }
     ensures stands { Stands pool.new }
 {
     let mut total = number;
@@ -106,6 +110,7 @@ pub fn join_numbers(pool: &mut Pool, sum: &Handle) -> Result<(), NumberFault>
     ensures kept { OnOk result (KeepsRefusals pool.old pool.new) }
     ensures faults { IfErr result (Faults pool.old pool.new) }
     ensures caused { IfErr result (IsCaused pool.new) }
+    ensures overflow { IfErr result (OfOverflow (Overflows (terms_in sum.now (forest pool.old)))) }
     ensures stands { Stands pool.new }
 {
     match first_number(pool, sum) {

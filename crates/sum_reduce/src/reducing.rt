@@ -1,12 +1,16 @@
 //! A sum becomes one reduced tree.
-ghost use Rattle.std.specs.Prelude.{◌≡◌, ◌≤◌, true, IfOk, IfErr, OnOk, [], ◌∷◌};
+ghost use Rattle.std.specs.Prelude.{◌≡◌, ◌≤◌, true, false, IfOk, IfErr, OnOk, [], ◌∷◌};
 ghost use Rattle.calc_measures.specs.PlainValues.{plain_value};
-ghost use Rattle.calc_terms.specs.Trees.{count, is_add, are_rationals};
+ghost use Rattle.calc_terms.specs.Trees.{count, is_add, are_rationals, has_undef};
 ghost use Rattle.number_forms.specs.Answers.{AnswersRationals};
+ghost use Rattle.coefficients.specs.Overflows.{OfOverflow};
+ghost use Rattle.sum_reduce.specs.Overflows.{Overflows};
 ghost use Rattle.tree_handles.specs.Causes.{IsCaused};
 ghost use Rattle.calc_algebra.specs.Reduced.{are_reduced};
 ghost use Rattle.tree_handles.specs.Handed.{tree_of, IsHanded, Gives, KeepsFront};
-ghost use Rattle.sum_reduce.specs.SumAnswers.{IsSumAnswer};
+ghost use Rattle.sum_reduce.specs.Collected.{others_in, AreUnlike, IsWrittenSum};
+ghost use Rattle.sum_reduce.specs.SumAnswers.{IsSumAnswer, IsCollected};
+ghost use Rattle.sum_reduce.specs.Terms.{opened};
 ghost use Rattle.tree_handles.specs.Expressions.{children_of};
 ghost use Rattle.tree_handles.specs.Faults.{Faults};
 ghost use Rattle.tree_handles.specs.Roots.{without_root};
@@ -29,11 +33,19 @@ pub fn reduce_sum(pool: &mut Pool, sum: Handle) -> Result<Handle, NumberFault>
     requires some { 1 ≤ count (children_of (tree_of sum pool.old)) }
     requires reduced { are_reduced (children_of (tree_of sum pool.old)) ≡ true }
     ensures ok { IfOk result (λ h. Gives (without_root sum (forest pool.old)) (forest pool.new) h (IsSumAnswer (children_of (tree_of sum pool.old)))) }
+
+    // The answer is the terms collected. Where no two terms have identical parts, they are written as they are.
+    ensures collected { let ts = children_of (tree_of sum pool.old) in
+        has_undef ts ≡ false → IfOk result (λ h. IsCollected ts (tree_of h pool.new)) }
+    ensures written { let ts = children_of (tree_of sum pool.old) in
+        has_undef ts ≡ false → AreUnlike (others_in (opened ts)) → IfOk result (λ h. IsWrittenSum ts (tree_of h pool.new)) }
+
     ensures rationals { are_rationals (children_of (tree_of sum pool.old)) ≡ true → AnswersRationals (plain_value (tree_of sum pool.old)) pool.new result }
     ensures front { KeepsFront (sum ∷ []) (forest pool.old) (forest pool.new) }
     ensures kept { OnOk result (KeepsRefusals pool.old pool.new) }
     ensures faults { IfErr result (Faults pool.old pool.new) }
     ensures caused { IfErr result (IsCaused pool.new) }
+    ensures overflow { IfErr result (OfOverflow (Overflows (children_of (tree_of sum pool.old)))) }
     ensures stands { Stands pool.new }
 {
     if has_undef_term(pool, &sum) {

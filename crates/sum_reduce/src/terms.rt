@@ -11,7 +11,9 @@ ghost use Rattle.tree_handles.specs.Standing.{Stands, forest, KeepsRefusals};
 use calc_terms::Kind;
 use node_pool::{Id, Pool};
 use number_forms::is_reduced_number;
-use tree_handles::{Handle, child_id, child_ids, children, has_undefined_child, kind, merge_children};
+use tree_handles::{
+    Handle, child_id, child_ids, children, has_undefined_child, kind, merge_children,
+};
 
 /// How many terms a sum has.
 pub fn term_count(pool: &Pool, sum: &Handle) -> u16

@@ -42,9 +42,13 @@ unfolding zero_fraction
 whole_not_zero zero h e = absurd (omega arith)
 whole_not_zero (suc n) h e = let f : pos (suc n) ≡ pos 0 = sym (whole_numerator (pos (suc n))) ∙ ap (λ (x : Fraction). x.num) e ∙ whole_numerator (pos 0) in cc
 
+-- the fraction that a rational is fits
+pub rational_fits : (r : Rat) → fraction_fits (value_of r) ≡ true
+rational_fits r = parts_fit (value_of r) (ratio_of r).num (ratio_of r).den (ratio_parts r) r.fits r.den_fits
+
 -- a rational times 1 fits
 pub fits_times_one : (r : Rat) (q c : Fraction) (n : ℕ) → c ≡ value_of r → q ≡ whole_fraction (pos n) → n ≡ 1 → fraction_fits (times c q) ≡ true
 unfolding one_fraction
 fits_times_one r q c n d e f =
     ap fraction_fits ((λ i. times (d i) ((e ∙ ap (λ m. whole_fraction (pos m)) f) i)) ∙ times_comm (value_of r) one_fraction ∙ one_times (value_of r))
-    ∙ parts_fit (value_of r) (ratio_of r).num (ratio_of r).den (ratio_parts r) r.fits r.den_fits
+    ∙ rational_fits r

@@ -42,7 +42,7 @@ inverse_not_zero q h = factor_not_zero q (inverse q) (times_comm q (inverse q) �
 
 -- ---- one radicand
 
-times_whole_one : (q : Fraction) → times q (whole_fraction (pos 1)) ≡ q
+pub times_whole_one : (q : Fraction) → times q (whole_fraction (pos 1)) ≡ q
 unfolding one_fraction
 times_whole_one q = times_comm q (whole_fraction (pos 1)) ∙ one_times q
 

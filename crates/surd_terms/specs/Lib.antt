@@ -3,3 +3,4 @@ pub mod Sums
 pub mod Products
 pub mod Inverses
 pub mod SquareRoots
+pub mod Calculations

@@ -5,6 +5,7 @@ ghost use Rattle.calc_terms.specs.Rat.{ratio_of, value_of};
 ghost use Rattle.calc_terms.specs.Ratio.{whole as whole_ratio};
 ghost use Rattle.calc_algebra.specs.SquareClasses.{are_alike, Inverts};
 ghost use Rattle.rational128.specs.Refusals.{DoesNotFit};
+ghost use Rattle.surd_terms.specs.Calculations.{first_misfit, misfit_of, inverse_calculations, square_calculations, inverse_of_sum_calculations};
 ghost use Rattle.surd_terms.specs.Inverses.{square_of, inverse_of, first_of_inverse, second_of_inverse};
 ghost use Rattle.surd_terms.specs.Terms.{coefficient_of, term_of};
 
@@ -19,6 +20,7 @@ pub fn inverse(a: Term) -> Result<Term, Overflow>
     ensures value { IfOk result (λ t. term_of t ≡ inverse_of (term_of a)) }
     ensures refused { IsErr result ↔ DoesNotFit Op.Mul (term_of a).coefficient (whole_fraction (pos (term_of a).radicand)) }
     ensures rational { (term_of a).radicand ≡ 1 → IsOk result }
+    ensures overflow { misfit_of result ≡ first_misfit (inverse_calculations (term_of a)) }
     ensures operation { IfErr result (λ e. e.op ≡ Op.Mul) }
     ensures first { IfErr result (λ e. e.a ≡ coefficient_of a) }
     ensures second { IfErr result (λ e. ratio_of e.b ≡ whole_ratio (pos (term_of a).radicand)) }
@@ -33,6 +35,7 @@ pub fn inverse_of_sum(a: Term, b: Term) -> Result<(Term, Term), Overflow>
     ensures inverts { IfOk result (λ p. Inverts (term_of p.0 ∷ term_of p.1 ∷ []) (term_of a ∷ term_of b ∷ [])) }
     ensures first { IfOk result (λ p. term_of p.0 ≡ first_of_inverse (term_of a) (term_of b)) }
     ensures second { IfOk result (λ p. term_of p.1 ≡ second_of_inverse (term_of a) (term_of b)) }
+    ensures overflow { misfit_of result ≡ first_misfit (inverse_of_sum_calculations (term_of a) (term_of b)) }
     ensures caused { IfErr result (λ e. DoesNotFit e.op (value_of e.a) (value_of e.b)) }
 {
     let difference = add(square(a)?, neg(square(b)?))?;
@@ -48,6 +51,7 @@ pub fn inverse_of_sum(a: Term, b: Term) -> Result<(Term, Term), Overflow>
 /// The square of a term, which is rational.
 fn square(a: Term) -> Result<Rat, Overflow>
     ensures value { IfOk result (λ q. value_of q ≡ square_of (term_of a)) }
+    ensures overflow { misfit_of result ≡ first_misfit (square_calculations (term_of a)) }
     ensures caused { IfErr result (λ e. DoesNotFit e.op (value_of e.a) (value_of e.b)) }
 {
     let coefficient = a.coefficient();

@@ -1,10 +1,13 @@
 //! Products of two terms.
-ghost use Rattle.std.specs.Prelude.{◌≡◌, ◌↔◌, ◌*◌, ◌<◌, ◌≤◌, ◌^◌, IsErr, IfOk, IfErr, [], ◌∷◌};
+ghost use Rattle.std.specs.Prelude.{◌≡◌, ◌↔◌, ◌*◌, ◌/◌, pos, ◌<◌, ◌≤◌, ◌^◌, IsErr, IfOk, IfErr, [], ◌∷◌};
 ghost use Rattle.calc_algebra.specs.Clean.{IsClean};
+ghost use Rattle.calc_terms.specs.Fractions.{whole_fraction};
+ghost use Rattle.calc_terms.specs.Gcd.{gcd as gcd_of};
 ghost use Rattle.calc_terms.specs.Rat.{value_of};
 ghost use Rattle.calc_algebra.specs.SquareClasses.{Same};
 ghost use Rattle.calc_algebra.specs.Surds.{term_times};
 ghost use Rattle.rational128.specs.Refusals.{DoesNotFit};
+ghost use Rattle.surd_terms.specs.Calculations.{calculation, first_misfit, misfit_of, IsProductMisfit};
 ghost use Rattle.surd_terms.specs.Products.{IsExtracted, HasRational};
 ghost use Rattle.surd_terms.specs.Terms.{coefficient_of, term_of};
 
@@ -26,6 +29,7 @@ pub fn product(a: Term, b: Term) -> Result<Term, Overflow>
     ensures named { HasRational (term_of a) (term_of b)
         → IfErr result (λ e. e ≡ record { op = Op.Mul; a = coefficient_of a; b = coefficient_of b }) }
 
+    ensures overflow { IsProductMisfit (term_of a) (term_of b) (misfit_of result) }
     ensures caused { IfErr result (λ e. DoesNotFit e.op (value_of e.a) (value_of e.b)) }
 {
     let coefficient = mul(a.coefficient(), b.coefficient())?;
@@ -50,6 +54,7 @@ fn square_part(r: u128, s: u128) -> Result<(u128, u128), Overflow>
     ensures root_fits { IfOk result (λ p. p.0 < 2 ^ 127) }
     ensures clean { IfOk result (λ p. IsClean p.1) }
     ensures fits { IfOk result (λ p. p.1 < 2 ^ 127) }
+    ensures overflow { misfit_of result ≡ first_misfit (calculation Op.Mul (whole_fraction (pos (r / gcd_of r s))) (whole_fraction (pos (s / gcd_of r s))) ∷ []) }
     ensures caused { IfErr result (λ e. DoesNotFit e.op (value_of e.a) (value_of e.b)) }
 {
     // r * s may not fit where the product without the square of what they share does.

@@ -5,6 +5,7 @@ ghost use Rattle.calc_terms.specs.Rat.{value_of};
 ghost use Rattle.calc_algebra.specs.SquareClasses.{are_alike};
 ghost use Rattle.calc_algebra.specs.Surds.{term};
 ghost use Rattle.rational128.specs.Refusals.{DoesNotFit};
+ghost use Rattle.surd_terms.specs.Calculations.{first_misfit, misfit_of, joining_calculations};
 ghost use Rattle.surd_terms.specs.Sums.{Joins, IfTerm, IsSum, ComesTo};
 ghost use Rattle.surd_terms.specs.Terms.{coefficient_of, term_of};
 
@@ -38,6 +39,7 @@ pub fn join(a: Term, b: Term) -> Result<Joined, Overflow>
     ensures named { (term_of a).radicand ≡ (term_of b).radicand
         → IfErr result (λ e. e ≡ record { op = Op.Add; a = coefficient_of a; b = coefficient_of b }) }
 
+    ensures overflow { misfit_of result ≡ first_misfit (joining_calculations (term_of a) (term_of b)) }
     ensures caused { IfErr result (λ e. DoesNotFit e.op (value_of e.a) (value_of e.b)) }
 {
     if a.radicand() == b.radicand() {

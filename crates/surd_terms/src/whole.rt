@@ -1,9 +1,10 @@
 //! Whole numbers as rationals.
-ghost use Rattle.std.specs.Prelude.{◌≡◌, ◌↔◌, ◌*◌, ◌<◌, ◌^◌, pos, IsErr, IfOk, IfErr};
+ghost use Rattle.std.specs.Prelude.{◌≡◌, ◌↔◌, ◌*◌, ◌<◌, ◌^◌, pos, IsErr, IfOk, IfErr, [], ◌∷◌};
 ghost use Rattle.calc_terms.specs.Fractions.{whole_fraction};
 ghost use Rattle.calc_terms.specs.Rat.{ratio_of, value_of};
 ghost use Rattle.calc_terms.specs.Ratio.{whole as whole_ratio};
 ghost use Rattle.rational128.specs.Refusals.{DoesNotFit};
+ghost use Rattle.surd_terms.specs.Calculations.{calculation, first_misfit, misfit_of};
 
 use calc_terms::Rat;
 use rational128::{Op, Overflow, mul};
@@ -24,6 +25,7 @@ pub(crate) fn whole_product(m: u128, n: u128) -> Result<u128, Overflow>
     ensures product { IfOk result (λ p. p ≡ m * n) }
     ensures fits { IfOk result (λ p. p < 2 ^ 127) }
     ensures refused { IsErr result ↔ DoesNotFit Op.Mul (whole_fraction (pos m)) (whole_fraction (pos n)) }
+    ensures overflow { misfit_of result ≡ first_misfit (calculation Op.Mul (whole_fraction (pos m)) (whole_fraction (pos n)) ∷ []) }
     ensures operation { IfErr result (λ e. e.op ≡ Op.Mul) }
     ensures first { IfErr result (λ e. ratio_of e.a ≡ whole_ratio (pos m)) }
     ensures second { IfErr result (λ e. ratio_of e.b ≡ whole_ratio (pos n)) }

@@ -12,7 +12,7 @@ use calc_terms::Rat;
 use node_pool::Pool;
 use rational128::Op;
 use std::test::Fail;
-use tree_handles::{Handle, NumberFault, number};
+use tree_handles::{Handle, NumberFault, move_last, number};
 
 /// What is asked of the pool.
 #[derive(Clone, Copy, Debug)]
@@ -140,7 +140,10 @@ fn inverted(pool: &mut Pool, number: Handle) -> Result<Handle, NumberFault>
     match invert_number(pool, number)? {
         Inverse::Value(inverse) => Ok(inverse),
         Inverse::Zero => zero(pool),
-        Inverse::Wide(number) => Ok(number),
+        Inverse::Wide(number) => {
+            move_last(pool, &number);
+            Ok(number)
+        }
     }
 }
 

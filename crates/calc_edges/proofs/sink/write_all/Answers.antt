@@ -14,13 +14,13 @@ front_of_rest all rest n m is_rest = take-add n m all ∙ ap (λ l. take n all +
 
 pub loop-rest-preserved : goal.loop-rest-preserved
 loop-rest-preserved g c =
-    let (n, within, is_rest, appended, later) = c.loop-rest.invariant in
-    let m = c.in_ok-count.count in
+    let (n, within, is_rest, appended, calm) = c.loop-rest.invariant in
+    let m = c.in-Ok.count in
     let all = c.args.bytes.now in
     let rest = c.loop-rest.rest.now in (
       n + m,
-      omega (arith, ap length is_rest, length-drop n all, c.in_ok-count.ensures.bound),
+      omega (arith, ap length is_rest, length-drop n all, c.in-Ok.ensures.bound),
       left_of_rest all rest n m is_rest,
-      subst (Appends _ _) (sym (front_of_rest all rest n m is_rest)) (Appends-trans _ _ _ _ _ appended c.in_ok-count.ensures.appended),
-      omega (arith, c.write.ensures.cause.later),
+      subst (Appends _ _) (sym (front_of_rest all rest n m is_rest)) (Appends-trans _ _ _ _ _ appended c.in-Ok.ensures.appended),
+      c.in-Ok.ensures.cause.calm ∙ calm,
     )

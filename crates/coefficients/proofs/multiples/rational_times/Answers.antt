@@ -1,6 +1,10 @@
 use Rattle.std.proofs.Common.{ap, ◌∙◌, sym, refl}
 use Rattle.calc_terms.specs.Rat.{value_of}
+use Rattle.calc_terms.specs.Fractions.{Fraction}
 use Rattle.calc_terms.specs.Trees.{num}
+use Rattle.coefficients.specs.Overflows.{Leads, IsMultiple}
+use Rattle.coefficients.proofs.Named.{named, multiple_named, leads_number}
+use Rattle.tree_handles.specs.Handed.{tree_of}
 use Rattle.tree_handles.proofs.Fronts.{behind_first, front_after, front_at, front_same, front_without}
 use Rattle.tree_handles.proofs.Given.{gives_as, owned}
 use Rattle.coefficients.proofs.LedFactors.{times_number, times_product, times_other}
@@ -46,5 +50,13 @@ returns-in_ok-put_before-in_default c =
       kept = put.kept;
       faults = tt;
       caused = tt;
+      named = tt;
       stands = put.stands;
     }
+
+pub returns-in_err-product-in-Num-clause-named : goal.returns-in_err-product-in-Num-clause-named
+returns-in_err-product-in-Num-clause-named c =
+    let was = sym (seen c.id-in-Num.ensures c.requires.stands c.requires.handed) ∙ c.rational.ensures.plain in
+    let L : Fraction → Type 0 = λ x. Leads x (tree_of c.args.term c.args.pool.now) in
+    named c.from_residual.result c.in_err-product-in-Num.field-0.0 (IsMultiple (value_of c.args.q) L) c.from_residual.ensures.1
+    (multiple_named L c.in_err-product-in-Num.field-0.0 c.in_err-product-in-Num.ensures.named (leads_number (value_of c.rational.result) (value_of c.rational.result) _ was refl))

@@ -2,6 +2,10 @@ use Rattle.std.proofs.Common.{◌≤◌, ap, ◌∙◌, sym, subst, arith, inl, 
 use Rattle.calc_terms.specs.Rat.{value_of}
 use Rattle.calc_algebra.specs.Reduced.{product_tree}
 use Rattle.calc_terms.specs.Trees.{Tree, num, mult, more, count, is_mult, root_kind}
+use Rattle.calc_terms.specs.Fractions.{Fraction}
+use Rattle.coefficients.specs.Overflows.{Leads, IsMultiple}
+use Rattle.coefficients.proofs.Named.{named, multiple_named, leads_children}
+use Rattle.tree_handles.specs.Handed.{tree_of}
 use Rattle.tree_handles.specs.Expressions.{children_of}
 use Rattle.tree_handles.specs.Roots.{without_root}
 use Rattle.tree_handles.specs.Standing.{forest}
@@ -120,5 +124,13 @@ returns-in_ok-put_first-in_default c =
       kept = put.kept;
       faults = tt;
       caused = tt;
+      named = tt;
       stands = put.stands;
     }
+
+pub returns-in_err-leading-in-Num-clause-named : goal.returns-in_err-leading-in-Num-clause-named
+returns-in_err-leading-in-Num-clause-named c =
+    let l = first_led c.child_id-first.result c.id.ensures c.requires.stands c.requires.handed c.requires.product c.requires.reduced c.child_id-first.ensures.plain c.rational.ensures.plain in
+    let L : Fraction → Type 0 = λ x. Leads x (tree_of c.args.product c.args.pool.now) in
+    named c.from_residual.result c.in_err-leading-in-Num.field-0.0 (IsMultiple (value_of c.args.q) L) c.from_residual.ensures.1
+    (multiple_named L c.in_err-leading-in-Num.field-0.0 c.in_err-leading-in-Num.ensures.named (leads_children (value_of c.rational.result) _ l.rest c.requires.product l.whole))

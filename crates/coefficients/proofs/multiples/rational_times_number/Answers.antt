@@ -1,4 +1,4 @@
-use Rattle.std.proofs.Common.{ap, ◌∙◌, refl, arith}
+use Rattle.std.proofs.Common.{ap, ◌∙◌, refl, sym, subst, arith}
 use Rattle.calc_terms.specs.Rat.{value_of}
 use Rattle.calc_algebra.specs.Reduced.{is_reduced}
 use Rattle.tree_handles.proofs.Forests.{keeps_none, keeps_after}
@@ -6,6 +6,8 @@ use Rattle.tree_handles.proofs.Given.{given_handed, given_root, given_told}
 use Rattle.tree_handles.proofs.Roots.{root_held}
 use Rattle.coefficients.specs.Multiples.{rational_times}
 use Rattle.coefficients.proofs.Loops.{none_done, next_term, next_within, back_within, next_taken, next_done, all_done, part_front}
+use Rattle.coefficients.specs.Overflows.{Leads, LeadsIn}
+use Rattle.coefficients.proofs.Named.{passed_named, multiple_of, leads_behind}
 use Rattle.coefficients.proofs.Places.{over_sum}
 use Rattle.coefficients.proofs.Rewritten.{given_as, over_back, apart_back, front_lost, term_reduced}
 use Rattle.coefficients.proofs.Steps.{live, children_at, children_in, moved, moved_front}
@@ -98,3 +100,11 @@ returns-clause-front c =
     let many = c.children-terms.ensures.value ∙ children_at (over_sum c.requires.handed c.requires.sum) c.requires.stands c.id.ensures in
     let p = all_done c.loop-at.invariant.part (omega (arith, many, c.loop-at-test.false)) in
     moved_front p c.move_last.ensures.last
+
+pub returns-in_err-multiple-clause-named : goal.returns-in_err-multiple-clause-named
+returns-in_err-multiple-clause-named c =
+    let many = c.children-terms.ensures.value ∙ children_at (over_sum c.requires.handed c.requires.sum) c.requires.stands c.id.ensures in
+    let n = next_term c.loop-at.invariant.part (omega (arith, many, c.loop-at-test.true)) in
+    let a = next_taken n (c.take_child-term.ensures.last n.over.root) in
+    passed_named c.from_residual.result c.in_err-multiple.field-0.0 _ _ c.from_residual.ensures.1 c.in_err-multiple.ensures.named
+    (multiple_of (λ x h. subst (LeadsIn Leads x) (sym n.split) (leads_behind Leads x n.done n.t n.rest (subst (Leads x) (given_told a.gives) h))))

@@ -1,4 +1,4 @@
-use Rattle.std.proofs.Common.{ap, ◌∙◌, sym, refl, arith}
+use Rattle.std.proofs.Common.{ap, ◌∙◌, sym, refl, subst, arith}
 use Rattle.calc_terms.specs.Rat.{value_of}
 use Rattle.calc_algebra.specs.Reduced.{is_reduced}
 use Rattle.calc_terms.specs.Trees.{Tree, add, none, is_add}
@@ -7,6 +7,8 @@ use Rattle.tree_handles.proofs.Fronts.{front_same}
 use Rattle.tree_handles.proofs.Given.{gives_as, given_handed, given_root, given_told}
 use Rattle.tree_handles.proofs.Roots.{root_held}
 use Rattle.coefficients.specs.Multiples.{leads_sum, rational_times_number}
+use Rattle.coefficients.specs.Overflows.{Leads, LeadsIn}
+use Rattle.coefficients.proofs.Named.{passed_named, multiple_of, leads_coefficient}
 use Rattle.coefficients.proofs.LedFactors.{sum_led, led_over, led_reduced, times_led, times_sum_unled}
 use Rattle.coefficients.proofs.Places.{taken}
 use Rattle.coefficients.proofs.Rewritten.{given_as, over_back, apart_back, put_back, front_lost}
@@ -101,3 +103,11 @@ returns-clause-front c =
     let g = given_as c.in_ok-multiple.ensures.ok (ap (λ (u : Tree). rational_times_number (value_of c.args.q) (children_of u)) (given_told a.gives)) in
     let p = put_back o a g (c.add_child.ensures.root (over_back o a g).root) refl in
     moved_front p c.move_last.ensures.last
+
+pub returns-in_err-multiple-clause-named : goal.returns-in_err-multiple-clause-named
+returns-in_err-multiple-clause-named c =
+    let l = sum_led _ (ap leads_sum (sym (seen c.id.ensures c.requires.stands c.requires.handed)) ∙ sym c.if-not-is_led_by_sum.ensures) in
+    let o = led_over l c.requires.handed in
+    let a = taken 0 none (add l.terms) l.rest o refl (c.take_child-coefficient.ensures.last c.requires.handed.root) in
+    passed_named c.from_residual.result c.in_err-multiple.field-0.0 _ _ c.from_residual.ensures.1 c.in_err-multiple.ensures.named
+    (multiple_of (λ x h. leads_coefficient x _ l.terms l.rest l.whole l.number (subst (λ (u : Tree). LeadsIn Leads x (children_of u)) (given_told a.gives) h)))

@@ -9,6 +9,7 @@ use Rattle.tree_handles.proofs.Given.{gives_as, handed_at, handed_beside, owned}
 use Rattle.tree_handles.proofs.Outcomes.{eqb-sym}
 use Rattle.tree_handles.proofs.Roots.{tree-without, without-swap}
 use Rattle.coefficients.specs.Coefficients.{with_coefficient}
+use Rattle.coefficients.proofs.Named.{result_named, put_as}
 use Rattle.coefficients.proofs.Puttings.{on_ok_after, fault_after, with_irrational}
 use Rattle.coefficients.proofs.Steps.{live, seen, kind_of_root, if_map}
 use Rattle.coefficients.proofs.putting.put_coefficient.Goals as goal
@@ -57,5 +58,13 @@ returns-in_ok-splice-in_default c =
       kept = splice.kept;
       faults = tt;
       caused = tt;
+      named = tt;
       stands = splice.stands;
     }
+
+pub returns-in-Num-clause-named : goal.returns-in-Num-clause-named
+returns-in-Num-clause-named c =
+    let gone = c.release.ensures.owned (owned c.requires.first) in
+    let same = ap (λ (f : Forest). plain (root_tree c.args.part f)) gone ∙ ap plain (tree-without c.args.coefficient c.args.part (forest c.args.pool.now) c.requires.apart) in
+    let was = sym c.rational-q.ensures.plain ∙ seen c.id-in-Num.ensures c.requires.stands c.requires.first in
+    result_named c.put_rational.result _ _ c.put_rational.ensures.named (λ o h. put_as o was same h)

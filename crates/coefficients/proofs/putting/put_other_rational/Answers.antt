@@ -1,6 +1,7 @@
 use Rattle.std.proofs.Common.{◌∙◌, sym, refl}
 use Rattle.calc_terms.specs.Rat.{value_of}
 use Rattle.tree_handles.proofs.Given.{gives_as}
+use Rattle.coefficients.proofs.Named.{result_named, names_sum}
 use Rattle.coefficients.proofs.Puttings.{before_sum, before_other}
 use Rattle.coefficients.proofs.Steps.{live, kind_of_root, sum_kind, no_sum_kind, if_map}
 use Rattle.coefficients.proofs.putting.put_other_rational.Goals as goal
@@ -27,5 +28,11 @@ returns-in_ok-put_before-in_default c =
       kept = put.kept;
       faults = tt;
       caused = tt;
+      named = tt;
       stands = put.stands;
     }
+
+pub returns-in-Add-clause-named : goal.returns-in-Add-clause-named
+returns-in-Add-clause-named c =
+    let m = sum_kind _ (sym c.in-Add.is ∙ kind_of_root {k = c.kind.result} c.id.ensures c.requires.stands c.requires.handed c.kind.ensures.plain) in
+    result_named c.distribute.result _ _ c.distribute.ensures.named (names_sum (value_of c.args.q) _ m)

@@ -80,6 +80,6 @@ returns-in_ok-product-in_default c =
           (front_after_one (behind_later behind_first) front_same c.as_product-in_default.ensures.front) c.put_factor-spliced.ensures.front;
       kept = keeps_after _ _ _ node.kept c.put_factor-spliced.ensures.kept;
       full = tt;
-      caused = tt;
+      exactly = node.exactly;
       stands = c.put_factor-spliced.ensures.stands;
     }

@@ -2,12 +2,13 @@ use Rattle.std.proofs.Common.{◌≤◌, ◌∙◌, ap, refl, sym, subst}
 use Rattle.calc_algebra.specs.Reduced.{product_tree}
 use Rattle.calc_terms.specs.Trees.{Tree, num, count, is_mult}
 use Rattle.tree_handles.specs.Expressions.{plain, children_of}
-use Rattle.tree_handles.proofs.Forests.{keeps_after}
+use Rattle.tree_handles.proofs.Forests.{keeps_none, keeps_after}
 use Rattle.tree_handles.proofs.Fronts.{behind_first, behind_new, front_after_one, front_same, front_end, front_without}
 use Rattle.tree_handles.proofs.Given.{gives, gives_as, given_handed, given_other, given_rest, given_same, given_told, represents_handed}
 use Rattle.tree_handles.proofs.Lasts.{other_root}
 use Rattle.tree_handles.specs.Roots.{without_root}
 use Rattle.tree_handles.specs.Standing.{forest}
+use Rattle.coefficients.proofs.Bytes.{taking_product, taking_other, as_bytes, never, refused_once, short, short_as, passed_short}
 use Rattle.coefficients.proofs.Lengths.{some_factors, product_coefficient, product_part, other_coefficient, other_part}
 use Rattle.coefficients.proofs.Steps.{live, kind_of_root, product_kind, no_product_kind, gives_without, one_value}
 use Rattle.coefficients.proofs.taking.take_coefficient.Goals as goal
@@ -65,6 +66,28 @@ returns-in_ok-one-in_default c =
       front = front_end c.move_last.ensures.last (front_without behind_first (front_end one.ok front_same));
       kept = keeps_after _ _ _ one.kept c.move_last.ensures.kept;
       full = tt;
-      caused = tt;
+      exactly = as_bytes (taking_other _ m) one.exactly;
       stands = c.move_last.ensures.stands;
     }
+
+pub returns-in_err-coefficient-in-Mult-clause-full : goal.returns-in_err-coefficient-in-Mult-clause-full
+returns-in_err-coefficient-in-Mult-clause-full c =
+    let m = product_kind _ (sym c.in-Mult.is ∙ kind_of_root {k = c.kind.result} c.id.ensures c.requires.stands c.requires.handed c.kind.ensures.plain) in
+    passed_short c.from_residual.result c.in_err-coefficient-in-Mult.field-0.0 c.from_residual.ensures.1 (short_as (taking_product _ m) c.in_err-coefficient-in-Mult.ensures.full)
+
+pub returns-in_ok-coefficient-in-Mult-clause-exactly : goal.returns-in_ok-coefficient-in-Mult-clause-exactly
+returns-in_ok-coefficient-in-Mult-clause-exactly c =
+    let m = product_kind _ (sym c.in-Mult.is ∙ kind_of_root {k = c.kind.result} c.id.ensures c.requires.stands c.requires.handed c.kind.ensures.plain) in
+    as_bytes (taking_product _ m) c.in_ok-coefficient-in-Mult.ensures.exactly
+
+pub returns-in_err-one-in_default-clause-full : goal.returns-in_err-one-in_default-clause-full
+returns-in_err-one-in_default-clause-full c =
+    let k = kind_of_root {k = c.kind.result} c.id.ensures c.requires.stands c.requires.handed c.kind.ensures.plain in
+    passed_short c.from_residual-in_err-one-in_default.result c.in_err-one-in_default.field-0.0 c.from_residual-in_err-one-in_default.ensures.1
+    (short (keeps_none c.args.pool.now) refl (taking_other _ (no_product_kind _ (λ e. c.in_default.not-Mult (k ∙ sym e)))) c.in_err-one-in_default.ensures.full)
+
+pub returns-in_err-one-in_default-clause-exactly : goal.returns-in_err-one-in_default-clause-exactly
+returns-in_err-one-in_default-clause-exactly c =
+    let k = kind_of_root {k = c.kind.result} c.id.ensures c.requires.stands c.requires.handed c.kind.ensures.plain in
+    never c.from_residual-in_err-one-in_default.result c.from_residual-in_err-one-in_default.ensures.0 (taking_other _ (no_product_kind _ (λ e. c.in_default.not-Mult (k ∙ sym e))))
+    (λ l. refused_once (c.in_err-one-in_default.ensures.exactly.1 l))

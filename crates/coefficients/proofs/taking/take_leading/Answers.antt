@@ -12,6 +12,8 @@ use Rattle.tree_handles.proofs.Given.{gives_as, given_rest, given_root}
 use Rattle.tree_handles.proofs.Lasts.{last_held, last_apart, other_root, ends_as}
 use Rattle.tree_handles.proofs.Roots.{put-same}
 use Rattle.coefficients.specs.Pairs.{LeavesRest}
+use Rattle.tree_handles.proofs.Forests.{keeps_after}
+use Rattle.coefficients.proofs.Bytes.{none_bytes, one_bytes, two_bytes, pair_free, always, never, no_bytes, as_bytes, refused_once, short, passed_short, result_short}
 use Rattle.coefficients.proofs.Lengths.{long, measured}
 use Rattle.coefficients.proofs.Places.{IsOver, over_product}
 use Rattle.coefficients.proofs.Steps.{expression, seen, length_seen, children_in, leaves_one, first_taken, pair_taken, pair_front, paired, if_map, one_value}
@@ -110,3 +112,45 @@ returns-clause-front c =
     let p = pair_taken t.start (c.take_child-rational.ensures.last c.requires.handed.root) (c.take_child-root.ensures.last t.over.root) in
     let x = paired p (c.add_child.ensures.last _ _ c.in_ok-coefficient.ensures.ok (given_root p.second)) (λ others e r. c.add_child-2.ensures.last _ others e r) in
     front_end x.given.ends (front_put x.now behind_first front_same)
+
+pub returns-then-length-eq0-clause-full : goal.returns-then-length-eq0-clause-full
+returns-then-length-eq0-clause-full c =
+    let n = length_seen c.id.ensures c.requires.stands c.requires.handed c.coefficient_length-length.ensures ∙ c.if-length-eq0.true in
+    result_short _ c.args.pool.now c.number.new.pool c.number.result (none_bytes _ n) c.number.ensures.full
+
+pub returns-then-length-eq0-clause-exactly : goal.returns-then-length-eq0-clause-exactly
+returns-then-length-eq0-clause-exactly c =
+    let n = length_seen c.id.ensures c.requires.stands c.requires.handed c.coefficient_length-length.ensures ∙ c.if-length-eq0.true in
+    as_bytes (none_bytes _ n) c.number.ensures.exactly
+
+pub returns-then-length-eq1-clause-exactly : goal.returns-then-length-eq1-clause-exactly
+returns-then-length-eq1-clause-exactly c =
+    let n = length_seen c.id.ensures c.requires.stands c.requires.handed c.coefficient_length-length.ensures ∙ c.if-length-eq1.true in
+    always (one_bytes _ n) no_bytes
+
+pub returns-in_err-coefficient-clause-full : goal.returns-in_err-coefficient-clause-full
+returns-in_err-coefficient-clause-full c =
+    let len = length_seen c.id.ensures c.requires.stands c.requires.handed c.coefficient_length-length.ensures in
+    let t = first_taken c.id.ensures c.requires.stands c.requires.handed c.requires.product c.requires.reduced c.coefficient_length-length.ensures c.if-length-eq0.false c.if-length-eq1.false (c.take_child-rational.ensures.last c.requires.handed.root) in
+    let p = pair_taken t.start (c.take_child-rational.ensures.last c.requires.handed.root) (c.take_child-root.ensures.last t.over.root) in
+    let kept = keeps_after _ _ _ c.take_child-rational.ensures.kept c.take_child-root.ensures.kept in
+    passed_short c.from_residual.result c.in_err-coefficient.field-0.0 c.from_residual.ensures.1
+    (short kept (pair_free c.requires.stands c.take_child-root.ensures.stands kept t.start p) (two_bytes _ (λ x. c.if-length-eq0.false (sym len ∙ x)) (λ x. c.if-length-eq1.false (sym len ∙ x))) c.in_err-coefficient.ensures.full)
+
+pub returns-in_err-coefficient-clause-exactly : goal.returns-in_err-coefficient-clause-exactly
+returns-in_err-coefficient-clause-exactly c =
+    let len = length_seen c.id.ensures c.requires.stands c.requires.handed c.coefficient_length-length.ensures in
+    let t = first_taken c.id.ensures c.requires.stands c.requires.handed c.requires.product c.requires.reduced c.coefficient_length-length.ensures c.if-length-eq0.false c.if-length-eq1.false (c.take_child-rational.ensures.last c.requires.handed.root) in
+    let p = pair_taken t.start (c.take_child-rational.ensures.last c.requires.handed.root) (c.take_child-root.ensures.last t.over.root) in
+    let free = pair_free c.requires.stands c.take_child-root.ensures.stands (keeps_after _ _ _ c.take_child-rational.ensures.kept c.take_child-root.ensures.kept) t.start p in
+    never c.from_residual.result c.from_residual.ensures.0 (two_bytes _ (λ x. c.if-length-eq0.false (sym len ∙ x)) (λ x. c.if-length-eq1.false (sym len ∙ x)))
+    (λ l. refused_once (c.in_err-coefficient.ensures.exactly.1 (omega (arith, l, free))))
+
+pub returns-clause-exactly : goal.returns-clause-exactly
+returns-clause-exactly c =
+    let len = length_seen c.id.ensures c.requires.stands c.requires.handed c.coefficient_length-length.ensures in
+    let t = first_taken c.id.ensures c.requires.stands c.requires.handed c.requires.product c.requires.reduced c.coefficient_length-length.ensures c.if-length-eq0.false c.if-length-eq1.false (c.take_child-rational.ensures.last c.requires.handed.root) in
+    let p = pair_taken t.start (c.take_child-rational.ensures.last c.requires.handed.root) (c.take_child-root.ensures.last t.over.root) in
+    let free = pair_free c.requires.stands c.take_child-root.ensures.stands (keeps_after _ _ _ c.take_child-rational.ensures.kept c.take_child-root.ensures.kept) t.start p in
+    let room = c.in_ok-coefficient.ensures.exactly.0 refl in
+    always (two_bytes _ (λ x. c.if-length-eq0.false (sym len ∙ x)) (λ x. c.if-length-eq1.false (sym len ∙ x))) (omega (arith, room, free))

@@ -1,4 +1,6 @@
-use Rattle.std.proofs.Common.{sym, ap, ◌∙◌}
+use Rattle.std.proofs.Common.{◌≡◌, true, sym, ap, ◌∙◌}
+use Rattle.std.specs.Prelude.{◌&&◌}
+use Rattle.tree_handles.specs.Handed.{tree_of}
 use Rattle.calc_terms.specs.Trees.{is_num}
 use Rattle.number_forms.proofs.SumChanges.{same_plain, read_expression}
 use Rattle.number_forms.proofs.adding.add_numbers.Goals as goal
@@ -28,3 +30,10 @@ returns-else-is_rational-clause-rationals c = λ p q k l.
           let read = c.is_rational.ensures ∙ ap is_num (same_plain _ c.args.a c.args.pool.now c.id.ensures c.requires.stands c.requires.first.root) in
           cc (read ∙ ap is_num k, w.if-is_rational.false)
     ])
+
+pub returns-then-is_rational-2-clause-overflow : goal.returns-then-is_rational-2-clause-overflow
+returns-then-is_rational-2-clause-overflow c = λ other.
+    let first = sym (c.is_rational.ensures ∙ ap is_num (same_plain _ c.args.a c.args.pool.now c.id.ensures c.requires.stands c.requires.first.root)) ∙ c.if-is_rational.true in
+    let second = sym (c.is_rational-then-is_rational.ensures ∙ ap is_num (same_plain _ c.args.b c.args.pool.now c.id-then-is_rational.ensures c.requires.stands c.requires.second.root)) ∙ c.if-is_rational-2.true in
+    let both : (is_num (tree_of c.args.a c.args.pool.now) && is_num (tree_of c.args.b c.args.pool.now)) ≡ true = λ i. first i && second i in
+    absurd (cc (both, other))

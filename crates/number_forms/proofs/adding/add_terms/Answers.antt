@@ -10,6 +10,8 @@ use Rattle.tree_handles.specs.Standing.{forest}
 use Rattle.tree_handles.proofs.Fronts.{behind_first, behind_later, behind_new, front_same, front_at, front_without, front_after_one}
 use Rattle.tree_handles.proofs.Given.{given_told, given_rest, given_other, gives_as, handed_beside, handed_at, owned}
 use Rattle.tree_handles.proofs.Roots.{tree-without}
+use Rattle.number_forms.specs.Overflows.{OfOverflow, SumOverflows}
+use Rattle.number_forms.proofs.Overflows.{passed_on, overflow_as, sum_overflows_as}
 use Rattle.number_forms.proofs.adding.add_terms.Goals as goal
 
 pub join_terms-requires-clause-sum : goal.join_terms-requires-clause-sum
@@ -62,3 +64,11 @@ returns-clause-ok c =
     let same : tree_of c.id.result c.sum_over.new.pool ≡ tree_of c.args.b c.args.pool.now = ap (λ (i : ℕ). tree_of i c.sum_over.new.pool) c.id.ensures ∙ other_plain c.args.b sum beside.root ∙ ap plain (tree-without c.args.a c.args.b (forest c.args.pool.now) c.requires.apart) in
     let worth = Same-trans (given_told left).worth (Same-append (given_told sum).worth (Same-eq (ap value same))) in
     gives_as c.in_ok-number_of.ensures.ok (given_rest left ∙ ap (without_root c.args.b) (given_rest sum)) (λ t h. number_as h worth)
+
+pub returns-in_err-join_terms-clause-overflow : goal.returns-in_err-join_terms-clause-overflow
+returns-in_err-join_terms-clause-overflow c =
+    let beside = handed_beside c.args.a c.requires.apart c.requires.second in
+    let sum = c.in_ok-sum.ensures.ok in
+    let same : tree_of c.id.result c.sum_over.new.pool ≡ tree_of c.args.b c.args.pool.now = ap (λ (i : ℕ). tree_of i c.sum_over.new.pool) c.id.ensures ∙ other_plain c.args.b sum beside.root ∙ ap plain (tree-without c.args.a c.args.b (forest c.args.pool.now) c.requires.apart) in
+    passed_on c.from_residual-in_err-join_terms.result c.in_err-join_terms.field-0.0 (OfOverflow (SumOverflows (value (tree_of c.args.a c.args.pool.now)) (value (tree_of c.args.b c.args.pool.now)))) c.from_residual-in_err-join_terms.ensures.0 c.from_residual-in_err-join_terms.ensures.1
+    (overflow_as c.in_err-join_terms.field-0.0 c.in_err-join_terms.ensures.overflow (λ o s. sum_overflows_as _ _ _ _ o (given_told sum).worth (ap value same) s))

@@ -9,6 +9,9 @@ use Rattle.tree_handles.specs.Handed.{tree_of}
 use Rattle.surd_terms.specs.Terms.{term_of}
 use Rattle.tree_handles.proofs.Given.{given_other}
 use Rattle.tree_handles.proofs.Lasts.{plain_root}
+use Rattle.number_forms.specs.Overflows.{OfOverflow, SumOverflows}
+use Rattle.number_forms.proofs.Overflows.{passed_on, overflow_as}
+use Rattle.tree_handles.proofs.Given.{given_told}
 use Rattle.number_forms.proofs.adding.join_terms.Goals as goal
 
 pub term_count-at-end-requires-clause-expression : goal.term_count-at-end-requires-clause-expression
@@ -50,3 +53,20 @@ returns-clause-ok c =
     let all = ap classes (plain_root c.args.number c.requires.stands (given_other c.requires.sum c.requires.handed).root) in
     let end : length (value (tree_of c.args.number c.args.pool.now)) ≤ c.loop-at.at = omega (arith, all, c.term_count-at-end.ensures, c.loop-at-test.false) in
     joined_all c.loop-at.invariant (from_all (value (tree_of c.args.number c.args.pool.now)) c.loop-at.at end)
+
+pub returns-in_err-join_term-clause-overflow : goal.returns-in_err-join_term-clause-overflow
+returns-in_err-join_term-clause-overflow c =
+    let number : Tree = tree_of c.args.number c.args.pool.now in
+    let same = other_read c.args.number c.loop-at.pool c.loop-at.invariant.stands c.loop-at.invariant.gives c.requires.handed ∙ sym (other_plain c.args.number c.requires.sum c.requires.handed.root) in
+    let here : slice_get (value number) c.loop-at.at ≡ Some (term_of c.nth_term-term.result) = ap (λ (t : Tree). slice_get (value t) c.loop-at.at) (sym same) ∙ c.nth_term-term.ensures in
+    let told = given_told c.loop-at.invariant.gives in
+    passed_on c.from_residual.result c.in_err-join_term.field-0.0 (OfOverflow (SumOverflows (value (tree_of c.args.sum.now c.args.pool.now)) (value number))) c.from_residual.ensures.0 c.from_residual.ensures.1
+    (overflow_as c.in_err-join_term.field-0.0 c.in_err-join_term.ensures.overflow (λ o j. record {
+      at = c.loop-at.at;
+      next = term_of c.nth_term-term.result;
+      here = here;
+      partial = tree_of c.args.sum.now c.loop-at.pool;
+      sum = told.sum;
+      worth = told.worth;
+      joined = j;
+    }))

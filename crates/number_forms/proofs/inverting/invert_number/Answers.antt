@@ -2,8 +2,8 @@ use Rattle.std.proofs.Common.{◌≡◌, ◌≢◌, ◌≤◌, ℕ, refl, sym, a
 use Rattle.calc_algebra.specs.Numbers.{is_number, classes}
 use Rattle.number_forms.proofs.SumChanges.{same_plain, read_expression}
 use Rattle.tree_handles.specs.Handed.{tree_of}
-use Rattle.tree_handles.proofs.Fronts.{behind_first, front_same, front_at, front_end, front_without}
-use Rattle.tree_handles.proofs.Given.{represents_handed, gives, owned}
+use Rattle.tree_handles.proofs.Fronts.{behind_first, front_same, front_at, front_without}
+use Rattle.tree_handles.proofs.Given.{owned}
 use Rattle.number_forms.proofs.inverting.invert_number.Goals as goal
 
 three_from : (n : ℕ) → n ≢ 0 → n ≢ 1 → n ≢ 2 → 3 ≤ n
@@ -43,7 +43,4 @@ pub returns-else-terms-eq2-clause-ok : goal.returns-else-terms-eq2-clause-ok
 returns-else-terms-eq2-clause-ok c =
     let all : c.term_count-terms.result ≡ classes (tree_of c.args.a c.args.pool.now) = c.term_count-terms.ensures ∙ ap classes (same_plain _ c.args.a c.args.pool.now c.id.ensures c.requires.stands c.requires.handed.root) in
     let many : 3 ≤ c.term_count-terms.result = three_from c.term_count-terms.result c.if-terms-eq0.false c.if-terms-eq1.false c.if-terms-eq2.false in
-    (omega (arith, all, many), gives c.move_last.ensures.last (represents_handed c.requires.handed) refl)
-
-pub returns-else-terms-eq2-clause-front : goal.returns-else-terms-eq2-clause-front
-returns-else-terms-eq2-clause-front c = front_end c.move_last.ensures.last (front_without behind_first front_same)
+    (omega (arith, all, many), refl, refl)

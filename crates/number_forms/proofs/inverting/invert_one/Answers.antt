@@ -8,6 +8,10 @@ use Rattle.tree_handles.specs.Handed.{tree_of}
 use Rattle.surd_terms.specs.Terms.{term_of}
 use Rattle.tree_handles.proofs.Fronts.{behind_first, front_same, front_at, front_without, front_after}
 use Rattle.tree_handles.proofs.Given.{gives_as, owned}
+use Rattle.number_forms.specs.Overflows.{OfOverflow, InverseOverflows, inverting_calculations}
+use Rattle.number_forms.proofs.Overflows.{passed_on}
+use Rattle.surd_terms.specs.Calculations.{first_misfit}
+use Rattle.tree_handles.specs.declared.fault.NumberFault.TheVariants as fault
 use Rattle.number_forms.proofs.inverting.invert_one.Goals as goal
 
 pub nth_term-requires-clause-expression : goal.nth_term-requires-clause-expression
@@ -34,3 +38,11 @@ returns-clause-ok c =
     let first : slice_get (value (tree_of c.args.a c.args.pool.now)) 0 ≡ Some x = ap (λ (t : Tree). slice_get (value t) 0) (sym same) ∙ c.nth_term.ensures in
     gives_as c.in_ok-place_term.ensures.ok (c.release.ensures.owned (owned c.requires.handed))
     (λ t h. inverse_term (value (tree_of c.args.a c.args.pool.now)) t x (term_of c.in_ok-inverse.inverse) (only_term (value (tree_of c.args.a c.args.pool.now)) x c.requires.classes first) c.in_ok-inverse.ensures.inverts h.0 h.1)
+
+pub returns-in_err-inverse-clause-overflow : goal.returns-in_err-inverse-clause-overflow
+returns-in_err-inverse-clause-overflow c =
+    let same = same_plain _ c.args.a c.args.pool.now c.id.ensures c.requires.stands c.requires.handed.root in
+    let x = term_of c.nth_term.result in
+    let first : slice_get (value (tree_of c.args.a c.args.pool.now)) 0 ≡ Some x = ap (λ (t : Tree). slice_get (value t) 0) (sym same) ∙ c.nth_term.ensures in
+    passed_on c.from_residual.result (fault.Overflow c.in_err-inverse.field-0.0) (OfOverflow (InverseOverflows (value (tree_of c.args.a c.args.pool.now)))) c.from_residual.ensures.0 c.from_residual.ensures.1
+    (c.in_err-inverse.ensures.overflow ∙ ap (λ v. first_misfit (inverting_calculations v)) (sym (only_term (value (tree_of c.args.a c.args.pool.now)) x c.requires.classes first)))

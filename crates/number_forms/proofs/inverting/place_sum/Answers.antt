@@ -1,45 +1,48 @@
-use Rattle.std.proofs.Common.{refl, sym, ap, ◌∙◌, subst}
-use Rattle.calc_algebra.specs.Numbers.{value}
-use Rattle.number_forms.specs.Sums.{IsSum}
-use Rattle.number_forms.proofs.InverseSteps.{joined_two}
-use Rattle.number_forms.proofs.Loops.{gives_rest, number_as}
-use Rattle.tree_handles.specs.Handed.{tree_of}
+use Rattle.std.proofs.Common.{◌≡◌, refl}
+use Rattle.calc_terms.specs.declared.kind.Kind.TheVariants as kind
+use Rattle.calc_terms.specs.Payload.{bare}
+use Rattle.calc_terms.specs.Trees.{Tree, add, more, none}
+use Rattle.number_forms.proofs.InverseSteps.{placed_two}
 use Rattle.surd_terms.specs.Terms.{term_of}
-use Rattle.tree_handles.proofs.Fronts.{behind_new, front_same, front_after_one}
-use Rattle.tree_handles.proofs.Given.{given_told, given_rest, gives_as}
+use Rattle.tree_handles.specs.Handed.{tree_of}
+use Rattle.tree_handles.proofs.Fronts.{behind_new, front_same, front_end, front_without}
+use Rattle.tree_handles.proofs.Given.{represents_none, represents_handed, represents_with, represents_node, gives, gives_as, given_root, given_handed, given_told, given_rest}
+use Rattle.tree_handles.proofs.Lasts.{last_held, last_apart, other_root, ends_as}
 use Rattle.number_forms.proofs.inverting.place_sum.Goals as goal
 
-pub join_term-requires-clause-sum : goal.join_term-requires-clause-sum
-join_term-requires-clause-sum c = gives_rest (c.in_ok-sum.ensures.given refl) (λ t e. subst IsSum (sym e) (tt, tt))
+pub add_child-requires-clause-live : goal.add_child-requires-clause-live
+add_child-requires-clause-live c = last_held c.in_ok-sum.ensures.ok
 
-pub returns-in_err-join_term-clause-front : goal.returns-in_err-join_term-clause-front
-returns-in_err-join_term-clause-front c = front_after_one (behind_new (c.in_ok-sum.ensures.given refl).ends front_same) c.node.ensures.front c.join_term.ensures.front
+pub add_child-requires-clause-root : goal.add_child-requires-clause-root
+add_child-requires-clause-root c = other_root c.in_ok-second.second c.in_ok-sum.ensures.ok (given_root c.in_ok-second.ensures.ok)
 
-pub join_term-requires-2-clause-sum : goal.join_term-requires-2-clause-sum
-join_term-requires-2-clause-sum c = gives_rest c.in_ok-join_term.ensures.ok (λ t h. h.sum)
+pub add_child-requires-clause-apart : goal.add_child-requires-clause-apart
+add_child-requires-clause-apart c = last_apart c.in_ok-second.second c.in_ok-sum.ensures.stands c.in_ok-sum.ensures.ok (given_root c.in_ok-second.ensures.ok)
 
-pub returns-in_err-join_term-2-clause-front : goal.returns-in_err-join_term-2-clause-front
-returns-in_err-join_term-2-clause-front c =
-    let sum = behind_new (c.in_ok-sum.ensures.given refl).ends front_same in
-    front_after_one sum (front_after_one sum c.node.ensures.front c.join_term.ensures.front) c.join_term-2.ensures.front
+pub add_child-requires-2-clause-root : goal.add_child-requires-2-clause-root
+add_child-requires-2-clause-root c =
+    let second = c.in_ok-second.ensures.ok in
+    other_root c.in_ok-first.first (ends_as (c.add_child.ensures.last _ _ c.in_ok-sum.ensures.ok (given_root second)) refl (given_rest second)) (given_root c.in_ok-first.ensures.ok)
 
-pub number_of-requires-clause-sum : goal.number_of-requires-clause-sum
-number_of-requires-clause-sum c = gives_rest c.in_ok-join_term-2.ensures.ok (λ t h. h.sum)
-
-pub returns-in_err-number_of-clause-front : goal.returns-in_err-number_of-clause-front
-returns-in_err-number_of-clause-front c =
-    let sum = behind_new (c.in_ok-sum.ensures.given refl).ends front_same in
-    front_after_one sum (front_after_one sum (front_after_one sum c.node.ensures.front c.join_term.ensures.front) c.join_term-2.ensures.front) c.number_of.ensures.front
-
-pub returns-clause-front : goal.returns-clause-front
-returns-clause-front c =
-    let sum = behind_new (c.in_ok-sum.ensures.given refl).ends front_same in
-    front_after_one sum (front_after_one sum (front_after_one sum c.node.ensures.front c.join_term.ensures.front) c.join_term-2.ensures.front) c.number_of.ensures.front
+pub add_child-requires-2-clause-apart : goal.add_child-requires-2-clause-apart
+add_child-requires-2-clause-apart c =
+    let second = c.in_ok-second.ensures.ok in
+    last_apart c.in_ok-first.first c.add_child.ensures.stands (ends_as (c.add_child.ensures.last _ _ c.in_ok-sum.ensures.ok (given_root second)) refl (given_rest second)) (given_root c.in_ok-first.ensures.ok)
 
 pub returns-clause-ok : goal.returns-clause-ok
 returns-clause-ok c =
-    let new = c.in_ok-sum.ensures.given refl in
-    let one = c.in_ok-join_term.ensures.ok in
-    let two = c.in_ok-join_term-2.ensures.ok in
-    gives_as c.in_ok-number_of.ensures.ok (given_rest two ∙ given_rest one ∙ given_rest new)
-    (λ t h. number_as h (joined_two (tree_of c.in_ok-sum.sum c.node.new.pool) (tree_of c.in_ok-sum.sum c.join_term.new.pool) (tree_of c.in_ok-sum.sum c.join_term-2.new.pool) (term_of c.args.a) (term_of c.args.b) (ap value (given_told new)) (given_told one) (given_told two)))
+    let u : Tree = tree_of c.in_ok-first.first c.place_term.new.pool in
+    let x : Tree = tree_of c.in_ok-second.second c.place_term-2.new.pool in
+    let first = c.in_ok-first.ensures.ok in
+    let second = c.in_ok-second.ensures.ok in
+    let one = ends_as (c.add_child.ensures.last _ _ c.in_ok-sum.ensures.ok (given_root second)) refl (given_rest second) in
+    gives_as {P = λ t. t ≡ add (more u (more x none))} (gives (c.add_child-2.ensures.last _ _ one (given_root first))
+    (represents_node c.in_ok-sum.sum (bare kind.Add) (represents_with 0 (represents_handed (given_handed first)) (represents_with 0 (represents_handed (given_handed second)) represents_none)) refl) refl) (given_rest first)
+    (λ t e. placed_two t u x (term_of c.args.a) (term_of c.args.b) e (given_told first).0 (given_told first).1 (given_told second).0 (given_told second).1 c.requires.rises)
+
+pub returns-clause-front : goal.returns-clause-front
+returns-clause-front c =
+    let first = c.in_ok-first.ensures.ok in
+    let second = c.in_ok-second.ensures.ok in
+    let one = ends_as (c.add_child.ensures.last _ _ c.in_ok-sum.ensures.ok (given_root second)) refl (given_rest second) in
+    front_end (c.add_child-2.ensures.last _ _ one (given_root first)) (front_without (behind_new first.ends front_same) c.place_term.ensures.front)

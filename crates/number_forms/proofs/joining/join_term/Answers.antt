@@ -6,6 +6,9 @@ use Rattle.tree_handles.specs.Handed.{tree_of}
 use Rattle.surd_terms.specs.Terms.{term_of}
 use Rattle.tree_handles.proofs.Fronts.{behind_first, front_after_one}
 use Rattle.tree_handles.proofs.Given.{given_root, given_handed, given_told, given_rest, gives_as}
+use Rattle.number_forms.specs.Overflows.{OfOverflow, JoinOverflows}
+use Rattle.number_forms.proofs.Overflows.{passed_on}
+use Rattle.tree_handles.specs.declared.fault.NumberFault.TheVariants as fault
 use Rattle.number_forms.proofs.joining.join_term.Goals as goal
 
 pub match_in-requires-clause-expression : goal.match_in-requires-clause-expression
@@ -81,3 +84,9 @@ returns-in_ok-insert-in-Term-clause-ok c =
 
 pub returns-in_ok-insert-in-Term-clause-front : goal.returns-in_ok-insert-in-Term-clause-front
 returns-in_ok-insert-in-Term-clause-front c = front_after_one behind_first c.remove-in-Term.ensures.front c.insert-in-Term.ensures.front
+
+pub returns-in_err-at-clause-overflow : goal.returns-in_err-at-clause-overflow
+returns-in_err-at-clause-overflow c =
+    let same = same_plain _ c.args.sum.now c.args.pool.now c.id.ensures c.requires.stands (given_root c.requires.sum) in
+    passed_on c.from_residual.result (fault.Overflow c.in_err-at.field-0.0) (OfOverflow (JoinOverflows (tree_of c.args.sum.now c.args.pool.now) (term_of c.args.term))) c.from_residual.ensures.0 c.from_residual.ensures.1
+    (subst (λ (t : Tree). JoinOverflows t (term_of c.args.term) c.in_err-at.field-0.0) same c.in_err-at.ensures.overflow)

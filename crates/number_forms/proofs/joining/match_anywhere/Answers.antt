@@ -1,4 +1,4 @@
-use Rattle.std.proofs.Common.{◌≡◌, ℕ, false, refl, sym, ◌∙◌, subst, arith, below_more}
+use Rattle.std.proofs.Common.{◌≡◌, ℕ, false, refl, sym, ap, ◌∙◌, subst, arith, below_more}
 use Rattle.std.proofs.lemmas.List.{length_push}
 use Rattle.calc_algebra.specs.Numbers.{term_of as term_of_tree}
 use Rattle.calc_algebra.specs.SquareClasses.{are_alike}
@@ -14,6 +14,8 @@ use Rattle.surd_terms.specs.declared.sums.Joined.TheVariants as joined
 use Rattle.tree_handles.specs.Expressions.{plain, children_of, nth}
 use Rattle.tree_handles.specs.Inside.{tree_at}
 use Rattle.tree_handles.specs.Standing.{forest}
+use Rattle.number_forms.specs.Overflows.{JoinOverflows}
+use Rattle.number_forms.proofs.Overflows.{passed_on, join_overflow}
 use Rattle.number_forms.proofs.joining.match_anywhere.Goals as goal
 use Rattle.number_forms.proofs.joining.match_anywhere.Goals.{In-Some}
 
@@ -69,3 +71,10 @@ returns-clause-ok c =
     let all : c.loop-child.at ≡ count ts = none_left 0 c.loop-child.at c.args.sum c.loop-child.yielded _ c.args.pool.now c.requires.expression (omega arith) (omega (arith, i.place)) i.left c.in-None.ensures.steps.0 in
     let place = subst (λ (r : ℕ). IsPlace c.place_of-place.result r ts) c.radicand.ensures.value c.place_of-place.ensures in
     (apart_each _ ts (λ k l. i.apart k (omega (arith, all, l))), place)
+
+pub returns-in_err-join-clause-overflow : goal.returns-in_err-join-clause-overflow
+returns-in_err-join-clause-overflow c =
+    let t = plain (tree_at c.args.sum (forest c.args.pool.now)) in
+    let n = next (goal.at.returns-in_err-join-clause-overflow c).In-Some in
+    passed_on c.from_residual.result c.in_err-join.field-0.0 (JoinOverflows t (term_of c.args.term)) c.from_residual.ensures.0 c.from_residual.ensures.1
+    (join_overflow t c.loop-child.at _ _ _ n.within (c.term_at-other.ensures ∙ ap term_of_tree n.is) c.in_err-join.ensures.overflow)

@@ -1,4 +1,4 @@
-use Rattle.std.proofs.Common.{◌≡◌, ℕ, ◌<◌, subst, arith}
+use Rattle.std.proofs.Common.{◌≡◌, ℕ, ◌<◌, ap, ◌∙◌, subst, arith}
 use Rattle.calc_terms.specs.Trees.{count}
 use Rattle.number_forms.proofs.SumChanges.{term_of_sum}
 use Rattle.number_forms.proofs.SquareFreeSums.{read_apart, apart_at_place}
@@ -7,6 +7,9 @@ use Rattle.surd_terms.specs.Terms.{term_of}
 use Rattle.tree_handles.specs.Expressions.{nth, plain, children_of}
 use Rattle.tree_handles.specs.Inside.{tree_at}
 use Rattle.tree_handles.specs.Standing.{forest}
+use Rattle.calc_algebra.specs.Numbers.{term_of as term_of_tree}
+use Rattle.number_forms.specs.Overflows.{JoinOverflows}
+use Rattle.number_forms.proofs.Overflows.{passed_on, join_overflow}
 use Rattle.number_forms.proofs.joining.match_at_place.Goals as goal
 
 pub returns-then-at-children-clause-ok : goal.returns-then-at-children-clause-ok
@@ -30,3 +33,11 @@ returns-in-Apart-clause-ok c =
     let apart = read_apart c.in_ok-joined.joined (term_of c.term_at-other.result) (term_of c.args.term) (plain (tree_at c.child_id.result (forest c.args.pool.now))) (nth c.place_of-at.result (children_of t))
     c.in-Apart.is c.in_ok-joined.ensures.joins c.term_at-other.ensures (c.child_id.ensures.plain c.requires.expression) in
     (apart_at_place t (term_of c.args.term).radicand c.place_of-at.result c.requires.sum c.args.term.clean c.requires.term_below c.requires.sum_below place (λ l. apart), place)
+
+pub returns-in_err-joined-clause-overflow : goal.returns-in_err-joined-clause-overflow
+returns-in_err-joined-clause-overflow c =
+    let t = plain (tree_at c.args.sum (forest c.args.pool.now)) in
+    let many : c.children.result ≡ count (children_of t) = c.children.ensures.plain c.requires.expression in
+    let within : c.place_of-at.result < count (children_of t) = omega (arith, many, c.place_of-at.ensures.within, c.if-at-children.false) in
+    passed_on c.from_residual.result c.in_err-joined.field-0.0 (JoinOverflows t (term_of c.args.term)) c.from_residual.ensures.0 c.from_residual.ensures.1
+    (join_overflow t c.place_of-at.result _ _ _ within (c.term_at-other.ensures ∙ ap term_of_tree (c.child_id.ensures.plain c.requires.expression)) c.in_err-joined.ensures.overflow)

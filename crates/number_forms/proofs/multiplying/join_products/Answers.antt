@@ -10,6 +10,12 @@ use Rattle.tree_handles.specs.Handed.{tree_of}
 use Rattle.surd_terms.specs.Terms.{term_of}
 use Rattle.tree_handles.proofs.Given.{given_other}
 use Rattle.tree_handles.proofs.Lasts.{plain_root}
+use Rattle.std.proofs.Common.{inl, inr}
+use Rattle.number_forms.specs.Overflows.{OfOverflow, RowOverflows}
+use Rattle.number_forms.proofs.Overflows.{passed_on, overflow_as}
+use Rattle.number_forms.proofs.multiplying.join_products.Goals.{After-nth_term-other}
+use Rattle.tree_handles.proofs.Given.{given_told}
+use Rattle.tree_handles.specs.declared.fault.NumberFault.TheVariants as fault
 use Rattle.number_forms.proofs.multiplying.join_products.Goals as goal
 
 pub term_count-at-end-requires-clause-expression : goal.term_count-at-end-requires-clause-expression
@@ -54,3 +60,31 @@ returns-clause-ok c =
     let all = ap classes (plain_root c.args.number c.requires.stands (given_other c.requires.sum c.requires.handed).root) in
     let end : length (value (tree_of c.args.number c.args.pool.now)) ≤ c.loop-at.at = omega (arith, all, c.term_count-at-end.ensures, c.loop-at-test.false) in
     joined_all c.loop-at.invariant (ap (map (term_times (term_of c.args.term))) (from_all (value (tree_of c.args.number c.args.pool.now)) c.loop-at.at end))
+
+read : (c : After-nth_term-other) → slice_get (value (tree_of c.args.number c.args.pool.now)) c.loop-at.at ≡ Some (term_of c.nth_term-other.result)
+read c =
+    let same = other_read c.args.number c.loop-at.pool c.loop-at.invariant.stands c.loop-at.invariant.gives c.requires.handed ∙ sym (other_plain c.args.number c.requires.sum c.requires.handed.root) in
+    ap (λ (t : Tree). slice_get (value t) c.loop-at.at) (sym same) ∙ c.nth_term-other.ensures
+
+pub returns-in_err-product-clause-overflow : goal.returns-in_err-product-clause-overflow
+returns-in_err-product-clause-overflow c =
+    passed_on c.from_residual.result (fault.Overflow c.in_err-product.field-0.0) (OfOverflow (RowOverflows (value (tree_of c.args.sum.now c.args.pool.now)) (term_of c.args.term) (value (tree_of c.args.number c.args.pool.now)))) c.from_residual.ensures.0 c.from_residual.ensures.1
+    (record { at = c.loop-at.at; other = term_of c.nth_term-other.result; here = read (goal.at.returns-in_err-product-clause-overflow c).After-nth_term-other; cause = inl c.in_err-product.ensures.overflow })
+
+pub returns-in_err-join_term-clause-overflow : goal.returns-in_err-join_term-clause-overflow
+returns-in_err-join_term-clause-overflow c =
+    let told = given_told c.loop-at.invariant.gives in
+    passed_on c.from_residual-in_err-join_term.result c.in_err-join_term.field-0.0 (OfOverflow (RowOverflows (value (tree_of c.args.sum.now c.args.pool.now)) (term_of c.args.term) (value (tree_of c.args.number c.args.pool.now)))) c.from_residual-in_err-join_term.ensures.0 c.from_residual-in_err-join_term.ensures.1
+    (overflow_as c.in_err-join_term.field-0.0 c.in_err-join_term.ensures.overflow (λ o j. record {
+      at = c.loop-at.at;
+      other = term_of c.nth_term-other.result;
+      here = read (goal.at.returns-in_err-join_term-clause-overflow c).After-nth_term-other;
+      cause = inr (record {
+        product = term_of c.in_ok-product.product;
+        extracted = c.in_ok-product.ensures.extracted;
+        partial = tree_of c.args.sum.now c.loop-at.pool;
+        sum = told.sum;
+        worth = told.worth;
+        joined = j;
+      });
+    }))

@@ -12,6 +12,10 @@ use Rattle.tree_handles.specs.Roots.{without_root}
 use Rattle.tree_handles.specs.Standing.{forest}
 use Rattle.tree_handles.proofs.Given.{given_other, given_rest, handed_at}
 use Rattle.tree_handles.proofs.Lasts.{plain_root}
+use Rattle.calc_algebra.specs.SquareClasses.{Same}
+use Rattle.number_forms.specs.Overflows.{OfOverflow, RowOverflows, ProductOverflows}
+use Rattle.number_forms.proofs.Overflows.{passed_on, overflow_as}
+use Rattle.tree_handles.proofs.Given.{given_told}
 use Rattle.number_forms.proofs.multiplying.join_rows.Goals as goal
 
 pub term_count-at-end-requires-clause-expression : goal.term_count-at-end-requires-clause-expression
@@ -63,3 +67,24 @@ returns-clause-ok c =
     let all = ap classes (plain_root c.args.a c.requires.stands (given_other c.requires.sum c.requires.first).root) in
     let end : length (value (tree_of c.args.a c.args.pool.now)) ≤ c.loop-at.at = omega (arith, all, c.term_count-at-end.ensures, c.loop-at-test.false) in
     joined_all c.loop-at.invariant (ap (λ (v : Surd). surd_times v (value (tree_of c.args.b c.args.pool.now))) (from_all (value (tree_of c.args.a c.args.pool.now)) c.loop-at.at end))
+
+pub returns-in_err-join_products-clause-overflow : goal.returns-in_err-join_products-clause-overflow
+returns-in_err-join_products-clause-overflow c = λ empty.
+    let a : Tree = tree_of c.args.a c.args.pool.now in
+    let b : Tree = tree_of c.args.b c.args.pool.now in
+    let partial : Tree = tree_of c.args.sum.now c.loop-at.pool in
+    let x = term_of c.nth_term-term.result in
+    let same = other_read c.args.a c.loop-at.pool c.loop-at.invariant.stands c.loop-at.invariant.gives c.requires.first ∙ sym (other_plain c.args.a c.requires.sum c.requires.first.root) in
+    let here : slice_get (value a) c.loop-at.at ≡ Some x = ap (λ (t : Tree). slice_get (value t) c.loop-at.at) (sym same) ∙ c.nth_term-term.ensures in
+    let other = other_plain c.args.b c.loop-at.invariant.gives c.requires.second.root ∙ sym (other_plain c.args.b c.requires.sum c.requires.second.root) in
+    let told = given_told c.loop-at.invariant.gives in
+    passed_on c.from_residual.result c.in_err-join_products.field-0.0 (OfOverflow (ProductOverflows (value a) (value b))) c.from_residual.ensures.0 c.from_residual.ensures.1
+    (overflow_as c.in_err-join_products.field-0.0 c.in_err-join_products.ensures.overflow (λ o r. record {
+      at = c.loop-at.at;
+      factor = x;
+      here = here;
+      partial = partial;
+      sum = told.sum;
+      worth = subst (λ (v : Surd). Same (value partial ++ surd_times (terms_from c.loop-at.at (value a)) (value b)) (v ++ surd_times (value a) (value b))) empty told.worth;
+      row = subst (λ (t : Tree). RowOverflows (value partial) x (value t) o) other r;
+    }))

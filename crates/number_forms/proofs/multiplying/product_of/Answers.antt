@@ -4,12 +4,15 @@ use Rattle.calc_algebra.specs.Surds.{surd_times}
 use Rattle.calc_algebra.proofs.SquareClassLaws.{Same-trans}
 use Rattle.calc_algebra.proofs.TermLaws.{Same-eq}
 use Rattle.number_forms.specs.Sums.{IsSum}
+use Rattle.calc_terms.specs.Trees.{Tree}
 use Rattle.number_forms.proofs.Loops.{other_plain, gives_rest, number_as}
 use Rattle.tree_handles.specs.Handed.{tree_of, IsHanded}
 use Rattle.tree_handles.specs.Roots.{without_root}
 use Rattle.tree_handles.specs.Standing.{forest}
 use Rattle.tree_handles.proofs.Fronts.{behind_new, front_same, front_after_one}
 use Rattle.tree_handles.proofs.Given.{given_told, given_rest, gives_as, handed_at}
+use Rattle.number_forms.specs.Overflows.{OfOverflow, ProductOverflows}
+use Rattle.number_forms.proofs.Overflows.{passed_on, overflow_as}
 use Rattle.number_forms.proofs.multiplying.product_of.Goals as goal
 
 pub join_rows-requires-clause-sum : goal.join_rows-requires-clause-sum
@@ -51,3 +54,11 @@ returns-clause-ok c =
     let b : tree_of c.id-2.result c.node.new.pool ≡ tree_of c.args.b.now c.args.pool.now = ap (λ (i : ℕ). tree_of i c.node.new.pool) c.id-2.ensures ∙ other_plain c.args.b.now new c.requires.second.root in
     let worth = Same-trans (given_told rows).worth (Same-eq (λ i. value (given_told new i) ++ surd_times (value (a i)) (value (b i)))) in
     gives_as c.in_ok-number_of.ensures.ok (given_rest rows ∙ given_rest new) (λ t h. number_as h worth)
+
+pub returns-in_err-join_rows-clause-overflow : goal.returns-in_err-join_rows-clause-overflow
+returns-in_err-join_rows-clause-overflow c =
+    let new = c.in_ok-sum.ensures.given refl in
+    let a : tree_of c.id.result c.node.new.pool ≡ tree_of c.args.a.now c.args.pool.now = ap (λ (i : ℕ). tree_of i c.node.new.pool) c.id.ensures ∙ other_plain c.args.a.now new c.requires.first.root in
+    let b : tree_of c.id-2.result c.node.new.pool ≡ tree_of c.args.b.now c.args.pool.now = ap (λ (i : ℕ). tree_of i c.node.new.pool) c.id-2.ensures ∙ other_plain c.args.b.now new c.requires.second.root in
+    passed_on c.from_residual-in_err-join_rows.result c.in_err-join_rows.field-0.0 (OfOverflow (ProductOverflows (value (tree_of c.args.a.now c.args.pool.now)) (value (tree_of c.args.b.now c.args.pool.now)))) c.from_residual-in_err-join_rows.ensures.0 c.from_residual-in_err-join_rows.ensures.1
+    (overflow_as c.in_err-join_rows.field-0.0 (c.in_err-join_rows.ensures.overflow (ap value (given_told new))) (λ o p. subst (λ (t : Tree). ProductOverflows (value (tree_of c.args.a.now c.args.pool.now)) (value t) o) b (subst (λ (t : Tree). ProductOverflows (value t) (value (tree_of c.id-2.result c.node.new.pool)) o) a p)))

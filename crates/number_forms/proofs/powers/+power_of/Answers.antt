@@ -1,4 +1,4 @@
-use Rattle.std.proofs.Common.{◌≡◌, refl, sym, ap, ◌∙◌}
+use Rattle.std.proofs.Common.{◌≡◌, refl, sym, ap, ◌∙◌, subst}
 use Rattle.calc_algebra.specs.Numbers.{is_number, value}
 use Rattle.calc_algebra.specs.Surds.{surd_times, surd_power}
 use Rattle.calc_terms.specs.Trees.{Tree}
@@ -14,6 +14,10 @@ use Rattle.tree_handles.specs.Forest.{Forest}
 use Rattle.tree_handles.specs.Roots.{root_tree}
 use Rattle.tree_handles.proofs.Fronts.{behind_new, front_same, front_at, front_end, front_after_one}
 use Rattle.tree_handles.proofs.Given.{given_handed, given_told, given_rest, given_other, gives_as, handed_at}
+use Rattle.calc_algebra.proofs.TermLaws.{Same-refl}
+use Rattle.number_forms.specs.Overflows.{OfOverflow, PowerOverflows, ProductOverflows}
+use Rattle.number_forms.proofs.Overflows.{passed_on, overflow_as, refused_as, power_overflows_more, square_overflows, last_overflows}
+use Rattle.number_forms.proofs.PowerSteps.{half_positive, half_below, half_odd_within}
 use Rattle.number_forms.proofs.powers.+power_of.Goals as goal
 
 pub copy_tree-requires-clause-live : goal.copy_tree-requires-clause-live
@@ -81,3 +85,25 @@ returns-else-n-eq0-clause-front _ c =
     let half = c.in_ok-half.ensures.ok in
     let square = c.in_ok-square.ensures.ok in
     front_after_one (behind_new square.ends (front_at front_same (given_rest half))) (front_after_one (behind_new half.ends front_same) c.power_of.ensures.front c.squared.ensures.front) c.multiplied.ensures.front
+
+pub returns-in_err-half-clause-overflow : goal.returns-in_err-half-clause-overflow
+returns-in_err-half-clause-overflow _ c =
+    passed_on c.from_residual-in_err-half.result c.in_err-half.field-0.0 (OfOverflow (PowerOverflows (value (tree_of c.args.a.now c.args.pool.now)) c.args.n)) c.from_residual-in_err-half.ensures.0 c.from_residual-in_err-half.ensures.1
+    (overflow_as c.in_err-half.field-0.0 c.in_err-half.ensures.overflow (λ o p. power_overflows_more _ _ _ o (half_below c.args.n) p))
+
+pub returns-in_err-square-clause-overflow : goal.returns-in_err-square-clause-overflow
+returns-in_err-square-clause-overflow _ c =
+    passed_on c.from_residual-in_err-square.result c.in_err-square.field-0.0 (OfOverflow (PowerOverflows (value (tree_of c.args.a.now c.args.pool.now)) c.args.n)) c.from_residual-in_err-square.ensures.0 c.from_residual-in_err-square.ensures.1
+    (overflow_as c.in_err-square.field-0.0 c.in_err-square.ensures.overflow (λ o p. square_overflows _ (tree_of c.in_ok-half.half c.power_of.new.pool) c.args.n o (half_positive c.args.n c.requires.positive c.if-n-eq1.false) (given_told c.in_ok-half.ensures.ok) p))
+
+pub returns-else-n-eq0-clause-overflow : goal.returns-else-n-eq0-clause-overflow
+returns-else-n-eq0-clause-overflow _ c =
+    let half = c.in_ok-half.ensures.ok in
+    let square = c.in_ok-square.ensures.ok in
+    let rest = given_rest half in
+    let a : Tree = tree_of c.args.a.now c.args.pool.now in
+    let q : Tree = tree_of c.in_ok-square.square c.squared.new.pool in
+    let same = other_plain c.args.a.now square (handed_at c.requires.handed rest).root ∙ ap (λ (f : Forest). plain (root_tree c.args.a.now f)) rest in
+    refused_as c.multiplied.result c.multiplied.ensures.overflow
+    (λ o p. last_overflows (tree_of c.in_ok-half.half c.power_of.new.pool) q a c.args.n o (half_positive c.args.n c.requires.positive c.if-n-eq1.false) (half_odd_within c.args.n c.if-n-eq0.false) (given_told half).worth (given_told square)
+    (record { number = c.requires.number; worth = Same-refl (value a) }) (subst (λ (t : Tree). ProductOverflows (value q) (value t) o) same p))

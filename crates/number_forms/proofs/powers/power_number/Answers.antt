@@ -43,3 +43,8 @@ returns-in_ok-power-clause-rational c = λ q e.
 pub returns-in_ok-power-clause-front : goal.returns-in_ok-power-clause-front
 returns-in_ok-power-clause-front c =
     front_at (front_without behind_first (front_after front_same c.power_of.ensures.front)) (c.release.ensures.owned (owned (given_other c.in_ok-power.ensures.ok c.requires.handed)))
+
+pub returns-then-is_rational-clause-overflow : goal.returns-then-is_rational-clause-overflow
+returns-then-is_rational-clause-overflow c = λ other.
+    let read = c.is_rational.ensures ∙ ap is_num (same_plain _ c.args.a c.args.pool.now c.id.ensures c.requires.stands c.requires.handed.root) in
+    absurd (cc (sym read ∙ c.if-is_rational.true, other))

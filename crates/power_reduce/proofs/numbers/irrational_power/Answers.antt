@@ -4,8 +4,11 @@ use Rattle.calc_terms.specs.Trees.{num}
 use Rattle.coefficients.proofs.Steps.{one_value, if_map}
 use Rattle.tree_handles.proofs.Fronts.{behind_first, behind_new, front_same, front_without, front_after_one}
 use Rattle.tree_handles.proofs.Given.{gives_as, given_handed, given_rest, given_told}
-use Rattle.power_reduce.proofs.NumberPowers.{irrational_power, zero_answer, power_answer}
+use Rattle.reduce_port.proofs.Unfits.{any_overflow}
+use Rattle.power_reduce.proofs.Written.{positive_power_is}
+use Rattle.power_reduce.proofs.NumberPowers.{irrational_power, zero_answer, one_answer, power_answer}
 use Rattle.power_reduce.proofs.RationalPowers.{zero_bits, no_zero_bits, not_below}
+use Rattle.power_reduce.proofs.Whole.{one_bits, no_one_bits}
 use Rattle.rational128.proofs.Signed.{told}
 use Rattle.power_reduce.proofs.numbers.irrational_power.Goals as goal
 
@@ -13,6 +16,11 @@ pub returns-then-n-eq0-clause-ok : goal.returns-then-n-eq0-clause-ok
 returns-then-n-eq0-clause-ok c =
     gives_as c.with_number.ensures.gives refl (λ t u. zero_answer _ _ c.args.n t c.requires.exponent (zero_bits c.args.n c.requires.fits c.if-n-eq0.true)
     (irrational_power _ _ c.requires.number c.requires.base c.requires.sides.exponent_defined) (u ∙ ap num (one_value c.whole.result c.whole.ensures)))
+
+pub returns-then-n-eq1-clause-ok : goal.returns-then-n-eq1-clause-ok
+returns-then-n-eq1-clause-ok c =
+    gives_as c.take_base.ensures.gives refl (λ t u. one_answer _ _ c.args.n t c.requires.exponent (one_bits c.args.n c.requires.fits c.if-n-eq1.true) c.requires.sides.base c.requires.sides.base_defined
+    (irrational_power _ _ c.requires.number c.requires.base c.requires.sides.exponent_defined) u)
 
 pub power_number-requires-clause-handed : goal.power_number-requires-clause-handed
 power_number-requires-clause-handed c = given_handed c.take_base-base.ensures.gives
@@ -24,8 +32,12 @@ pub returns-clause-ok : goal.returns-clause-ok
 returns-clause-ok c =
     let g = c.take_base-base.ensures.gives in
     if_map c.power_number.result _ _ c.power_number.ensures.ok (λ h k. gives_as k (given_rest g) (λ t n.
-    power_answer _ _ _ t _ c.args.n c.requires.exponent (not_below c.args.n c.requires.fits c.if-n-lt0.false (no_zero_bits c.args.n c.if-n-eq0.false)) c.requires.number
+    power_answer _ _ _ t _ c.args.n c.requires.exponent (not_below c.args.n c.requires.fits c.if-n-lt0.false (no_zero_bits c.args.n c.if-n-eq0.false)) (no_one_bits c.args.n c.if-n-eq1.false) c.requires.number
     (irrational_power _ _ c.requires.number c.requires.base c.requires.sides.exponent_defined) (given_told g) (told c.args.n c.requires.fits) n))
 
 pub returns-clause-front : goal.returns-clause-front
 returns-clause-front c = front_after_one (behind_new c.take_base-base.ensures.gives.ends (front_without behind_first front_same)) c.take_base-base.ensures.front c.power_number.ensures.front
+
+pub returns-clause-overflow : goal.returns-clause-overflow
+returns-clause-overflow c =
+    any_overflow c.power_number.result _ (positive_power_is _ _ c.args.n c.requires.number (not_below c.args.n c.requires.fits c.if-n-lt0.false (no_zero_bits c.args.n c.if-n-eq0.false)) c.requires.exponent)

@@ -1,13 +1,17 @@
-use Rattle.std.proofs.Common.{◌≡◌, refl, sym, ap, ◌∙◌, arith, subst, pos, ◌≤ℤ◌}
+use Rattle.std.proofs.Common.{true, ◌≡◌, ◌≤◌, refl, sym, ap, ◌∙◌, arith, subst, pos, ◌≤ℤ◌}
 use Rattle.calc_algebra.specs.Numbers.{is_number, classes}
 use Rattle.coefficients.proofs.Steps.{if_map}
 use Rattle.tree_handles.specs.Handed.{tree_of}
+use Rattle.tree_handles.specs.Standing.{forest}
 use Rattle.tree_handles.proofs.Fronts.{behind_first, behind_new, front_same, front_at, front_end, front_without, front_after_one}
 use Rattle.tree_handles.proofs.Given.{gives, gives_as, given_handed, given_rest, given_told, represents_handed}
-use Rattle.power_reduce.specs.PowerAnswers.{base_in}
+use Rattle.power_reduce.specs.PowerAnswers.{base_in, exponent_in, has_number_power}
+use Rattle.reduce_port.proofs.Unfits.{any_overflow}
+use Rattle.power_reduce.proofs.Written.{inverse_power_is}
 use Rattle.power_reduce.proofs.NumberPowers.{irrational_power, wide_answer, inverse_answer, inverse_given, has_inverse}
 use Rattle.power_reduce.proofs.RationalPowers.{opposite, opposite_above}
 use Rattle.power_reduce.proofs.numbers.negative_power.Goals as goal
+use Rattle.power_reduce.proofs.numbers.negative_power.Goals.{Else-classes-gt2}
 
 pub returns-then-classes-gt2-clause-ok : goal.returns-then-classes-gt2-clause-ok
 returns-then-classes-gt2-clause-ok c =
@@ -28,10 +32,10 @@ pub returns-in_err-inverse-clause-front : goal.returns-in_err-inverse-clause-fro
 returns-in_err-inverse-clause-front c = front_after_one (behind_new c.take_base-base.ensures.gives.ends (front_without behind_first front_same)) c.take_base-base.ensures.front c.invert_number.ensures.front
 
 pub power_number-requires-clause-handed : goal.power_number-requires-clause-handed
-power_number-requires-clause-handed c = given_handed (inverse_given _ _ _ _ _ c.in-Value.is c.in_ok-inverse.ensures.ok)
+power_number-requires-clause-handed c = given_handed (inverse_given c.take_base-base.result _ (forest c.take_base-base.new.pool) _ _ _ c.in-Value.is c.in_ok-inverse.ensures.ok)
 
 pub power_number-requires-clause-number : goal.power_number-requires-clause-number
-power_number-requires-clause-number c = (given_told (inverse_given _ _ _ _ _ c.in-Value.is c.in_ok-inverse.ensures.ok)).number
+power_number-requires-clause-number c = (given_told (inverse_given c.take_base-base.result _ (forest c.take_base-base.new.pool) _ _ _ c.in-Value.is c.in_ok-inverse.ensures.ok)).number
 
 pub power_number-requires-clause-positive : goal.power_number-requires-clause-positive
 power_number-requires-clause-positive c = subst (λ z. pos 1 ≤ℤ z) (sym (opposite c.args.n c.requires.fits c.requires.negative)) (opposite_above c.args.n c.requires.negative)
@@ -39,19 +43,32 @@ power_number-requires-clause-positive c = subst (λ z. pos 1 ≤ℤ z) (sym (opp
 pub unreachable-requires : goal.unreachable-requires
 unreachable-requires c =
     let n : c.classes.result ≡ classes (base_in (tree_of c.args.power c.args.pool.now)) = c.classes.ensures ∙ ap classes c.base_id.ensures.tree in
-    has_inverse _ _ _ _ _ (given_told c.take_base-base.ensures.gives) c.requires.number c.requires.base (omega (arith, n, c.if-classes-gt2.false)) c.in_ok-inverse.ensures.ok (λ h e. c.in_default.not-Value h e)
+    has_inverse c.take_base-base.result _ _ (forest c.take_base-base.new.pool) _ _ (given_told c.take_base-base.ensures.gives) c.requires.number c.requires.base (omega (arith, n, c.if-classes-gt2.false)) c.in_ok-inverse.ensures.ok (λ h e. c.in_default.not-Value h e)
 
 pub returns-clause-ok : goal.returns-clause-ok
 returns-clause-ok c =
     let g = c.take_base-base.ensures.gives in
-    let i = inverse_given _ _ _ _ _ c.in-Value.is c.in_ok-inverse.ensures.ok in
+    let i = inverse_given c.take_base-base.result _ (forest c.take_base-base.new.pool) _ _ _ c.in-Value.is c.in_ok-inverse.ensures.ok in
+    let n : c.classes.result ≡ classes (base_in (tree_of c.args.power c.args.pool.now)) = c.classes.ensures ∙ ap classes c.base_id.ensures.tree in
+    let few : classes (base_in (tree_of c.args.power c.args.pool.now)) ≤ 2 = omega (arith, n, c.if-classes-gt2.false) in
     if_map c.power_number.result _ _ c.power_number.ensures.ok (λ h k. gives_as k (given_rest i ∙ given_rest g) (λ t n.
-    inverse_answer _ _ _ t _ _ c.args.n c.requires.exponent c.requires.negative c.requires.number
+    inverse_answer _ _ _ t _ _ c.args.n c.requires.exponent c.requires.negative few c.requires.number
     (irrational_power _ _ c.requires.number c.requires.base c.requires.sides.exponent_defined) (given_told g) (opposite c.args.n c.requires.fits c.requires.negative) (given_told i).inverts n))
 
 pub returns-clause-front : goal.returns-clause-front
 returns-clause-front c =
-    let i = inverse_given _ _ _ _ _ c.in-Value.is c.in_ok-inverse.ensures.ok in
+    let i = inverse_given c.take_base-base.result _ (forest c.take_base-base.new.pool) _ _ _ c.in-Value.is c.in_ok-inverse.ensures.ok in
     let front = front_after_one (behind_new c.take_base-base.ensures.gives.ends (front_without behind_first front_same)) c.take_base-base.ensures.front c.invert_number.ensures.front in
     let rest = front_at (front_without (behind_new c.take_base-base.ensures.gives.ends (front_without behind_first front_same)) c.take_base-base.ensures.front) refl in
     front_after_one (behind_new i.ends rest) front c.power_number.ensures.front
+
+few : (c : Else-classes-gt2) → has_number_power (base_in (tree_of c.args.power c.args.pool.now)) (exponent_in (tree_of c.args.power c.args.pool.now)) ≡ true
+few c =
+    let n : c.classes.result ≡ classes (base_in (tree_of c.args.power c.args.pool.now)) = c.classes.ensures ∙ ap classes c.base_id.ensures.tree in
+    inverse_power_is _ _ c.args.n c.requires.number (omega (arith, n, c.if-classes-gt2.false)) c.requires.exponent
+
+pub returns-in_err-inverse-clause-overflow : goal.returns-in_err-inverse-clause-overflow
+returns-in_err-inverse-clause-overflow c = any_overflow _ _ (few (goal.at.returns-in_err-inverse-clause-overflow c).Else-classes-gt2)
+
+pub returns-clause-overflow : goal.returns-clause-overflow
+returns-clause-overflow c = any_overflow c.power_number.result _ (few (goal.at.returns-clause-overflow c).Else-classes-gt2)

@@ -4,6 +4,8 @@ use Rattle.calc_measures.specs.PlainValues.{powered}
 use Rattle.calc_terms.specs.Rat.{value_of}
 use Rattle.calc_measures.specs.PlainTrees.{IsPlainOverflow}
 use Rattle.tree_handles.proofs.Given.{gives_as, given_told}
+use Rattle.reduce_port.proofs.Unfits.{any_overflow}
+use Rattle.power_reduce.proofs.Written.{rational_power_is}
 use Rattle.power_reduce.proofs.Powers.{power_is}
 use Rattle.power_reduce.proofs.RationalPowers.{at_most, not_at_most, zero_rational, no_zero_rational, plain_power, powered_undefined, nothing_answer, value_answer, overflow_answer, plain_as, rationals_as}
 use Rattle.rational128.proofs.Signed.{told}
@@ -50,3 +52,6 @@ returns-clause-rationals c =
     (plain_power _ _ _ _ c.args.n (power_is _ c.requires.sides.power) c.requires.base c.requires.exponent
     ∙ ap (λ z. powered (value_of c.args.q) z 1) (sym (told c.args.n c.requires.fits)) ∙ c.in_ok-value.ensures.value)
     (given_told c.with_number.ensures.gives)
+
+pub returns-in_err-value-clause-overflow : goal.returns-in_err-value-clause-overflow
+returns-in_err-value-clause-overflow c = any_overflow _ _ (rational_power_is _ _ (value_of c.args.q) c.args.n c.requires.base c.requires.exponent)

@@ -1,13 +1,16 @@
-use Rattle.std.proofs.Common.{refl, ◌∙◌, arith}
-use Rattle.coefficients.proofs.Places.{over_end, without_put}
+use Rattle.std.proofs.Common.{◌≡◌, ◌≤◌, true, false, Result, Ok, Err, refl, ◌∙◌, arith}
+use Rattle.std.specs.Prelude.{IsOk}
+use Rattle.coefficients.proofs.Places.{represents_count, over_end, without_put}
 use Rattle.coefficients.proofs.Steps.{children_in, added_as, moved}
 use Rattle.power_reduce.proofs.InPlace.{first_alone, merged_front, apart_last, without_added}
 use Rattle.power_reduce.proofs.Joining.{sides_merged, first_taken, then_taken, first_on, product_given, alone_over, joined}
 use Rattle.power_reduce.proofs.Powers.{over_power}
-use Rattle.tree_handles.proofs.Fronts.{behind_first, front_after, front_at, front_end, front_put, front_without}
+use Rattle.tree_handles.proofs.Fronts.{behind_first, front_at, front_end, front_put, front_without}
 use Rattle.tree_handles.proofs.Given.{gives_as, given_rest, given_root}
 use Rattle.tree_handles.proofs.Lasts.{ends_as, last_apart, last_held, other_root}
 use Rattle.tree_handles.proofs.Roots.{root_held}
+use Rattle.node_pool.specs.State.{free_of}
+use Rattle.reduce_port.proofs.ChildBytes.{taken_free, merged_free}
 use Rattle.power_reduce.proofs.rewriting.join_exponents.Goals as goal
 
 pub merge_children-requires-clause-within : goal.merge_children-requires-clause-within
@@ -27,36 +30,43 @@ take_child-exponent-requires-clause-within c =
     let a = first_taken m.over (c.take_child-first.ensures.last m.over.root) in
     omega (arith, children_in c.take_child-first.ensures.stands a.over)
 
-pub returns-in_err-product-clause-front : goal.returns-in_err-product-clause-front
-returns-in_err-product-clause-front c =
+no_ok : {A E : Type 0} (r : Result A E) → IsOk r → ((h : A) → r ≡ Ok h → ⊥) → ⊥
+no_ok (Ok h) e n = n h refl
+no_ok (Err x) e n = let k : false ≡ true = e in cc
+
+pub unreachable-requires : goal.unreachable-requires
+unreachable-requires c =
     let m = sides_merged c.args.pool.now c.requires.handed c.requires.sides.power c.requires.base (c.merge_children.ensures.root c.requires.handed.root) in
     let a = first_taken m.over (c.take_child-first.ensures.last m.over.root) in
-    let b = then_taken a.over (c.take_child-exponent.ensures.last a.over.root) in
-    front_after (front_end b.gives.ends (front_put b.now behind_first (front_end a.gives.ends (front_put a.now behind_first (merged_front m))))) c.node.ensures.front
+    let freed = merged_free c.args.power 0 c.requires.stands c.merge_children.ensures.stands c.merge_children.ensures.kept c.requires.handed.root (omega (arith, represents_count (over_power c.requires.handed c.requires.sides.power).kids)) (c.merge_children.ensures.root c.requires.handed.root) in
+    let once = taken_free c.args.power 1 c.merge_children.ensures.stands c.take_child-first.ensures.stands c.take_child-first.ensures.kept m.over.root (c.take_child-first.ensures.last m.over.root) in
+    let twice = taken_free c.args.power 1 c.take_child-first.ensures.stands c.take_child-exponent.ensures.stands c.take_child-exponent.ensures.kept a.over.root (c.take_child-exponent.ensures.last a.over.root) in
+    let room : 8 ≤ free_of c.take_child-exponent.new.pool = omega (arith, freed, once, twice) in
+    no_ok c.node.result (c.node.ensures.exactly.1 room) c.in_default.not-Ok
 
 pub add_child-requires-clause-live : goal.add_child-requires-clause-live
-add_child-requires-clause-live c = last_held c.in_ok-product.ensures.ok
+add_child-requires-clause-live c = last_held c.in-Ok.ensures.ok
 
 pub add_child-requires-clause-root : goal.add_child-requires-clause-root
 add_child-requires-clause-root c =
     let m = sides_merged c.args.pool.now c.requires.handed c.requires.sides.power c.requires.base (c.merge_children.ensures.root c.requires.handed.root) in
     let a = first_taken m.over (c.take_child-first.ensures.last m.over.root) in
     let b = then_taken a.over (c.take_child-exponent.ensures.last a.over.root) in
-    other_root c.take_child-exponent.result c.in_ok-product.ensures.ok (given_root b.gives)
+    other_root c.take_child-exponent.result c.in-Ok.ensures.ok (given_root b.gives)
 
 pub add_child-requires-clause-apart : goal.add_child-requires-clause-apart
 add_child-requires-clause-apart c =
     let m = sides_merged c.args.pool.now c.requires.handed c.requires.sides.power c.requires.base (c.merge_children.ensures.root c.requires.handed.root) in
     let a = first_taken m.over (c.take_child-first.ensures.last m.over.root) in
     let b = then_taken a.over (c.take_child-exponent.ensures.last a.over.root) in
-    last_apart c.take_child-exponent.result c.in_ok-product.ensures.stands c.in_ok-product.ensures.ok (given_root b.gives)
+    last_apart c.take_child-exponent.result c.in-Ok.ensures.stands c.in-Ok.ensures.ok (given_root b.gives)
 
 pub add_child-requires-2-clause-root : goal.add_child-requires-2-clause-root
 add_child-requires-2-clause-root c =
     let m = sides_merged c.args.pool.now c.requires.handed c.requires.sides.power c.requires.base (c.merge_children.ensures.root c.requires.handed.root) in
     let a = first_taken m.over (c.take_child-first.ensures.last m.over.root) in
     let b = then_taken a.over (c.take_child-exponent.ensures.last a.over.root) in
-    let one = ends_as (c.add_child.ensures.last _ _ c.in_ok-product.ensures.ok (given_root b.gives)) refl (given_rest b.gives) in
+    let one = ends_as (c.add_child.ensures.last _ _ c.in-Ok.ensures.ok (given_root b.gives)) refl (given_rest b.gives) in
     other_root c.take_child-first.result one (given_root (first_on m.over a b))
 
 pub add_child-requires-2-clause-apart : goal.add_child-requires-2-clause-apart
@@ -64,7 +74,7 @@ add_child-requires-2-clause-apart c =
     let m = sides_merged c.args.pool.now c.requires.handed c.requires.sides.power c.requires.base (c.merge_children.ensures.root c.requires.handed.root) in
     let a = first_taken m.over (c.take_child-first.ensures.last m.over.root) in
     let b = then_taken a.over (c.take_child-exponent.ensures.last a.over.root) in
-    let one = ends_as (c.add_child.ensures.last _ _ c.in_ok-product.ensures.ok (given_root b.gives)) refl (given_rest b.gives) in
+    let one = ends_as (c.add_child.ensures.last _ _ c.in-Ok.ensures.ok (given_root b.gives)) refl (given_rest b.gives) in
     last_apart c.take_child-first.result c.add_child.ensures.stands one (given_root (first_on m.over a b))
 
 pub add_child-requires-3-clause-live : goal.add_child-requires-3-clause-live
@@ -72,7 +82,7 @@ add_child-requires-3-clause-live c =
     let m = sides_merged c.args.pool.now c.requires.handed c.requires.sides.power c.requires.base (c.merge_children.ensures.root c.requires.handed.root) in
     let a = first_taken m.over (c.take_child-first.ensures.last m.over.root) in
     let b = then_taken a.over (c.take_child-exponent.ensures.last a.over.root) in
-    let one = ends_as (c.add_child.ensures.last _ _ c.in_ok-product.ensures.ok (given_root b.gives)) refl (given_rest b.gives) in
+    let one = ends_as (c.add_child.ensures.last _ _ c.in-Ok.ensures.ok (given_root b.gives)) refl (given_rest b.gives) in
     let p = product_given m.over a b (c.add_child-2.ensures.last _ _ one (given_root (first_on m.over a b))) in
     let o = alone_over m.over b in
     root_held c.args.power _ (over_end o p.ends).root
@@ -82,7 +92,7 @@ add_child-requires-3-clause-within c =
     let m = sides_merged c.args.pool.now c.requires.handed c.requires.sides.power c.requires.base (c.merge_children.ensures.root c.requires.handed.root) in
     let a = first_taken m.over (c.take_child-first.ensures.last m.over.root) in
     let b = then_taken a.over (c.take_child-exponent.ensures.last a.over.root) in
-    let one = ends_as (c.add_child.ensures.last _ _ c.in_ok-product.ensures.ok (given_root b.gives)) refl (given_rest b.gives) in
+    let one = ends_as (c.add_child.ensures.last _ _ c.in-Ok.ensures.ok (given_root b.gives)) refl (given_rest b.gives) in
     let p = product_given m.over a b (c.add_child-2.ensures.last _ _ one (given_root (first_on m.over a b))) in
     let o = alone_over m.over b in
     omega (arith, children_in c.add_child-2.ensures.stands (over_end o p.ends))
@@ -92,7 +102,7 @@ add_child-requires-3-clause-root c =
     let m = sides_merged c.args.pool.now c.requires.handed c.requires.sides.power c.requires.base (c.merge_children.ensures.root c.requires.handed.root) in
     let a = first_taken m.over (c.take_child-first.ensures.last m.over.root) in
     let b = then_taken a.over (c.take_child-exponent.ensures.last a.over.root) in
-    let one = ends_as (c.add_child.ensures.last _ _ c.in_ok-product.ensures.ok (given_root b.gives)) refl (given_rest b.gives) in
+    let one = ends_as (c.add_child.ensures.last _ _ c.in-Ok.ensures.ok (given_root b.gives)) refl (given_rest b.gives) in
     let p = product_given m.over a b (c.add_child-2.ensures.last _ _ one (given_root (first_on m.over a b))) in
     let o = alone_over m.over b in
     given_root p
@@ -102,7 +112,7 @@ add_child-requires-3-clause-apart c =
     let m = sides_merged c.args.pool.now c.requires.handed c.requires.sides.power c.requires.base (c.merge_children.ensures.root c.requires.handed.root) in
     let a = first_taken m.over (c.take_child-first.ensures.last m.over.root) in
     let b = then_taken a.over (c.take_child-exponent.ensures.last a.over.root) in
-    let one = ends_as (c.add_child.ensures.last _ _ c.in_ok-product.ensures.ok (given_root b.gives)) refl (given_rest b.gives) in
+    let one = ends_as (c.add_child.ensures.last _ _ c.in-Ok.ensures.ok (given_root b.gives)) refl (given_rest b.gives) in
     let p = product_given m.over a b (c.add_child-2.ensures.last _ _ one (given_root (first_on m.over a b))) in
     let o = alone_over m.over b in
     apart_last c.add_child-2.ensures.stands o p
@@ -112,18 +122,18 @@ move_last-requires-clause-root c =
     let m = sides_merged c.args.pool.now c.requires.handed c.requires.sides.power c.requires.base (c.merge_children.ensures.root c.requires.handed.root) in
     let a = first_taken m.over (c.take_child-first.ensures.last m.over.root) in
     let b = then_taken a.over (c.take_child-exponent.ensures.last a.over.root) in
-    let one = ends_as (c.add_child.ensures.last _ _ c.in_ok-product.ensures.ok (given_root b.gives)) refl (given_rest b.gives) in
+    let one = ends_as (c.add_child.ensures.last _ _ c.in-Ok.ensures.ok (given_root b.gives)) refl (given_rest b.gives) in
     let p = product_given m.over a b (c.add_child-2.ensures.last _ _ one (given_root (first_on m.over a b))) in
     let o = alone_over m.over b in
     let x = added_as 1 o p (c.add_child-3.ensures.root (over_end o p.ends).root) refl in
     x.over.root
 
-pub returns-clause-ok : goal.returns-clause-ok
-returns-clause-ok c =
+pub returns-clause-gives : goal.returns-clause-gives
+returns-clause-gives c =
     let m = sides_merged c.args.pool.now c.requires.handed c.requires.sides.power c.requires.base (c.merge_children.ensures.root c.requires.handed.root) in
     let a = first_taken m.over (c.take_child-first.ensures.last m.over.root) in
     let b = then_taken a.over (c.take_child-exponent.ensures.last a.over.root) in
-    let one = ends_as (c.add_child.ensures.last _ _ c.in_ok-product.ensures.ok (given_root b.gives)) refl (given_rest b.gives) in
+    let one = ends_as (c.add_child.ensures.last _ _ c.in-Ok.ensures.ok (given_root b.gives)) refl (given_rest b.gives) in
     let p = product_given m.over a b (c.add_child-2.ensures.last _ _ one (given_root (first_on m.over a b))) in
     let o = alone_over m.over b in
     let x = added_as 1 o p (c.add_child-3.ensures.root (over_end o p.ends).root) refl in
@@ -135,7 +145,7 @@ returns-clause-front c =
     let m = sides_merged c.args.pool.now c.requires.handed c.requires.sides.power c.requires.base (c.merge_children.ensures.root c.requires.handed.root) in
     let a = first_taken m.over (c.take_child-first.ensures.last m.over.root) in
     let b = then_taken a.over (c.take_child-exponent.ensures.last a.over.root) in
-    let one = ends_as (c.add_child.ensures.last _ _ c.in_ok-product.ensures.ok (given_root b.gives)) refl (given_rest b.gives) in
+    let one = ends_as (c.add_child.ensures.last _ _ c.in-Ok.ensures.ok (given_root b.gives)) refl (given_rest b.gives) in
     let p = product_given m.over a b (c.add_child-2.ensures.last _ _ one (given_root (first_on m.over a b))) in
     let o = alone_over m.over b in
     let x = added_as 1 o p (c.add_child-3.ensures.root (over_end o p.ends).root) refl in

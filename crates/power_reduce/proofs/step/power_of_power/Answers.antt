@@ -11,4 +11,4 @@ pub kept_power-requires-clause-kept : goal.kept_power-requires-clause-kept
 kept_power-requires-clause-kept c = sealed_kept _ _ c.requires.base (sym c.first_exponent_is_opaque.ensures ∙ c.if-first_exponent_is_opaque.true)
 
 pub returns-clause-ok : goal.returns-clause-ok
-returns-clause-ok c = again (tree_of c.args.power c.args.pool.now) c.requires.sides.power c.in_ok-joined.ensures.ok
+returns-clause-ok c = again (tree_of c.args.power c.args.pool.now) c.requires.sides.power c.join_exponents.ensures.gives

@@ -2,6 +2,7 @@ use Rattle.std.proofs.Common.{sym, ap, ◌∙◌}
 use Rattle.calc_terms.specs.Trees.{root_kind}
 use Rattle.tree_handles.specs.Handed.{tree_of}
 use Rattle.power_reduce.specs.PowerAnswers.{base_in}
+use Rattle.reduce_port.proofs.Unfits.{overflow_on}
 use Rattle.power_reduce.proofs.Cases.{no_num_kind, number_kept, no_rational, rational_number, step_fault}
 use Rattle.power_reduce.proofs.step.whole_power.Goals as goal
 
@@ -28,3 +29,6 @@ whole_power_of_other-requires-clause-base c = no_num_kind _ (λ e. c.in_default.
 
 pub returns-in_default-clause-rationals : goal.returns-in_default-clause-rationals
 returns-in_default-clause-rationals c = λ b e. no_rational _ b (no_num_kind (base_in (tree_of c.args.power c.args.pool.now)) (λ x. c.in_default.not-Num ((c.kind.ensures.plain c.base_id-base.ensures.expression ∙ ap root_kind c.base_id-base.ensures.tree) ∙ sym x)))
+
+pub returns-in_err-answer-in-Num-clause-overflow : goal.returns-in_err-answer-in-Num-clause-overflow
+returns-in_err-answer-in-Num-clause-overflow c = overflow_on c.in_err-answer-in-Num.field-0.0 _ _ c.in_err-answer-in-Num.ensures.overflow c.from_residual.ensures.1

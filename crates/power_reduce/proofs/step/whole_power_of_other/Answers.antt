@@ -8,6 +8,7 @@ use Rattle.tree_handles.specs.Handed.{tree_of}
 use Rattle.tree_handles.proofs.Given.{gives_as}
 use Rattle.power_reduce.specs.PowerAnswers.{base_in, exponent_in}
 use Rattle.power_reduce.specs.PowerSteps.{is_even_whole}
+use Rattle.reduce_port.proofs.Unfits.{overflow_as, overflow_on}
 use Rattle.power_reduce.proofs.Cases.{number_kept, zero_kept, one_kept, other_power, whole_goes_inside, no_number, even_bits, odd_bits, even_whole, odd_root_kept, again}
 use Rattle.power_reduce.proofs.NumberPowers.{zero_answer, one_answer}
 use Rattle.power_reduce.proofs.RationalPowers.{zero_bits, no_zero_bits}
@@ -67,3 +68,9 @@ power_inside-requires-clause-root c = elim c.else-n-eq0-2.branch [
   | else-n-eq0-2-via-then-n-eq0-2+else-is_root w ↦ λ r. absurd (cc (sym (ap is_root c.base_id-base.ensures.tree) ∙ sym w.is_root.ensures ∙ w.if-is_root.false, r))
   | else-n-eq0-2-via-else-n-eq0-2 w ↦ λ r. odd_root_kept (base_in (tree_of c.args.power c.args.pool.now)) (exponent_in (tree_of c.args.power c.args.pool.now)) c.args.n r c.requires.exponent (odd_bits c.args.n c.requires.fits w.if-n-eq0-2.false)
 ]
+
+pub returns-in_err-answer-clause-overflow : goal.returns-in_err-answer-clause-overflow
+returns-in_err-answer-clause-overflow c = overflow_on c.in_err-answer.field-0.0 _ _ c.in_err-answer.ensures.overflow c.from_residual.ensures.1
+
+pub returns-clause-overflow : goal.returns-clause-overflow
+returns-clause-overflow c = overflow_as c.power_inside.result ⊥ _ c.power_inside.ensures.overflow (λ x. absurd x)

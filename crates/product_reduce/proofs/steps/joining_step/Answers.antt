@@ -1,17 +1,18 @@
-use Rattle.std.proofs.Common.{◌≡◌, ◌≤◌, ◌∙◌, Err, ap, sym, refl, subst, true, false}
+use Rattle.std.proofs.Common.{ℕ, ◌≡◌, ◌≤◌, ◌∙◌, Err, ap, sym, refl, subst, true, false}
 use Rattle.calc_measures.specs.PlainValues.{PlainValue, plain_value}
 use Rattle.calc_terms.specs.Trees.{Trees, mult, count, are_rationals}
 use Rattle.number_forms.specs.Answers.{AnswersRationals}
 use Rattle.calc_algebra.specs.Reduced.{are_reduced}
 use Rattle.calc_measures.specs.PlainTrees.{IsPlainAnswer}
+use Rattle.reduce_port.proofs.Unfits.{overflow_as, overflow_on}
 use Rattle.tree_handles.specs.Handed.{tree_of}
 use Rattle.tree_handles.specs.Expressions.{children_of}
 use Rattle.tree_handles.specs.Standing.{forest}
 use Rattle.tree_handles.proofs.Fronts.{behind_first, front_after_one}
 use Rattle.tree_handles.proofs.Given.{gives_as}
-use Rattle.product_reduce.specs.Answers.{AreOthers, IsFinished}
-use Rattle.product_reduce.specs.Factors.{IsCoefficient}
-use Rattle.product_reduce.specs.Joining.{IsFirstJoint}
+use Rattle.product_reduce.specs.Answers.{AreOthers, IsFinished, Calculates, multiplies, spreads}
+use Rattle.product_reduce.specs.Factors.{IsCoefficient, numbers_in}
+use Rattle.product_reduce.specs.Joining.{IsFirstJoint, have_partners}
 use Rattle.product_reduce.specs.Products.{factors_in}
 use Rattle.product_reduce.proofs.Finished.{reduced_opened, undef_finished, rationals_defined}
 use Rattle.product_reduce.proofs.Products.{factors_are}
@@ -109,3 +110,17 @@ returns-in_err-coefficient-clause-rationals c = λ r.
     subst (λ (v : PlainValue). AnswersRationals v c.take_coefficient.new.pool (Err fault)) value
     (c.in_err-coefficient.ensures.rationals (ap are_rationals same ∙ r) (subst (λ (us : Trees). 1 ≤ count us) (sym same) c.requires.some)) in
     refused_as (plain_value (tree_of c.args.product c.args.pool.now)) c.take_coefficient.new.pool c.from_residual.result fault c.from_residual.ensures.1 told
+
+pub returns-in_err-coefficient-clause-overflow : goal.returns-in_err-coefficient-clause-overflow
+returns-in_err-coefficient-clause-overflow c =
+    let ts = factors_in c.args.product (forest c.args.pool.now) in
+    overflow_on c.in_err-coefficient.field-0.0 c.from_residual.result (Calculates ts)
+    (overflow_as {A = ℕ} (Err c.in_err-coefficient.field-0.0) (2 ≤ count (numbers_in (factors_in c.args.product (forest c.open_products.new.pool)))) (Calculates ts) c.in_err-coefficient.ensures.overflow
+    (λ m. multiplies (subst (λ (us : Trees). 2 ≤ count (numbers_in us)) (factors_are c.open_products.ensures.opened.product) m))) c.from_residual.ensures.1
+
+pub returns-clause-overflow : goal.returns-clause-overflow
+returns-clause-overflow c =
+    let ts = factors_in c.args.product (forest c.args.pool.now) in
+    let p = parted c.args.product c.in_ok-coefficient.coefficient ts _ _ _ c.open_products.ensures.opened c.in_ok-coefficient.ensures.taken in
+    overflow_as c.join_or_end.result (have_partners (factors_in c.args.product (forest c.take_coefficient.new.pool)) ≡ false) (Calculates ts) c.join_or_end.ensures.overflow
+    (λ d. spreads (sym (ap have_partners p.factors) ∙ d))

@@ -12,6 +12,10 @@ use Rattle.sum_reduce.proofs.Opened.{opened_formed, opened_some, opened_tight}
 use Rattle.sum_reduce.proofs.Orders.{opened_stage, rationals_faulted, rationals_ordered}
 use Rattle.sum_reduce.proofs.Stages.{stage_after}
 use Rattle.sum_reduce.proofs.Sums.{changes_after, changes_front}
+use Rattle.coefficients.proofs.Named.{passed_named}
+use Rattle.sum_reduce.specs.Collected.{collects_opened}
+use Rattle.sum_reduce.specs.Overflows.{Overflows}
+use Rattle.sum_reduce.proofs.Hindered.{overflows_after, overflows_as}
 use Rattle.sum_reduce.proofs.arranging.arrange.Goals as goal
 
 pub join_numbers-requires-clause-sum : goal.join_numbers-requires-clause-sum
@@ -62,3 +66,8 @@ returns-clause-rationals c =
 
 pub returns-clause-front : goal.returns-clause-front
 returns-clause-front c = changes_front (changes_after (changes_after c.open_sums.ensures.changes c.in_ok-join_numbers.ensures.ok) c.sort_terms.ensures.changes)
+
+pub returns-in_err-join_numbers-clause-overflow : goal.returns-in_err-join_numbers-clause-overflow
+returns-in_err-join_numbers-clause-overflow c =
+    passed_named c.from_residual.result c.in_err-join_numbers.field-0.0 _ (Overflows (terms_in c.args.sum.now (forest c.args.pool.now))) c.from_residual.ensures.1 c.in_err-join_numbers.ensures.overflow
+    (λ x h. overflows_after collects_opened x (overflows_as c.open_sums.ensures.opened x h))

@@ -10,6 +10,9 @@ use Rattle.tree_handles.proofs.Fronts.{behind_first, front_same, front_after_one
 use Rattle.sum_reduce.proofs.Results.{match_option_given}
 use Rattle.sum_reduce.proofs.Stages.{stage_after, stage_same}
 use Rattle.sum_reduce.proofs.Sums.{changes_same, changes_after}
+use Rattle.coefficients.proofs.Named.{passed_named}
+use Rattle.sum_reduce.specs.Overflows.{Overflows}
+use Rattle.sum_reduce.proofs.Hindered.{overflows_after}
 use Rattle.sum_reduce.proofs.arranging.join_pairs.Goals as goal
 
 pub loop-next-init : goal.loop-next-init
@@ -43,3 +46,8 @@ loop-next-preserved c =
       kept = keeps_after _ _ _ i.kept j.kept;
       stands = j.stands;
     }
+
+pub returns-in_err-join_terms-clause-overflow : goal.returns-in_err-join_terms-clause-overflow
+returns-in_err-join_terms-clause-overflow c =
+    passed_named c.from_residual.result c.in_err-join_terms.field-0.0 _ (Overflows (terms_in c.args.sum.now (forest c.args.pool.now))) c.from_residual.ensures.1 c.in_err-join_terms.ensures.overflow
+    (overflows_after c.loop-next.invariant.stage.collects)

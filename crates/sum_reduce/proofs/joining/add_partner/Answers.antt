@@ -13,6 +13,8 @@ use Rattle.tree_handles.proofs.Outcomes.{eqb-sym}
 use Rattle.sum_reduce.specs.Sums.{terms_in}
 use Rattle.sum_reduce.proofs.Results.{if_ok_map}
 use Rattle.sum_reduce.proofs.Sums.{sum_within, term_out, takes_handed, takes_behind, takes_front, rewritten, other_handed, other_same, other_clear, both_rewritten}
+use Rattle.coefficients.proofs.Named.{result_named}
+use Rattle.sum_reduce.proofs.Hindered.{numbers_named, names_as}
 use Rattle.sum_reduce.proofs.joining.add_partner.Goals as goal
 
 pub take_child-term-requires-clause-within : goal.take_child-term-requires-clause-within
@@ -97,3 +99,11 @@ pub returns-in_err-coefficient-clause-front : goal.returns-in_err-coefficient-cl
 returns-in_err-coefficient-clause-front c =
     let o = term_out c.args.at c.requires.sum c.requires.within (c.take_child-term.ensures.last c.requires.sum.handed.root) in
     front_after_one (takes_behind o.takes) (takes_front o.takes) c.coefficient_alone.ensures.front
+
+pub returns-clause-overflow : goal.returns-clause-overflow
+returns-clause-overflow c =
+    let o = term_out c.args.at c.requires.sum c.requires.within (c.take_child-term.ensures.last c.requires.sum.handed.root) in
+    let r = rewritten o.takes c.in_ok-coefficient.ensures.ok in
+    let same = given_told c.in_ok-coefficient.ensures.ok ∙ ap coefficient_of o.tree in
+    result_named c.add_numbers.result _ _ (numbers_named _ _ c.add_numbers.new.pool c.add_numbers.result c.add_numbers.ensures.rationals)
+    (λ x h. names_as x (other_same c.requires.apart c.requires.handed r.takes) same h)

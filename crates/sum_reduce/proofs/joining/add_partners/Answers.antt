@@ -1,4 +1,4 @@
-use Rattle.std.proofs.Common.{◌+◌, ap, add-one, arith}
+use Rattle.std.proofs.Common.{suc, ◌+◌, ap, add-one, arith}
 use Rattle.calc_terms.specs.Trees.{count}
 use Rattle.tree_handles.specs.Standing.{forest}
 use Rattle.tree_handles.proofs.Forests.{keeps_none, keeps_after}
@@ -8,6 +8,12 @@ use Rattle.sum_reduce.proofs.Joins.{joining_formed, joining_less, next_partner, 
 use Rattle.sum_reduce.proofs.Numbered.{beside_behind}
 use Rattle.sum_reduce.proofs.Places.{count_removed}
 use Rattle.sum_reduce.proofs.Sums.{takes_handed, takes_apart, takes_after}
+use Rattle.coefficients.specs.Coefficients.{coefficient_of}
+use Rattle.coefficients.proofs.Named.{fault_named}
+use Rattle.tree_handles.specs.Expressions.{nth}
+use Rattle.tree_handles.specs.Handed.{tree_of}
+use Rattle.sum_reduce.specs.Overflows.{NamesSum, Overflows}
+use Rattle.sum_reduce.proofs.Hindered.{partner_hinders}
 use Rattle.sum_reduce.proofs.joining.add_partners.Goals as goal
 
 pub loop-pool-init : goal.loop-pool-init
@@ -103,3 +109,11 @@ pub returns-in-Err-clause-front : goal.returns-in-Err-clause-front
 returns-in-Err-clause-front c =
     let i = c.loop-pool.invariant in
     front_after_two behind_first (beside_behind c.requires.taken.1 (i.takes _ c.requires.taken.1)) i.front c.add_partner.ensures.front
+
+pub returns-in-Err-clause-overflow : goal.returns-in-Err-clause-overflow
+returns-in-Err-clause-overflow c = λ ts less j.
+    let i = c.loop-pool.invariant in
+    let us = terms_in c.args.sum.now (forest c.loop-pool.pool) in
+    let d = tree_of c.loop-pool.total c.loop-pool.pool in
+    fault_named c.in-Err.fault (NamesSum d (coefficient_of (nth (suc c.args.at) us))) (Overflows ts) (rw add-one at c.in-Err.ensures.overflow)
+    (partner_hinders ts d us c.args.at less (i.joining ts less j) (c.leads_pair.ensures.pair c.loop-pool-test.true))

@@ -9,6 +9,9 @@ use Rattle.sum_reduce.proofs.Joins.{joining_start, pair_start, joining_formed, n
 use Rattle.sum_reduce.proofs.Results.{on_ok_map}
 use Rattle.sum_reduce.proofs.Sums.{takes_handed, takes_apart, takes_after, takes_behind, takes_front, takes_changes}
 use Rattle.sum_reduce.proofs.Widths.{some_node}
+use Rattle.coefficients.proofs.Named.{passed_named, result_named}
+use Rattle.sum_reduce.specs.Overflows.{Overflows}
+use Rattle.sum_reduce.proofs.Hindered.{partner_hinders, part_hinders}
 use Rattle.sum_reduce.proofs.joining.join_terms.Goals as goal
 
 pub take_coefficient_at-requires-clause-within : goal.take_coefficient_at-requires-clause-within
@@ -154,3 +157,30 @@ pub returns-in_err-total-clause-front : goal.returns-in_err-total-clause-front
 returns-in_err-total-clause-front c =
     let t = takes_after c.in_ok-coefficient.ensures.ok c.in_ok-both.ensures.ok in
     front_after_two behind_first (takes_behind t) (takes_front t) c.add_partners.ensures.front
+
+pub returns-in_err-both-clause-overflow : goal.returns-in_err-both-clause-overflow
+returns-in_err-both-clause-overflow c =
+    let ts = terms_in c.args.sum.now (forest c.args.pool.now) in
+    let us = terms_in c.args.sum.now (forest c.take_coefficient_at.new.pool) in
+    let p = pair_start ts us c.args.at c.requires.formed c.requires.pair c.in_ok-coefficient.ensures.terms in
+    let j = joining_start ts us _ c.args.at c.requires.formed c.requires.flat c.requires.pair c.in_ok-coefficient.ensures.terms c.in_ok-coefficient.ensures.coefficient in
+    passed_named c.from_residual-in_err-both.result c.in_err-both.field-0.0 _ (Overflows ts) c.from_residual-in_err-both.ensures.1 (rw add-one at c.in_err-both.ensures.overflow)
+    (partner_hinders ts _ us c.args.at 0 j p)
+
+pub returns-in_err-total-clause-overflow : goal.returns-in_err-total-clause-overflow
+returns-in_err-total-clause-overflow c =
+    let ts = terms_in c.args.sum.now (forest c.args.pool.now) in
+    let us = terms_in c.args.sum.now (forest c.take_coefficient_at.new.pool) in
+    let p = pair_start ts us c.args.at c.requires.formed c.requires.pair c.in_ok-coefficient.ensures.terms in
+    let j = joining_start ts us _ c.args.at c.requires.formed c.requires.flat c.requires.pair c.in_ok-coefficient.ensures.terms c.in_ok-coefficient.ensures.coefficient in
+    let k = partner_step ts _ _ us (terms_in c.args.sum.now (forest c.add_partner.new.pool)) c.args.at 0 j p (rw add-one at c.in_ok-both.ensures.terms) (rw add-one at c.in_ok-both.ensures.number) in
+    passed_named c.from_residual-in_err-total.result c.in_err-total.field-0.0 (Overflows ts) (Overflows ts) c.from_residual-in_err-total.ensures.1 (c.in_err-total.ensures.overflow ts _ k) (λ x h. h)
+
+pub returns-clause-overflow : goal.returns-clause-overflow
+returns-clause-overflow c =
+    let ts = terms_in c.args.sum.now (forest c.args.pool.now) in
+    let us = terms_in c.args.sum.now (forest c.take_coefficient_at.new.pool) in
+    let p = pair_start ts us c.args.at c.requires.formed c.requires.pair c.in_ok-coefficient.ensures.terms in
+    let j = joining_start ts us _ c.args.at c.requires.formed c.requires.flat c.requires.pair c.in_ok-coefficient.ensures.terms c.in_ok-coefficient.ensures.coefficient in
+    let k = partner_step ts _ _ us (terms_in c.args.sum.now (forest c.add_partner.new.pool)) c.args.at 0 j p (rw add-one at c.in_ok-both.ensures.terms) (rw add-one at c.in_ok-both.ensures.number) in
+    result_named c.put_back.result _ (Overflows ts) c.put_back.ensures.overflow (part_hinders (c.in_ok-total.ensures.joining ts _ k) (omega (arith, some_node (nth c.args.at us))))

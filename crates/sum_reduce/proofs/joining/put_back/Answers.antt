@@ -11,6 +11,7 @@ use Rattle.tree_handles.proofs.Roots.{root_held, without-swap}
 use Rattle.sum_reduce.specs.Sums.{terms_in}
 use Rattle.sum_reduce.proofs.Places.{count_removed}
 use Rattle.sum_reduce.proofs.Sums.{sum_within, sum_arity, term_out, takes_handed, takes_behind, takes_front, other_handed, other_same, other_clear, both_rewritten, put_in, roots_apart, beside_front}
+use Rattle.coefficients.proofs.Named.{passed_named, put_as}
 use Rattle.sum_reduce.proofs.joining.put_back.Goals as goal
 
 pub take_child-part-requires-clause-within : goal.take_child-part-requires-clause-within
@@ -88,3 +89,9 @@ pub returns-in_err-term-clause-front : goal.returns-in_err-term-clause-front
 returns-in_err-term-clause-front c =
     let o = term_out c.args.at c.requires.sum c.requires.within (c.take_child-part.ensures.last c.requires.sum.handed.root) in
     front_after_two (behind_later behind_first) (takes_behind o.takes) (takes_front o.takes) c.put_coefficient.ensures.front
+
+pub returns-in_err-term-clause-overflow : goal.returns-in_err-term-clause-overflow
+returns-in_err-term-clause-overflow c =
+    let o = term_out c.args.at c.requires.sum c.requires.within (c.take_child-part.ensures.last c.requires.sum.handed.root) in
+    passed_named c.from_residual.result c.in_err-term.field-0.0 _ _ c.from_residual.ensures.1 c.in_err-term.ensures.named
+    (λ x h. put_as x (other_same c.requires.apart c.requires.handed o.takes) o.tree h)

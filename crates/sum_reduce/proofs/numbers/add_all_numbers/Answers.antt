@@ -13,6 +13,10 @@ use Rattle.sum_reduce.proofs.Numbered.{number_step, flat_step, fold_faulted, bes
 use Rattle.sum_reduce.proofs.Places.{count_removed}
 use Rattle.sum_reduce.proofs.Stages.{stage_after, stage_same}
 use Rattle.sum_reduce.proofs.Sums.{takes_handed, takes_apart, takes_after}
+use Rattle.coefficients.proofs.Named.{fault_named}
+use Rattle.tree_handles.specs.Expressions.{nth}
+use Rattle.sum_reduce.specs.Overflows.{NamesSum}
+use Rattle.sum_reduce.proofs.Hindered.{number_hinders}
 use Rattle.sum_reduce.proofs.numbers.add_all_numbers.Goals as goal
 
 pub first_number-requires-clause-sum : goal.first_number-requires-clause-sum
@@ -78,3 +82,10 @@ loop-at-init c = record {
   kept = keeps_none c.args.pool.now;
   stands = c.requires.stands;
 }
+
+pub returns-in-Err-clause-overflow : goal.returns-in-Err-clause-overflow
+returns-in-Err-clause-overflow c =
+    let i = c.loop-at.invariant in
+    let us = terms_in c.args.sum.now (forest c.loop-at.pool) in
+    let d = tree_of c.loop-at.total c.loop-at.pool in
+    fault_named c.in-Err.fault (NamesSum d (nth c.in-Some.at us)) _ c.in-Err.ensures.overflow (number_hinders d us c.in-Some.at i.stage.collects i.number c.in-Some.ensures)

@@ -5,6 +5,8 @@ use Rattle.tree_handles.proofs.Given.{given_told}
 use Rattle.tree_handles.proofs.Outcomes.{eqb-sym}
 use Rattle.sum_reduce.proofs.Results.{if_ok_map}
 use Rattle.sum_reduce.proofs.Sums.{sum_within, term_out, takes_handed, takes_behind, takes_front, other_handed, other_same, other_clear, both_rewritten}
+use Rattle.coefficients.proofs.Named.{result_named}
+use Rattle.sum_reduce.proofs.Hindered.{numbers_named, names_as}
 use Rattle.sum_reduce.proofs.numbers.add_number.Goals as goal
 
 pub take_child-number-requires-clause-within : goal.take_child-number-requires-clause-within
@@ -59,3 +61,9 @@ pub returns-clause-front : goal.returns-clause-front
 returns-clause-front c =
     let o = term_out c.args.at c.requires.sum c.requires.within (c.take_child-number.ensures.last c.requires.sum.handed.root) in
     front_after_two (behind_later behind_first) (takes_behind o.takes) (takes_front o.takes) c.add_numbers.ensures.front
+
+pub returns-clause-overflow : goal.returns-clause-overflow
+returns-clause-overflow c =
+    let o = term_out c.args.at c.requires.sum c.requires.within (c.take_child-number.ensures.last c.requires.sum.handed.root) in
+    result_named c.add_numbers.result _ _ (numbers_named _ _ c.add_numbers.new.pool c.add_numbers.result c.add_numbers.ensures.rationals)
+    (λ x h. names_as x (other_same c.requires.apart c.requires.handed o.takes) o.tree h)

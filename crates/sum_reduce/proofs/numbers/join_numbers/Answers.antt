@@ -1,7 +1,7 @@
 use Rattle.std.proofs.Common.{◌∙◌, ap}
 use Rattle.calc_algebra.specs.Numbers.{is_number}
 use Rattle.calc_measures.specs.PlainValues.{plain_value}
-use Rattle.calc_terms.specs.Trees.{add}
+use Rattle.calc_terms.specs.Trees.{add, more}
 use Rattle.sum_reduce.specs.Arranging.{AnswersFold}
 use Rattle.sum_reduce.proofs.Results.{passed_on}
 use Rattle.tree_handles.specs.Standing.{forest}
@@ -13,6 +13,9 @@ use Rattle.sum_reduce.specs.Sums.{terms_in}
 use Rattle.sum_reduce.proofs.Folds.{some_number}
 use Rattle.sum_reduce.proofs.Numbered.{numbered, unnumbered, formed_behind, rationals_taken, total_folded, total_faulted}
 use Rattle.sum_reduce.proofs.Sums.{changes_same, changes_front, sum_within, term_out, takes_front, takes_behind, put_in, roots_apart}
+use Rattle.coefficients.proofs.Named.{passed_named}
+use Rattle.sum_reduce.specs.Overflows.{Overflows}
+use Rattle.sum_reduce.proofs.Hindered.{overflows_after, overflows_as, taken_first}
 use Rattle.sum_reduce.proofs.numbers.join_numbers.Goals as goal
 
 pub take_child-number-requires-clause-within : goal.take_child-number-requires-clause-within
@@ -110,5 +113,13 @@ returns-in-None c =
       kept = keeps_none c.args.pool.now;
       faults = tt;
       caused = tt;
+      overflow = tt;
       stands = c.requires.stands;
     }
+
+pub returns-in_err-total-in-Some-clause-overflow : goal.returns-in_err-total-in-Some-clause-overflow
+returns-in_err-total-in-Some-clause-overflow c =
+    let ts = terms_in c.args.sum.now (forest c.args.pool.now) in
+    let o = term_out c.in-Some.at c.requires.sum c.in-Some.ensures.within (c.take_child-number.ensures.last c.requires.sum.handed.root) in
+    passed_named c.from_residual.result c.in_err-total-in-Some.field-0.0 _ (Overflows ts) c.from_residual.ensures.1 c.in_err-total-in-Some.ensures.overflow
+    (λ x h. overflows_after (taken_first c.in-Some.at ts c.in-Some.ensures.within) x (overflows_as (λ i. more (o.tree i) (o.terms i)) x h))

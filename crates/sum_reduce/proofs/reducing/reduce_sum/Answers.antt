@@ -1,12 +1,14 @@
-use Rattle.std.proofs.Common.{◌∙◌, sym, subst, refl}
+use Rattle.std.proofs.Common.{◌≡◌, true, false, ◌∙◌, sym, subst, refl}
 use Rattle.calc_measures.specs.PlainValues.{plain_value}
 use Rattle.number_forms.specs.Answers.{AnswersRationals}
 use Rattle.tree_handles.specs.Handed.{tree_of}
 use Rattle.tree_handles.specs.Standing.{forest}
 use Rattle.tree_handles.proofs.Fronts.{behind_first, front_end, front_without}
 use Rattle.tree_handles.proofs.Given.{gives_as, given_told}
-use Rattle.sum_reduce.specs.SumAnswers.{IsSumAnswer}
+use Rattle.sum_reduce.specs.Collected.{IsWrittenSum}
+use Rattle.sum_reduce.specs.SumAnswers.{IsSumAnswer, IsCollected}
 use Rattle.sum_reduce.specs.Sums.{terms_in}
+use Rattle.sum_reduce.proofs.Collected.{settled_collected, settled_written}
 use Rattle.sum_reduce.proofs.Rationals.{undef_rationals, rationals_answer, rationals_fault}
 use Rattle.sum_reduce.proofs.Results.{passed_on}
 use Rattle.sum_reduce.proofs.Settled.{reduced_formed, undef_answer, settled_answer}
@@ -45,3 +47,22 @@ returns-in_err-settle-clause-rationals c =
 
 pub returns-clause-front : goal.returns-clause-front
 returns-clause-front c = front_end c.written.ensures.tree.ends (front_without behind_first c.settle.ensures.front)
+
+not_both : false ≡ true → ⊥
+not_both e = cc
+
+pub returns-clause-collected : goal.returns-clause-collected
+returns-clause-collected c = λ d.
+    let s = c.in_ok-settle.ensures in
+    subst (IsCollected (terms_in c.args.sum (forest c.args.pool.now))) (sym (given_told c.written.ensures.tree)) (settled_collected _ (terms_in c.args.sum (forest c.settle.new.pool)) s.stage s.settled)
+
+pub returns-clause-written : goal.returns-clause-written
+returns-clause-written c = λ d u.
+    let s = c.in_ok-settle.ensures in
+    subst (IsWrittenSum (terms_in c.args.sum (forest c.args.pool.now))) (sym (given_told c.written.ensures.tree)) (settled_written _ (terms_in c.args.sum (forest c.settle.new.pool)) s.stage s.settled u)
+
+pub returns-then-has_undef_term-clause-collected : goal.returns-then-has_undef_term-clause-collected
+returns-then-has_undef_term-clause-collected c = λ d. absurd (not_both (sym d ∙ sym c.has_undef_term.ensures ∙ c.if-has_undef_term.true))
+
+pub returns-then-has_undef_term-clause-written : goal.returns-then-has_undef_term-clause-written
+returns-then-has_undef_term-clause-written c = λ d u. absurd (not_both (sym d ∙ sym c.has_undef_term.ensures ∙ c.if-has_undef_term.true))

@@ -1,9 +1,12 @@
-use Rattle.std.proofs.Common.{◌≡◌, ◌≢◌, ◌∙◌, refl, ap, sym}
-use Rattle.calc_terms.specs.Fractions.{plus, times, negative, inverse as inverse_of_fraction, zero_fraction}
+use Rattle.std.proofs.Common.{◌≡◌, ◌≢◌, List, [], ◌∷◌, ◌++◌, ◌∙◌, refl, ap, sym}
+use Rattle.calc_terms.specs.Fractions.{Fraction, plus, times, negative, inverse as inverse_of_fraction, zero_fraction}
 use Rattle.calc_terms.specs.Rat.{value_of}
-use Rattle.calc_algebra.specs.Surds.{term}
-use Rattle.surd_terms.specs.Inverses.{conjugate_product}
+use Rattle.calc_algebra.specs.Surds.{Term, term}
+use Rattle.rational128.specs.declared.overflow.Op.TheVariants.{Add, Mul}
+use Rattle.surd_terms.specs.Calculations.{Calculation, calculation, square_calculations}
+use Rattle.surd_terms.specs.Inverses.{square_of, conjugate_product}
 use Rattle.surd_terms.specs.Terms.{term_of}
+use Rattle.surd_terms.proofs.Misfits.{step_fits, step_misfit, passed_list, refused_for}
 use Rattle.surd_terms.proofs.Rationals.{num_not_zero}
 use Rattle.surd_terms.proofs.Values.{times_not_zero, inverse_not_zero, negative_not_zero, conjugates_not_zero, conjugate_inverts}
 use Rattle.surd_terms.proofs.inverses.inverse_of_sum.Goals as goal
@@ -36,3 +39,30 @@ returns-clause-inverts c =
   where
     scale : value_of c.invert-scale.result ≡ inverse_of_fraction (conjugate_product (term_of c.args.a) (term_of c.args.b))
     scale = c.invert-scale.ensures.inverse ∙ ap inverse_of_fraction (difference (goal.at.returns-clause-inverts c).In_ok-difference)
+
+pub returns-in_err-second-clause-overflow : goal.returns-in_err-second-clause-overflow
+returns-in_err-second-clause-overflow c =
+    refused_for c.from_residual-in_err-second.result c.in_err-second.field-0.0 _ c.from_residual-in_err-second.ensures.0 c.from_residual-in_err-second.ensures.1
+    (step_misfit _ Mul _ _ _ _ [] c.in_err-second.ensures.named (c.neg-2.ensures ∙ ap negative c.coefficient-2.ensures.value) scale (c.in_err-second.ensures.refused.0 refl)
+    ∙ sym (passed_list (square_calculations a) (square_calculations b ++ rest) c.in_ok-square.ensures.overflow
+    ∙ passed_list (square_calculations b) rest c.in_ok-square-2.ensures.overflow
+    ∙ step_fits Add _ _ _ _ (calculation Mul a.coefficient over ∷ last) c.in_ok-square.ensures.value (c.neg.ensures ∙ ap negative c.in_ok-square-2.ensures.value) c.in_ok-difference.ensures.refused.1
+    ∙ step_fits Mul _ _ _ _ last c.coefficient.ensures.value scale c.in_ok-first.ensures.refused.1))
+  where
+    a : Term
+    a = term_of c.args.a
+
+    b : Term
+    b = term_of c.args.b
+
+    over : Fraction
+    over = inverse_of_fraction (conjugate_product a b)
+
+    last : List Calculation
+    last = calculation Mul (negative b.coefficient) over ∷ []
+
+    rest : List Calculation
+    rest = calculation Add (square_of a) (negative (square_of b)) ∷ calculation Mul a.coefficient over ∷ last
+
+    scale : value_of c.invert-scale.result ≡ inverse_of_fraction (conjugate_product (term_of c.args.a) (term_of c.args.b))
+    scale = c.invert-scale.ensures.inverse ∙ ap inverse_of_fraction (difference (goal.at.returns-in_err-second-clause-overflow c).In_ok-difference)

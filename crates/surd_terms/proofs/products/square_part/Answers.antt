@@ -1,7 +1,13 @@
-use Rattle.std.proofs.Common.{◌*◌, arith}
+use Rattle.std.proofs.Common.{◌≡◌, ◌*◌, ◌/◌, pos, [], ◌∷◌, ap, ◌∙◌, arith}
+use Rattle.std.proofs.lemmas.Nat.Gcd.{same_from_IsGcd}
+use Rattle.calc_terms.specs.Fractions.{whole_fraction}
+use Rattle.calc_terms.specs.Gcd.{gcd, gcd_is}
+use Rattle.rational128.specs.declared.overflow.Op.TheVariants.{Mul}
+use Rattle.surd_terms.specs.Calculations.{calculation, first_misfit}
+use Rattle.surd_terms.proofs.Misfits.{refused_for}
 use Rattle.surd_terms.proofs.Radicands.{IsSquarePart, shared_positive, rest_positive, square_part}
 use Rattle.surd_terms.proofs.products.square_part.Goals as goal
-use Rattle.surd_terms.proofs.products.square_part.Goals.{After-split-root}
+use Rattle.surd_terms.proofs.products.square_part.Goals.{After-gcd-shared, After-split-root}
 
 pub nonzero_div-r : goal.nonzero_div-r
 nonzero_div-r c = shared_positive c.args.r c.args.s c.gcd-shared.result c.requires.r_positive c.gcd-shared.ensures
@@ -31,3 +37,14 @@ returns-clause-root_fits c = (part c).root_fits
 
 pub returns-clause-fits : goal.returns-clause-fits
 returns-clause-fits c = (part c).rest_fits
+
+listed : (c : After-gcd-shared) → first_misfit (calculation Mul (whole_fraction (pos (c.args.r / c.gcd-shared.result))) (whole_fraction (pos (c.args.s / c.gcd-shared.result))) ∷ [])
+    ≡ first_misfit (calculation Mul (whole_fraction (pos (c.args.r / gcd c.args.r c.args.s))) (whole_fraction (pos (c.args.s / gcd c.args.r c.args.s))) ∷ [])
+listed c = ap (λ g. first_misfit (calculation Mul (whole_fraction (pos (c.args.r / g))) (whole_fraction (pos (c.args.s / g))) ∷ [])) (same_from_IsGcd c.args.r c.args.s _ _ c.gcd-shared.ensures (gcd_is c.args.r c.args.s))
+
+pub returns-in_err-rest-clause-overflow : goal.returns-in_err-rest-clause-overflow
+returns-in_err-rest-clause-overflow c =
+    refused_for c.from_residual.result c.in_err-rest.field-0.0 _ c.from_residual.ensures.0 c.from_residual.ensures.1 (c.in_err-rest.ensures.overflow ∙ listed (goal.at.returns-in_err-rest-clause-overflow c).After-gcd-shared)
+
+pub returns-clause-overflow : goal.returns-clause-overflow
+returns-clause-overflow c = c.in_ok-rest.ensures.overflow ∙ listed (goal.at.returns-clause-overflow c).After-gcd-shared

@@ -10,6 +10,8 @@ use Rattle.calc_algebra.specs.Surds.{Term, term}
 use Rattle.rational128.proofs.Signed.{told}
 use Rattle.surd_terms.specs.Terms.{term_of}
 use Rattle.surd_terms.proofs.Extraction.{positive_abs, IsSplit, split_root, root_of, positive_is, quotient_not_zero}
+use Rattle.rational128.specs.declared.overflow.Op.TheVariants.{Mul}
+use Rattle.surd_terms.specs.Calculations.{calculation, first_misfit}
 use Rattle.surd_terms.proofs.roots.square_root.Goals as goal
 use Rattle.surd_terms.proofs.roots.square_root.Goals.{In_ok-product, After-split-root, After-ratio, After-new}
 
@@ -63,3 +65,9 @@ pub returns-clause-refused : goal.returns-clause-refused
 returns-clause-refused c =
     let at = (goal.at.returns-clause-refused c).In_ok-product in
     subst (λ z. (false ≡ true → fraction_fits (times (whole_fraction z) (whole_fraction (pos (nat_abs c.args.q.den)))) ≡ false) × (fraction_fits (times (whole_fraction z) (whole_fraction (pos (nat_abs c.args.q.den)))) ≡ false → false ≡ true)) (sym (positive_is c.args.q.num c.requires)) (rw (num_is at, den_is at) at c.in_ok-product.ensures.refused)
+
+pub returns-clause-overflow : goal.returns-clause-overflow
+returns-clause-overflow c =
+    let at = (goal.at.returns-clause-overflow c).In_ok-product in
+    c.in_ok-product.ensures.overflow
+    ∙ (λ i. first_misfit (calculation Mul (whole_fraction ((ap pos (num_is at) ∙ sym (positive_is c.args.q.num c.requires)) i)) (whole_fraction (pos (den_is at i))) ∷ []))

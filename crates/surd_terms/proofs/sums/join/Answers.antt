@@ -1,4 +1,4 @@
-use Rattle.std.proofs.Common.{◌≡◌, ◌*◌, pos, true, refl, sym, ◌∙◌, subst}
+use Rattle.std.proofs.Common.{◌≡◌, ◌*◌, pos, true, List, [], ◌∷◌, refl, sym, ap, ◌∙◌, subst}
 use Rattle.std.specs.Int.{IsGcd}
 use Rattle.calc_algebra.specs.Clean.{IsClean}
 use Rattle.calc_terms.specs.Fractions.{plus, times, whole_fraction}
@@ -8,9 +8,14 @@ use Rattle.calc_algebra.specs.Surds.{term}
 use Rattle.square_parts.proofs.CleanLaws.{clean_part}
 use Rattle.surd_terms.specs.Sums.{IsSum}
 use Rattle.surd_terms.specs.Terms.{term_of}
+use Rattle.rational128.specs.declared.overflow.Op.TheVariants.{Add, Mul}
+use Rattle.surd_terms.specs.Calculations.{Calculation, calculation, scaled, scaling, joining_calculations, first_misfit}
+use Rattle.surd_terms.proofs.Misfits.{joining_parts, one_radicand_calculations, step_fits, step_misfit, refused_for}
+use Rattle.surd_terms.proofs.Radicands.{shared_positive}
+use Rattle.surd_terms.proofs.Rationals.{rational_fits}
 use Rattle.surd_terms.proofs.Values.{sum_joins, sum_is, alike_itself, sum_of_one_radicand}
 use Rattle.surd_terms.proofs.sums.join.Goals as goal
-use Rattle.surd_terms.proofs.sums.join.Goals.{After-from_residual, After-multiple, In_ok-add}
+use Rattle.surd_terms.proofs.sums.join.Goals.{After-coefficient, After-whole, After-multiple, In_ok-left, In_ok-right, In_ok-add}
 
 pub returns-in_err-coefficient-clause-apart : goal.returns-in_err-coefficient-clause-apart
 returns-in_err-coefficient-clause-apart c = λ h. absurd (cc (alike_itself c.args.a.radicand c.args.b.radicand c.args.a.positive (sym c.radicand.ensures.value ∙ c.if-radicand.true ∙ c.radicand-2.ensures.value)))
@@ -31,7 +36,7 @@ returns-then-radicand-clause-sum c = sum_is c.multiple.result _ (term_of c.args.
 pub returns-then-radicand-clause-apart : goal.returns-then-radicand-clause-apart
 returns-then-radicand-clause-apart c = λ h. absurd (cc (alike_itself c.args.a.radicand c.args.b.radicand c.args.a.positive (one_radicand c)))
 
-parts : (c : In_ok-add) → (c.args.a.radicand ≡ c.in-Some.shared * c.in-Some.first * c.in-Some.first) × (c.args.b.radicand ≡ c.in-Some.shared * c.in-Some.second * c.in-Some.second) × IsGcd c.args.a.radicand c.args.b.radicand c.in-Some.shared
+parts : (c : After-whole) → (c.args.a.radicand ≡ c.in-Some.shared * c.in-Some.first * c.in-Some.first) × (c.args.b.radicand ≡ c.in-Some.shared * c.in-Some.second * c.in-Some.second) × IsGcd c.args.a.radicand c.args.b.radicand c.in-Some.shared
 parts c = (
   sym c.radicand-3.ensures.value ∙ c.in-Some.ensures.first ∙ cc,
   sym c.radicand-4.ensures.value ∙ c.in-Some.ensures.second ∙ cc,
@@ -40,33 +45,97 @@ parts c = (
 
 pub multiple-requires-2-clause-clean : goal.multiple-requires-2-clause-clean
 multiple-requires-2-clause-clean c =
-    let (first, second, shared) = parts c in
+    let (first, second, shared) = parts (goal.at.multiple-requires-2-clause-clean c).After-whole in
     clean_part c.in-Some.shared c.in-Some.first (subst IsClean first c.args.a.clean)
+
+left_value : (c : In_ok-left) → value_of c.in_ok-left.left ≡ times (value_of c.args.a.coefficient) (whole_fraction (pos c.in-Some.first))
+left_value c = c.in_ok-left.ensures.product ∙ (λ i. times (c.coefficient-2.ensures.value i) (c.whole.ensures.value i))
+
+right_value : (c : In_ok-right) → value_of c.in_ok-right.right ≡ times (value_of c.args.b.coefficient) (whole_fraction (pos c.in-Some.second))
+right_value c = c.in_ok-right.ensures.product ∙ (λ i. times (c.coefficient-3.ensures.value i) (c.whole-2.ensures.value i))
 
 joined : (c : In_ok-add) → IsSum (term (value_of c.in_ok-add.field-0) c.in-Some.shared) (term_of c.args.a) (term_of c.args.b)
 joined c =
-    let (first, second, shared) = parts c in record {
+    let (first, second, shared) = parts (goal.at.In_ok-add c).After-whole in record {
       first = c.in-Some.first;
       second = c.in-Some.second;
       shared = shared;
       first_part = first;
       second_part = second;
-      coefficient = c.in_ok-add.ensures.sum ∙ (λ i. plus (left i) (right i));
+      coefficient = c.in_ok-add.ensures.sum ∙ (λ i. plus (left_value (goal.at.In_ok-add c).In_ok-left i) (right_value (goal.at.In_ok-add c).In_ok-right i));
     }
-  where
-    left : value_of c.in_ok-left.left ≡ times (value_of c.args.a.coefficient) (whole_fraction (pos c.in-Some.first))
-    left = c.in_ok-left.ensures.product ∙ (λ i. times (c.coefficient-2.ensures.value i) (c.whole.ensures.value i))
 
-    right : value_of c.in_ok-right.right ≡ times (value_of c.args.b.coefficient) (whole_fraction (pos c.in-Some.second))
-    right = c.in_ok-right.ensures.product ∙ (λ i. times (c.coefficient-3.ensures.value i) (c.whole-2.ensures.value i))
-
-found : (c : In_ok-add) → are_alike c.args.a.radicand c.args.b.radicand ≡ true
+found : (c : After-whole) → are_alike c.args.a.radicand c.args.b.radicand ≡ true
 found c = rw (sym c.radicand-3.ensures.value, sym c.radicand-4.ensures.value) (c.in-Some.ensures.found.0 refl)
 
 pub returns-clause-joins : goal.returns-clause-joins
 returns-clause-joins c =
     let at = (goal.at.returns-clause-joins c).In_ok-add in
-    sum_joins c.multiple-2.result _ (term_of c.args.a) (term_of c.args.b) (found at) (joined at) c.multiple-2.ensures
+    sum_joins c.multiple-2.result _ (term_of c.args.a) (term_of c.args.b) (found (goal.at.returns-clause-joins c).After-whole) (joined at) c.multiple-2.ensures
 
 pub returns-clause-sum : goal.returns-clause-sum
 returns-clause-sum c = sum_is c.multiple-2.result _ (term_of c.args.a) (term_of c.args.b) (joined (goal.at.returns-clause-sum c).In_ok-add) c.multiple-2.ensures
+
+-- ---- what is refused
+
+calculated : (c : After-coefficient) → first_misfit (joining_calculations (term_of c.args.a) (term_of c.args.b)) ≡ first_misfit (calculation Add (value_of c.args.a.coefficient) (value_of c.args.b.coefficient) ∷ [])
+calculated c =
+    one_radicand_calculations (term_of c.args.a) (term_of c.args.b) c.args.a.positive (sym c.radicand.ensures.value ∙ c.if-radicand.true ∙ c.radicand-2.ensures.value) (rational_fits c.args.a.coefficient) (rational_fits c.args.b.coefficient)
+
+pub returns-in_err-coefficient-clause-overflow : goal.returns-in_err-coefficient-clause-overflow
+returns-in_err-coefficient-clause-overflow c =
+    refused_for c.from_residual.result c.in_err-coefficient.field-0.0 _ c.from_residual.ensures.0 c.from_residual.ensures.1
+    (step_misfit _ Add _ _ _ _ [] c.in_err-coefficient.ensures.named c.coefficient.ensures.value c.coefficient-then-radicand.ensures.value (c.in_err-coefficient.ensures.refused.0 refl)
+    ∙ sym (calculated (goal.at.returns-in_err-coefficient-clause-overflow c).After-coefficient))
+
+pub returns-then-radicand-clause-overflow : goal.returns-then-radicand-clause-overflow
+returns-then-radicand-clause-overflow c =
+    sym (calculated (goal.at.returns-then-radicand-clause-overflow c).After-coefficient
+    ∙ step_fits Add _ _ _ _ [] c.coefficient.ensures.value c.coefficient-then-radicand.ensures.value c.in_ok-coefficient.ensures.refused.1)
+
+listed : (c : After-whole) → joining_calculations (term_of c.args.a) (term_of c.args.b)
+    ≡ scaling (term_of c.args.a) c.in-Some.first ∷ scaling (term_of c.args.b) c.in-Some.second ∷ calculation Add (scaled (term_of c.args.a) c.in-Some.first) (scaled (term_of c.args.b) c.in-Some.second) ∷ []
+listed c =
+    let (first, second, shared) = parts c in
+    joining_parts (term_of c.args.a) (term_of c.args.b) c.in-Some.shared c.in-Some.first c.in-Some.second (found c) (shared_positive c.args.a.radicand c.args.b.radicand c.in-Some.shared c.args.a.positive shared) shared first second
+
+added : (c : After-whole) → List Calculation
+added c = calculation Add (scaled (term_of c.args.a) c.in-Some.first) (scaled (term_of c.args.b) c.in-Some.second) ∷ []
+
+pub returns-in_err-left-clause-overflow : goal.returns-in_err-left-clause-overflow
+unfolding added
+returns-in_err-left-clause-overflow c =
+    let at = (goal.at.returns-in_err-left-clause-overflow c).After-whole in
+    refused_for c.from_residual-in_err-left.result c.in_err-left.field-0.0 _ c.from_residual-in_err-left.ensures.0 c.from_residual-in_err-left.ensures.1
+    (step_misfit _ Mul _ _ _ _ (scaling (term_of c.args.b) c.in-Some.second ∷ added at) c.in_err-left.ensures.named c.coefficient-2.ensures.value c.whole.ensures.value (c.in_err-left.ensures.refused.0 refl)
+    ∙ ap first_misfit (sym (listed at)))
+
+left_passed : (c : In_ok-left) → first_misfit (joining_calculations (term_of c.args.a) (term_of c.args.b)) ≡ first_misfit (scaling (term_of c.args.b) c.in-Some.second ∷ added (goal.at.In_ok-left c).After-whole)
+unfolding added
+left_passed c =
+    let at = (goal.at.In_ok-left c).After-whole in
+    ap first_misfit (listed at) ∙ step_fits Mul _ _ _ _ (scaling (term_of c.args.b) c.in-Some.second ∷ added at) c.coefficient-2.ensures.value c.whole.ensures.value c.in_ok-left.ensures.refused.1
+
+pub returns-in_err-right-clause-overflow : goal.returns-in_err-right-clause-overflow
+returns-in_err-right-clause-overflow c =
+    refused_for c.from_residual-in_err-right.result c.in_err-right.field-0.0 _ c.from_residual-in_err-right.ensures.0 c.from_residual-in_err-right.ensures.1
+    (step_misfit _ Mul _ _ _ _ (added (goal.at.returns-in_err-right-clause-overflow c).After-whole) c.in_err-right.ensures.named c.coefficient-3.ensures.value c.whole-2.ensures.value (c.in_err-right.ensures.refused.0 refl)
+    ∙ sym (left_passed (goal.at.returns-in_err-right-clause-overflow c).In_ok-left))
+
+both_passed : (c : In_ok-right) → first_misfit (joining_calculations (term_of c.args.a) (term_of c.args.b))
+    ≡ first_misfit (calculation Add (value_of c.in_ok-left.left) (value_of c.in_ok-right.right) ∷ [])
+unfolding added
+both_passed c =
+    left_passed (goal.at.In_ok-right c).In_ok-left
+    ∙ step_fits Mul _ _ _ _ (added (goal.at.In_ok-right c).After-whole) c.coefficient-3.ensures.value c.whole-2.ensures.value c.in_ok-right.ensures.refused.1
+    ∙ (λ i. first_misfit (calculation Add (sym (left_value (goal.at.In_ok-right c).In_ok-left) i) (sym (right_value c) i) ∷ []))
+
+pub returns-in_err-add-clause-overflow : goal.returns-in_err-add-clause-overflow
+returns-in_err-add-clause-overflow c =
+    refused_for c.from_residual-in_err-add.result c.in_err-add.field-0.0 _ c.from_residual-in_err-add.ensures.0 c.from_residual-in_err-add.ensures.1
+    (step_misfit _ Add _ _ _ _ [] c.in_err-add.ensures.named refl refl (c.in_err-add.ensures.refused.0 refl)
+    ∙ sym (both_passed (goal.at.returns-in_err-add-clause-overflow c).In_ok-right))
+
+pub returns-clause-overflow : goal.returns-clause-overflow
+returns-clause-overflow c =
+    sym (both_passed (goal.at.returns-clause-overflow c).In_ok-right ∙ step_fits Add (value_of c.in_ok-left.left) (value_of c.in_ok-right.right) _ _ [] refl refl c.in_ok-add.ensures.refused.1)

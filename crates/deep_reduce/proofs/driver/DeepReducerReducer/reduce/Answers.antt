@@ -24,6 +24,9 @@ returns-clause-plain_answers g c = if_map c.reduce_tree.result _ _ c.reduce_tree
 pub returns-clause-plain_overflows : goal.returns-clause-plain_overflows
 returns-clause-plain_overflows g c = if_overflow c.reduce_tree.result (tree_of c.args.tree c.args.pool.now) c.args.pool.now c.reduce_tree.new.pool (states g.B.Breaker.state c.args.watch.now) (states g.B.Breaker.state c.reduce_tree.new.watch) _ c.reduce_tree.ensures.stops (λ o s. s.3)
 
+pub returns-clause-plain_overflow_at_its_node : goal.returns-clause-plain_overflow_at_its_node
+returns-clause-plain_overflow_at_its_node g c = if_overflow c.reduce_tree.result (tree_of c.args.tree c.args.pool.now) c.args.pool.now c.reduce_tree.new.pool (states g.B.Breaker.state c.args.watch.now) (states g.B.Breaker.state c.reduce_tree.new.watch) _ c.reduce_tree.ensures.stops (λ o s. s.4)
+
 pub returns-clause-interrupted : goal.returns-clause-interrupted
 returns-clause-interrupted g c = if_interrupted c.reduce_tree.result (tree_of c.args.tree c.args.pool.now) c.args.pool.now c.reduce_tree.new.pool (states g.B.Breaker.state c.args.watch.now) (states g.B.Breaker.state c.reduce_tree.new.watch) _ c.reduce_tree.ensures.stops (λ i s. s.1)
 

@@ -1,15 +1,16 @@
-use Rattle.std.proofs.Common.{◌≡◌, ◌∙◌, ◌+◌, ◌<◌, ◌++◌, ◌∷◌, [], length, take, drop, get_or, arith, sym, ap}
+use Rattle.std.proofs.Common.{◌≡◌, ◌∙◌, ◌+◌, ◌<◌, ◌++◌, ◌∷◌, [], length, take, drop, get_or, arith, refl, sym, ap}
 use Rattle.std.proofs.lemmas.List.{take_more, drop_more, take-append-drop}
 use Rattle.std.proofs.lemmas.Result.{err_from_is_err_and}
+use Rattle.calc_edges.proofs.Stops.{stops_later}
 use Rattle.poincare_run.proofs.StepLemmas.{goes_nowhere, goes_on, breaks_after}
 use Rattle.poincare_run.proofs.dialog.Dialog.answer.Goals as goal
 
 pub loop-byte-init : goal.loop-byte-init
-loop-byte-init g c = record { later = omega arith; goes = λ start before out h. goes_nowhere start before out _ _ h }
+loop-byte-init g c = record { calm = refl; goes = λ start before out h. goes_nowhere start before out _ _ h }
 
 pub loop-byte-preserved : goal.loop-byte-preserved
 loop-byte-preserved g c = record {
-  later = omega (arith, c.in_ok-answer_byte.ensures.cause.later);
+  calm = c.in_ok-answer_byte.ensures.cause.calm ∙ c.loop-byte.invariant.calm;
   goes = λ start before out h.
       let within : c.loop-byte.byte-index < length c.args.bytes.now = omega arith in
       rw (take_more c.args.bytes.now c.loop-byte.byte-index 0 within)
@@ -26,3 +27,8 @@ returns-in_err-answer_byte-clause-err g c =
     let within : i < length bytes = omega arith in
     let whole : take i bytes ++ (get_or bytes i 0 ∷ [] ++ drop (i + 1) bytes) ≡ bytes = ap (λ rest. take i bytes ++ rest) (sym (drop_more bytes i 0 within)) ∙ take-append-drop i bytes in
     breaks_after start before (take i bytes) out _ _ _ _ (c.loop-byte.invariant.goes start before out h) (get_or bytes i 0 ∷ []) (drop (i + 1) bytes) bytes whole c.in_err-answer_byte.ensures.err)
+
+pub returns-in_err-answer_byte-clause-stops : goal.returns-in_err-answer_byte-clause-stops
+returns-in_err-answer_byte-clause-stops g c =
+    let p = err_from_is_err_and c.from_residual.result c.from_residual.ensures.1 in
+    rw (p.1) (stops_later _ _ _ _ _ c.loop-byte.invariant.calm c.in_err-answer_byte.ensures.stops)

@@ -25,6 +25,7 @@ pub returns : goal.returns
 returns g c = record {
   ok = on_ok_weaker c.write_line.result (λ written bytes h. record { text = Some c.text.result.now; step = step g c bytes h; appended = written }) c.write_line.ensures.appended;
   err = on_err_weaker c.write_line.result (λ part bytes h. record { text = Some c.text.result.now; next = c.line-answer.new.self.state; step = step g c bytes h; appended = part }) c.write_line.ensures.part;
+  stops = c.write_line.ensures.stops;
   cleared = c.clear.ensures;
   cause = c.write_line.ensures.cause;
 }

@@ -1,13 +1,13 @@
-use Rattle.std.proofs.Common.{◌≤◌}
+use Rattle.std.proofs.Common.{◌≡◌}
 use Rattle.poincare_run.specs.Progress.{IsUnderWay}
 use Rattle.poincare_run.proofs.dialog.Dialog.serve.Given as goal
 
--- what was read so far is answered, up to the rest behind its last newline
+-- what was read so far is answered, up to the rest behind its last newline, and nothing failed
 abbrev pub invariant-loop-left : goal.invariant-loop-left
 invariant-loop-left g l = record {
   under_way : IsUnderWay l.fn.self.session.state (g.S.Source.told l.fn.source) (g.S.Source.told l.source) (g.K.Sink.taken l.fn.sink) (g.K.Sink.taken l.sink) l.left l.self;
-  source_later : g.S.Source.faults l.fn.source ≤ g.S.Source.faults l.source;
-  sink_later : g.K.Sink.faults l.fn.sink ≤ g.K.Sink.faults l.sink;
+  reads_calm : g.S.Source.faults l.source ≡ g.S.Source.faults l.fn.source;
+  writes_calm : g.K.Sink.faults l.sink ≡ g.K.Sink.faults l.fn.sink;
 }
 
 abbrev pub decreases-loop-left : goal.decreases-loop-left

@@ -1,0 +1,5 @@
+mod fixtures;
+mod reduced_lines;
+mod round_trips;
+mod small_faces;
+mod small_pools;

@@ -1,0 +1,92 @@
+//! What the tests share: pools, breakers, and the trees of lines.
+ghost use Rattle.std.specs.Prelude.{◌≡◌, IfOk, IfSome};
+ghost use Rattle.node_pool.specs.State.{IsPoolSize};
+ghost use Rattle.tree_handles.specs.Handed.{IsHanded, Gives};
+ghost use Rattle.tree_handles.specs.Standing.{Stands, forest};
+
+use beautify::face_of;
+use breakers::{Breaker, CountBreaker, Watch};
+use calc_parser::{build, check};
+use calc_terms::Kind;
+use calc_tokens::scan;
+use node_order::compare;
+use node_pool::Pool;
+use reduce_port::{ReduceFault, Reducer};
+use std::alloc::{AllocError, Global};
+use std::cmp::Ordering;
+use tree_handles::{Handle, kind};
+
+/// The bytes of a pool in which there is room enough.
+pub const SIZE: u32 = 16_384;
+
+/// A pool with no tree in it.
+pub fn opened(alloc: Global, size: u32) -> Result<Pool, AllocError>
+    requires { IsPoolSize size }
+    ensures { IfOk result Stands }
+{
+    let pool = Pool::open(alloc, size)?;
+    Ok(pool)
+}
+
+/// A watch over one breaker, which trips after so many polls.
+pub fn armed(alloc: Global, polls: u64) -> Result<Watch<CountBreaker>, AllocError> {
+    let mut breaker = CountBreaker::new();
+    breaker.arm(polls);
+    let mut breakers = Vec::new(alloc);
+    breakers.push(breaker)?;
+    Ok(Watch::new(breakers))
+}
+
+/// The tree of a line, which becomes the last one.
+pub fn read(pool: &mut Pool, line: &[u8]) -> Option<Handle>
+    requires stands { Stands pool.old }
+    ensures gives { IfSome result (λ h. Gives (forest pool.old) (forest pool.new) h (λ t. t ≡ t)) }
+    ensures stands { Stands pool.new }
+{
+    if line.len() > 1024 {
+        return None;
+    }
+    let Ok(tokens) = scan(line) else {
+        return None;
+    };
+    let Ok(_shape) = check(&tokens) else {
+        return None;
+    };
+    let Ok(tree) = build(pool, &tokens) else {
+        return None;
+    };
+    Some(tree)
+}
+
+/// A tree reduced, and its face, where it has one.
+pub fn answer<R: Reducer>(
+    reducer: &R,
+    pool: &mut Pool,
+    tree: Handle,
+    watch: &mut Watch<CountBreaker>,
+) -> Result<Handle, ReduceFault>
+    requires stands { Stands pool.old }
+    requires handed { IsHanded tree (forest pool.old) }
+    ensures gives { IfOk result (λ h. IsHanded h (forest pool.new)) }
+    ensures stands { Stands pool.new }
+{
+    let reduced = reducer.reduce(pool, tree, watch)?;
+    match kind(pool, reduced.id()) {
+        Kind::Undef => Ok(reduced),
+        _ => {
+            let face = face_of(pool, reduced)?;
+            Ok(face)
+        }
+    }
+}
+
+/// Whether a tree is the one that a text reads as.
+pub fn is_tree_of(pool: &mut Pool, answer: &Handle, text: &[u8]) -> bool
+    requires stands { Stands pool.old }
+    requires handed { IsHanded answer.now (forest pool.old) }
+{
+    match read(pool, text) {
+        Some(tree) => compare(pool, answer.id(), tree.id()) == Ordering::Equal,
+        None => false,
+    }
+}

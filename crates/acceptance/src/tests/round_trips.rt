@@ -1,0 +1,263 @@
+//! Trees of a table are written, and their texts are read and built again.
+mod shapes;
+
+ghost use Rattle.calc_language.specs.Texts.{IsWritable};
+ghost use Rattle.tree_handles.specs.Expressions.{plain};
+ghost use Rattle.tree_handles.specs.Handed.{IsHanded};
+ghost use Rattle.tree_handles.specs.Roots.{root_tree};
+ghost use Rattle.tree_handles.specs.Standing.{Stands, forest};
+
+use super::fixtures::{is_tree_of, opened};
+use line_text::{Text, write_text};
+use node_pool::Pool;
+use shapes::{Pair, Shape, Single, grow};
+use std::alloc::{AllocError, Global};
+use std::process::Abort;
+use std::test::Fail;
+use tree_handles::{Handle, tree_bytes};
+
+/// The text of a tree, in twice its bytes.
+fn written(rt: &impl Abort, alloc: Global, pool: &Pool, tree: &Handle) -> Result<Text, AllocError>
+    requires stands { Stands pool.now }
+    requires handed { IsHanded tree.now (forest pool.now) }
+    requires writable { IsWritable (plain (root_tree tree.now (forest pool.now))) }
+{
+    let id = tree.id();
+    let bytes = tree_bytes(pool, id);
+    assert!(rt; bytes <= 1024);
+    let mut text = Text::open(alloc, 2 * bytes)?;
+    write_text(pool, id, &mut text);
+    Ok(text)
+}
+
+/// Writes the tree of a shape, compares its text, and reads it again.
+fn round_trip(rt: &impl Abort, alloc: Global, shape: &Shape, expected: &str) -> Result<(), Fail> {
+    let mut pool = opened(alloc, 1024)?;
+    let tree = grow(&mut pool, shape)?;
+    let text = written(rt, alloc, &pool, &tree)?;
+    assert_eq!(rt; text.bytes(), expected.as_bytes(), "{expected}");
+    assert!(rt; is_tree_of(&mut pool, &tree, text.bytes()), "{expected}");
+    Ok(())
+}
+
+const A: Shape<'static> = Shape::Name(b"a");
+
+const B: Shape<'static> = Shape::Name(b"b");
+
+const C: Shape<'static> = Shape::Name(b"c");
+
+const SUM: Shape<'static> = Shape::Two(Pair::Sum, &A, &B);
+
+const PRODUCT: Shape<'static> = Shape::Two(Pair::Product, &A, &B);
+
+const POWER: Shape<'static> = Shape::Two(Pair::Power, &A, &B);
+
+const OPPOSITE: Shape<'static> = Shape::One(Single::Opposite, &A);
+
+/// A tree of each level, and opposites of some.
+const CHILDREN: [Shape<'static>; 11] = [
+    SUM,
+    Shape::Two(Pair::Difference, &A, &B),
+    OPPOSITE,
+    PRODUCT,
+    Shape::Two(Pair::Quotient, &A, &B),
+    POWER,
+    Shape::One(Single::Root, &A),
+    Shape::One(Single::Opposite, &SUM),
+    Shape::One(Single::Opposite, &PRODUCT),
+    Shape::One(Single::Opposite, &POWER),
+    Shape::One(Single::Opposite, &OPPOSITE),
+];
+
+/// Where such a tree stands.
+#[derive(Clone, Copy, Debug)]
+enum Around {
+    First(Pair),
+    Later(Pair),
+    Under(Single),
+}
+
+impl Around {
+    fn over<'a>(self, child: &'a Shape<'a>, other: &'a Shape<'a>) -> Shape<'a> {
+        match self {
+            Around::First(pair) => Shape::Two(pair, child, other),
+            Around::Later(pair) => Shape::Two(pair, other, child),
+            Around::Under(single) => Shape::One(single, child),
+        }
+    }
+}
+
+/// The text of each child at each place, with `c` on the other side. The texts come from a model of its own.
+const ROWS: [(Around, [&str; 11]); 12] = [
+    (
+        Around::First(Pair::Sum),
+        [
+            "(a+b)+c", "a-b+c", "-a+c", "a×b+c", "a/b+c", "a^b+c", "√(a)+c", "-(a+b)+c", "-a×b+c",
+            "-a^b+c", "--a+c",
+        ],
+    ),
+    (
+        Around::Later(Pair::Sum),
+        [
+            "c+(a+b)", "c+(a-b)", "c+-a", "c+a×b", "c+a/b", "c+a^b", "c+√(a)", "c+-(a+b)",
+            "c+-a×b", "c+-a^b", "c+--a",
+        ],
+    ),
+    (
+        Around::First(Pair::Difference),
+        [
+            "a+b-c", "a-b-c", "-a-c", "a×b-c", "a/b-c", "a^b-c", "√(a)-c", "-(a+b)-c", "-a×b-c",
+            "-a^b-c", "--a-c",
+        ],
+    ),
+    (
+        Around::Later(Pair::Difference),
+        [
+            "c-(a+b)", "c-(a-b)", "c--a", "c-a×b", "c-a/b", "c-a^b", "c-√(a)", "c--(a+b)",
+            "c--a×b", "c--a^b", "c---a",
+        ],
+    ),
+    (
+        Around::First(Pair::Product),
+        [
+            "(a+b)×c",
+            "(a-b)×c",
+            "(-a)×c",
+            "(a×b)×c",
+            "a/b×c",
+            "a^b×c",
+            "√(a)×c",
+            "(-(a+b))×c",
+            "(-a×b)×c",
+            "(-a^b)×c",
+            "(--a)×c",
+        ],
+    ),
+    (
+        Around::Later(Pair::Product),
+        [
+            "c×(a+b)",
+            "c×(a-b)",
+            "c×-a",
+            "c×(a×b)",
+            "c×(a/b)",
+            "c×a^b",
+            "c×√(a)",
+            "c×(-(a+b))",
+            "c×(-a×b)",
+            "c×-a^b",
+            "c×--a",
+        ],
+    ),
+    (
+        Around::First(Pair::Quotient),
+        [
+            "(a+b)/c",
+            "(a-b)/c",
+            "(-a)/c",
+            "a×b/c",
+            "a/b/c",
+            "a^b/c",
+            "√(a)/c",
+            "(-(a+b))/c",
+            "(-a×b)/c",
+            "(-a^b)/c",
+            "(--a)/c",
+        ],
+    ),
+    (
+        Around::Later(Pair::Quotient),
+        [
+            "c/(a+b)",
+            "c/(a-b)",
+            "c/-a",
+            "c/(a×b)",
+            "c/(a/b)",
+            "c/a^b",
+            "c/√(a)",
+            "c/(-(a+b))",
+            "c/(-a×b)",
+            "c/-a^b",
+            "c/--a",
+        ],
+    ),
+    (
+        Around::First(Pair::Power),
+        [
+            "(a+b)^c",
+            "(a-b)^c",
+            "(-a)^c",
+            "(a×b)^c",
+            "(a/b)^c",
+            "(a^b)^c",
+            "√(a)^c",
+            "(-(a+b))^c",
+            "(-a×b)^c",
+            "(-a^b)^c",
+            "(--a)^c",
+        ],
+    ),
+    (
+        Around::Later(Pair::Power),
+        [
+            "c^(a+b)",
+            "c^(a-b)",
+            "c^-a",
+            "c^(a×b)",
+            "c^(a/b)",
+            "c^a^b",
+            "c^√(a)",
+            "c^(-(a+b))",
+            "c^(-a×b)",
+            "c^-a^b",
+            "c^--a",
+        ],
+    ),
+    (
+        Around::Under(Single::Opposite),
+        [
+            "-(a+b)", "-(a-b)", "--a", "-a×b", "-a/b", "-a^b", "-√(a)", "--(a+b)", "--a×b",
+            "--a^b", "---a",
+        ],
+    ),
+    (
+        Around::Under(Single::Root),
+        [
+            "√(a+b)",
+            "√(a-b)",
+            "√(-a)",
+            "√(a×b)",
+            "√(a/b)",
+            "√(a^b)",
+            "√(√(a))",
+            "√(-(a+b))",
+            "√(-a×b)",
+            "√(-a^b)",
+            "√(--a)",
+        ],
+    ),
+];
+
+#[test]
+fn each_tree_is_read_again_from_its_text(rt: HostRuntime) -> Result<(), Fail> {
+    for (around, texts) in &ROWS {
+        for (child, text) in CHILDREN.iter().zip(texts) {
+            round_trip(&rt, rt.alloc(), &around.over(child, &C), text)?;
+        }
+    }
+    Ok(())
+}
+
+#[test]
+fn leaves_are_read_again(rt: HostRuntime) -> Result<(), Fail> {
+    round_trip(&rt, rt.alloc(), &Shape::Name(b"x1Y2z3W"), "x1Y2z3W")?;
+    round_trip(&rt, rt.alloc(), &Shape::Undef, "undef")?;
+    round_trip(&rt, rt.alloc(), &Shape::Number(0), "0")?;
+    round_trip(
+        &rt,
+        rt.alloc(),
+        &Shape::Number(18_446_744_073_709_551_615),
+        "18446744073709551615",
+    )?;
+    Ok(())
+}

@@ -1,0 +1,77 @@
+//! Faces of a name, of its multiples and powers, and of sums, worked by hand: 16 bytes for the name, 8 for a sign, a
+//! line, a sum, a product or a power, and 40 for each whole number.
+ghost use Rattle.tree_handles.specs.Standing.{Stands};
+
+use super::fixtures::{SIZE, answer, armed, opened, read};
+use breakers::{CountBreaker, Watch};
+use deep_reduce::DeepReducer;
+use node_pool::Pool;
+use reduce_port::Reducer;
+use std::alloc::{AllocError, Global};
+use std::test::Fail;
+
+/// Lines, and the bytes of their faces.
+const BYTES: &str = "\
+x = 16\n\
+-x = 24\n\
+2×x = 64\n\
+-2×x = 72\n\
+x/2 = 64\n\
+-x/2 = 72\n\
+3×x/2 = 112\n\
+-3×x/2 = 120\n\
+x^2 = 64\n\
+x^-1 = 64\n\
+x^-2 = 112\n\
+x^(1/2) = 112\n\
+x^(-1/2) = 120\n\
+-x^-1 = 72\n\
+1/2×x^-1 = 112\n\
+2×x^-1 = 64\n\
+3×x^2 = 112\n\
+-3/2×x^-2 = 168\n\
+-1/2+2×x = 168\n\
+-3+2×x = 120\n\
+2-x = 64\n\
+2-x/2 = 112";
+
+/// The bytes that are used when the face of a line's answer stands alone, or none where it was refused.
+fn bytes_of_face<R: Reducer>(
+    reducer: &R,
+    pool: &mut Pool,
+    line: &[u8],
+    watch: &mut Watch<CountBreaker>,
+) -> Option<u32>
+    requires stands { Stands pool.old }
+{
+    let Some(tree) = read(pool, line) else {
+        return None;
+    };
+    match answer(reducer, pool, tree, watch) {
+        Ok(_face) => Some(pool.used()),
+        Err(_) => None,
+    }
+}
+
+/// The place of the first row whose face takes other bytes.
+fn first_other(alloc: Global, table: &str) -> Result<Option<usize>, AllocError> {
+    for (place, row) in table.lines().enumerate() {
+        let Some((line, bytes)) = row.split_once(" = ") else {
+            return Ok(Some(place));
+        };
+        let mut pool = opened(alloc, SIZE)?;
+        let mut watch = armed(alloc, u64::MAX)?;
+        let found = bytes_of_face(&DeepReducer, &mut pool, line.as_bytes(), &mut watch);
+        if found.is_none() || found != bytes.parse().ok() {
+            return Ok(Some(place));
+        }
+    }
+    Ok(None)
+}
+
+#[test]
+fn faces_take_their_bytes(rt: HostRuntime) -> Result<(), Fail> {
+    let other = first_other(rt.alloc(), BYTES)?;
+    assert_eq!(rt; other, None);
+    Ok(())
+}

@@ -1,0 +1,82 @@
+//! Lines in sessions with pools of every size.
+mod tables;
+
+ghost use Rattle.std.specs.Prelude.{◌≤◌};
+ghost use Rattle.node_pool.specs.State.{IsPoolSize};
+
+use poincare_run::{LineAnswer, Refusal, Session};
+use std::alloc::{AllocError, Global};
+use std::test::Fail;
+use tables::{REDUCED, SHOWN};
+
+/// What became of a line in a pool.
+#[derive(Clone, Copy, Debug, PartialEq, Eq)]
+enum Outcome {
+    /// It has the answer that is wanted.
+    Answered,
+    /// A node needs more bytes than are free, and all bytes of the pool are as they were.
+    Full,
+    Other,
+}
+
+/// The first answer of a session whose pool has so many bytes.
+fn outcome_of(alloc: Global, line: &str, text: &str, size: u32) -> Result<Outcome, AllocError>
+    requires { IsPoolSize size }
+{
+    let mut session = Session::open(alloc, size)?;
+    let before = session.pool().bytes().to_vec(alloc)?;
+    let answer = session.line(line.as_bytes());
+    let found = match answer {
+        LineAnswer::Refused(Refusal::Full { needed, free }) => {
+            if needed > free && session.pool().bytes() == before.as_slice() {
+                Outcome::Full
+            } else {
+                Outcome::Other
+            }
+        }
+        _ => {
+            if session.text() == text.as_bytes() {
+                Outcome::Answered
+            } else {
+                Outcome::Other
+            }
+        }
+    };
+    Ok(found)
+}
+
+/// The least size from which on a line is answered, where it is Full at each smaller one.
+fn least_size(alloc: Global, line: &str, text: &str) -> Result<Option<u32>, AllocError> {
+    for size in 64..=2048u32 {
+        if size % 8 == 0 {
+            match outcome_of(alloc, line, text, size)? {
+                Outcome::Answered => return Ok(Some(size)),
+                Outcome::Full => {}
+                Outcome::Other => return Ok(None),
+            }
+        }
+    }
+    Ok(None)
+}
+
+/// The place of the first row, a line and behind an equals sign its answer, that has no such size.
+fn first_other(alloc: Global, table: &str) -> Result<Option<usize>, AllocError> {
+    for (place, row) in table.lines().enumerate() {
+        let Some((line, text)) = row.split_once(" = ") else {
+            return Ok(Some(place));
+        };
+        if least_size(alloc, line, text)?.is_none() {
+            return Ok(Some(place));
+        }
+    }
+    Ok(None)
+}
+
+#[test]
+fn small_pools_are_full(rt: HostRuntime) -> Result<(), Fail> {
+    for table in [REDUCED, SHOWN] {
+        let other = first_other(rt.alloc(), table)?;
+        assert_eq!(rt; other, None, "{table}");
+    }
+    Ok(())
+}

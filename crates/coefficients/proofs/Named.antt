@@ -1,0 +1,81 @@
+-- Which operation does not fit, from call to call.
+use Rattle.std.specs.Prelude.{Result, Ok, Err, IfErr, IsErrAnd}
+use Rattle.std.proofs.Common.{◌≡◌, ◌⊎◌, inl, inr, ℕ, true, refl, sym, ap, ◌∙◌, subst}
+use Rattle.calc_terms.specs.Fractions.{Fraction}
+use Rattle.calc_terms.specs.Rat.{value_of}
+use Rattle.calc_terms.specs.declared.rat.Rat.{Rat}
+use Rattle.calc_algebra.specs.Numbers.{is_number}
+use Rattle.calc_terms.specs.Trees.{Tree, num, add, mult, Trees, none, more, append, is_add, is_mult}
+use Rattle.coefficients.specs.Overflows.{Leads, LeadsIn, LeadsTerm, IsMultiple, NamesPut, OfOverflow}
+use Rattle.node_pool.specs.declared.full.Full.{Full}
+use Rattle.rational128.specs.declared.overflow.Op.TheVariants.{Mul}
+use Rattle.rational128.specs.declared.overflow.Overflow.{Overflow}
+use Rattle.tree_handles.specs.Expressions.{children_of}
+use Rattle.tree_handles.specs.declared.fault.NumberFault.{NumberFault}
+use Rattle.tree_handles.specs.declared.fault.NumberFault.TheVariants as fault
+
+-- ---- results
+
+pub not_named : {A : Type 0} (r : Result A NumberFault) (f : Full) (P : Overflow → Type 0) → IsErrAnd r (λ e. e ≡ fault.Full f) → IfErr r (OfOverflow P)
+not_named (Ok x) f P h = tt
+not_named (Err (fault.Full g)) f P h = tt
+not_named (Err (fault.Overflow o)) f P h = absurd cc
+
+pub named : {A : Type 0} (r : Result A NumberFault) (o : Overflow) (P : Overflow → Type 0) → IsErrAnd r (λ e. e ≡ fault.Overflow o) → P o → IfErr r (OfOverflow P)
+named (Ok x) o P h k = tt
+named (Err (fault.Full g)) o P h k = tt
+named (Err (fault.Overflow p)) o P h k = subst P (sym (same p o h)) k
+  where
+    same : (p o : Overflow) → fault.Overflow p ≡ fault.Overflow o → p ≡ o
+    same p o e = cc
+
+pub fault_named : (f : NumberFault) (P Q : Overflow → Type 0) → OfOverflow P f → ((o : Overflow) → P o → Q o) → OfOverflow Q f
+fault_named (fault.Full g) P Q h k = tt
+fault_named (fault.Overflow o) P Q h k = k o h
+
+pub result_named : {A : Type 0} (r : Result A NumberFault) (P Q : Overflow → Type 0) → IfErr r (OfOverflow P) → ((o : Overflow) → P o → Q o) → IfErr r (OfOverflow Q)
+result_named (Ok x) P Q h k = tt
+result_named (Err f) P Q h k = fault_named f P Q h k
+
+-- what a `?` passes on
+pub passed_named : {A : Type 0} (r : Result A NumberFault) (f : NumberFault) (P Q : Overflow → Type 0) → IsErrAnd r (λ e. e ≡ f) → OfOverflow P f → ((o : Overflow) → P o → Q o) → IfErr r (OfOverflow Q)
+passed_named (Ok x) f P Q h p k = tt
+passed_named (Err e) f P Q h p k = subst (OfOverflow Q) (sym h) (fault_named f P Q p k)
+
+-- ---- what leads
+
+pub multiple_of : {q : Fraction} {L M : Fraction → Type 0} → ((c : Fraction) → L c → M c) → (o : Overflow) → IsMultiple q L o → IsMultiple q M o
+multiple_of f o m = record { product = m.product; first = m.first; second = f _ m.second }
+
+pub leads_behind : (L : Fraction → Tree → Type 0) (c : Fraction) (done : Trees) (t : Tree) (rest : Trees) → L c t → LeadsIn L c (append done (more t rest))
+leads_behind L c none t rest h = inl h
+leads_behind L c (more u done) t rest h = inr (leads_behind L c done t rest h)
+
+pub leads_number : (c d : Fraction) (t : Tree) → t ≡ num d → d ≡ c → Leads c t
+leads_number c d t e h = subst (Leads c) (sym e) h
+
+pub leads_factors : (c d : Fraction) (t : Tree) (ts : Trees) → t ≡ mult (more (num d) ts) → d ≡ c → Leads c t
+leads_factors c d t ts e h = subst (Leads c) (sym e) h
+
+pub leads_coefficient : (c : Fraction) (t : Tree) (us ts : Trees) → t ≡ mult (more (add us) ts) → is_number (add us) ≡ true → LeadsIn Leads c us → LeadsTerm c t
+leads_coefficient c t us ts e n h = subst (LeadsTerm c) (sym e) (n, h)
+
+-- what leads no Number of two square classes or more leads the term
+pub leads_term : (c : Fraction) (t : Tree) → Leads c t → LeadsTerm c t
+leads_term c (num d) h = h
+leads_term c (mult (more (num d) ts)) h = h
+leads_term c t h = absurd h
+
+pub names_sum : (q : Fraction) (t : Tree) → is_add t ≡ true → (o : Overflow) → IsMultiple q (λ c. LeadsIn LeadsTerm c (children_of t)) o → NamesPut (num q) t o
+names_sum q (add ts) m o h = h
+names_sum q t m o h = cc
+
+pub multiple_named : {q b : Rat} (L : Fraction → Type 0) (o : Overflow) → o ≡ record { op = Mul; a = q; b = b } → L (value_of b) → IsMultiple (value_of q) L o
+multiple_named L o e h = record { product = ap (λ (x : Overflow). x.op) e; first = ap (λ (x : Overflow). value_of x.a) e; second = subst L (sym (ap (λ (x : Overflow). value_of x.b) e)) h }
+
+pub leads_children : (c : Fraction) (t : Tree) (rest : Trees) → is_mult t ≡ true → children_of t ≡ more (num c) rest → Leads c t
+leads_children c (mult ts) rest m e = subst (λ (us : Trees). Leads c (mult us)) (sym e) refl
+leads_children c t rest m e = cc
+
+pub put_as : {c d p q : Tree} (o : Overflow) → c ≡ d → p ≡ q → NamesPut c p o → NamesPut d q o
+put_as {c = c} {d = d} {p = p} {q = q} o e f h = subst (λ (x : Tree). NamesPut x q o) e (subst (λ (x : Tree). NamesPut c x o) f h)

@@ -1,0 +1,11 @@
+use Rattle.calc_algebra.proofs.NumberLaws.{number_test}
+use Rattle.coefficients.specs.Coefficients.{coefficient_of}
+use Rattle.coefficients.proofs.Coefficients.{taken}
+use Rattle.coefficients.proofs.laws.coefficients_are_put_back.Goals as goal
+
+pub returns : goal.returns
+returns c = record {
+  number = λ t r d n. number_test (coefficient_of t) (taken t r d n).number;
+  monic = λ t r d n. (taken t r d n).monic;
+  whole = λ t r d n. (taken t r d n).whole;
+}

@@ -1,0 +1,8 @@
+use Rattle.calc_algebra.proofs.NumberLaws.{number_words}
+use Rattle.calc_algebra.proofs.Rewritings.{keeps}
+use Rattle.coefficients.proofs.Coefficients.{put_reduces}
+use Rattle.coefficients.proofs.Keeps.{coefficient_keeps}
+use Rattle.coefficients.proofs.laws.coefficients_keep_meanings.Goals as goal
+
+pub returns : goal.returns
+returns c = record { any = λ a p. keeps (coefficient_keeps a p); reduced = λ a p h m. put_reduces a p (number_words a h) m }

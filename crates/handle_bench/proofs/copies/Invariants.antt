@@ -1,6 +1,0 @@
-use Rattle.std.proofs.Common.{◌≡◌}
-use Rattle.tree_handles.specs.Standing.{Stands, forest}
-use Rattle.handle_bench.proofs.copies.Given as goal
-
-abbrev pub invariant-loop : goal.invariant-loop
-invariant-loop g l = Stands l.pool × (forest l.pool ≡ forest l.fn.pool)

@@ -1,6 +1,0 @@
-use Rattle.tree_handles.specs.Handed.{IsHanded}
-use Rattle.tree_handles.specs.Standing.{Stands, forest}
-use Rattle.handle_bench.proofs.nested_sums.Given as goal
-
-abbrev pub invariant-loop : goal.invariant-loop
-invariant-loop l = Stands l.pool × IsHanded l.sum (forest l.pool)

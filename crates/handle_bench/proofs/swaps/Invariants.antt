@@ -1,7 +1,0 @@
-use Rattle.std.proofs.Common.{◌≡◌, true}
-use Rattle.tree_handles.specs.Roots.{has_root}
-use Rattle.tree_handles.specs.Standing.{Stands, forest}
-use Rattle.handle_bench.proofs.swaps.Given as goal
-
-abbrev pub invariant-loop : goal.invariant-loop
-invariant-loop g l = Stands l.pool × (has_root l.sum (forest l.pool) ≡ true)

@@ -1,8 +1,0 @@
-use Rattle.std.proofs.Common.{◌≡◌, true}
-use Rattle.calc_algebra.specs.Numbers.{is_number}
-use Rattle.tree_handles.specs.Handed.{Gives}
-use Rattle.tree_handles.specs.Standing.{Stands, forest}
-use Rattle.number_bench.proofs.roots.Given as goal
-
-abbrev pub invariant-loop-prime : goal.invariant-loop-prime
-invariant-loop-prime l = Stands l.pool × Gives (forest l.fn.pool) (forest l.pool) l.sum (λ t. is_number t ≡ true)

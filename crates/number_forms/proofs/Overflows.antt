@@ -1,0 +1,84 @@
+-- What a call on Numbers is refused for, from the call that was refused.
+use Rattle.std.proofs.Common.{◌≡◌, ℕ, ◌+◌, ◌*◌, ◌/◌, ◌<◌, ◌≤◌, false, true, Some, Result, Ok, Err, sym, ap, ◌∙◌, subst, arith}
+use Rattle.std.specs.Prelude.{IfErr, IsErr, IsErrAnd}
+use Rattle.calc_algebra.specs.Numbers.{term_of, value}
+use Rattle.calc_algebra.specs.SquareClasses.{Same}
+use Rattle.calc_algebra.specs.Surds.{Term, Surd, surd_times, surd_power}
+use Rattle.calc_terms.specs.Trees.{Tree, count}
+use Rattle.calc_algebra.proofs.PowerLaws.{surd_power-squared}
+use Rattle.calc_algebra.proofs.SquareClassLaws.{Same-trans}
+use Rattle.calc_algebra.proofs.TermLaws.{Same-append, Same-refl}
+use Rattle.number_forms.specs.Answers.{IsNumberOf}
+use Rattle.number_forms.specs.Overflows.{OfOverflow, JoinOverflows, SumOverflows, ProductOverflows, PowerOverflows}
+use Rattle.rational128.specs.declared.overflow.Overflow.{Overflow}
+use Rattle.surd_terms.specs.Calculations.{calculation_of, first_misfit, joining_calculations}
+use Rattle.tree_handles.specs.Expressions.{children_of, nth}
+use Rattle.tree_handles.specs.declared.fault.NumberFault.{NumberFault}
+use Rattle.tree_handles.specs.declared.fault.NumberFault.TheVariants as fault
+
+pub passed_on : {A E : Type 0} (r : Result A E) (e : E) (P : E → Type 0) → IsErr r → IsErrAnd r (λ x. x ≡ e) → P e → IfErr r P
+passed_on (Ok x) e P h a p = let no : false ≡ true = h in cc
+passed_on (Err f) e P h a p = subst P (sym a) p
+
+pub overflow_as : {P Q : Overflow → Type 0} (e : NumberFault) → OfOverflow P e → ((o : Overflow) → P o → Q o) → OfOverflow Q e
+overflow_as (fault.Full full) p k = tt
+overflow_as (fault.Overflow o) p k = k o p
+
+pub refused_as : {A : Type 0} {P Q : Overflow → Type 0} (r : Result A NumberFault) → IfErr r (OfOverflow P) → ((o : Overflow) → P o → Q o) → IfErr r (OfOverflow Q)
+refused_as (Ok x) p k = p
+refused_as (Err e) p k = overflow_as e p k
+
+-- the term of a sum at a place, once it is read
+pub join_overflow : (sum : Tree) (at : ℕ) (x t : Term) (o : Overflow) → at < count (children_of sum) → x ≡ term_of (nth at (children_of sum)) → Some (calculation_of o) ≡ first_misfit (joining_calculations x t) → JoinOverflows sum t o
+join_overflow sum at x t o l e m = record { at = at; within = l; misfit = m ∙ ap (λ y. first_misfit (joining_calculations y t)) e }
+
+-- ---- sums
+
+pub sum_overflows_as : (v v' w w' : Surd) (o : Overflow) → Same v v' → w ≡ w' → SumOverflows v w o → SumOverflows v' w' o
+sum_overflows_as v v' w w' o h e s =
+    subst (λ x. SumOverflows v' x o) e (record { at = s.at; next = s.next; here = s.here; partial = s.partial; sum = s.sum; worth = Same-trans s.worth (Same-append h (Same-refl w)); joined = s.joined })
+
+-- ---- powers
+
+pub power_overflows_more : (v : Surd) (m n : ℕ) (o : Overflow) → m ≤ n → PowerOverflows v m o → PowerOverflows v n o
+power_overflows_more v m n o l p = record {
+  low = p.low;
+  high = p.high;
+  within = let w : p.low + p.high ≤ m = p.within in omega (arith, l, w);
+  low_positive = p.low_positive;
+  high_positive = p.high_positive;
+  first = p.first;
+  second = p.second;
+  first_power = p.first_power;
+  second_power = p.second_power;
+  product = p.product;
+}
+
+pub square_overflows : (v : Surd) (h : Tree) (n : ℕ) (o : Overflow) → 1 ≤ n / 2 → IsNumberOf (surd_power v (n / 2)) h → ProductOverflows (value h) (value h) o → PowerOverflows v n o
+square_overflows v h n o l i p = record {
+  low = n / 2;
+  high = n / 2;
+  within = omega arith;
+  low_positive = l;
+  high_positive = l;
+  first = h;
+  second = h;
+  first_power = i;
+  second_power = i;
+  product = p;
+}
+
+pub last_overflows : (h q a : Tree) (n : ℕ) (o : Overflow) → 1 ≤ n / 2 → 2 * (n / 2) + 1 ≤ n → Same (value h) (surd_power (value a) (n / 2)) → IsNumberOf (surd_times (value h) (value h)) q → IsNumberOf (value a) a
+    → ProductOverflows (value q) (value a) o → PowerOverflows (value a) n o
+last_overflows h q a n o l w s i j p = record {
+  low = 2 * (n / 2);
+  high = 1;
+  within = w;
+  low_positive = omega arith;
+  high_positive = omega arith;
+  first = q;
+  second = a;
+  first_power = record { number = i.number; worth = Same-trans i.worth (surd_power-squared (value a) (value h) (n / 2) s) };
+  second_power = j;
+  product = p;
+}

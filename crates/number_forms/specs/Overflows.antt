@@ -1,0 +1,92 @@
+-- Which operation on terms a call on Numbers is refused for.
+use Rattle.std.specs.Prelude.{ℕ, zero, suc, ◌+◌, ◌≡◌, ◌<◌, ◌≤◌, ◌⊎◌, List, [], ◌∷◌, ◌++◌, map, Some, slice_get, ⊤}
+use Rattle.calc_algebra.specs.Numbers.{term_of, value}
+use Rattle.calc_algebra.specs.SquareClasses.{Same}
+use Rattle.calc_algebra.specs.Surds.{Term, Surd, term_times, surd_times, surd_power}
+use Rattle.calc_terms.specs.Trees.{Tree, count}
+use Rattle.number_forms.specs.Answers.{IsNumberOf}
+use Rattle.number_forms.specs.Sums.{IsSum}
+use Rattle.rational128.specs.declared.overflow.Overflow.{Overflow}
+use Rattle.surd_terms.specs.Calculations.{Calculation, calculation_of, first_misfit, joining_calculations, inverse_calculations, inverse_of_sum_calculations, IsProductMisfit}
+use Rattle.surd_terms.specs.Products.{IsExtracted}
+use Rattle.tree_handles.specs.Expressions.{children_of, nth}
+use Rattle.tree_handles.specs.declared.fault.NumberFault.{NumberFault}
+use Rattle.tree_handles.specs.declared.fault.NumberFault.TheVariants as fault
+
+-- a fact of the operation that does not fit
+abbrev pub OfOverflow : (Overflow → Type 0) → NumberFault → Type 0
+OfOverflow P (fault.Full full) = ⊤
+OfOverflow P (fault.Overflow o) = P o
+
+-- the terms from a place on
+abbrev pub terms_from : ℕ → Surd → Surd
+terms_from zero v = v
+terms_from (suc n) [] = []
+terms_from (suc n) (x ∷ v) = terms_from n v
+
+-- a term of a sum and t cannot be joined
+pub record JoinOverflows (sum : Tree) (t : Term) (o : Overflow) : Type 0 where
+  pub at : ℕ
+  pub within : at < count (children_of sum)
+  pub misfit : Some (calculation_of o) ≡ first_misfit (joining_calculations (term_of (nth at (children_of sum))) t)
+
+-- the terms of w are joined to v one after another; the sum so far, which with those that are left is worth the whole, has a term with which the next
+-- one cannot be joined
+pub record SumOverflows (v w : Surd) (o : Overflow) : Type 0 where
+  pub at : ℕ
+  pub next : Term
+  pub here : slice_get w at ≡ Some next
+  pub partial : Tree
+  pub sum : IsSum partial
+  pub worth : Same (value partial ++ terms_from at w) (v ++ w)
+  pub joined : JoinOverflows partial next o
+
+-- the products of x and the terms of w are joined to v one after another; the sum so far has a term with which the product of x and y, the term of w at
+-- this place, cannot be joined
+pub record ProductJoinOverflows (v : Surd) (x : Term) (w : Surd) (at : ℕ) (y : Term) (o : Overflow) : Type 0 where
+  pub product : Term
+  pub extracted : IsExtracted product (term_times x y)
+  pub partial : Tree
+  pub sum : IsSum partial
+  pub worth : Same (value partial ++ map (term_times x) (terms_from at w)) (v ++ map (term_times x) w)
+  pub joined : JoinOverflows partial product o
+
+-- the product of x and a term of w cannot be made, or not be joined
+pub record RowOverflows (v : Surd) (x : Term) (w : Surd) (o : Overflow) : Type 0 where
+  pub at : ℕ
+  pub other : Term
+  pub here : slice_get w at ≡ Some other
+  pub cause : IsProductMisfit x other (Some (calculation_of o)) ⊎ ProductJoinOverflows v x w at other o
+
+-- each term of v is multiplied by those of w; at one of them the sum of the products so far is worth, with those that are left, the whole, and a product
+-- cannot be made or joined
+pub record ProductOverflows (v w : Surd) (o : Overflow) : Type 0 where
+  pub at : ℕ
+  pub factor : Term
+  pub here : slice_get v at ≡ Some factor
+  pub partial : Tree
+  pub sum : IsSum partial
+  pub worth : Same (value partial ++ surd_times (terms_from at v) w) (surd_times v w)
+  pub row : RowOverflows (value partial) factor w o
+
+-- the product of two powers cannot be made, whose exponents are at most n together
+pub record PowerOverflows (v : Surd) (n : ℕ) (o : Overflow) : Type 0 where
+  pub low : ℕ
+  pub high : ℕ
+  pub within : low + high ≤ n
+  pub low_positive : 1 ≤ low
+  pub high_positive : 1 ≤ high
+  pub first : Tree
+  pub second : Tree
+  pub first_power : IsNumberOf (surd_power v low) first
+  pub second_power : IsNumberOf (surd_power v high) second
+  pub product : ProductOverflows (value first) (value second) o
+
+-- the calculations of the inverse of one term, or of two
+abbrev pub inverting_calculations : Surd → List Calculation
+inverting_calculations (x ∷ []) = inverse_calculations x
+inverting_calculations (x ∷ y ∷ []) = inverse_of_sum_calculations x y
+inverting_calculations _ = []
+
+abbrev pub InverseOverflows : Surd → Overflow → Type 0
+InverseOverflows v o = Some (calculation_of o) ≡ first_misfit (inverting_calculations v)

@@ -1,5 +1,0 @@
-use Rattle.tree_handles.proofs.Given.{given_handed}
-use Rattle.reduced_lines.proofs.tests.trials.tried.Goals as goal
-
-pub answer-requires-clause-handed : goal.answer-requires-clause-handed
-answer-requires-clause-handed g c = given_handed c.in-Some.ensures.gives

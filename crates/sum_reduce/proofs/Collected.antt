@@ -1,0 +1,127 @@
+-- What is answered for terms no two of which have identical parts.
+use Rattle.std.specs.Prelude.{IsPermutation}
+use Rattle.std.proofs.Common.{ℕ, suc, ◌≤◌, ◌≡◌, [], length, Bool, true, false, if◌then◌else◌, inl, inr, refl, sym, ap, ◌∙◌, subst, arith, append-nil}
+use Rattle.calc_terms.specs.Fractions.{zero_fraction, is_zero_fraction}
+use Rattle.calc_algebra.specs.Numbers.{is_number, value, terms_of}
+use Rattle.calc_algebra.specs.Reduced.{NoneIs}
+use Rattle.calc_algebra.specs.SquareClasses.{Same}
+use Rattle.calc_algebra.specs.Surds.{Surd}
+use Rattle.calc_terms.specs.Trees.{Tree, num, add, Trees, none, more, append, count}
+use Rattle.calc_algebra.proofs.NumberLaws.{number_test, number_words}
+use Rattle.calc_algebra.proofs.NumberShapes.{AsNumber, as_number}
+use Rattle.calc_algebra.proofs.SquareClassLaws.{Same-Agree}
+use Rattle.calc_algebra.proofs.SurdLaws.{Agree-trans, Agree-eq, Agree-Same}
+use Rattle.node_order.specs.Sorting.{list_of}
+use Rattle.number_forms.specs.Sums.{removed}
+use Rattle.tree_handles.specs.Expressions.{nth}
+use Rattle.sum_reduce.specs.Arranging.{IsLead, IsSettled}
+use Rattle.sum_reduce.specs.Collected.{numbers_in, others_in, sum_of_values, AreUnlike, IsTotalNumber, IsWrittenSum}
+use Rattle.sum_reduce.specs.Stages.{IsRearranged, IsStage}
+use Rattle.sum_reduce.specs.SumAnswers.{IsCollected}
+use Rattle.sum_reduce.specs.Terms.{opened, terms_of_number, sum_tree, leads_number, written_tree}
+use Rattle.sum_reduce.proofs.Orders.{arranged_flat}
+use Rattle.sum_reduce.proofs.Rearranged.{tight_opened, number_in, number_out, no_numbers_others, no_numbers_none}
+use Rattle.sum_reduce.proofs.WrittenSums.{zero_terms, term_in}
+
+-- ---- a Number alone
+
+append_none : (ts : Trees) → append ts none ≡ ts
+append_none none = refl
+append_none (more t ts) = ap (more t) (append_none ts)
+
+two_tree : (ts : Trees) → 2 ≤ length (terms_of ts) → sum_tree ts ≡ add ts
+two_tree none h = absurd (omega arith)
+two_tree (more t none) h = absurd (omega arith)
+two_tree (more t (more u ts)) h = refl
+
+number_alone : (m : Tree) → is_number m ≡ true → m ≡ sum_tree (append (terms_of_number m) none)
+number_alone m h = by (as_number m (number_words m h))
+  where
+    by : AsNumber m → m ≡ sum_tree (append (terms_of_number m) none)
+    by (inl z) = z.is ∙ sym (ap (λ (x : Trees). sum_tree (append x none)) (zero_terms m z.is))
+    by (inr (inl s)) = sym (ap (λ (x : Trees). sum_tree (append x none)) (term_in m s.one))
+    by (inr (inr s)) =
+        s.is ∙ sym (two_tree s.ts s.two) ∙ sym (ap sum_tree (append_none s.ts)) ∙ sym (ap (λ (x : Tree). sum_tree (append (terms_of_number x) none)) s.is)
+
+-- ---- a Number or none before other terms
+
+pub lead_number : Trees → Tree
+lead_number none = num zero_fraction
+lead_number (more m ts) = m
+
+written_led : (lead os : Trees) → IsLead lead → NoneIs is_number os → written_tree (append lead os) ≡ sum_tree (append (terms_of_number (lead_number lead)) os)
+unfolding lead_number
+written_led none none l n = sym (ap (λ (x : Trees). sum_tree (append x none)) (zero_terms (num zero_fraction) refl))
+written_led none (more t none) l n = sym (ap (λ (x : Trees). sum_tree (append x (more t none))) (zero_terms (num zero_fraction) refl))
+written_led none (more t (more u os)) l n =
+    ap (λ (b : Bool). if b then sum_tree (append (terms_of_number t) (more u os)) else sum_tree (more t (more u os))) n.0
+    ∙ sym (ap (λ (x : Trees). sum_tree (append x (more t (more u os)))) (zero_terms (num zero_fraction) refl))
+written_led (more m none) none l n = number_alone m l
+written_led (more m none) (more o os) l n = ap (λ (b : Bool). if b then sum_tree (append (terms_of_number m) (more o os)) else sum_tree (more m (more o os))) l
+written_led (more m (more k ks)) os l n = absurd l
+
+-- the Numbers among them, and the others
+lead_numbers : (lead os : Trees) → IsLead lead → NoneIs is_number os → numbers_in (append lead os) ≡ lead
+lead_numbers none os l n = no_numbers_none os n
+lead_numbers (more m none) os l n = number_in m os l ∙ ap (more m) (no_numbers_none os n)
+lead_numbers (more m (more k ks)) os l n = absurd l
+
+lead_others : (lead os : Trees) → IsLead lead → NoneIs is_number os → others_in (append lead os) ≡ os
+lead_others none os l n = no_numbers_others os n
+lead_others (more m none) os l n = number_out m os l ∙ no_numbers_others os n
+lead_others (more m (more k ks)) os l n = absurd l
+
+zero_value : value (num zero_fraction) ≡ []
+zero_value = by (as_number (num zero_fraction) tt)
+  where
+    by : AsNumber (num zero_fraction) → value (num zero_fraction) ≡ []
+    by (inl z) = z.value_is
+    by (inr (inl s)) = absurd (s.one refl)
+    by (inr (inr s)) = let e = s.is in cc
+
+lead_worth : (lead : Trees) → IsLead lead → value (lead_number lead) ≡ sum_of_values lead
+unfolding lead_number
+lead_worth none l = zero_value
+lead_worth (more m none) l = sym (append-nil (value m))
+lead_worth (more m (more k ks)) l = absurd l
+
+lead_is : (lead : Trees) → IsLead lead → is_number (lead_number lead) ≡ true
+unfolding lead_number
+lead_is none l = number_test (num zero_fraction) tt
+lead_is (more m none) l = l
+lead_is (more m (more k ks)) l = absurd l
+
+total : (ts lead : Trees) → IsLead lead → Same (sum_of_values lead) (sum_of_values (numbers_in ts)) → (count (numbers_in ts) ≤ 1 → lead ≡ numbers_in ts) → IsTotalNumber (lead_number lead) ts
+unfolding lead_number
+total ts lead l w f = record {
+  number = lead_is lead l;
+  worth = Agree-Same (Agree-trans (Agree-eq (lead_worth lead l)) (Same-Agree w));
+  absent = λ e. ap lead_number (f (omega (arith, ap count e)) ∙ e);
+  single = λ m e. ap lead_number (f (omega (arith, ap count e)) ∙ e);
+}
+
+-- ---- settled terms
+
+pub settled_written : (ts us : Trees) → IsStage ts us → IsSettled us → AreUnlike (others_in (opened ts)) → IsWrittenSum ts (written_tree us)
+settled_written ts us s h u =
+    let a = h.arranged in
+    let r = s.rearranged u in
+    let flat : opened us ≡ us = tight_opened us (arranged_flat us a) in
+    let numbers : numbers_in (opened us) ≡ a.lead = ap numbers_in (flat ∙ a.split) ∙ lead_numbers a.lead a.others a.one a.no_number in
+    let others : others_in (opened us) ≡ a.others = ap others_in (flat ∙ a.split) ∙ lead_others a.lead a.others a.one a.no_number in
+    record {
+      number = lead_number a.lead;
+      total = total (opened ts) a.lead a.one (subst (λ (x : Trees). Same (sum_of_values x) (sum_of_values (numbers_in (opened ts)))) numbers r.worth) (λ l. sym numbers ∙ r.few l);
+      written = record {
+        us = a.others;
+        sorted = record {
+          front = refl;
+          moved = subst (λ (x : Trees). IsPermutation (list_of (others_in (opened ts))) (list_of x)) others r.others;
+          rising = a.rising;
+        };
+        is = ap written_tree a.split ∙ written_led a.lead a.others a.one a.no_number;
+      };
+    }
+
+pub settled_collected : (ts us : Trees) → IsStage ts us → IsSettled us → IsCollected ts (written_tree us)
+settled_collected ts us s h = record { us = us; collects = s.collects; settled = h; is = refl }

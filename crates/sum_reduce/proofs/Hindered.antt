@@ -1,0 +1,87 @@
+-- Which operation does not fit, from stage to stage of a sum.
+use Rattle.std.specs.Prelude.{Result, Ok, Err, IfErr}
+use Rattle.std.proofs.Common.{ℕ, suc, ◌<◌, ◌≤◌, ◌≡◌, ◌++◌, Bool, true, false, refl, sym, ap, ◌∙◌, subst, arith}
+use Rattle.calc_terms.specs.Fits.{add_op, operation_fits}
+use Rattle.calc_terms.specs.Fractions.{Fraction}
+use Rattle.calc_algebra.specs.Numbers.{is_number, value}
+use Rattle.calc_algebra.specs.Reduced.{part_of}
+use Rattle.calc_measures.specs.PlainValues.{calculated}
+use Rattle.calc_terms.specs.Trees.{Tree, num, Trees, none, more, append, count}
+use Rattle.calc_algebra.proofs.MeaningRewrites.{Permuted, permuted_more, permuted_trans, Permuted-append_right}
+use Rattle.coefficients.specs.Coefficients.{coefficient_of}
+use Rattle.coefficients.specs.Overflows.{NamesPut, OfOverflow}
+use Rattle.coefficients.proofs.Factors.{monic_part}
+use Rattle.node_pool.specs.State.{State}
+use Rattle.number_forms.specs.Answers.{AnswersRationals}
+use Rattle.number_forms.specs.Sums.{removed}
+use Rattle.rational128.specs.declared.overflow.Overflow.{Overflow}
+use Rattle.tree_handles.specs.Expressions.{nth}
+use Rattle.tree_handles.specs.declared.fault.NumberFault.{NumberFault}
+use Rattle.tree_handles.specs.declared.fault.NumberFault.TheVariants as fault
+use Rattle.sum_reduce.specs.Collected.{Collects, collects_ordered, collects_then}
+use Rattle.sum_reduce.specs.Joining.{IsJoining}
+use Rattle.sum_reduce.specs.Overflows.{NamesSum, Overflows, hinders_numbers, hinders_like, hinders_part}
+use Rattle.sum_reduce.specs.Terms.{IsFirstNumber, IsPair}
+use Rattle.sum_reduce.proofs.Joins.{partners}
+use Rattle.sum_reduce.proofs.Places.{taken_permuted, count_removed, nth_behind_removed}
+use Rattle.sum_reduce.proofs.Rearranged.{of_lists, to_lists}
+
+-- ---- two Numbers
+
+sum_named : (a b : Tree) (o : Overflow) (new : State) → ((p q : Fraction) → a ≡ num p → b ≡ num q → AnswersRationals (calculated add_op p q) new (Err (fault.Overflow o))) → NamesSum a b o
+sum_named (num p) (num q) o new h = h p q refl refl
+sum_named a b o new h = tt
+
+pub numbers_named : (a b : Tree) (new : State) (r : Result ℕ NumberFault) → ((p q : Fraction) → a ≡ num p → b ≡ num q → AnswersRationals (calculated add_op p q) new r) → IfErr r (OfOverflow (NamesSum a b))
+numbers_named a b new (Ok x) h = tt
+numbers_named a b new (Err (fault.Full full)) h = tt
+numbers_named a b new (Err (fault.Overflow o)) h = sum_named a b o new h
+
+pub names_as : {a b c d : Tree} (o : Overflow) → a ≡ c → b ≡ d → NamesSum a b o → NamesSum c d o
+names_as {b = b} {c = c} o e f h = subst (λ (x : Tree). NamesSum c x o) f (subst (λ (x : Tree). NamesSum x b o) e h)
+
+-- ---- after other steps
+
+pub overflows_after : {ts us : Trees} → Collects ts us → (o : Overflow) → Overflows us o → Overflows ts o
+overflows_after k o h = record { us = h.us; collects = collects_then k h.collects; hinders = h.hinders }
+
+pub overflows_as : {ts us : Trees} → ts ≡ us → (o : Overflow) → Overflows ts o → Overflows us o
+overflows_as e o h = subst (λ (x : Trees). Overflows x o) e h
+
+-- a Number at a place cannot be added to the one in front
+pub number_hinders : {ts : Trees} (d : Tree) (us : Trees) (at : ℕ) → Collects ts (more d us) → is_number d ≡ true → IsFirstNumber at us → (o : Overflow) → NamesSum d (nth at us) o → Overflows ts o
+number_hinders d us at k n h o e = record {
+  us = more d (more (nth at us) (removed at us));
+  collects = collects_then k (collects_ordered (to_lists (permuted_more {t = d} (taken_permuted at us h.within))));
+  hinders = hinders_numbers d (nth at us) (removed at us) n h.number e;
+}
+
+pub taken_first : (at : ℕ) (ts : Trees) → at < count ts → Collects ts (more (nth at ts) (removed at ts))
+taken_first at ts l = collects_ordered (to_lists (taken_permuted at ts l))
+
+-- the coefficient of a partner cannot be added
+pub partner_hinders : (ts : Trees) (c : Tree) (us : Trees) (at less : ℕ) → IsJoining ts c (nth at us) (removed at us) less → IsPair at us → (o : Overflow) → NamesSum c (coefficient_of (nth (suc at) us)) o → Overflows ts o
+partner_hinders ts c us at less j h o e =
+    let next : nth at (removed at us) ≡ nth (suc at) us = nth_behind_removed at at us (omega arith) in
+    let w = h.within in
+    let l : at < count us = omega (arith, w) in
+    let few : at < count (removed at us) = omega (arith, count_removed at us l, w) in
+    let a = partners (nth at us) (nth (suc at) us) h.partner in
+    let k = j.added in
+    let u = nth at (removed at us) in
+    record {
+      us = append k.like (more u (removed at (removed at us)));
+      collects = collects_ordered (to_lists (permuted_trans (of_lists ts (append k.like (removed at us)) k.moved) (Permuted-append_right k.like (taken_permuted at (removed at us) few))));
+      hinders = hinders_like k.like (removed at (removed at us)) c (nth at us) u k.some k.are (record { number = j.number; worth = k.worth }) (ap is_number next ∙ a.second)
+          (ap part_of next ∙ sym a.parts ∙ monic_part (nth at us) j.monic) (subst (λ (x : Tree). NamesSum c (coefficient_of x) o) (sym next) e);
+    }
+
+-- the coefficient of all does not go into the part
+pub part_hinders : {ts : Trees} {c p : Tree} {rest : Trees} {less : ℕ} → IsJoining ts c p rest less → 1 ≤ less → (o : Overflow) → NamesPut c p o → Overflows ts o
+part_hinders {c = c} {p = p} {rest = rest} j l o e =
+    let k = j.added in
+    record {
+      us = append k.like rest;
+      collects = collects_ordered k.moved;
+      hinders = hinders_part k.like rest c p (k.two l) k.are (record { number = j.number; worth = k.worth }) e;
+    }

@@ -1,0 +1,222 @@
+-- The terms of a sum that change places, are opened or added, with their Numbers and the others.
+use Rattle.std.specs.Ordering.{is_eq, ordering_reverse}
+use Rattle.std.specs.declared.cmp.Ordering.{Ordering}
+use Rattle.std.specs.declared.cmp.Ordering.TheVariants.{Less, Equal, Greater}
+use Rattle.std.specs.Prelude.{⊤, IsPermutation}
+use Rattle.std.proofs.Common.{ℕ, suc, ◌≡◌, ◌≤◌, ◌++◌, List, [], ◌∷◌, Bool, true, false, ◌&&◌, not, if◌then◌else◌, refl, sym, ap, ◌∙◌, subst, arith, append_assoc}
+use Rattle.std.proofs.lemmas.List.Sorted.{IsPermutation-refl, IsPermutation-cons, IsPermutation-middle, IsPermutation-trans}
+use Rattle.calc_algebra.specs.Numbers.{is_number, value}
+use Rattle.calc_algebra.specs.Reduced.{part_of, NoneIs}
+use Rattle.calc_algebra.specs.SquareClasses.{Same}
+use Rattle.calc_algebra.specs.Surds.{Surd}
+use Rattle.calc_algebra.specs.TreeOrder.{tree_cmp}
+use Rattle.calc_terms.specs.Trees.{Tree, Trees, none, more, append, count}
+use Rattle.calc_algebra.proofs.MeaningRewrites.{Permuted, Permuted-refl, Permuted-sym, permuted_none, permuted_more, permuted_swap, permuted_trans, Permuted-append_right, Permuted-to_front, permuted_trees, trees_of}
+use Rattle.calc_algebra.proofs.SquareClassLaws.{Same-Agree}
+use Rattle.calc_algebra.proofs.SurdLaws.{Agree, Agree-refl, Agree-trans, Agree-eq, Agree-Same, Agree-append, append_comm}
+use Rattle.calc_algebra.proofs.TreeOrderLaws.{tree_cmp_total}
+use Rattle.node_order.specs.Sorting.{list_of}
+use Rattle.sum_reduce.specs.Collected.{numbers_in, others_in, sum_of_values, AreUnlike}
+use Rattle.sum_reduce.specs.Stages.{IsRearranged}
+use Rattle.sum_reduce.specs.Terms.{is_loose, is_partner, terms_of_loose, opened}
+use Rattle.sum_reduce.proofs.Opened.{tight_terms, number_tight}
+
+-- ---- lists of trees
+
+same_trees : (ts : Trees) → trees_of (list_of ts) ≡ ts
+same_trees none = refl
+same_trees (more t ts) = ap (more t) (same_trees ts)
+
+pub of_lists : (ts us : Trees) → IsPermutation (list_of ts) (list_of us) → Permuted ts us
+of_lists ts us h = subst (λ (x : Trees). Permuted x us) (same_trees ts) (subst (λ (x : Trees). Permuted (trees_of (list_of ts)) x) (same_trees us) (permuted_trees (list_of ts) (list_of us) h))
+
+pub to_lists : {ts us : Trees} → Permuted ts us → IsPermutation (list_of ts) (list_of us)
+to_lists permuted_none = IsPermutation-refl []
+to_lists (permuted_more {t} {ts} {us} k) = IsPermutation-cons t (list_of ts) (list_of us) (to_lists k)
+to_lists (permuted_swap {t} {u} {ts}) = IsPermutation-middle (t ∷ []) u (list_of ts)
+to_lists (permuted_trans {ts} {us} {vs} k l) = IsPermutation-trans (list_of ts) (list_of us) (list_of vs) (to_lists k) (to_lists l)
+
+-- ---- opened
+
+blocks : (ts us vs : Trees) → Permuted (append ts (append us vs)) (append us (append ts vs))
+blocks none us vs = Permuted-refl (append us vs)
+blocks (more t ts) us vs = permuted_trans (permuted_more (blocks ts us vs)) (Permuted-sym (Permuted-to_front us t (append ts vs)))
+
+pub opened_permuted : {ts us : Trees} → Permuted ts us → Permuted (opened ts) (opened us)
+opened_permuted permuted_none = permuted_none
+opened_permuted (permuted_more {t} k) = Permuted-append_right (terms_of_loose t) (opened_permuted k)
+opened_permuted (permuted_swap {t} {u} {ts}) = blocks (terms_of_loose t) (terms_of_loose u) (opened ts)
+opened_permuted (permuted_trans k l) = permuted_trans (opened_permuted k) (opened_permuted l)
+
+-- nothing is there to be opened
+pub tight_opened : (ts : Trees) → NoneIs is_loose ts → opened ts ≡ ts
+tight_opened none h = refl
+tight_opened (more t ts) h = ap (λ (x : Trees). append x (opened ts)) (tight_terms t h.0) ∙ ap (more t) (tight_opened ts h.1)
+
+pub number_opened : (t : Tree) (ts : Trees) → is_number t ≡ true → opened (more t ts) ≡ more t (opened ts)
+number_opened t ts h = ap (λ (x : Trees). append x (opened ts)) (tight_terms t (number_tight t h))
+
+-- ---- the Numbers and the others
+
+pub number_in : (t : Tree) (ts : Trees) → is_number t ≡ true → numbers_in (more t ts) ≡ more t (numbers_in ts)
+number_in t ts h = ap (λ (b : Bool). if b then more t (numbers_in ts) else numbers_in ts) h
+
+pub number_out : (t : Tree) (ts : Trees) → is_number t ≡ true → others_in (more t ts) ≡ others_in ts
+number_out t ts h = ap (λ (b : Bool). if b then others_in ts else more t (others_in ts)) h
+
+pub other_in : (t : Tree) (ts : Trees) → is_number t ≡ false → others_in (more t ts) ≡ more t (others_in ts)
+other_in t ts h = ap (λ (b : Bool). if b then others_in ts else more t (others_in ts)) h
+
+pub other_out : (t : Tree) (ts : Trees) → is_number t ≡ false → numbers_in (more t ts) ≡ numbers_in ts
+other_out t ts h = ap (λ (b : Bool). if b then more t (numbers_in ts) else numbers_in ts) h
+
+pub numbers_permuted : {ts us : Trees} → Permuted ts us → Permuted (numbers_in ts) (numbers_in us)
+numbers_permuted permuted_none = permuted_none
+numbers_permuted (permuted_more {t} {ts} {us} k) = by (is_number t) (numbers_permuted k)
+  where
+    by : (b : Bool) → Permuted (numbers_in ts) (numbers_in us) → Permuted (if b then more t (numbers_in ts) else numbers_in ts) (if b then more t (numbers_in us) else numbers_in us)
+    by true p = permuted_more p
+    by false p = p
+numbers_permuted (permuted_swap {t} {u} {ts}) = by (is_number t) (is_number u) (numbers_in ts)
+  where
+    by : (a b : Bool) (x : Trees) → Permuted (if a then more t (if b then more u x else x) else (if b then more u x else x)) (if b then more u (if a then more t x else x) else (if a then more t x else x))
+    by true true x = permuted_swap
+    by true false x = Permuted-refl _
+    by false true x = Permuted-refl _
+    by false false x = Permuted-refl _
+numbers_permuted (permuted_trans k l) = permuted_trans (numbers_permuted k) (numbers_permuted l)
+
+pub others_permuted : {ts us : Trees} → Permuted ts us → Permuted (others_in ts) (others_in us)
+others_permuted permuted_none = permuted_none
+others_permuted (permuted_more {t} {ts} {us} k) = by (is_number t) (others_permuted k)
+  where
+    by : (b : Bool) → Permuted (others_in ts) (others_in us) → Permuted (if b then others_in ts else more t (others_in ts)) (if b then others_in us else more t (others_in us))
+    by true p = p
+    by false p = permuted_more p
+others_permuted (permuted_swap {t} {u} {ts}) = by (is_number t) (is_number u) (others_in ts)
+  where
+    by : (a b : Bool) (x : Trees) → Permuted (if a then (if b then x else more u x) else more t (if b then x else more u x)) (if b then (if a then x else more t x) else more u (if a then x else more t x))
+    by true true x = Permuted-refl _
+    by true false x = Permuted-refl _
+    by false true x = Permuted-refl _
+    by false false x = permuted_swap
+others_permuted (permuted_trans k l) = permuted_trans (others_permuted k) (others_permuted l)
+
+pub none_number : (ts : Trees) → NoneIs is_number (others_in ts)
+none_number none = tt
+none_number (more t ts) = by (is_number t) refl (none_number ts)
+  where
+    by : (b : Bool) → is_number t ≡ b → NoneIs is_number (others_in ts) → NoneIs is_number (if b then others_in ts else more t (others_in ts))
+    by true e h = h
+    by false e h = (e, h)
+
+pub no_numbers_others : (ts : Trees) → NoneIs is_number ts → others_in ts ≡ ts
+no_numbers_others none h = refl
+no_numbers_others (more t ts) h = other_in t ts h.0 ∙ ap (more t) (no_numbers_others ts h.1)
+
+pub no_numbers_none : (ts : Trees) → NoneIs is_number ts → numbers_in ts ≡ none
+no_numbers_none none h = refl
+no_numbers_none (more t ts) h = other_out t ts h.0 ∙ no_numbers_none ts h.1
+
+-- ---- their values
+
+values_agree : {ts us : Trees} → Permuted ts us → Agree (sum_of_values us) (sum_of_values ts)
+values_agree permuted_none = Agree-refl []
+values_agree (permuted_more {t} k) = Agree-append (Agree-refl (value t)) (values_agree k)
+values_agree (permuted_swap {t} {u} {ts}) =
+    let a = value t in
+    let b = value u in
+    let v = sum_of_values ts in
+    Agree-trans (Agree-eq (sym (append_assoc b a v))) (Agree-trans (Agree-append (append_comm b a) (Agree-refl v)) (Agree-eq (append_assoc a b v)))
+values_agree (permuted_trans k l) = Agree-trans (values_agree l) (values_agree k)
+
+count_same : {ts us : Trees} → Permuted ts us → count ts ≡ count us
+count_same permuted_none = refl
+count_same (permuted_more h) = omega (arith, count_same h)
+count_same permuted_swap = refl
+count_same (permuted_trans h k) = count_same h ∙ count_same k
+
+-- one at most stays
+few_same : {ts us : Trees} → Permuted ts us → count ts ≤ 1 → us ≡ ts
+few_same permuted_none h = refl
+few_same (permuted_more {t} {ts} {us} k) h = ap (more t) (empty us (omega (arith, count_same k, h)) ∙ sym (empty ts (omega (arith, h))))
+  where
+    empty : (x : Trees) → count x ≡ 0 → x ≡ none
+    empty none e = refl
+    empty (more y x) e = absurd (omega (arith, e))
+few_same permuted_swap h = absurd (omega (arith, h))
+few_same (permuted_trans k l) h = let a = few_same k h in few_same l (omega (arith, h, ap count a)) ∙ a
+
+-- ---- no two with identical parts
+
+turned : (o : Ordering) → is_eq (ordering_reverse o) ≡ is_eq o
+turned Less = refl
+turned Equal = refl
+turned Greater = refl
+
+and_turned : (a b : Bool) → (a && b) ≡ (b && a)
+and_turned true true = refl
+and_turned true false = refl
+and_turned false true = refl
+and_turned false false = refl
+
+pub partner_turned : (t u : Tree) → is_partner t u ≡ is_partner u t
+partner_turned t u =
+    (λ i. and_turned (not (is_number t)) (not (is_number u)) i && is_eq (tree_cmp_total.antisymm (part_of t) (part_of u) i))
+    ∙ ap (λ (b : Bool). not (is_number u) && not (is_number t) && b) (turned (tree_cmp (part_of u) (part_of t)))
+
+none_is : (p : Tree → Bool) {ts us : Trees} → Permuted ts us → NoneIs p ts → NoneIs p us
+none_is p permuted_none h = tt
+none_is p (permuted_more k) h = (h.0, none_is p k h.1)
+none_is p permuted_swap h = (h.1.0, (h.0, h.1.1))
+none_is p (permuted_trans k l) h = none_is p l (none_is p k h)
+
+pub unlike_permuted : {ts us : Trees} → Permuted ts us → AreUnlike ts → AreUnlike us
+unlike_permuted permuted_none h = tt
+unlike_permuted (permuted_more {t} k) h = (none_is (is_partner t) k h.0, unlike_permuted k h.1)
+unlike_permuted (permuted_swap {t} {u} {ts}) h = ((partner_turned u t ∙ h.0.0, h.1.0), (h.0.1, h.1.1))
+unlike_permuted (permuted_trans k l) h = unlike_permuted l (unlike_permuted k h)
+
+-- ---- rearranged
+
+pub rearranged_permuted : {ts us : Trees} → Permuted ts us → IsRearranged ts us
+rearranged_permuted k =
+    let o = opened_permuted k in
+    record { others = to_lists (others_permuted o); worth = Agree-Same (values_agree (numbers_permuted o)); few = few_same (numbers_permuted o) }
+
+pub rearranged_opened : (ts us : Trees) → opened us ≡ opened ts → IsRearranged ts us
+rearranged_opened ts us e = record {
+  others = subst (λ (x : Trees). IsPermutation (list_of (others_in (opened ts))) (list_of (others_in x))) (sym e) (IsPermutation-refl _);
+  worth = subst (λ (x : Trees). Same (sum_of_values (numbers_in x)) (sum_of_values (numbers_in (opened ts)))) (sym e) (Agree-Same (Agree-refl _));
+  few = λ l. ap numbers_in e;
+}
+
+pub rearranged_after : {ts us vs : Trees} → IsRearranged ts us → IsRearranged us vs → IsRearranged ts vs
+rearranged_after {ts = ts} {us = us} {vs = vs} a b = record {
+  others = IsPermutation-trans (list_of (others_in (opened ts))) (list_of (others_in (opened us))) (list_of (others_in (opened vs))) a.others b.others;
+  worth = Agree-Same (Agree-trans (Same-Agree b.worth) (Same-Agree a.worth));
+  few = λ l. let e = a.few l in b.few (omega (arith, l, ap count e)) ∙ e;
+}
+
+pub unlike_after : {ts us : Trees} → IsRearranged ts us → AreUnlike (others_in (opened ts)) → AreUnlike (others_in (opened us))
+unlike_after {ts = ts} {us = us} a h = unlike_permuted (of_lists (others_in (opened ts)) (others_in (opened us)) a.others) h
+
+-- two Numbers become one
+pub rearranged_added : (d n e : Tree) (ts : Trees) → is_number d ≡ true → is_number n ≡ true → is_number e ≡ true → Same (value e) (value d ++ value n) → IsRearranged (more d (more n ts)) (more e ts)
+rearranged_added d n e ts hd hn he w =
+    let old : opened (more d (more n ts)) ≡ more d (more n (opened ts)) = number_opened d (more n ts) hd ∙ ap (more d) (number_opened n ts hn) in
+    let new : opened (more e ts) ≡ more e (opened ts) = number_opened e ts he in
+    let numbers_old : numbers_in (opened (more d (more n ts))) ≡ more d (more n (numbers_in (opened ts))) =
+    ap numbers_in old ∙ number_in d (more n (opened ts)) hd ∙ ap (more d) (number_in n (opened ts) hn) in
+    let numbers_new : numbers_in (opened (more e ts)) ≡ more e (numbers_in (opened ts)) = ap numbers_in new ∙ number_in e (opened ts) he in
+    let others_old : others_in (opened (more d (more n ts))) ≡ others_in (opened ts) = ap others_in old ∙ number_out d (more n (opened ts)) hd ∙ number_out n (opened ts) hn in
+    let others_new : others_in (opened (more e ts)) ≡ others_in (opened ts) = ap others_in new ∙ number_out e (opened ts) he in
+    let v = sum_of_values (numbers_in (opened ts)) in
+    let agree : Agree (value e ++ v) (value d ++ (value n ++ v)) = Agree-trans (Agree-append (Same-Agree w) (Agree-refl v)) (Agree-eq (append_assoc (value d) (value n) v)) in
+    record {
+      others = subst (λ (x : Trees). IsPermutation (list_of x) (list_of (others_in (opened (more e ts))))) (sym others_old)
+          (subst (λ (x : Trees). IsPermutation (list_of (others_in (opened ts))) (list_of x)) (sym others_new) (IsPermutation-refl _));
+      worth = subst (λ (x : Trees). Same (sum_of_values x) (sum_of_values (numbers_in (opened (more d (more n ts)))))) (sym numbers_new)
+          (subst (λ (x : Trees). Same (value e ++ v) (sum_of_values x)) (sym numbers_old) (Agree-Same agree));
+      few = λ l. absurd (omega (arith, l, ap count numbers_old));
+    }

@@ -1,0 +1,97 @@
+-- Which of some calculations is the first that does not fit.
+use Rattle.std.proofs.Common.{◌≡◌, true, false, ℕ, ◌*◌, ◌/◌, ◌≤◌, Bool, List, [], ◌∷◌, ◌++◌, Option, Some, None, Result, Ok, Err, refl, sym, ap, ◌∙◌, subst, arith}
+use Rattle.std.specs.Prelude.{if◌then◌else◌, IsErr, IsErrAnd}
+use Rattle.std.specs.Int.{IsGcd, ◌∣◌}
+use Rattle.std.proofs.Math.Nat.{mul-div_cancel_left}
+use Rattle.std.proofs.lemmas.Nat.Gcd.{same_from_IsGcd, dvd_refl}
+use Rattle.calc_terms.specs.Fits.{fraction_fits}
+use Rattle.calc_terms.specs.Fractions.{Fraction}
+use Rattle.calc_terms.specs.Gcd.{gcd, gcd_is}
+use Rattle.calc_terms.specs.Rat.{value_of}
+use Rattle.calc_terms.specs.declared.rat.Rat.{Rat}
+use Rattle.calc_algebra.specs.SquareClasses.{are_alike}
+use Rattle.calc_algebra.specs.SquareRoots.{square_root}
+use Rattle.calc_algebra.specs.Surds.{Term}
+use Rattle.calc_algebra.proofs.SquareRootLaws.{square_root-square}
+use Rattle.rational128.specs.Refusals.{DoesNotFit}
+use Rattle.rational128.specs.declared.overflow.Op.{Op}
+use Rattle.rational128.specs.declared.overflow.Op.TheVariants.{Add}
+use Rattle.rational128.specs.declared.overflow.Overflow.{Overflow}
+use Rattle.surd_terms.specs.Calculations.{Calculation, calculation, does_fit, first_misfit, calculation_of, misfit_of, scaled, scaling, joining_calculations}
+use Rattle.surd_terms.proofs.Values.{alike_itself, times_whole_one}
+
+fits_from : (b : Bool) → (b ≡ false → false ≡ true) → b ≡ true
+fits_from true h = refl
+fits_from false h = h refl
+
+-- one that fits is passed
+pub passed : (c : Calculation) (cs : List Calculation) → does_fit c ≡ true → first_misfit (c ∷ cs) ≡ first_misfit cs
+passed c cs h = ap (λ b. if b then first_misfit cs else Some c) h
+
+pub step_fits : (op : Op) (a b a' b' : Fraction) (cs : List Calculation) → a' ≡ a → b' ≡ b → (DoesNotFit op a' b' → false ≡ true) → first_misfit (calculation op a b ∷ cs) ≡ first_misfit cs
+step_fits op a b a' b' cs e f h = passed (calculation op a b) cs (subst (λ x. does_fit (calculation op x b) ≡ true) e (subst (λ x. does_fit (calculation op a' x) ≡ true) f (fits_from _ h)))
+
+-- one that does not is what is refused
+pub step_misfit : (o : Overflow) (op : Op) (x y : Rat) (a b : Fraction) (cs : List Calculation) → o ≡ record { op = op; a = x; b = y } → value_of x ≡ a → value_of y ≡ b → DoesNotFit op (value_of x) (value_of y)
+    → Some (calculation_of o) ≡ first_misfit (calculation op a b ∷ cs)
+step_misfit o op x y a b cs n e f h =
+    ap (λ p. Some (calculation_of p)) n
+    ∙ sym (ap (λ fits. if fits then first_misfit cs else Some (calculation op (value_of x) (value_of y))) h)
+    ∙ (λ i. first_misfit (calculation op (e i) (f i) ∷ cs))
+
+-- lists that all fit are passed
+passed_more : (c : Calculation) (cs ds : List Calculation) (b : Bool) → does_fit c ≡ b → (None ≡ first_misfit cs → first_misfit (cs ++ ds) ≡ first_misfit ds) → None ≡ first_misfit (c ∷ cs) → first_misfit (c ∷ cs ++ ds) ≡ first_misfit ds
+passed_more c cs ds true e rest h = passed c (cs ++ ds) e ∙ rest (h ∙ passed c cs e)
+passed_more c cs ds false e rest h = absurd (cc (h ∙ ap (λ b. if b then first_misfit cs else Some c) e))
+
+pub passed_list : (cs ds : List Calculation) → None ≡ first_misfit cs → first_misfit (cs ++ ds) ≡ first_misfit ds
+passed_list [] ds h = refl
+passed_list (c ∷ cs) ds h = passed_more c cs ds (does_fit c) refl (passed_list cs ds) h
+
+-- an overflow that is passed on
+pub refused_for : {A : Type 0} (r : Result A Overflow) (o : Overflow) (m : Option Calculation) → IsErr r → IsErrAnd r (λ x. x ≡ o) → Some (calculation_of o) ≡ m → misfit_of r ≡ m
+refused_for (Ok x) o m h a e = let no : false ≡ true = h in cc
+refused_for (Err f) o m h a e = ap (λ x. Some (calculation_of x)) a ∙ e
+
+-- ---- the parts of radicands
+
+-- the root of r/g, where r is g * s * s
+pub root_of_quotient : (r g s : ℕ) → 1 ≤ g → r ≡ g * s * s → square_root (r / g) ≡ s
+root_of_quotient r g s h e = ap square_root (ap (λ n. n / g) (e ∙ regrouped) ∙ mul-div_cancel_left (s * s) h) ∙ square_root-square s
+  where
+    regrouped : g * s * s ≡ g * (s * s)
+    regrouped = omega arith
+
+-- the calculations of a sum whose radicands are g * s * s and g * t * t
+pub joining_parts : (a b : Term) (g s t : ℕ) → are_alike a.radicand b.radicand ≡ true → 1 ≤ g → IsGcd a.radicand b.radicand g → a.radicand ≡ g * s * s → b.radicand ≡ g * t * t
+    → joining_calculations a b ≡ scaling a s ∷ scaling b t ∷ calculation Add (scaled a s) (scaled b t) ∷ []
+joining_parts a b g s t alike h shared first second =
+    ap (λ x. if x then listed (square_root (a.radicand / gcd a.radicand b.radicand)) (square_root (b.radicand / gcd a.radicand b.radicand)) else []) alike
+    ∙ (λ i. listed (one i) (two i))
+  where
+    listed : ℕ → ℕ → List Calculation
+    listed m n = scaling a m ∷ scaling b n ∷ calculation Add (scaled a m) (scaled b n) ∷ []
+
+    same : gcd a.radicand b.radicand ≡ g
+    same = same_from_IsGcd a.radicand b.radicand _ g (gcd_is a.radicand b.radicand) shared
+
+    one : square_root (a.radicand / gcd a.radicand b.radicand) ≡ s
+    one = ap (λ n. square_root (a.radicand / n)) same ∙ root_of_quotient a.radicand g s h first
+
+    two : square_root (b.radicand / gcd a.radicand b.radicand) ≡ t
+    two = ap (λ n. square_root (b.radicand / n)) same ∙ root_of_quotient b.radicand g t h second
+
+-- with one radicand only the sum of the coefficients can be refused
+pub one_radicand_calculations : (a b : Term) → 1 ≤ a.radicand → a.radicand ≡ b.radicand → fraction_fits a.coefficient ≡ true → fraction_fits b.coefficient ≡ true
+    → first_misfit (joining_calculations a b) ≡ first_misfit (calculation Add a.coefficient b.coefficient ∷ [])
+one_radicand_calculations a b h e p q =
+    ap first_misfit (joining_parts a b a.radicand 1 1 (alike_itself a.radicand b.radicand h e) h shared (once a.radicand) (sym e ∙ once a.radicand))
+    ∙ passed (scaling a 1) (scaling b 1 ∷ calculation Add (scaled a 1) (scaled b 1) ∷ []) (ap fraction_fits (times_whole_one a.coefficient) ∙ p)
+    ∙ passed (scaling b 1) (calculation Add (scaled a 1) (scaled b 1) ∷ []) (ap fraction_fits (times_whole_one b.coefficient) ∙ q)
+    ∙ (λ i. first_misfit (calculation Add (times_whole_one a.coefficient i) (times_whole_one b.coefficient i) ∷ []))
+  where
+    once : (n : ℕ) → n ≡ n * 1 * 1
+    once n = omega arith
+
+    shared : IsGcd a.radicand b.radicand a.radicand
+    shared = (dvd_refl a.radicand, subst (λ n. a.radicand ∣ n) e (dvd_refl a.radicand), λ d k l. k)

@@ -1,0 +1,114 @@
+-- The operations on fractions that a call on terms is made of, in order, and the first of them that does not fit.
+use Rattle.std.specs.Prelude.{ℕ, ◌≡◌, ◌*◌, ◌/◌, ◌++◌, List, [], ◌∷◌, Bool, ◌||◌, ◌==◌, if◌then◌else◌, Option, Some, None, Result, Ok, Err, pos}
+use Rattle.calc_terms.specs.Fits.{operation_fits}
+use Rattle.calc_terms.specs.Fractions.{Fraction, times, negative, inverse, whole_fraction}
+use Rattle.calc_terms.specs.Gcd.{gcd}
+use Rattle.calc_terms.specs.Rat.{value_of}
+use Rattle.calc_terms.specs.Ratio.{Ratio}
+use Rattle.calc_algebra.specs.Clean.{IsClean}
+use Rattle.calc_algebra.specs.SquareClasses.{are_alike}
+use Rattle.calc_algebra.specs.SquareRoots.{square_root}
+use Rattle.calc_algebra.specs.Surds.{Term}
+use Rattle.rational128.specs.Refusals.{operation_of}
+use Rattle.rational128.specs.declared.overflow.Op.{Op}
+use Rattle.rational128.specs.declared.overflow.Op.TheVariants.{Add, Mul}
+use Rattle.rational128.specs.declared.overflow.Overflow.{Overflow}
+use Rattle.surd_terms.specs.Inverses.{square_of, conjugate_product}
+
+-- an operation with its operands
+pub record Calculation : Type 0 where
+  pub op : Op
+  pub first : Fraction
+  pub second : Fraction
+
+abbrev pub calculation : Op → Fraction → Fraction → Calculation
+calculation op a b = record { op = op; first = a; second = b }
+
+abbrev pub does_fit : Calculation → Bool
+does_fit c = operation_fits (operation_of c.op) c.first c.second
+
+-- the first that does not fit
+abbrev pub first_misfit : List Calculation → Option Calculation
+first_misfit [] = None
+first_misfit (c ∷ cs) = if does_fit c then first_misfit cs else Some c
+
+-- what an overflow names
+abbrev pub calculation_of : Overflow → Calculation
+calculation_of o = calculation o.op (value_of o.a) (value_of o.b)
+
+-- what a call is refused for
+abbrev pub misfit_of : {A : Type 0} → Result A Overflow → Option Calculation
+misfit_of (Ok answer) = None
+misfit_of (Err o) = Some (calculation_of o)
+
+-- the coefficient of a term times a whole number
+abbrev pub scaled : Term → ℕ → Fraction
+scaled a n = times a.coefficient (whole_fraction (pos n))
+
+abbrev pub scaling : Term → ℕ → Calculation
+scaling a n = calculation Mul a.coefficient (whole_fraction (pos n))
+
+-- ---- sums: (c * α + d * β) * √g, with radicands g * α * α and g * β * β
+
+-- nothing is calculated where the terms stay apart
+abbrev pub joining_calculations : Term → Term → List Calculation
+joining_calculations a b =
+    let g = gcd a.radicand b.radicand in
+    let s = square_root (a.radicand / g) in
+    let t = square_root (b.radicand / g) in
+    if are_alike a.radicand b.radicand then scaling a s ∷ scaling b t ∷ calculation Add (scaled a s) (scaled b t) ∷ [] else []
+
+-- ---- products: c * d * root * √rest, where r * s is root * root * rest
+
+-- one of the two is rational
+abbrev pub has_rational : Term → Term → Bool
+has_rational a b = (a.radicand == 1) || (b.radicand == 1)
+
+-- the product of the coefficients, and that of the radicands over what they share
+abbrev pub multiplying_calculations : Term → Term → List Calculation
+multiplying_calculations a b =
+    let g = gcd a.radicand b.radicand in
+    calculation Mul a.coefficient b.coefficient
+    ∷ (if has_rational a b then [] else calculation Mul (whole_fraction (pos (a.radicand / g))) (whole_fraction (pos (b.radicand / g))) ∷ [])
+
+-- the coefficient times what is taken before the root
+abbrev pub extracting_calculations : Term → Term → ℕ → List Calculation
+extracting_calculations a b root = if has_rational a b then [] else calculation Mul (times a.coefficient b.coefficient) (whole_fraction (pos root)) ∷ []
+
+-- the product is refused for the first of its calculations that does not fit, or for none; root is what is taken out
+-- of r * s, so that the rest is clean
+pub record IsProductMisfit (a b : Term) (misfit : Option Calculation) : Type 0 where
+  pub root : ℕ
+  pub rest : ℕ
+  pub square : first_misfit (multiplying_calculations a b) ≡ None → a.radicand * b.radicand ≡ root * root * rest
+  pub clean : first_misfit (multiplying_calculations a b) ≡ None → IsClean rest
+  pub first : misfit ≡ first_misfit (multiplying_calculations a b ++ extracting_calculations a b root)
+
+-- ---- inverses
+
+-- c * r
+abbrev pub inverse_calculations : Term → List Calculation
+inverse_calculations a = scaling a a.radicand ∷ []
+
+-- c * c, and that times r
+abbrev pub square_calculations : Term → List Calculation
+square_calculations a =
+    calculation Mul a.coefficient a.coefficient
+    ∷ calculation Mul (times a.coefficient a.coefficient) (whole_fraction (pos a.radicand))
+    ∷ []
+
+-- the squares, their difference, and the terms of the conjugate over it
+abbrev pub inverse_of_sum_calculations : Term → Term → List Calculation
+inverse_of_sum_calculations a b =
+    square_calculations a
+    ++ square_calculations b
+    ++ calculation Add (square_of a) (negative (square_of b))
+    ∷ calculation Mul a.coefficient (inverse (conjugate_product a b))
+    ∷ calculation Mul (negative b.coefficient) (inverse (conjugate_product a b))
+    ∷ []
+
+-- ---- roots
+
+-- p * q, for the root of p/q
+abbrev pub root_calculations : Ratio → List Calculation
+root_calculations q = calculation Mul (whole_fraction q.num) (whole_fraction (pos q.den)) ∷ []

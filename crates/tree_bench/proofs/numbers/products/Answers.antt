@@ -1,0 +1,22 @@
+use Rattle.std.proofs.Common.{◌∙◌, inl}
+use Rattle.number_forms.proofs.Pairs.{first_handed, pair_apart, first_told}
+use Rattle.tree_handles.proofs.Given.{given_handed, given_root, given_told}
+use Rattle.tree_bench.proofs.numbers.products.Goals as goal
+
+pub multiply_numbers-requires-clause-first : goal.multiply_numbers-requires-clause-first
+multiply_numbers-requires-clause-first _ c = first_handed c.in-Ok.ensures.ok c.in-Ok-roots.ensures.ok
+
+pub multiply_numbers-requires-clause-second : goal.multiply_numbers-requires-clause-second
+multiply_numbers-requires-clause-second _ c = given_handed c.in-Ok-roots.ensures.ok
+
+pub multiply_numbers-requires-clause-apart : goal.multiply_numbers-requires-clause-apart
+multiply_numbers-requires-clause-apart _ c = pair_apart c.in-Ok.a c.in-Ok-roots.b c.in-Ok.ensures.ok c.in-Ok-roots.ensures.ok
+
+pub multiply_numbers-requires-clause-first_number : goal.multiply_numbers-requires-clause-first_number
+multiply_numbers-requires-clause-first_number _ c = first_told c.in-Ok.ensures.ok c.in-Ok-roots.ensures.ok ∙ given_told c.in-Ok.ensures.ok
+
+pub multiply_numbers-requires-clause-second_number : goal.multiply_numbers-requires-clause-second_number
+multiply_numbers-requires-clause-second_number _ c = given_told c.in-Ok-roots.ensures.ok
+
+pub release-requires-clause-releasable : goal.release-requires-clause-releasable
+release-requires-clause-releasable _ c = inl (given_root c.in-Ok-multiply_numbers.ensures.ok)
