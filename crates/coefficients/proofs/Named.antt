@@ -6,7 +6,8 @@ use Rattle.calc_terms.specs.Rat.{value_of}
 use Rattle.calc_terms.specs.declared.rat.Rat.{Rat}
 use Rattle.calc_algebra.specs.Numbers.{is_number}
 use Rattle.calc_terms.specs.Trees.{Tree, num, add, mult, Trees, none, more, append, is_add, is_mult}
-use Rattle.coefficients.specs.Overflows.{Leads, LeadsIn, LeadsTerm, IsMultiple, NamesPut, OfOverflow}
+use Rattle.coefficients.specs.Overflows.{Leads, LeadsIn, LeadsTerm, IsMultiple, NamesPut}
+use Rattle.number_forms.specs.Overflows.{OfOverflow}
 use Rattle.node_pool.specs.declared.full.Full.{Full}
 use Rattle.rational128.specs.declared.overflow.Op.TheVariants.{Mul}
 use Rattle.rational128.specs.declared.overflow.Overflow.{Overflow}

@@ -1,13 +1,11 @@
 -- Which product does not fit where a rational is multiplied into terms.
-use Rattle.std.specs.Prelude.{◌≡◌, ◌⊎◌, ⊤, true}
+use Rattle.std.specs.Prelude.{◌≡◌, ◌⊎◌, true}
 use Rattle.calc_terms.specs.Fractions.{Fraction}
 use Rattle.calc_terms.specs.Rat.{value_of}
 use Rattle.calc_algebra.specs.Numbers.{is_number}
 use Rattle.calc_terms.specs.Trees.{Tree, num, add, mult, Trees, none, more}
 use Rattle.rational128.specs.declared.overflow.Op.TheVariants.{Mul}
 use Rattle.rational128.specs.declared.overflow.Overflow.{Overflow}
-use Rattle.tree_handles.specs.declared.fault.NumberFault.{NumberFault}
-use Rattle.tree_handles.specs.declared.fault.NumberFault.TheVariants as fault
 
 -- a tree is this rational, or its first factor is
 abbrev pub Leads : Fraction → Tree → Type 0
@@ -35,8 +33,3 @@ pub record IsMultiple (q : Fraction) (Other : Fraction → Type 0) (o : Overflow
 abbrev pub NamesPut : Tree → Tree → Overflow → Type 0
 NamesPut (num q) (add ts) o = IsMultiple q (λ c. LeadsIn LeadsTerm c ts) o
 NamesPut c p o = ⊥
-
--- a fact of the operation that does not fit, where it is not bytes that are lacking
-abbrev pub OfOverflow : (Overflow → Type 0) → NumberFault → Type 0
-OfOverflow P (fault.Full full) = ⊤
-OfOverflow P (fault.Overflow o) = P o

@@ -17,3 +17,4 @@ pub mod Rising
 pub mod Recognized
 pub mod SquareFreeSums
 pub mod Overflows
+pub mod Placings

@@ -1,7 +1,9 @@
 -- The shapes of terms.
-use Rattle.std.specs.Prelude.{Bool, true, false, ◌≡◌}
+use Rattle.std.specs.Prelude.{Bool, true, false, ◌≡◌, ◌==◌, pos, if◌then◌else◌}
+use Rattle.calc_terms.specs.Fractions.{is_one_fraction, whole_fraction}
 use Rattle.calc_terms.specs.Rat.{value_of}
 use Rattle.calc_terms.specs.Trees.{Tree, num, mult, root, none, more}
+use Rattle.calc_algebra.specs.Surds.{Term}
 use Rattle.number_forms.specs.declared.shape.Shape.{Shape}
 use Rattle.number_forms.specs.declared.shape.Shape.TheVariants as shape
 
@@ -23,3 +25,10 @@ IsShape shape.Other t = has_term_shape t ≡ false
 abbrev pub is_root_of_num : Tree → Bool
 is_root_of_num (root (num r)) = true
 is_root_of_num _ = false
+
+-- the tree of a term: a rational, a root, or a rational other than 1 times a root
+abbrev pub term_tree : Term → Tree
+term_tree t =
+    if t.radicand == 1 then num t.coefficient
+    else if is_one_fraction t.coefficient then root (num (whole_fraction (pos t.radicand)))
+    else mult (more (num t.coefficient) (more (root (num (whole_fraction (pos t.radicand)))) none))

@@ -1,5 +1,7 @@
 //! Inverses of Numbers.
-ghost use Rattle.std.specs.Prelude.{◌≡◌, ◌∷◌, [], true, IfOk, IfErr, OnOk};
+ghost use Rattle.std.specs.Prelude.{◌≡◌, ◌∷◌, [], true, IfOk, IfErr, IsOk, OnOk};
+ghost use Rattle.calc_terms.specs.Fractions.{Fraction};
+ghost use Rattle.calc_terms.specs.Trees.{num};
 ghost use Rattle.calc_algebra.specs.Numbers.{is_number, value, classes, Rises};
 ghost use Rattle.number_forms.specs.Answers.{IsNumberOf};
 ghost use Rattle.number_forms.specs.Inverses.{AnswersInverse, IsInverseOf};
@@ -40,6 +42,7 @@ pub fn invert_number(pool: &mut Pool, a: Handle) -> Result<Inverse, NumberFault>
     ensures front { KeepsFront (a ∷ []) (forest pool.old) (forest pool.new) }
     ensures kept { OnOk result (KeepsRefusals pool.old pool.new) }
     ensures faults { IfErr result (Faults pool.old pool.new) }
+    ensures rational { (q : Fraction) → tree_of a pool.old ≡ num q → IsOk result }
     ensures overflow { IfErr result (OfOverflow (InverseOverflows (value (tree_of a pool.old)))) }
     ensures caused { IfErr result (IsCaused pool.new) }
     ensures stands { Stands pool.new }
@@ -67,6 +70,7 @@ fn invert_one(pool: &mut Pool, a: Handle) -> Result<Handle, NumberFault>
     ensures front { KeepsFront (a ∷ []) (forest pool.old) (forest pool.new) }
     ensures kept { OnOk result (KeepsRefusals pool.old pool.new) }
     ensures faults { IfErr result (Faults pool.old pool.new) }
+    ensures rational { (q : Fraction) → tree_of a pool.old ≡ num q → IsOk result }
     ensures overflow { IfErr result (OfOverflow (InverseOverflows (value (tree_of a pool.old)))) }
     ensures caused { IfErr result (IsCaused pool.new) }
     ensures stands { Stands pool.new }

@@ -1,10 +1,11 @@
 //! Terms as trees.
-ghost use Rattle.std.specs.Prelude.{◌≡◌, ◌≤◌, ◌<◌, ◌^◌, pos, true, IfOk, IfErr, IsOk, OnOk, []};
+ghost use Rattle.std.specs.Prelude.{◌≡◌, ◌↔◌, ◌≤◌, ◌<◌, ◌^◌, pos, true, IfOk, IfErr, IsOk, OnOk, []};
 ghost use Rattle.calc_terms.specs.Fractions.{whole_fraction};
 ghost use Rattle.calc_algebra.specs.Numbers.{is_term, term_of as term_of_tree};
 ghost use Rattle.calc_terms.specs.Rat.{value_of};
-ghost use Rattle.calc_terms.specs.Trees.{num, root, mult, none, more};
+ghost use Rattle.calc_terms.specs.Trees.{num, root, mult, none, more, size};
 ghost use Rattle.node_pool.specs.State.{free_of};
+ghost use Rattle.number_forms.specs.Shapes.{term_tree};
 ghost use Rattle.tree_handles.specs.Standing.{LacksBytes, Stands, forest, KeepsRefusals, Refuses};
 ghost use Rattle.surd_terms.specs.Terms.{term_of};
 ghost use Rattle.tree_handles.specs.Handed.{Gives, KeepsFront};
@@ -24,6 +25,7 @@ pub fn place_term(pool: &mut Pool, term: Term) -> Result<Handle, Full>
     ensures full { IfErr result (Refuses pool.old pool.new) }
     ensures caused { IfErr result (LacksBytes pool.new) }
     ensures room { 96 ≤ free_of pool.old → IsOk result }
+    ensures exactly { IsOk result ↔ (size (term_tree (term_of term)) ≤ free_of pool.old) }
     ensures stands { Stands pool.new }
 {
     let coefficient = term.coefficient();
@@ -45,7 +47,7 @@ fn place_root(pool: &mut Pool, radicand: u128) -> Result<Handle, Full>
     ensures kept { OnOk result (KeepsRefusals pool.old pool.new) }
     ensures full { IfErr result (Refuses pool.old pool.new) }
     ensures caused { IfErr result (LacksBytes pool.new) }
-    ensures room { 48 ≤ free_of pool.old → IsOk result }
+    ensures exactly { IsOk result ↔ (size (root (num (whole_fraction (pos radicand)))) ≤ free_of pool.old) }
     ensures stands { Stands pool.new }
 {
     let rational = number(pool, whole(radicand))?;
@@ -63,7 +65,7 @@ fn place_multiple(pool: &mut Pool, coefficient: Rat, radicand: u128) -> Result<H
     ensures kept { OnOk result (KeepsRefusals pool.old pool.new) }
     ensures full { IfErr result (Refuses pool.old pool.new) }
     ensures caused { IfErr result (LacksBytes pool.new) }
-    ensures room { 96 ≤ free_of pool.old → IsOk result }
+    ensures exactly { IsOk result ↔ (size (mult (more (num (value_of coefficient)) (more (root (num (whole_fraction (pos radicand)))) none))) ≤ free_of pool.old) }
     ensures stands { Stands pool.new }
 {
     let rational = number(pool, coefficient)?;

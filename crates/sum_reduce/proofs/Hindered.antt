@@ -1,18 +1,20 @@
 -- Which operation does not fit, from stage to stage of a sum.
 use Rattle.std.specs.Prelude.{Result, Ok, Err, IfErr}
-use Rattle.std.proofs.Common.{ℕ, suc, ◌<◌, ◌≤◌, ◌≡◌, ◌++◌, Bool, true, false, refl, sym, ap, ◌∙◌, subst, arith}
+use Rattle.std.proofs.Common.{ℕ, suc, ◌<◌, ◌≤◌, ◌≡◌, ◌++◌, Bool, true, false, ◌&&◌, refl, sym, ap, ◌∙◌, subst, arith}
 use Rattle.calc_terms.specs.Fits.{add_op, operation_fits}
 use Rattle.calc_terms.specs.Fractions.{Fraction}
 use Rattle.calc_algebra.specs.Numbers.{is_number, value}
 use Rattle.calc_algebra.specs.Reduced.{part_of}
 use Rattle.calc_measures.specs.PlainValues.{calculated}
-use Rattle.calc_terms.specs.Trees.{Tree, num, Trees, none, more, append, count}
+use Rattle.calc_terms.specs.Trees.{Tree, num, Trees, none, more, append, count, is_num}
 use Rattle.calc_algebra.proofs.MeaningRewrites.{Permuted, permuted_more, permuted_trans, Permuted-append_right}
 use Rattle.coefficients.specs.Coefficients.{coefficient_of}
-use Rattle.coefficients.specs.Overflows.{NamesPut, OfOverflow}
+use Rattle.coefficients.specs.Overflows.{NamesPut}
+use Rattle.number_forms.specs.Overflows.{OfOverflow}
 use Rattle.coefficients.proofs.Factors.{monic_part}
 use Rattle.node_pool.specs.State.{State}
 use Rattle.number_forms.specs.Answers.{AnswersRationals}
+use Rattle.number_forms.specs.Overflows.{SumOverflows}
 use Rattle.number_forms.specs.Sums.{removed}
 use Rattle.rational128.specs.declared.overflow.Overflow.{Overflow}
 use Rattle.tree_handles.specs.Expressions.{nth}
@@ -28,14 +30,17 @@ use Rattle.sum_reduce.proofs.Rearranged.{of_lists, to_lists}
 
 -- ---- two Numbers
 
-sum_named : (a b : Tree) (o : Overflow) (new : State) → ((p q : Fraction) → a ≡ num p → b ≡ num q → AnswersRationals (calculated add_op p q) new (Err (fault.Overflow o))) → NamesSum a b o
-sum_named (num p) (num q) o new h = h p q refl refl
-sum_named a b o new h = tt
+sum_named : (a b : Tree) (o : Overflow) (new : State) → ((p q : Fraction) → a ≡ num p → b ≡ num q → AnswersRationals (calculated add_op p q) new (Err (fault.Overflow o)))
+    → ((is_num a && is_num b) ≡ false → SumOverflows (value a) (value b) o) → NamesSum a b o
+sum_named (num p) (num q) o new h k = h p q refl refl
+sum_named (num p) b o new h k = k refl
+sum_named a b o new h k = k refl
 
-pub numbers_named : (a b : Tree) (new : State) (r : Result ℕ NumberFault) → ((p q : Fraction) → a ≡ num p → b ≡ num q → AnswersRationals (calculated add_op p q) new r) → IfErr r (OfOverflow (NamesSum a b))
-numbers_named a b new (Ok x) h = tt
-numbers_named a b new (Err (fault.Full full)) h = tt
-numbers_named a b new (Err (fault.Overflow o)) h = sum_named a b o new h
+pub numbers_named : (a b : Tree) (new : State) (r : Result ℕ NumberFault) → ((p q : Fraction) → a ≡ num p → b ≡ num q → AnswersRationals (calculated add_op p q) new r)
+    → ((is_num a && is_num b) ≡ false → IfErr r (OfOverflow (SumOverflows (value a) (value b)))) → IfErr r (OfOverflow (NamesSum a b))
+numbers_named a b new (Ok x) h k = tt
+numbers_named a b new (Err (fault.Full full)) h k = tt
+numbers_named a b new (Err (fault.Overflow o)) h k = sum_named a b o new h k
 
 pub names_as : {a b c d : Tree} (o : Overflow) → a ≡ c → b ≡ d → NamesSum a b o → NamesSum c d o
 names_as {b = b} {c = c} o e f h = subst (λ (x : Tree). NamesSum c x o) f (subst (λ (x : Tree). NamesSum x b o) e h)

@@ -1,7 +1,7 @@
 -- Which operation does not fit where the terms of a sum are collected.
-use Rattle.std.specs.Prelude.{◌≡◌, ◌≤◌, ⊤, true, false}
+use Rattle.std.specs.Prelude.{◌≡◌, ◌≤◌, true, false}
 use Rattle.calc_terms.specs.Fits.{add_op}
-use Rattle.calc_algebra.specs.Numbers.{is_number}
+use Rattle.calc_algebra.specs.Numbers.{is_number, value}
 use Rattle.calc_algebra.specs.Reduced.{part_of}
 use Rattle.calc_measures.specs.PlainTrees.{IsPlainOverflow}
 use Rattle.calc_measures.specs.PlainValues.{calculated}
@@ -9,13 +9,14 @@ use Rattle.calc_terms.specs.Trees.{Tree, num, Trees, more, append, count}
 use Rattle.coefficients.specs.Coefficients.{coefficient_of}
 use Rattle.coefficients.specs.Overflows.{NamesPut}
 use Rattle.number_forms.specs.Answers.{IsNumberOf}
+use Rattle.number_forms.specs.Overflows.{SumOverflows}
 use Rattle.rational128.specs.declared.overflow.Overflow.{Overflow}
 use Rattle.sum_reduce.specs.Collected.{AreLike, Collects, sum_of_coefficients}
 
--- where two Numbers are added: of two rationals it is their sum
+-- where two Numbers are added: of two rationals it is their sum, and of others that of two terms
 abbrev pub NamesSum : Tree → Tree → Overflow → Type 0
 NamesSum (num p) (num q) o = IsPlainOverflow (calculated add_op p q) o
-NamesSum a b o = ⊤
+NamesSum a b o = SumOverflows (value a) (value b) o
 
 -- why terms cannot be collected: two Numbers cannot be added; nor the coefficient of some terms with one part and that of one
 -- more of them; or the coefficient of all of them, which is a rational, does not go into a part that is a sum

@@ -2,7 +2,7 @@
 ghost use Rattle.std.specs.Prelude.{◌≡◌, ◌<◌, ◌≤◌, ◌+◌, ◌^◌, true, false, IfErr, IfSome, MatchOption, OnOk, [], ◌∷◌};
 ghost use Rattle.calc_measures.specs.PlainValues.{plain_value};
 ghost use Rattle.calc_terms.specs.Trees.{add, count, are_rationals};
-ghost use Rattle.coefficients.specs.Overflows.{OfOverflow};
+ghost use Rattle.number_forms.specs.Overflows.{OfOverflow};
 ghost use Rattle.sum_reduce.specs.Overflows.{Overflows};
 ghost use Rattle.tree_handles.specs.Causes.{IsCaused};
 ghost use Rattle.sum_reduce.specs.Arranging.{IsLed, IsArranged, IsSettled, AnswersFold};

@@ -6,7 +6,7 @@ ghost use Rattle.calc_algebra.specs.Numbers.{is_number, value};
 ghost use Rattle.calc_measures.specs.PlainValues.{calculated, plain_value};
 ghost use Rattle.calc_terms.specs.Trees.{num, is_num, add, more, count, are_rationals};
 ghost use Rattle.number_forms.specs.Answers.{IsNumberOf, AnswersRationals};
-ghost use Rattle.coefficients.specs.Overflows.{OfOverflow};
+ghost use Rattle.number_forms.specs.Overflows.{OfOverflow};
 ghost use Rattle.sum_reduce.specs.Overflows.{NamesSum, Overflows};
 ghost use Rattle.tree_handles.specs.Causes.{IsCaused};
 ghost use Rattle.tree_handles.specs.Handed.{tree_of, IsHanded, KeepsFront};

@@ -3,7 +3,7 @@ ghost use Rattle.std.specs.Prelude.{◌≡◌, ◌≤◌, true, false, IfOk, IfE
 ghost use Rattle.calc_measures.specs.PlainValues.{plain_value};
 ghost use Rattle.calc_terms.specs.Trees.{count, is_add, are_rationals, has_undef};
 ghost use Rattle.number_forms.specs.Answers.{AnswersRationals};
-ghost use Rattle.coefficients.specs.Overflows.{OfOverflow};
+ghost use Rattle.number_forms.specs.Overflows.{OfOverflow};
 ghost use Rattle.sum_reduce.specs.Overflows.{Overflows};
 ghost use Rattle.tree_handles.specs.Causes.{IsCaused};
 ghost use Rattle.calc_algebra.specs.Reduced.{are_reduced};

@@ -4,6 +4,7 @@ use Rattle.number_forms.proofs.SumChanges.{same_plain, read_expression}
 use Rattle.tree_handles.specs.Handed.{tree_of}
 use Rattle.tree_handles.proofs.Fronts.{behind_first, front_same, front_at, front_without}
 use Rattle.tree_handles.proofs.Given.{owned}
+use Rattle.number_forms.proofs.Placings.{rational_classes}
 use Rattle.number_forms.proofs.inverting.invert_number.Goals as goal
 
 three_from : (n : ℕ) → n ≢ 0 → n ≢ 1 → n ≢ 2 → 3 ≤ n
@@ -44,3 +45,8 @@ returns-else-terms-eq2-clause-ok c =
     let all : c.term_count-terms.result ≡ classes (tree_of c.args.a c.args.pool.now) = c.term_count-terms.ensures ∙ ap classes (same_plain _ c.args.a c.args.pool.now c.id.ensures c.requires.stands c.requires.handed.root) in
     let many : 3 ≤ c.term_count-terms.result = three_from c.term_count-terms.result c.if-terms-eq0.false c.if-terms-eq1.false c.if-terms-eq2.false in
     (omega (arith, all, many), refl, refl)
+
+pub returns-in_err-invert_two-clause-rational : goal.returns-in_err-invert_two-clause-rational
+returns-in_err-invert_two-clause-rational c = λ q e.
+    let two = sym (c.term_count-terms.ensures ∙ ap classes (same_plain _ c.args.a c.args.pool.now c.id.ensures c.requires.stands c.requires.handed.root)) ∙ c.if-terms-eq2.true in
+    absurd (rational_classes (tree_of c.args.a c.args.pool.now) q e two)

@@ -12,6 +12,14 @@ use Rattle.number_forms.specs.Overflows.{OfOverflow, InverseOverflows, inverting
 use Rattle.number_forms.proofs.Overflows.{passed_on}
 use Rattle.surd_terms.specs.Calculations.{first_misfit}
 use Rattle.tree_handles.specs.declared.fault.NumberFault.TheVariants as fault
+use Rattle.std.proofs.Common.{[], ◌∷◌, ◌≤◌}
+use Rattle.calc_algebra.specs.Surds.{Term}
+use Rattle.calc_terms.specs.Trees.{size}
+use Rattle.node_pool.specs.State.{free_of}
+use Rattle.number_forms.proofs.Placings.{rational_radicand, rational_term}
+use Rattle.tree_handles.proofs.Room.{released_free}
+use Rattle.number_forms.specs.Shapes.{term_tree}
+use Rattle.number_forms.proofs.inverting.invert_one.Goals.{After-nth_term}
 use Rattle.number_forms.proofs.inverting.invert_one.Goals as goal
 
 pub nth_term-requires-clause-expression : goal.nth_term-requires-clause-expression
@@ -46,3 +54,19 @@ returns-in_err-inverse-clause-overflow c =
     let first : slice_get (value (tree_of c.args.a c.args.pool.now)) 0 ≡ Some x = ap (λ (t : Tree). slice_get (value t) 0) (sym same) ∙ c.nth_term.ensures in
     passed_on c.from_residual.result (fault.Overflow c.in_err-inverse.field-0.0) (OfOverflow (InverseOverflows (value (tree_of c.args.a c.args.pool.now)))) c.from_residual.ensures.0 c.from_residual.ensures.1
     (c.in_err-inverse.ensures.overflow ∙ ap (λ v. first_misfit (inverting_calculations v)) (sym (only_term (value (tree_of c.args.a c.args.pool.now)) x c.requires.classes first)))
+
+only : (c : After-nth_term) → value (tree_of c.args.a c.args.pool.now) ≡ term_of c.nth_term.result ∷ []
+only c =
+    let same = same_plain _ c.args.a c.args.pool.now c.id.ensures c.requires.stands c.requires.handed.root in
+    only_term (value (tree_of c.args.a c.args.pool.now)) (term_of c.nth_term.result) c.requires.classes (ap (λ (t : Tree). slice_get (value t) 0) (sym same) ∙ c.nth_term.ensures)
+
+pub returns-in_err-inverse-clause-rational : goal.returns-in_err-inverse-clause-rational
+returns-in_err-inverse-clause-rational c = λ q e. absurd (cc (c.in_err-inverse.ensures.rational (rational_radicand (tree_of c.args.a c.args.pool.now) q _ e (only (goal.at.returns-in_err-inverse-clause-rational c).After-nth_term))))
+
+pub returns-in_err-place_term-clause-rational : goal.returns-in_err-place_term-clause-rational
+returns-in_err-place_term-clause-rational c = λ q e.
+    let radicand = rational_radicand (tree_of c.args.a c.args.pool.now) q _ e (only (goal.at.returns-in_err-place_term-clause-rational c).After-nth_term) in
+    let tree = rational_term (term_of c.in_ok-inverse.inverse) (ap (λ (t : Term). t.radicand) c.in_ok-inverse.ensures.value ∙ radicand) in
+    let free = released_free c.requires.stands c.release.ensures.stands c.release.ensures.kept c.requires.handed (c.release.ensures.owned (owned c.requires.handed)) in
+    let enough : size (term_tree (term_of c.in_ok-inverse.inverse)) ≤ free_of c.release.new.pool = omega (arith, ap size tree, free, ap size e) in
+    absurd (cc (c.in_err-place_term.ensures.exactly.1 enough))

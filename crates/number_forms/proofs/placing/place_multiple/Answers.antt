@@ -1,4 +1,4 @@
-use Rattle.std.proofs.Common.{◌∙◌, refl, arith, ◌≤◌}
+use Rattle.std.proofs.Common.{◌≡◌, ◌+◌, ◌∙◌, refl, arith, ◌≤◌}
 use Rattle.calc_terms.specs.declared.kind.Kind.TheVariants as kind
 use Rattle.calc_terms.specs.Payload.{bare}
 use Rattle.calc_terms.specs.Trees.{mult, more, none}
@@ -6,8 +6,9 @@ use Rattle.tree_handles.proofs.Fronts.{behind_new, front_same, front_end, front_
 use Rattle.tree_handles.proofs.Given.{represents_none, represents_handed, represents_with, represents_node, gives, gives_as, given_root, given_handed, given_told, given_rest}
 use Rattle.tree_handles.proofs.Lasts.{last_held, last_apart, other_root, ends_as}
 use Rattle.node_pool.specs.State.{free_of}
-use Rattle.tree_handles.proofs.Room.{left_after}
+use Rattle.number_forms.proofs.Placings.{free_before, refused}
 use Rattle.number_forms.proofs.placing.place_multiple.Goals as goal
+use Rattle.number_forms.proofs.placing.place_multiple.Goals.{In_ok-rational, In_ok-root}
 
 pub add_child-requires-clause-live : goal.add_child-requires-clause-live
 add_child-requires-clause-live c = last_held c.in_ok-product.ensures.ok
@@ -44,10 +45,27 @@ returns-clause-front c =
     let one = ends_as (c.add_child.ensures.last _ _ c.in_ok-product.ensures.ok (given_root root)) refl (given_rest root) in
     front_end (c.add_child-2.ensures.last _ _ one (given_root rational)) (front_without (behind_new rational.ends front_same) c.number.ensures.front)
 
-pub returns-in_err-root-clause-room : goal.returns-in_err-root-clause-room
-returns-in_err-root-clause-room c = λ room. absurd (cc (c.in_err-root.ensures.room (left_after 48 c.requires.stands c.number.ensures.stands c.in_ok-rational.ensures.kept c.in_ok-rational.ensures.given (omega arith))))
+mid : (c : In_ok-rational) → free_of c.args.pool.now ≡ free_of c.number.new.pool + 40
+mid c = free_before c.requires.stands c.number.ensures.stands c.in_ok-rational.ensures.kept c.in_ok-rational.ensures.given
 
-pub returns-in_err-product-clause-room : goal.returns-in_err-product-clause-room
-returns-in_err-product-clause-room c = λ room.
-    let more : 56 ≤ free_of c.number.new.pool = left_after 56 c.requires.stands c.number.ensures.stands c.in_ok-rational.ensures.kept c.in_ok-rational.ensures.given (omega arith) in
-    absurd (cc (c.in_err-product.ensures.exactly.1 (left_after 8 c.number.ensures.stands c.place_root.ensures.stands c.in_ok-root.ensures.kept c.in_ok-root.ensures.ok (omega arith))))
+late : (c : In_ok-root) → free_of c.number.new.pool ≡ free_of c.place_root.new.pool + 48
+late c = free_before c.number.ensures.stands c.place_root.ensures.stands c.in_ok-root.ensures.kept c.in_ok-root.ensures.ok
+
+pub returns-in_err-rational-clause-exactly : goal.returns-in_err-rational-clause-exactly
+returns-in_err-rational-clause-exactly c = refused c.from_residual.result _ c.from_residual.ensures.0 (λ enough. absurd (cc (c.in_err-rational.ensures.exactly.1 (omega (arith, enough)))))
+
+pub returns-in_err-root-clause-exactly : goal.returns-in_err-root-clause-exactly
+returns-in_err-root-clause-exactly c =
+    refused c.from_residual-in_err-root.result _ c.from_residual-in_err-root.ensures.0
+    (λ enough. absurd (cc (c.in_err-root.ensures.exactly.1 (omega (arith, enough, mid (goal.at.returns-in_err-root-clause-exactly c).In_ok-rational)))))
+
+pub returns-in_err-product-clause-exactly : goal.returns-in_err-product-clause-exactly
+returns-in_err-product-clause-exactly c =
+    let at = goal.at.returns-in_err-product-clause-exactly c in
+    refused c.from_residual-in_err-product.result _ c.from_residual-in_err-product.ensures.0 (λ enough. absurd (cc (c.in_err-product.ensures.exactly.1 (omega (arith, enough, mid at.In_ok-rational, late at.In_ok-root)))))
+
+pub returns-clause-exactly : goal.returns-clause-exactly
+returns-clause-exactly c =
+    let at = goal.at.returns-clause-exactly c in
+    let least : 8 ≤ free_of c.place_root.new.pool = c.in_ok-product.ensures.exactly.0 refl in
+    (λ _. omega (arith, least, mid at.In_ok-rational, late at.In_ok-root), λ _. refl)

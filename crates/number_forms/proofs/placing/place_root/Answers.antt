@@ -1,12 +1,14 @@
-use Rattle.std.proofs.Common.{ap, ◌∙◌, refl, arith}
+use Rattle.std.proofs.Common.{◌≡◌, ◌+◌, ◌≤◌, ap, ◌∙◌, refl, arith}
 use Rattle.calc_terms.specs.declared.kind.Kind.TheVariants as kind
 use Rattle.calc_terms.specs.Payload.{bare}
 use Rattle.calc_terms.specs.Trees.{num, root}
 use Rattle.tree_handles.proofs.Fronts.{behind_new, front_same, front_end, front_without}
 use Rattle.tree_handles.proofs.Given.{represents_none, represents_handed, represents_with, represents_node, gives, gives_as, given_root, given_handed, given_told, given_rest}
 use Rattle.tree_handles.proofs.Lasts.{last_held, last_apart, other_root}
-use Rattle.tree_handles.proofs.Room.{left_after}
+use Rattle.node_pool.specs.State.{free_of}
+use Rattle.number_forms.proofs.Placings.{free_before, refused}
 use Rattle.number_forms.proofs.placing.place_root.Goals as goal
+use Rattle.number_forms.proofs.placing.place_root.Goals.{In_ok-rational}
 
 pub add_child-requires-clause-live : goal.add_child-requires-clause-live
 add_child-requires-clause-live c = last_held c.in_ok-root.ensures.ok
@@ -29,5 +31,18 @@ returns-clause-front c =
     let rational = c.in_ok-rational.ensures.given in
     front_end (c.add_child.ensures.last _ _ c.in_ok-root.ensures.ok (given_root rational)) (front_without (behind_new rational.ends front_same) c.number.ensures.front)
 
-pub returns-in_err-root-clause-room : goal.returns-in_err-root-clause-room
-returns-in_err-root-clause-room c = λ room. absurd (cc (c.in_err-root.ensures.exactly.1 (left_after 8 c.requires.stands c.number.ensures.stands c.in_ok-rational.ensures.kept c.in_ok-rational.ensures.given (omega arith))))
+mid : (c : In_ok-rational) → free_of c.args.pool.now ≡ free_of c.number.new.pool + 40
+mid c = free_before c.requires.stands c.number.ensures.stands c.in_ok-rational.ensures.kept c.in_ok-rational.ensures.given
+
+pub returns-in_err-rational-clause-exactly : goal.returns-in_err-rational-clause-exactly
+returns-in_err-rational-clause-exactly c = refused c.from_residual.result _ c.from_residual.ensures.0 (λ enough. absurd (cc (c.in_err-rational.ensures.exactly.1 (omega (arith, enough)))))
+
+pub returns-in_err-root-clause-exactly : goal.returns-in_err-root-clause-exactly
+returns-in_err-root-clause-exactly c =
+    refused c.from_residual-in_err-root.result _ c.from_residual-in_err-root.ensures.0
+    (λ enough. absurd (cc (c.in_err-root.ensures.exactly.1 (omega (arith, enough, mid (goal.at.returns-in_err-root-clause-exactly c).In_ok-rational)))))
+
+pub returns-clause-exactly : goal.returns-clause-exactly
+returns-clause-exactly c =
+    let least : 8 ≤ free_of c.number.new.pool = c.in_ok-root.ensures.exactly.0 refl in
+    (λ _. omega (arith, least, mid (goal.at.returns-clause-exactly c).In_ok-rational), λ _. refl)

@@ -105,5 +105,5 @@ returns-clause-overflow c =
     let o = term_out c.args.at c.requires.sum c.requires.within (c.take_child-term.ensures.last c.requires.sum.handed.root) in
     let r = rewritten o.takes c.in_ok-coefficient.ensures.ok in
     let same = given_told c.in_ok-coefficient.ensures.ok ∙ ap coefficient_of o.tree in
-    result_named c.add_numbers.result _ _ (numbers_named _ _ c.add_numbers.new.pool c.add_numbers.result c.add_numbers.ensures.rationals)
+    result_named c.add_numbers.result _ _ (numbers_named _ _ c.add_numbers.new.pool c.add_numbers.result c.add_numbers.ensures.rationals c.add_numbers.ensures.overflow)
     (λ x h. names_as x (other_same c.requires.apart c.requires.handed r.takes) same h)

@@ -65,5 +65,5 @@ returns-clause-front c =
 pub returns-clause-overflow : goal.returns-clause-overflow
 returns-clause-overflow c =
     let o = term_out c.args.at c.requires.sum c.requires.within (c.take_child-number.ensures.last c.requires.sum.handed.root) in
-    result_named c.add_numbers.result _ _ (numbers_named _ _ c.add_numbers.new.pool c.add_numbers.result c.add_numbers.ensures.rationals)
+    result_named c.add_numbers.result _ _ (numbers_named _ _ c.add_numbers.new.pool c.add_numbers.result c.add_numbers.ensures.rationals c.add_numbers.ensures.overflow)
     (λ x h. names_as x (other_same c.requires.apart c.requires.handed o.takes) o.tree h)

@@ -1,0 +1,78 @@
+-- Whether the bytes of a term's tree suffice.
+use Rattle.std.proofs.Common.{◌≡◌, ◌≢◌, ◌↔◌, ℕ, ◌+◌, ◌==◌, true, false, Bool, pos, length, [], ◌∷◌, Result, Ok, Err, refl, sym, ap, ◌∙◌, arith}
+use Rattle.std.specs.Prelude.{IsOk, IsErr, if◌then◌else◌}
+use Rattle.std.proofs.lemmas.Bool.{eqb-true, eq-eqb}
+use Rattle.calc_terms.specs.Fractions.{Fraction, lowest, one_fraction, is_one_fraction, is_zero_fraction, whole_fraction}
+use Rattle.calc_terms.specs.Gcd.{gcd}
+use Rattle.calc_terms.specs.Trees.{Tree, num, root, mult, more, none, size}
+use Rattle.calc_terms.proofs.FractionFacts.{one_is}
+use Rattle.calc_algebra.specs.Numbers.{value, classes}
+use Rattle.calc_algebra.specs.Surds.{Term, surd_of}
+use Rattle.node_pool.specs.State.{State, free_of}
+use Rattle.number_forms.specs.Shapes.{term_tree}
+use Rattle.tree_handles.specs.Handed.{Gives}
+use Rattle.tree_handles.specs.Standing.{Stands, forest, KeepsRefusals}
+use Rattle.tree_handles.proofs.Given.{given_told}
+use Rattle.tree_handles.proofs.Room.{given_free}
+
+-- what is free before a tree is placed
+pub free_before : {s t : State} {i : ℕ} {u : Tree} → Stands s → Stands t → KeepsRefusals s t → Gives (forest s) (forest t) i (λ x. x ≡ u) → free_of s ≡ free_of t + size u
+free_before {t = t} h k r g = given_free h k r g ∙ ap (λ x. free_of t + size x) (given_told g)
+
+-- an answer where a fact holds, and a refusal where it does not
+pub answered : {A E : Type 0} (r : Result A E) (P : Type 0) → IsOk r → P → IsOk r ↔ P
+answered r P o p = (λ _. p, λ _. o)
+
+pub refused : {A E : Type 0} (r : Result A E) (P : Type 0) → IsErr r → (P → ⊥) → IsOk r ↔ P
+refused (Ok x) P e n = let no : false ≡ true = e in cc
+refused (Err x) P e n = (λ o. let no : false ≡ true = o in cc, λ p. absurd (n p))
+
+one_test : is_one_fraction one_fraction ≡ true
+unfolding one_fraction lowest gcd
+one_test = refl
+
+not_one_test : (q : Fraction) → q ≢ one_fraction → is_one_fraction q ≡ false
+not_one_test q h = by (is_one_fraction q) refl
+  where
+    by : (b : Bool) → is_one_fraction q ≡ b → is_one_fraction q ≡ false
+    by true e = absurd (h (one_is q e))
+    by false e = e
+
+not_one : (n : ℕ) → n ≢ 1 → (n == 1) ≡ false
+not_one n h = by (n == 1) refl
+  where
+    by : (b : Bool) → (n == 1) ≡ b → (n == 1) ≡ false
+    by true e = absurd (h (eqb-true n 1 e))
+    by false e = e
+
+pub rational_term : (t : Term) → t.radicand ≡ 1 → term_tree t ≡ num t.coefficient
+rational_term t e = ap (λ b. if b then num t.coefficient else if is_one_fraction t.coefficient then root (num (whole_fraction (pos t.radicand))) else mult (more (num t.coefficient) (more (root (num (whole_fraction (pos t.radicand)))) none))) (eq-eqb t.radicand 1 e)
+
+pub root_term : (t : Term) → t.radicand ≢ 1 → t.coefficient ≡ one_fraction → term_tree t ≡ root (num (whole_fraction (pos t.radicand)))
+root_term t h e =
+    ap (λ b. if b then num t.coefficient else if is_one_fraction t.coefficient then root (num (whole_fraction (pos t.radicand))) else mult (more (num t.coefficient) (more (root (num (whole_fraction (pos t.radicand)))) none))) (not_one t.radicand h)
+    ∙ ap (λ b. if b then root (num (whole_fraction (pos t.radicand))) else mult (more (num t.coefficient) (more (root (num (whole_fraction (pos t.radicand)))) none))) (ap is_one_fraction e ∙ one_test)
+
+pub multiple_term : (t : Term) → t.radicand ≢ 1 → t.coefficient ≢ one_fraction → term_tree t ≡ mult (more (num t.coefficient) (more (root (num (whole_fraction (pos t.radicand)))) none))
+multiple_term t h e =
+    ap (λ b. if b then num t.coefficient else if is_one_fraction t.coefficient then root (num (whole_fraction (pos t.radicand))) else mult (more (num t.coefficient) (more (root (num (whole_fraction (pos t.radicand)))) none))) (not_one t.radicand h)
+    ∙ ap (λ b. if b then root (num (whole_fraction (pos t.radicand))) else mult (more (num t.coefficient) (more (root (num (whole_fraction (pos t.radicand)))) none))) (not_one_test t.coefficient e)
+
+-- a rational has one class at most
+pub rational_classes : (t : Tree) (q : Fraction) → t ≡ num q → classes t ≡ 2 → ⊥
+rational_classes t q e f = by (is_zero_fraction q) (sym (ap classes e) ∙ f)
+  where
+    by : (b : Bool) → length (if b then [] else surd_of q) ≡ 2 → ⊥
+    by true g = absurd (omega (arith, g))
+    by false g = absurd (omega (arith, g))
+
+-- a term that is a rational has radicand 1
+pub rational_radicand : (t : Tree) (q : Fraction) (x : Term) → t ≡ num q → value t ≡ x ∷ [] → x.radicand ≡ 1
+rational_radicand t q x e f = by (is_zero_fraction q) (sym (ap value e) ∙ f)
+  where
+    by : (b : Bool) → (if b then [] else surd_of q) ≡ x ∷ [] → x.radicand ≡ 1
+    by true g = cc
+    by false g = ap (λ (y : Term). y.radicand) (sym (first_of g))
+      where
+        first_of : {y z : Term} → y ∷ [] ≡ z ∷ [] → y ≡ z
+        first_of k = cc
