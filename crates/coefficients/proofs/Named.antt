@@ -7,7 +7,7 @@ use Rattle.calc_terms.specs.declared.rat.Rat.{Rat}
 use Rattle.calc_algebra.specs.Numbers.{is_number}
 use Rattle.calc_terms.specs.Trees.{Tree, num, add, mult, Trees, none, more, append, is_add, is_mult}
 use Rattle.coefficients.specs.Overflows.{Leads, LeadsIn, LeadsTerm, IsMultiple, NamesPut}
-use Rattle.number_forms.specs.Overflows.{OfOverflow}
+use Rattle.tree_handles.specs.Faults.{OfOverflow}
 use Rattle.node_pool.specs.declared.full.Full.{Full}
 use Rattle.rational128.specs.declared.overflow.Op.TheVariants.{Mul}
 use Rattle.rational128.specs.declared.overflow.Overflow.{Overflow}

@@ -7,12 +7,11 @@ ghost use Rattle.calc_terms.specs.Trees.{is_add, is_mult, num};
 ghost use Rattle.coefficients.specs.Coefficients.{spliced};
 ghost use Rattle.coefficients.specs.Multiples.{leads_sum, rational_times as times, rational_times_factors as times_factors, rational_times_number as times_number, rational_times_term as times_term, rational_times_sum as times_sum};
 ghost use Rattle.coefficients.specs.Overflows.{Leads, LeadsIn, LeadsTerm, IsMultiple};
-ghost use Rattle.number_forms.specs.Overflows.{OfOverflow};
 ghost use Rattle.tree_handles.specs.Causes.{IsCaused};
 ghost use Rattle.tree_handles.specs.Standing.{LacksBytes, Stands, forest, KeepsRefusals, Refuses};
 ghost use Rattle.tree_handles.specs.Handed.{tree_of, IsHanded, Gives, KeepsFront};
 ghost use Rattle.tree_handles.specs.Expressions.{IsExpression, plain, children_of};
-ghost use Rattle.tree_handles.specs.Faults.{Faults};
+ghost use Rattle.tree_handles.specs.Faults.{Faults, OfOverflow};
 ghost use Rattle.tree_handles.specs.Inside.{tree_at};
 ghost use Rattle.tree_handles.specs.Roots.{without_root};
 

@@ -6,10 +6,9 @@ ghost use Rattle.calc_algebra.specs.Reduced.{is_reduced};
 ghost use Rattle.calc_terms.specs.Trees.{num};
 ghost use Rattle.coefficients.specs.Coefficients.{rational_before, with_coefficient};
 ghost use Rattle.coefficients.specs.Overflows.{NamesPut};
-ghost use Rattle.number_forms.specs.Overflows.{OfOverflow};
 ghost use Rattle.tree_handles.specs.Causes.{IsCaused};
 ghost use Rattle.tree_handles.specs.Handed.{tree_of, IsHanded, Gives, KeepsFront};
-ghost use Rattle.tree_handles.specs.Faults.{Faults};
+ghost use Rattle.tree_handles.specs.Faults.{Faults, OfOverflow};
 ghost use Rattle.tree_handles.specs.Roots.{without_root};
 ghost use Rattle.tree_handles.specs.Standing.{Stands, forest, KeepsRefusals};
 

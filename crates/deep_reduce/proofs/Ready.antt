@@ -22,7 +22,6 @@ use Rattle.deep_reduce.proofs.PlainNodes.{overflowed_plain}
 use Rattle.deep_reduce.proofs.Walks.{AllWalked, nodes_by_children, reduced_count}
 use Rattle.node_pool.specs.State.{State}
 use Rattle.number_forms.proofs.Loops.{kept_after, refuses_after}
-use Rattle.radical_forms.specs.Refusals.{IfOverflow}
 use Rattle.rational128.specs.declared.overflow.Overflow.{Overflow}
 use Rattle.reduce_port.proofs.Checks.{one_calm, calm_up_to, trips_at_once, trips_within_after}
 use Rattle.tree_handles.specs.Causes.{IsCaused}
@@ -31,7 +30,7 @@ use Rattle.reduce_port.specs.Faults.{fault_of}
 use Rattle.tree_handles.proofs.Given.{gives_as}
 use Rattle.tree_handles.proofs.Plains.{children_of-plain}
 use Rattle.tree_handles.specs.Expressions.{grown, compound, takes, takes_kind, nth, plain, children_of}
-use Rattle.tree_handles.specs.Faults.{Faults}
+use Rattle.tree_handles.specs.Faults.{Faults, IfOverflow}
 use Rattle.tree_handles.specs.Forest.{Forest}
 use Rattle.tree_handles.specs.Handed.{IsHanded, Gives}
 use Rattle.tree_handles.specs.Roots.{root_tree, without_root}

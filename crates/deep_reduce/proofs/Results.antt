@@ -5,7 +5,7 @@ use Rattle.calc_measures.specs.PlainValues.{PlainValue}
 use Rattle.calc_terms.specs.Trees.{Tree}
 use Rattle.node_pool.specs.State.{State}
 use Rattle.number_forms.specs.Answers.{AnswersRationals}
-use Rattle.radical_forms.specs.Refusals.{IfOverflow}
+use Rattle.tree_handles.specs.Faults.{IfOverflow}
 use Rattle.rational128.specs.declared.overflow.Overflow.{Overflow}
 use Rattle.calc_measures.specs.PlainTrees.{IsPlainAnswer, IsPlainOverflow}
 use Rattle.tree_handles.proofs.Given.{gives_as}

@@ -5,11 +5,10 @@ ghost use Rattle.calc_algebra.specs.Reduced.{is_reduced, are_reduced};
 ghost use Rattle.calc_terms.specs.Trees.{num, neg, power, count, is_undef, is_sub, is_div, has_undef};
 ghost use Rattle.deep_reduce.specs.Nodes.{IsNodeAnswer, IsNodeOverflow, is_neg};
 ghost use Rattle.deep_reduce.specs.Pairs.{GivesSides};
-ghost use Rattle.radical_forms.specs.Refusals.{IfOverflow};
 ghost use Rattle.tree_handles.specs.Causes.{IsCaused};
 ghost use Rattle.tree_handles.specs.Handed.{tree_of, IsHanded, Gives, KeepsFront};
 ghost use Rattle.tree_handles.specs.Expressions.{children_of};
-ghost use Rattle.tree_handles.specs.Faults.{Faults};
+ghost use Rattle.tree_handles.specs.Faults.{Faults, IfOverflow};
 ghost use Rattle.tree_handles.specs.Roots.{without_root};
 ghost use Rattle.tree_handles.specs.Standing.{Stands, forest, KeepsRefusals};
 

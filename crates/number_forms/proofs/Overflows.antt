@@ -9,7 +9,8 @@ use Rattle.calc_algebra.proofs.PowerLaws.{surd_power-squared}
 use Rattle.calc_algebra.proofs.SquareClassLaws.{Same-trans}
 use Rattle.calc_algebra.proofs.TermLaws.{Same-append, Same-refl}
 use Rattle.number_forms.specs.Answers.{IsNumberOf}
-use Rattle.number_forms.specs.Overflows.{OfOverflow, JoinOverflows, SumOverflows, ProductOverflows, PowerOverflows}
+use Rattle.number_forms.specs.Overflows.{JoinOverflows, SumOverflows, ProductOverflows, PowerOverflows}
+use Rattle.tree_handles.specs.Faults.{OfOverflow}
 use Rattle.rational128.specs.declared.overflow.Overflow.{Overflow}
 use Rattle.surd_terms.specs.Calculations.{calculation_of, first_misfit, joining_calculations}
 use Rattle.tree_handles.specs.Expressions.{children_of, nth}

@@ -1,7 +1,7 @@
 -- Whether the bytes of a term's tree suffice.
-use Rattle.std.proofs.Common.{◌≡◌, ◌≢◌, ◌↔◌, ℕ, ◌+◌, ◌==◌, true, false, Bool, pos, length, [], ◌∷◌, Result, Ok, Err, refl, sym, ap, ◌∙◌, arith}
-use Rattle.std.specs.Prelude.{IsOk, IsErr, if◌then◌else◌}
-use Rattle.std.proofs.lemmas.Bool.{eqb-true, eq-eqb}
+use Rattle.std.proofs.Common.{◌≡◌, ◌≢◌, ◌↔◌, ℕ, ◌+◌, ◌-◌, ◌==◌, ◌<◌, ◌≤◌, true, false, Bool, pos, List, length, [], ◌∷◌, ◌++◌, Result, Ok, Err, refl, sym, ap, ◌∙◌, subst, arith}
+use Rattle.std.specs.Prelude.{IsOk, IsErr, IfErr, nat_le, if◌then◌else◌}
+use Rattle.std.proofs.lemmas.Bool.{eqb-true, eq-eqb, le-leb, lt-leb}
 use Rattle.calc_terms.specs.Fractions.{Fraction, lowest, one_fraction, is_one_fraction, is_zero_fraction, whole_fraction}
 use Rattle.calc_terms.specs.Gcd.{gcd}
 use Rattle.calc_terms.specs.Trees.{Tree, num, root, mult, more, none, size}
@@ -9,9 +9,11 @@ use Rattle.calc_terms.proofs.FractionFacts.{one_is}
 use Rattle.calc_algebra.specs.Numbers.{value, classes}
 use Rattle.calc_algebra.specs.Surds.{Term, surd_of}
 use Rattle.node_pool.specs.State.{State, free_of}
+use Rattle.node_pool.specs.declared.full.Full.{Full}
 use Rattle.number_forms.specs.Shapes.{term_tree}
+use Rattle.tree_handles.specs.Building.{taking}
 use Rattle.tree_handles.specs.Handed.{Gives}
-use Rattle.tree_handles.specs.Standing.{Stands, forest, KeepsRefusals}
+use Rattle.tree_handles.specs.Standing.{Stands, forest, KeepsRefusals, IsRefused}
 use Rattle.tree_handles.proofs.Given.{given_told}
 use Rattle.tree_handles.proofs.Room.{given_free}
 
@@ -26,6 +28,32 @@ answered r P o p = (λ _. p, λ _. o)
 pub refused : {A E : Type 0} (r : Result A E) (P : Type 0) → IsErr r → (P → ⊥) → IsOk r ↔ P
 refused (Ok x) P e n = let no : false ≡ true = e in cc
 refused (Err x) P e n = (λ o. let no : false ≡ true = o in cc, λ p. absurd (n p))
+
+-- ---- the first node that lacks bytes
+
+pub taken : (free left n : ℕ) (ns : List ℕ) → free ≡ left + n → taking free (n ∷ ns) ≡ taking left ns
+taken free left n ns e =
+    let enough : n ≤ free = omega (arith, e) in
+    let same : free - n ≡ left = omega (arith, e) in
+    ap (λ b. if b then taking (free - n) ns else Err (record { needed = n; free = free })) (le-leb n free enough) ∙ ap (λ m. taking m ns) same
+
+pub lacking : {s t : State} {n : ℕ} {full : Full} (ns : List ℕ) → IsRefused n s t full → taking (free_of s) (n ∷ ns) ≡ Err full
+lacking {s = s} {n = n} {full = full} ns r =
+    let least : free_of s < n = subst (λ (f : Full). f.free < f.needed) r.told r.lacks.lacking in
+    ap (λ b. if b then taking (free_of s - n) ns else Err (record { needed = n; free = free_of s })) (lt-leb n (free_of s) least) ∙ ap (λ (f : Full). Err f) (sym r.told)
+
+-- what lacks bytes lacks them before others too
+pub lacking_on : (free : ℕ) (ns ms : List ℕ) (full : Full) → taking free ns ≡ Err full → taking free (ns ++ ms) ≡ Err full
+lacking_on free [] ms full e = cc
+lacking_on free (n ∷ ns) ms full e = by (nat_le n free) e (lacking_on (free - n) ns ms full)
+  where
+    by : (b : Bool) → (if b then taking (free - n) ns else Err (record { needed = n; free = free })) ≡ Err full → (taking (free - n) ns ≡ Err full → taking (free - n) (ns ++ ms) ≡ Err full) → (if b then taking (free - n) (ns ++ ms) else Err (record { needed = n; free = free })) ≡ Err full
+    by true h k = k h
+    by false h k = h
+
+pub number_lacks : {A : Type 0} (s t : State) (r : Result A Full) → IfErr r (IsRefused 40 s t) → IfErr r (λ full. taking (free_of s) (40 ∷ []) ≡ Err full)
+number_lacks s t (Ok x) h = tt
+number_lacks s t (Err full) h = lacking [] h
 
 one_test : is_one_fraction one_fraction ≡ true
 unfolding one_fraction lowest gcd

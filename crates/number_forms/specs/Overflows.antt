@@ -1,5 +1,5 @@
 -- Which operation on terms a call on Numbers is refused for.
-use Rattle.std.specs.Prelude.{ℕ, zero, suc, ◌+◌, ◌≡◌, ◌<◌, ◌≤◌, ◌⊎◌, List, [], ◌∷◌, ◌++◌, map, Some, slice_get, ⊤}
+use Rattle.std.specs.Prelude.{ℕ, zero, suc, ◌+◌, ◌≡◌, ◌<◌, ◌≤◌, ◌⊎◌, List, [], ◌∷◌, ◌++◌, map, Some, slice_get}
 use Rattle.calc_algebra.specs.Numbers.{term_of, value}
 use Rattle.calc_algebra.specs.SquareClasses.{Same}
 use Rattle.calc_algebra.specs.Surds.{Term, Surd, term_times, surd_times, surd_power}
@@ -10,13 +10,6 @@ use Rattle.rational128.specs.declared.overflow.Overflow.{Overflow}
 use Rattle.surd_terms.specs.Calculations.{Calculation, calculation_of, first_misfit, joining_calculations, inverse_calculations, inverse_of_sum_calculations, IsProductMisfit}
 use Rattle.surd_terms.specs.Products.{IsExtracted}
 use Rattle.tree_handles.specs.Expressions.{children_of, nth}
-use Rattle.tree_handles.specs.declared.fault.NumberFault.{NumberFault}
-use Rattle.tree_handles.specs.declared.fault.NumberFault.TheVariants as fault
-
--- a fact of the operation that does not fit
-abbrev pub OfOverflow : (Overflow → Type 0) → NumberFault → Type 0
-OfOverflow P (fault.Full full) = ⊤
-OfOverflow P (fault.Overflow o) = P o
 
 -- the terms from a place on
 abbrev pub terms_from : ℕ → Surd → Surd

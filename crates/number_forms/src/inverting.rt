@@ -5,11 +5,11 @@ ghost use Rattle.calc_terms.specs.Trees.{num};
 ghost use Rattle.calc_algebra.specs.Numbers.{is_number, value, classes, Rises};
 ghost use Rattle.number_forms.specs.Answers.{IsNumberOf};
 ghost use Rattle.number_forms.specs.Inverses.{AnswersInverse, IsInverseOf};
-ghost use Rattle.number_forms.specs.Overflows.{OfOverflow, InverseOverflows};
+ghost use Rattle.number_forms.specs.Overflows.{InverseOverflows};
 ghost use Rattle.tree_handles.specs.Causes.{IsCaused};
 ghost use Rattle.tree_handles.specs.Handed.{tree_of, IsHanded, Gives, KeepsFront};
 ghost use Rattle.surd_terms.specs.Terms.{term_of};
-ghost use Rattle.tree_handles.specs.Faults.{Faults};
+ghost use Rattle.tree_handles.specs.Faults.{Faults, OfOverflow};
 ghost use Rattle.tree_handles.specs.Roots.{without_root};
 ghost use Rattle.tree_handles.specs.Standing.{Stands, forest, KeepsRefusals, LacksBytes, Refuses};
 

@@ -4,13 +4,13 @@ ghost use Rattle.calc_algebra.specs.Numbers.{value, term_of as term_of_tree};
 ghost use Rattle.calc_terms.specs.Trees.{add, count};
 ghost use Rattle.number_forms.specs.Sums.{IsSum, IsSumOf, IsApart, IsPlace, AreBelow, removed};
 ghost use Rattle.number_forms.specs.Joins.{IsMatch};
-ghost use Rattle.number_forms.specs.Overflows.{OfOverflow, JoinOverflows};
+ghost use Rattle.number_forms.specs.Overflows.{JoinOverflows};
 ghost use Rattle.tree_handles.specs.Standing.{LacksBytes, Stands, forest, KeepsRefusals, Refuses};
 ghost use Rattle.tree_handles.specs.Causes.{IsCaused, Overflows};
 ghost use Rattle.tree_handles.specs.Handed.{tree_of, Gives, KeepsFront};
 ghost use Rattle.surd_terms.specs.Terms.{term_of};
 ghost use Rattle.tree_handles.specs.Expressions.{children_of, nth, plain, IsExpression};
-ghost use Rattle.tree_handles.specs.Faults.{Faults};
+ghost use Rattle.tree_handles.specs.Faults.{Faults, OfOverflow};
 ghost use Rattle.tree_handles.specs.Inside.{tree_at};
 ghost use Rattle.tree_handles.specs.Roots.{without_root};
 

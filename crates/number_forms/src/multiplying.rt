@@ -7,12 +7,12 @@ ghost use Rattle.calc_measures.specs.PlainValues.{calculated};
 ghost use Rattle.calc_algebra.specs.Surds.{term_times, surd_times};
 ghost use Rattle.calc_terms.specs.Trees.{num, is_num};
 ghost use Rattle.number_forms.specs.Answers.{IsNumberOf, AnswersRationals};
-ghost use Rattle.number_forms.specs.Overflows.{OfOverflow, RowOverflows, ProductOverflows};
+ghost use Rattle.number_forms.specs.Overflows.{RowOverflows, ProductOverflows};
 ghost use Rattle.number_forms.specs.Sums.{IsSum, IsSumOf};
 ghost use Rattle.tree_handles.specs.Causes.{IsCaused};
 ghost use Rattle.tree_handles.specs.Handed.{tree_of, IsHanded, Gives, KeepsFront};
 ghost use Rattle.surd_terms.specs.Terms.{term_of};
-ghost use Rattle.tree_handles.specs.Faults.{Faults};
+ghost use Rattle.tree_handles.specs.Faults.{Faults, OfOverflow};
 ghost use Rattle.tree_handles.specs.Roots.{without_root};
 ghost use Rattle.tree_handles.specs.Standing.{Stands, forest, KeepsRefusals};
 

@@ -1,11 +1,12 @@
 //! Terms as trees.
-ghost use Rattle.std.specs.Prelude.{◌≡◌, ◌↔◌, ◌≤◌, ◌<◌, ◌^◌, pos, true, IfOk, IfErr, IsOk, OnOk, []};
+ghost use Rattle.std.specs.Prelude.{◌≡◌, ◌↔◌, ◌≤◌, ◌<◌, ◌^◌, pos, true, IfOk, IfErr, IsOk, OnOk, Err, []};
 ghost use Rattle.calc_terms.specs.Fractions.{whole_fraction};
 ghost use Rattle.calc_algebra.specs.Numbers.{is_term, term_of as term_of_tree};
 ghost use Rattle.calc_terms.specs.Rat.{value_of};
 ghost use Rattle.calc_terms.specs.Trees.{num, root, mult, none, more, size};
 ghost use Rattle.node_pool.specs.State.{free_of};
 ghost use Rattle.number_forms.specs.Shapes.{term_tree};
+ghost use Rattle.tree_handles.specs.Building.{building};
 ghost use Rattle.tree_handles.specs.Standing.{LacksBytes, Stands, forest, KeepsRefusals, Refuses};
 ghost use Rattle.surd_terms.specs.Terms.{term_of};
 ghost use Rattle.tree_handles.specs.Handed.{Gives, KeepsFront};
@@ -16,7 +17,7 @@ use surd_terms::Term;
 use tree_handles::{Handle, add_child, node, number};
 
 /// A new last tree that is the term: a rational, a root, or a rational other than 1 times a root. It takes 96
-/// bytes at most.
+/// bytes at most. Numbers are placed first; a refusal names the first node that lacks bytes.
 pub fn place_term(pool: &mut Pool, term: Term) -> Result<Handle, Full>
     requires stands { Stands pool.old }
     ensures ok { IfOk result (λ h. Gives (forest pool.old) (forest pool.new) h (λ t. (is_term t ≡ true) × (term_of_tree t ≡ term_of term))) }
@@ -26,6 +27,7 @@ pub fn place_term(pool: &mut Pool, term: Term) -> Result<Handle, Full>
     ensures caused { IfErr result (LacksBytes pool.new) }
     ensures room { 96 ≤ free_of pool.old → IsOk result }
     ensures exactly { IsOk result ↔ (size (term_tree (term_of term)) ≤ free_of pool.old) }
+    ensures first_lack { IfErr result (λ full. building (free_of pool.old) (term_tree (term_of term)) ≡ Err full) }
     ensures stands { Stands pool.new }
 {
     let coefficient = term.coefficient();
@@ -48,6 +50,7 @@ fn place_root(pool: &mut Pool, radicand: u128) -> Result<Handle, Full>
     ensures full { IfErr result (Refuses pool.old pool.new) }
     ensures caused { IfErr result (LacksBytes pool.new) }
     ensures exactly { IsOk result ↔ (size (root (num (whole_fraction (pos radicand)))) ≤ free_of pool.old) }
+    ensures first_lack { IfErr result (λ full. building (free_of pool.old) (root (num (whole_fraction (pos radicand)))) ≡ Err full) }
     ensures stands { Stands pool.new }
 {
     let rational = number(pool, whole(radicand))?;
@@ -66,6 +69,7 @@ fn place_multiple(pool: &mut Pool, coefficient: Rat, radicand: u128) -> Result<H
     ensures full { IfErr result (Refuses pool.old pool.new) }
     ensures caused { IfErr result (LacksBytes pool.new) }
     ensures exactly { IsOk result ↔ (size (mult (more (num (value_of coefficient)) (more (root (num (whole_fraction (pos radicand)))) none))) ≤ free_of pool.old) }
+    ensures first_lack { IfErr result (λ full. building (free_of pool.old) (mult (more (num (value_of coefficient)) (more (root (num (whole_fraction (pos radicand)))) none))) ≡ Err full) }
     ensures stands { Stands pool.new }
 {
     let rational = number(pool, coefficient)?;

@@ -16,3 +16,4 @@ pub mod Raising
 pub mod PartsOf
 pub mod Cases
 pub mod Leaves
+pub mod Misfits

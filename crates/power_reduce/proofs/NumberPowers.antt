@@ -1,7 +1,7 @@
 -- Whole powers of Numbers that are no rationals.
-use Rattle.std.proofs.Common.{◌≡◌, ◌≢◌, ◌||◌, not, ℕ, ◌≤◌, ◌≤ℤ◌, ◌<ℤ◌, ℤ, pos, negsuc, neg_ℤ, zero, suc, true, false, refl, sym, ap, ◌∙◌, subst, arith}
+use Rattle.std.proofs.Common.{◌≡◌, ◌≢◌, ℕ, ◌≤◌, ◌≤ℤ◌, ◌<ℤ◌, ℤ, pos, negsuc, neg_ℤ, zero, suc, true, false, refl, sym, ap, ◌∙◌, subst, arith}
 use Rattle.std.proofs.lemmas.Int.{ints}
-use Rattle.std.specs.Prelude.{nat_abs, nat_le}
+use Rattle.std.specs.Prelude.{nat_abs}
 use Rattle.calc_terms.specs.Fractions.{whole_fraction, zero_fraction, one_fraction}
 use Rattle.calc_terms.specs.Integers.{int_is_negative}
 use Rattle.calc_algebra.specs.Numbers.{is_number, classes, value, IsNumber}
@@ -9,7 +9,7 @@ use Rattle.calc_algebra.specs.SquareClasses.{Inverts}
 use Rattle.calc_algebra.specs.Surds.{Surd, surd_power}
 use Rattle.calc_algebra.specs.Reduced.{is_reduced, num_one}
 use Rattle.calc_terms.specs.Trees.{Tree, num, undef, add, power, is_num, is_undef}
-use Rattle.calc_terms.proofs.FractionFacts.{whole_numerator, whole_denominator}
+use Rattle.calc_terms.proofs.FractionFacts.{whole_numerator}
 use Rattle.calc_algebra.proofs.NumberLaws.{number_words}
 use Rattle.calc_algebra.proofs.NumberRewrites.{power_of_number, power_of_inverse}
 use Rattle.number_forms.specs.Answers.{IsNumberOf}

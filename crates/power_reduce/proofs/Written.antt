@@ -1,11 +1,11 @@
 -- Which tree stands for a power, where a rule names it.
-use Rattle.std.proofs.Common.{◌≡◌, ◌≢◌, ◌≤◌, ◌≤ℤ◌, ℤ, pos, negsuc, Bool, true, false, ◌&&◌, ◌||◌, not, if◌then◌else◌, refl, sym, ap, ◌∙◌, subst, arith}
+use Rattle.std.proofs.Common.{◌≡◌, ◌≢◌, ◌≤◌, ◌≤ℤ◌, ℤ, pos, negsuc, Bool, true, false, ◌||◌, not, refl, sym, ap, ◌∙◌, arith}
 use Rattle.std.proofs.lemmas.Bool.{le-leb}
 use Rattle.std.proofs.lemmas.Int.{ints}
-use Rattle.std.specs.Prelude.{nat_le, ◌==◌}
+use Rattle.std.specs.Prelude.{nat_le}
 use Rattle.calc_terms.proofs.FractionFacts.{whole_numerator, whole_denominator}
 use Rattle.calc_terms.specs.FractionLaws.{one_times, times_comm}
-use Rattle.calc_terms.specs.Fractions.{Fraction, whole_fraction, zero_fraction, one_fraction, is_zero_fraction, is_one_fraction}
+use Rattle.calc_terms.specs.Fractions.{Fraction, whole_fraction, zero_fraction, one_fraction, is_zero_fraction}
 use Rattle.calc_terms.specs.Fits.{fraction_power}
 use Rattle.calc_terms.specs.Integers.{int_is_negative}
 use Rattle.calc_terms.specs.Trees.{Tree, num, power}

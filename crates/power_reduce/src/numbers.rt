@@ -6,12 +6,12 @@ ghost use Rattle.calc_measures.specs.PlainValues.{plain_value, powered, exactly}
 ghost use Rattle.calc_terms.specs.Rat.{value_of};
 ghost use Rattle.calc_terms.specs.Trees.{num, is_num};
 ghost use Rattle.number_forms.specs.Answers.{AnswersRationals};
-ghost use Rattle.power_reduce.specs.PowerAnswers.{base_in, exponent_in, HasReducedSides, IsPowerAnswer, has_number_power};
+ghost use Rattle.power_reduce.specs.PowerAnswers.{base_in, exponent_in, HasReducedSides, IsPowerAnswer};
 ghost use Rattle.tree_handles.specs.Causes.{IsCaused, Overflows};
 ghost use Rattle.calc_measures.specs.PlainTrees.{IsPlainOverflow};
-ghost use Rattle.reduce_port.specs.Faults.{IfNumberOverflow};
+ghost use Rattle.tree_handles.specs.Faults.{OfOverflow, Faults};
+ghost use Rattle.power_reduce.specs.Misfits.{IsPowerMisfit};
 ghost use Rattle.tree_handles.specs.Handed.{tree_of, IsHanded, Gives, KeepsFront};
-ghost use Rattle.tree_handles.specs.Faults.{Faults};
 ghost use Rattle.tree_handles.specs.Roots.{without_root};
 ghost use Rattle.tree_handles.specs.Standing.{Stands, forest, KeepsRefusals};
 
@@ -37,7 +37,7 @@ pub(crate) fn rational_power(
     requires fits { nat_abs n < 2 ^ 127 }
     ensures ok { IfOk result (λ h. Gives (without_root power (forest pool.old)) (forest pool.new) h (IsPowerAnswer (base_in (tree_of power pool.old)) (exponent_in (tree_of power pool.old)))) }
     ensures rationals { AnswersRationals (plain_value (tree_of power pool.old)) pool.new result }
-    ensures overflow { IfNumberOverflow result (λ _. has_number_power (base_in (tree_of power pool.old)) (exponent_in (tree_of power pool.old)) ≡ true) }
+    ensures overflow { IfErr result (OfOverflow (IsPowerMisfit (base_in (tree_of power pool.old)) (exponent_in (tree_of power pool.old)))) }
     ensures front { KeepsFront (power ∷ []) (forest pool.old) (forest pool.new) }
     ensures kept { OnOk result (KeepsRefusals pool.old pool.new) }
     ensures faults { IfErr result (Faults pool.old pool.new) }
@@ -84,7 +84,7 @@ pub(crate) fn irrational_power(
     requires exponent { exponent_in (tree_of power pool.old) ≡ num (whole_fraction n) }
     requires fits { nat_abs n < 2 ^ 127 }
     ensures ok { IfOk result (λ h. Gives (without_root power (forest pool.old)) (forest pool.new) h (IsPowerAnswer (base_in (tree_of power pool.old)) (exponent_in (tree_of power pool.old)))) }
-    ensures overflow { IfNumberOverflow result (λ _. has_number_power (base_in (tree_of power pool.old)) (exponent_in (tree_of power pool.old)) ≡ true) }
+    ensures overflow { IfErr result (OfOverflow (IsPowerMisfit (base_in (tree_of power pool.old)) (exponent_in (tree_of power pool.old)))) }
     ensures front { KeepsFront (power ∷ []) (forest pool.old) (forest pool.new) }
     ensures kept { OnOk result (KeepsRefusals pool.old pool.new) }
     ensures faults { IfErr result (Faults pool.old pool.new) }
@@ -116,7 +116,7 @@ fn negative_power(pool: &mut Pool, power: Handle, n: i128) -> Result<Handle, Num
     requires fits { nat_abs n < 2 ^ 127 }
     requires negative { n <ℤ pos 0 }
     ensures ok { IfOk result (λ h. Gives (without_root power (forest pool.old)) (forest pool.new) h (IsPowerAnswer (base_in (tree_of power pool.old)) (exponent_in (tree_of power pool.old)))) }
-    ensures overflow { IfNumberOverflow result (λ _. has_number_power (base_in (tree_of power pool.old)) (exponent_in (tree_of power pool.old)) ≡ true) }
+    ensures overflow { IfErr result (OfOverflow (IsPowerMisfit (base_in (tree_of power pool.old)) (exponent_in (tree_of power pool.old)))) }
     ensures front { KeepsFront (power ∷ []) (forest pool.old) (forest pool.new) }
     ensures kept { OnOk result (KeepsRefusals pool.old pool.new) }
     ensures faults { IfErr result (Faults pool.old pool.new) }

@@ -5,14 +5,14 @@ ghost use Rattle.calc_algebra.specs.Numbers.{is_number};
 ghost use Rattle.calc_measures.specs.PlainValues.{plain_value};
 ghost use Rattle.calc_algebra.specs.Reduced.{is_reduced, is_whole_num};
 ghost use Rattle.calc_terms.specs.Trees.{num, is_num, is_mult, is_root, is_undef};
-ghost use Rattle.power_reduce.specs.PowerAnswers.{is_power, base_in, exponent_in, HasReducedSides, IsStep, has_number_power};
+ghost use Rattle.power_reduce.specs.PowerAnswers.{is_power, base_in, exponent_in, HasReducedSides, IsStep};
 ghost use Rattle.power_reduce.specs.PowerSteps.{goes_inside, is_zero_or_one, rewritten};
 ghost use Rattle.tree_handles.specs.Causes.{IsCaused};
 ghost use Rattle.tree_handles.specs.Handed.{tree_of, IsHanded, KeepsFront};
-ghost use Rattle.reduce_port.specs.Faults.{IfNumberOverflow};
+ghost use Rattle.tree_handles.specs.Faults.{OfOverflow, Faults};
+ghost use Rattle.power_reduce.specs.Misfits.{IsPowerMisfit};
 ghost use Rattle.reduce_port.specs.Steps.{AnswersRationalStep, IfAgain};
 ghost use Rattle.tree_handles.specs.Expressions.{IsExpression, plain};
-ghost use Rattle.tree_handles.specs.Faults.{Faults};
 ghost use Rattle.tree_handles.specs.Inside.{tree_at};
 ghost use Rattle.tree_handles.specs.Roots.{without_root};
 ghost use Rattle.tree_handles.specs.Standing.{Stands, forest, KeepsRefusals};
@@ -37,7 +37,7 @@ pub fn power_step(pool: &mut Pool, power: Handle) -> Result<Step, NumberFault>
     ensures ok { IfOk result (IsStep (tree_of power pool.old) (without_root power (forest pool.old)) pool.new) }
     ensures rationals { is_num (base_in (tree_of power pool.old)) ≡ true → is_num (exponent_in (tree_of power pool.old)) ≡ true
         → AnswersRationalStep (plain_value (tree_of power pool.old)) pool.new result }
-    ensures overflow { IfNumberOverflow result (λ _. has_number_power (base_in (tree_of power pool.old)) (exponent_in (tree_of power pool.old)) ≡ true) }
+    ensures overflow { IfErr result (OfOverflow (IsPowerMisfit (base_in (tree_of power pool.old)) (exponent_in (tree_of power pool.old)))) }
     ensures front { KeepsFront (power ∷ []) (forest pool.old) (forest pool.new) }
     ensures kept { OnOk result (KeepsRefusals pool.old pool.new) }
     ensures faults { IfErr result (Faults pool.old pool.new) }
@@ -76,7 +76,7 @@ fn whole_power(pool: &mut Pool, power: Handle, n: i128) -> Result<Step, NumberFa
     ensures ok { IfOk result (IsStep (tree_of power pool.old) (without_root power (forest pool.old)) pool.new) }
     ensures rationals { is_num (base_in (tree_of power pool.old)) ≡ true → is_num (exponent_in (tree_of power pool.old)) ≡ true
         → AnswersRationalStep (plain_value (tree_of power pool.old)) pool.new result }
-    ensures overflow { IfNumberOverflow result (λ _. has_number_power (base_in (tree_of power pool.old)) (exponent_in (tree_of power pool.old)) ≡ true) }
+    ensures overflow { IfErr result (OfOverflow (IsPowerMisfit (base_in (tree_of power pool.old)) (exponent_in (tree_of power pool.old)))) }
     ensures front { KeepsFront (power ∷ []) (forest pool.old) (forest pool.new) }
     ensures kept { OnOk result (KeepsRefusals pool.old pool.new) }
     ensures faults { IfErr result (Faults pool.old pool.new) }
@@ -103,7 +103,7 @@ fn whole_power_of_other(pool: &mut Pool, power: Handle, n: i128) -> Result<Step,
     requires exponent { exponent_in (tree_of power pool.old) ≡ num (whole_fraction n) }
     requires fits { nat_abs n < 2 ^ 127 }
     ensures ok { IfOk result (IsStep (tree_of power pool.old) (without_root power (forest pool.old)) pool.new) }
-    ensures overflow { IfNumberOverflow result (λ _. has_number_power (base_in (tree_of power pool.old)) (exponent_in (tree_of power pool.old)) ≡ true) }
+    ensures overflow { IfErr result (OfOverflow (IsPowerMisfit (base_in (tree_of power pool.old)) (exponent_in (tree_of power pool.old)))) }
     ensures front { KeepsFront (power ∷ []) (forest pool.old) (forest pool.new) }
     ensures kept { OnOk result (KeepsRefusals pool.old pool.new) }
     ensures faults { IfErr result (Faults pool.old pool.new) }
@@ -136,7 +136,7 @@ fn other_power(pool: &mut Pool, power: Handle) -> Result<Step, NumberFault>
     ensures ok { IfOk result (IsStep (tree_of power pool.old) (without_root power (forest pool.old)) pool.new) }
     ensures rationals { is_num (base_in (tree_of power pool.old)) ≡ true → is_num (exponent_in (tree_of power pool.old)) ≡ true
         → AnswersRationalStep (plain_value (tree_of power pool.old)) pool.new result }
-    ensures overflow { IfNumberOverflow result (λ _. ⊥) }
+    ensures overflow { IfErr result (OfOverflow (λ _. ⊥)) }
     ensures front { KeepsFront (power ∷ []) (forest pool.old) (forest pool.new) }
     ensures kept { OnOk result (KeepsRefusals pool.old pool.new) }
     ensures faults { IfErr result (Faults pool.old pool.new) }
@@ -160,7 +160,7 @@ fn power_inside(pool: &mut Pool, power: Handle) -> Result<Step, NumberFault>
     ensures ok { IfOk result (IsStep (tree_of power pool.old) (without_root power (forest pool.old)) pool.new) }
     ensures rationals { is_num (base_in (tree_of power pool.old)) ≡ true → is_num (exponent_in (tree_of power pool.old)) ≡ true
         → AnswersRationalStep (plain_value (tree_of power pool.old)) pool.new result }
-    ensures overflow { IfNumberOverflow result (λ _. ⊥) }
+    ensures overflow { IfErr result (OfOverflow (λ _. ⊥)) }
     ensures front { KeepsFront (power ∷ []) (forest pool.old) (forest pool.new) }
     ensures kept { OnOk result (KeepsRefusals pool.old pool.new) }
     ensures faults { IfErr result (Faults pool.old pool.new) }
@@ -183,7 +183,7 @@ fn power_of_power(pool: &mut Pool, power: Handle) -> Result<Step, NumberFault>
     requires number { (is_number (base_in (tree_of power pool.old)) && is_whole_num (exponent_in (tree_of power pool.old))) ≡ false }
     requires base { is_power (base_in (tree_of power pool.old)) ≡ true }
     ensures ok { IfOk result (IsStep (tree_of power pool.old) (without_root power (forest pool.old)) pool.new) }
-    ensures overflow { IfNumberOverflow result (λ _. ⊥) }
+    ensures overflow { IfErr result (OfOverflow (λ _. ⊥)) }
     ensures front { KeepsFront (power ∷ []) (forest pool.old) (forest pool.new) }
     ensures kept { OnOk result (KeepsRefusals pool.old pool.new) }
     ensures faults { IfErr result (Faults pool.old pool.new) }
@@ -205,7 +205,7 @@ fn power_of_product(pool: &mut Pool, power: Handle) -> Result<Step, NumberFault>
     requires number { (is_number (base_in (tree_of power pool.old)) && is_whole_num (exponent_in (tree_of power pool.old))) ≡ false }
     requires base { is_mult (base_in (tree_of power pool.old)) ≡ true }
     ensures ok { IfOk result (IsStep (tree_of power pool.old) (without_root power (forest pool.old)) pool.new) }
-    ensures overflow { IfNumberOverflow result (λ _. ⊥) }
+    ensures overflow { IfErr result (OfOverflow (λ _. ⊥)) }
     ensures front { KeepsFront (power ∷ []) (forest pool.old) (forest pool.new) }
     ensures kept { OnOk result (KeepsRefusals pool.old pool.new) }
     ensures faults { IfErr result (Faults pool.old pool.new) }

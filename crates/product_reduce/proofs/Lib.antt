@@ -23,3 +23,4 @@ pub mod JointPlaces
 pub mod Readied
 pub mod Stepped
 pub mod Small
+pub mod Misfits

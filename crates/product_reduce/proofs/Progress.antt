@@ -1,7 +1,7 @@
 -- The Numbers among the factors are multiplied one after the other.
 use Rattle.std.specs.Prelude.{Err}
 use Rattle.number_forms.specs.Sums.{removed}
-use Rattle.calc_terms.specs.Trees.{are_rationals, Tree, num, mult, Trees, none, more, count, is_num}
+use Rattle.calc_terms.specs.Trees.{are_rationals, Tree, num, mult, Trees, none, more, append, count, is_num}
 use Rattle.calc_algebra.specs.Reduced.{are_reduced, num_one, is_reduced}
 use Rattle.std.proofs.Common.{◌⊎◌, inl, inr, nat_lt, ℕ, zero, suc, ◌<◌, ◌≤◌, ◌+◌, ◌≡◌, List, ◌∷◌, Bool, true, false, if◌then◌else◌, refl, sym, ap, ◌∙◌, subst, arith}
 use Rattle.std.proofs.lemmas.Bool.{and_parts, and_from, ltb-true, ltb-false}
@@ -25,7 +25,8 @@ use Rattle.calc_measures.specs.PlainTrees.{IsPlainAnswer, IsPlainOverflow}
 use Rattle.tree_handles.specs.Expressions.{nth}
 use Rattle.tree_handles.proofs.Outcomes.{by_test}
 use Rattle.product_reduce.specs.Factors.{numbers_in, others_in, product_of_values, IsCoefficient}
-use Rattle.product_reduce.specs.Multiplying.{rational_of, rationals_of, AreFolded, IsProgress, NoNumberBefore}
+use Rattle.product_reduce.specs.Misfits.{NamesProduct, MultiplyingOverflows}
+use Rattle.product_reduce.specs.Multiplying.{rational_of, rationals_of, AreFolded, AreMultiplied, IsProgress, NoNumberBefore}
 
 -- ---- rationals
 
@@ -111,6 +112,7 @@ pub started : (n : ℕ) (ts : Trees) → n < count ts → are_reduced ts ≡ tru
 started n ts l r h b = record {
   number = h;
   worth = Same-eq (ap product_of_values (numbers_removed n ts l h b));
+  multiplied = record { first = more (nth n ts) none; is = numbers_removed n ts l h b; worth = Same-sym (Agree-Same (surd_times-one (value (nth n ts)))) };
   others = others_removed n ts l h;
   reduced = reduced_removed n ts l r;
   fewer = λ m. omega (arith, ap count (numbers_removed n ts l h b));
@@ -140,6 +142,7 @@ unfolding is_number
 started_at_one ts r b = record {
   number = refl;
   worth = by (numbers_in ts) (numbers_none ts b);
+  multiplied = record { first = none; is = refl; worth = Same-eq one_value };
   others = refl;
   reduced = r;
   fewer = λ m. absurd (omega (arith, ap count (numbers_none ts b)));
@@ -184,6 +187,22 @@ more_folded n ts us d e z f a h =
       plain = a.plain ∙ ap (λ (x : Trees). fold_values mul_op (rational_of d) (rationals_of x)) f.is ∙ s.plain ∙ ap (λ (x : Trees). fold_values mul_op (rational_of e) (rationals_of x)) (sym left);
     }
 
+append_one : (first : Trees) (x : Tree) (rest : Trees) → append first (more x rest) ≡ append (append first (more x none)) rest
+append_one none x rest = refl
+append_one (more t ts) x rest = ap (more t) (append_one ts x rest)
+
+product_append : (first : Trees) (x : Tree) → Same (surd_times (product_of_values first) (value x)) (product_of_values (append first (more x none)))
+product_append none x = Same-trans (Same-eq (surd_times-surd_one (value x))) (Same-sym (Agree-Same (surd_times-one (value x))))
+product_append (more t ts) x =
+    Same-trans (Same-eq (surd_times_assoc (value t) (product_of_values ts) (value x))) (Same-surd_times (Same-refl (value t)) (product_append ts x))
+
+one_more : (ns ms rest : Trees) (d e x : Tree) → ms ≡ more x rest → Same (value e) (surd_times (value d) (value x)) → AreMultiplied ns ms d → AreMultiplied ns rest e
+one_more ns ms rest d e x s w m = record {
+  first = append m.first (more x none);
+  is = m.is ∙ ap (append m.first) s ∙ append_one m.first x rest;
+  worth = Same-trans w (Same-trans (Same-surd_times m.worth (Same-refl (value x))) (product_append m.first x));
+}
+
 pub multiplied : (n : ℕ) (ts us : Trees) (d e : Tree) → n < count us → is_number (nth n us) ≡ true → NoNumberBefore n us → IsProgress ts us d
     → is_number e ≡ true → Same (value e) (surd_times (value d) (value (nth n us))) → ((p q : Fraction) → d ≡ num p → nth n us ≡ num q → IsPlainAnswer (calculated mul_op p q) e) → IsProgress ts (removed n us) e
 multiplied n ts us d e l h b g k w a =
@@ -194,6 +213,7 @@ multiplied n ts us d e l h b g k w a =
       worth =
           Same-trans g.worth (Same-trans (Same-eq (ap (λ (ns : Trees). surd_times (value d) (product_of_values ns)) (numbers_removed n us l h b) ∙ sym (surd_times_assoc (value d) (value x) rest)))
           (Same-surd_times (Same-sym w) (Same-refl rest)));
+      multiplied = one_more (numbers_in ts) (numbers_in us) (numbers_in (removed n us)) d e x (numbers_removed n us l h b) w g.multiplied;
       others = others_removed n us l h ∙ g.others;
       reduced = reduced_removed n us l g.reduced;
       fewer = λ m. let c : count (numbers_in us) ≡ suc (count (numbers_in (removed n us))) = ap count (numbers_removed n us l h b) in let f : count (numbers_in us) < count (numbers_in ts) = g.fewer (omega arith) in omega arith;
@@ -260,9 +280,25 @@ pub some_number : (ts : Trees) → NoNumberBefore (count ts) ts → are_rational
 some_number none b q m = absurd (omega arith)
 some_number (more t ts) b q m = let a = num_number t (and_parts (is_num t) (are_rationals ts) q).0 in let e = b 0 (omega arith) in absurd cc
 
--- where one more is to be multiplied in, there were two
-pub two_numbers : (n : ℕ) (ts us : Trees) (d : Tree) → n < count us → is_number (nth n us) ≡ true → NoNumberBefore n us → IsProgress ts us d → 2 ≤ count (numbers_in ts)
-two_numbers n ts us d l h b g =
-    let c : count (numbers_in us) ≡ suc (count (numbers_in (removed n us))) = ap count (numbers_removed n us l h b) in
+count_append : (ts us : Trees) → count (append ts us) ≡ count ts + count us
+count_append none us = omega arith
+count_append (more t ts) us = omega (arith, count_append ts us)
+
+-- where one more is to be multiplied in, it comes behind those whose product is known
+pub next_misfit : (n : ℕ) (ts us : Trees) (d : Tree) (o : Overflow) → n < count us → is_number (nth n us) ≡ true → NoNumberBefore n us → IsProgress ts us d → NamesProduct d (nth n us) o → MultiplyingOverflows (numbers_in ts) o
+next_misfit n ts us d o l h b g k =
+    let s = numbers_removed n us l h b in
+    let m = g.multiplied in
+    let c : count (numbers_in us) ≡ suc (count (numbers_in (removed n us))) = ap count s in
     let f : count (numbers_in us) < count (numbers_in ts) = g.fewer (omega arith) in
-    omega arith
+    let a : count (numbers_in ts) ≡ count m.first + count (numbers_in us) = ap count m.is ∙ count_append m.first (numbers_in us) in
+    record {
+      first = m.first;
+      next = nth n us;
+      rest = numbers_in (removed n us);
+      is = m.is ∙ ap (append m.first) s;
+      some = omega arith;
+      so_far = d;
+      product = record { number = g.number; worth = m.worth };
+      named = k;
+    }

@@ -4,11 +4,11 @@ use Rattle.calc_measures.specs.Loads.{nest, nest_of, load, load_of_factors}
 use Rattle.calc_algebra.specs.Numbers.{is_number, are_numbers}
 use Rattle.calc_measures.specs.PlainValues.{PlainValue}
 use Rattle.calc_algebra.specs.Reduced.{NoneIs, base_of, are_reduced}
-use Rattle.calc_terms.specs.Trees.{Tree, mult, Trees, none, more, count, is_mult, is_undef, has_undef}
+use Rattle.calc_terms.specs.Trees.{Tree, mult, Trees, none, more, is_mult, is_undef, has_undef}
 use Rattle.node_order.specs.Sorting.{IsSorting}
 use Rattle.node_pool.specs.State.{State}
 use Rattle.number_forms.specs.Readers.{is_zero}
-use Rattle.product_reduce.specs.Factors.{opened, numbers_in, others_in, IsCoefficient, coefficient_before, coefficient_times}
+use Rattle.product_reduce.specs.Factors.{opened, others_in, IsCoefficient, coefficient_before, coefficient_times}
 use Rattle.product_reduce.specs.Joining.{have_partners, joined}
 use Rattle.product_reduce.specs.declared.steps.Joining.{Joining}
 use Rattle.product_reduce.specs.declared.steps.Joining.TheVariants as joining
@@ -54,12 +54,6 @@ pub record IsFinished (ts : Trees) (new : Tree) : Type 0 where
   pub load : load new ≤ load (mult ts)
   pub number : are_numbers ts ≡ true → is_number new ≡ true
   pub final : (c : Tree) → ¬ (AreJoinable c ts)
-
--- What may not fit in one step on these factors: two Numbers among them are multiplied, or none are joined, and the
--- coefficient goes into the terms of a sum.
-pub data Calculates (ts : Trees) : Type 0 where
-  multiplies : 2 ≤ count (numbers_in (opened ts)) → Calculates ts
-  spreads : have_partners (others_in (opened ts)) ≡ false → Calculates ts
 
 -- a fact of the reduced tree
 abbrev pub IfFinished : Joining → (ℕ → Type 0) → Type 0

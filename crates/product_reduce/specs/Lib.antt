@@ -4,3 +4,4 @@ pub mod Products
 pub mod Multiplying
 pub mod Sorting
 pub mod Answers
+pub mod Misfits

@@ -6,7 +6,7 @@ use Rattle.calc_algebra.specs.Numbers.{is_number, value}
 use Rattle.calc_measures.specs.PlainValues.{fold_values, plain_value}
 use Rattle.calc_algebra.specs.SquareClasses.{Same}
 use Rattle.calc_algebra.specs.Surds.{surd_times}
-use Rattle.calc_terms.specs.Trees.{Tree, num, mult, Trees, none, more, count, is_num, are_rationals}
+use Rattle.calc_terms.specs.Trees.{Tree, num, mult, Trees, none, more, append, count, is_num, are_rationals}
 use Rattle.tree_handles.specs.Expressions.{nth, plain}
 use Rattle.tree_handles.specs.Forest.{Forest}
 use Rattle.tree_handles.specs.Roots.{root_tree}
@@ -29,10 +29,17 @@ pub record AreFolded (ts us : Trees) (d : Tree) : Type 0 where
   pub rationals : are_rationals us ≡ true
   pub plain : plain_value (mult ts) ≡ fold_values mul_op (rational_of d) (rationals_of us)
 
+-- these Numbers are the first ones, whose product is d, and then the others
+pub record AreMultiplied (ns others : Trees) (d : Tree) : Type 0 where
+  pub first : Trees
+  pub is : ns ≡ append first others
+  pub worth : Same (value d) (product_of_values first)
+
 -- the Numbers of ts multiplied are d times those that are still among us; the other factors are the same
 pub record IsProgress (ts us : Trees) (d : Tree) : Type 0 where
   pub number : is_number d ≡ true
   pub worth : Same (product_of_values (numbers_in ts)) (surd_times (value d) (product_of_values (numbers_in us)))
+  pub multiplied : AreMultiplied (numbers_in ts) (numbers_in us) d
   pub others : others_in us ≡ others_in ts
   pub reduced : are_reduced us ≡ true
   pub fewer : 1 ≤ count (numbers_in us) → count (numbers_in us) < count (numbers_in ts)

@@ -5,6 +5,8 @@ ghost use Rattle.calc_terms.specs.Trees.{mult, none};
 ghost use Rattle.number_forms.specs.Readers.{is_zero};
 ghost use Rattle.product_reduce.specs.Answers.{AreOthers, IsEnding, IsAlone};
 ghost use Rattle.product_reduce.specs.Factors.{coefficient_before};
+ghost use Rattle.product_reduce.specs.Misfits.{SpreadingOverflows};
+ghost use Rattle.tree_handles.specs.Faults.{OfOverflow, Faults};
 ghost use Rattle.product_reduce.specs.Joining.{IsFirstPair, IsFirstJoint, IsJointAt, have_partners, joined};
 ghost use Rattle.product_reduce.specs.Products.{IsProduct, factors_in};
 ghost use Rattle.tree_handles.specs.Causes.{IsCaused};
@@ -12,7 +14,6 @@ ghost use Rattle.tree_handles.specs.Standing.{LacksBytes, Stands, forest, KeepsR
 ghost use Rattle.calc_algebra.specs.Reduced.{are_reduced};
 ghost use Rattle.tree_handles.specs.Handed.{tree_of, IsHanded, Gives, KeepsFront};
 ghost use Rattle.tree_handles.specs.Expressions.{children_of};
-ghost use Rattle.tree_handles.specs.Faults.{Faults};
 ghost use Rattle.tree_handles.specs.Roots.{without_root};
 
 use crate::factors::factor_count;
@@ -69,6 +70,7 @@ pub fn sorted(pool: &mut Pool, product: Handle, coefficient: Handle) -> Result<H
     ensures ok { IfOk result (λ h. Gives (without_root product (without_root coefficient (forest pool.old))) (forest pool.new) h
         (IsEnding (tree_of coefficient pool.old) (factors_in product (forest pool.old)))) }
     ensures alone { factors_in product (forest pool.old) ≡ none → IsAlone (tree_of coefficient pool.old) pool.new result }
+    ensures overflow { IfErr result (OfOverflow (SpreadingOverflows (tree_of coefficient pool.old) (factors_in product (forest pool.old)))) }
     ensures front { KeepsFront (product ∷ coefficient ∷ []) (forest pool.old) (forest pool.new) }
     ensures kept { OnOk result (KeepsRefusals pool.old pool.new) }
     ensures faults { IfErr result (Faults pool.old pool.new) }

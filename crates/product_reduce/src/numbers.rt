@@ -12,12 +12,12 @@ ghost use Rattle.product_reduce.specs.Factors.{numbers_in, others_in, IsCoeffici
 ghost use Rattle.product_reduce.specs.Multiplying.{NoNumberBefore, IsFirstNumber, IsUnderway};
 ghost use Rattle.product_reduce.specs.Products.{IsProduct, IsTakenOut, factors_in};
 ghost use Rattle.number_forms.specs.Answers.{IsNumberOf, AnswersRationals};
-ghost use Rattle.reduce_port.specs.Faults.{IfNumberOverflow};
+ghost use Rattle.tree_handles.specs.Faults.{OfOverflow, Faults};
+ghost use Rattle.product_reduce.specs.Misfits.{MultiplyingOverflows, NamesProduct};
 ghost use Rattle.tree_handles.specs.Causes.{IsCaused};
 ghost use Rattle.tree_handles.specs.Standing.{LacksBytes, Stands, forest, KeepsRefusals, Refuses};
 ghost use Rattle.tree_handles.specs.Handed.{tree_of, IsHanded, KeepsFront};
 ghost use Rattle.tree_handles.specs.Expressions.{nth};
-ghost use Rattle.tree_handles.specs.Faults.{Faults};
 ghost use Rattle.tree_handles.specs.Roots.{without_root};
 
 use crate::factors::{factor, factor_count};
@@ -81,6 +81,7 @@ fn multiply_in(
         IfOk result (λ h. IsNumberOf (surd_times (value (tree_of so_far pool.old)) (value (nth at ts))) (tree_of h pool.new)) }
     ensures rationals { let ts = factors_in product.now (forest pool.old) in
         (p q : Fraction) → tree_of so_far pool.old ≡ num p → nth at ts ≡ num q → AnswersRationals (calculated mul_op p q) pool.new result }
+    ensures overflow { IfErr result (OfOverflow (NamesProduct (tree_of so_far pool.old) (nth at (factors_in product.now (forest pool.old))))) }
     ensures front { KeepsFront (product.now ∷ so_far ∷ []) (forest pool.old) (forest pool.new) }
     ensures kept { OnOk result (KeepsRefusals pool.old pool.new) }
     ensures faults { IfErr result (Faults pool.old pool.new) }
@@ -101,7 +102,7 @@ pub fn take_coefficient(pool: &mut Pool, product: &Handle) -> Result<Handle, Num
     ensures coefficient { IfOk result (λ h. IsCoefficient (tree_of h pool.new) (factors_in product.now (forest pool.old))) }
     ensures rationals { let ts = factors_in product.now (forest pool.old) in
         are_rationals ts ≡ true → 1 ≤ count ts → AnswersRationals (plain_value (mult ts)) pool.new result }
-    ensures overflow { IfNumberOverflow result (λ _. 2 ≤ count (numbers_in (factors_in product.now (forest pool.old)))) }
+    ensures overflow { IfErr result (OfOverflow (MultiplyingOverflows (numbers_in (factors_in product.now (forest pool.old))))) }
     ensures front { KeepsFront (product.now ∷ []) (forest pool.old) (forest pool.new) }
     ensures kept { OnOk result (KeepsRefusals pool.old pool.new) }
     ensures faults { IfErr result (Faults pool.old pool.new) }

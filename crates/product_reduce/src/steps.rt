@@ -3,17 +3,17 @@ ghost use Rattle.std.specs.Prelude.{◌≡◌, ◌==◌, ◌≤◌, true, false,
 ghost use Rattle.calc_algebra.specs.Numbers.{is_number};
 ghost use Rattle.calc_measures.specs.PlainValues.{plain_value};
 ghost use Rattle.calc_terms.specs.Trees.{count, is_mult, none, are_rationals};
-ghost use Rattle.product_reduce.specs.Answers.{AreOthers, IfFinished, IfJoined, IsFinished, IsJoined, IsStop, IsRejoined, IsAnswered, AnswersRationalFactors, Calculates};
+ghost use Rattle.product_reduce.specs.Answers.{AreOthers, IfFinished, IfJoined, IsFinished, IsJoined, IsStop, IsRejoined, IsAnswered, AnswersRationalFactors};
 ghost use Rattle.product_reduce.specs.Factors.{opened, others_in};
-ghost use Rattle.product_reduce.specs.Joining.{IsFirstJoint, IsJointAt, have_partners};
+ghost use Rattle.product_reduce.specs.Joining.{IsFirstJoint, IsJointAt};
 ghost use Rattle.product_reduce.specs.Products.{IsProduct, factors_in};
-ghost use Rattle.reduce_port.specs.Faults.{IfNumberOverflow};
+ghost use Rattle.tree_handles.specs.Faults.{OfOverflow, Faults};
+ghost use Rattle.product_reduce.specs.Misfits.{IsFactorMisfit, SpreadingOverflows};
 ghost use Rattle.tree_handles.specs.Causes.{IsCaused};
 ghost use Rattle.calc_algebra.specs.Reduced.{are_reduced};
 ghost use Rattle.tree_handles.specs.Handed.{tree_of, IsHanded, Gives, KeepsFront};
 ghost use Rattle.reduce_port.specs.Steps.{IfDone, IfAgain, AnswersRationalStep};
 ghost use Rattle.tree_handles.specs.Expressions.{children_of};
-ghost use Rattle.tree_handles.specs.Faults.{Faults};
 ghost use Rattle.tree_handles.specs.Roots.{without_root};
 ghost use Rattle.tree_handles.specs.Standing.{Stands, forest, KeepsRefusals};
 
@@ -50,7 +50,7 @@ pub fn product_step(pool: &mut Pool, product: Handle) -> Result<Step, NumberFaul
         (IsJoined (children_of (tree_of product pool.old))))) }
     ensures rationals { are_rationals (children_of (tree_of product pool.old)) ≡ true
         → AnswersRationalStep (plain_value (tree_of product pool.old)) pool.new result }
-    ensures overflow { IfNumberOverflow result (λ _. Calculates (children_of (tree_of product pool.old))) }
+    ensures overflow { IfErr result (OfOverflow (IsFactorMisfit (children_of (tree_of product pool.old)))) }
     ensures front { KeepsFront (product ∷ []) (forest pool.old) (forest pool.new) }
     ensures kept { OnOk result (KeepsRefusals pool.old pool.new) }
     ensures faults { IfErr result (Faults pool.old pool.new) }
@@ -79,7 +79,7 @@ pub fn joining_step(pool: &mut Pool, product: Handle) -> Result<Joining, NumberF
         IsFirstJoint at (others_in (opened (children_of (tree_of product pool.old)))) (children_of (tree_of h pool.new)))) }
     ensures rationals { are_rationals (children_of (tree_of product pool.old)) ≡ true
         → AnswersRationalFactors (plain_value (tree_of product pool.old)) pool.new result }
-    ensures overflow { IfNumberOverflow result (λ _. Calculates (children_of (tree_of product pool.old))) }
+    ensures overflow { IfErr result (OfOverflow (IsFactorMisfit (children_of (tree_of product pool.old)))) }
     ensures front { KeepsFront (product ∷ []) (forest pool.old) (forest pool.new) }
     ensures kept { OnOk result (KeepsRefusals pool.old pool.new) }
     ensures faults { IfErr result (Faults pool.old pool.new) }
@@ -113,7 +113,7 @@ fn join_or_end(
     ensures place { IfOk result (λ s. IfJoined s (λ h at. IsJointAt at (children_of (tree_of h pool.new)))) }
     ensures of_first_pair { IfOk result (λ s. IfJoined s (λ h at. IsFirstJoint at (factors_in product (forest pool.old)) (children_of (tree_of h pool.new)))) }
     ensures alone { factors_in product (forest pool.old) ≡ none → IsAnswered (tree_of coefficient pool.old) pool.new result }
-    ensures overflow { IfNumberOverflow result (λ _. have_partners (factors_in product (forest pool.old)) ≡ false) }
+    ensures overflow { IfErr result (OfOverflow (SpreadingOverflows (tree_of coefficient pool.old) (factors_in product (forest pool.old)))) }
     ensures front { KeepsFront (product ∷ coefficient ∷ []) (forest pool.old) (forest pool.new) }
     ensures kept { OnOk result (KeepsRefusals pool.old pool.new) }
     ensures faults { IfErr result (Faults pool.old pool.new) }

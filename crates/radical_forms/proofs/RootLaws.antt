@@ -21,7 +21,8 @@ use Rattle.number_forms.proofs.Shaped.{term_number, term_value}
 use Rattle.calc_algebra.specs.Rewritings.{HasNoNewName}
 use Rattle.calc_algebra.proofs.Rewritings.{keeps, Rewrites-refl, reduces}
 use Rattle.radical_forms.specs.RootAnswers.{has_no_root, IsRootAnswer}
-use Rattle.radical_forms.specs.Refusals.{HasWideRoot, IsOverflow, IfOverflow}
+use Rattle.radical_forms.specs.Refusals.{HasWideRoot, IsOverflow}
+use Rattle.tree_handles.specs.Faults.{IfOverflow}
 use Rattle.node_pool.specs.declared.full.Full.{Full}
 use Rattle.rational128.specs.Refusals.{DoesNotFit}
 use Rattle.rational128.specs.declared.overflow.Op.TheVariants.{Mul}

@@ -25,12 +25,6 @@ IsOverflow (Ok x) = ⊥
 IsOverflow (Err (fault.Full full)) = ⊥
 IsOverflow (Err (fault.Overflow o)) = ⊤
 
--- a fact of the operation where one does not fit
-abbrev pub IfOverflow : {A : Type 0} → Result A NumberFault → (Overflow → Type 0) → Type 0
-IfOverflow (Ok x) P = ⊤
-IfOverflow (Err (fault.Full full)) P = ⊤
-IfOverflow (Err (fault.Overflow o)) P = P o
-
 -- refused because bytes are lacking
 abbrev pub IsFull : {A : Type 0} → Result A NumberFault → Type 0
 IsFull (Ok x) = ⊥

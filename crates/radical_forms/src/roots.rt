@@ -4,11 +4,11 @@ ghost use Rattle.calc_terms.specs.Rat.{value_of};
 ghost use Rattle.calc_algebra.specs.Reduced.{is_reduced};
 ghost use Rattle.calc_terms.specs.Trees.{num, root as root_tree_of, is_root, is_num};
 ghost use Rattle.node_pool.specs.State.{free_of};
-ghost use Rattle.radical_forms.specs.Refusals.{HasWideRoot, NamesProduct, IsOverflow, IfOverflow, IsFull};
+ghost use Rattle.radical_forms.specs.Refusals.{HasWideRoot, NamesProduct, IsOverflow, IsFull};
 ghost use Rattle.radical_forms.specs.RootAnswers.{argument_of, IsRootAnswer};
 ghost use Rattle.tree_handles.specs.Causes.{IsCaused};
 ghost use Rattle.tree_handles.specs.Handed.{tree_of, IsHanded, Gives, KeepsFront};
-ghost use Rattle.tree_handles.specs.Faults.{Faults};
+ghost use Rattle.tree_handles.specs.Faults.{Faults, IfOverflow};
 ghost use Rattle.tree_handles.specs.Roots.{without_root};
 ghost use Rattle.tree_handles.specs.Standing.{Stands, forest, KeepsRefusals};
 
@@ -16,7 +16,9 @@ use calc_terms::{Kind, Rat};
 use node_pool::Pool;
 use number_forms::place_term;
 use surd_terms::square_root;
-use tree_handles::{Handle, NumberFault, child_id, kind, move_last, number, rational, release, undefined};
+use tree_handles::{
+    Handle, NumberFault, child_id, kind, move_last, number, rational, release, undefined,
+};
 
 /// The root of a reduced tree: of a rational it is a Number, or Undef below 0; the root of Undef is Undef, and
 /// any other is kept.

@@ -2,5 +2,4 @@ pub mod Checks
 pub mod Filling
 pub mod Leaves
 pub mod Faults
-pub mod Unfits
 pub mod ChildBytes

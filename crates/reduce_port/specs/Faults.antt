@@ -23,12 +23,6 @@ IfOverflow (Err (fault.Full full)) P = ⊤
 IfOverflow (Err (fault.Overflow o)) P = P o
 IfOverflow (Err (fault.Interrupted i)) P = ⊤
 
--- the same of a call on numbers
-abbrev pub IfNumberOverflow : {A : Type 0} → Result A NumberFault → (Overflow → Type 0) → Type 0
-IfNumberOverflow (Ok x) P = ⊤
-IfNumberOverflow (Err (number.Full full)) P = ⊤
-IfNumberOverflow (Err (number.Overflow o)) P = P o
-
 -- a fact of the breaker's place where one tripped
 abbrev pub IfInterrupted : {A : Type 0} → Result A ReduceFault → (ℕ → Type 0) → Type 0
 IfInterrupted (Ok x) P = ⊤

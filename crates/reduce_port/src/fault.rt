@@ -6,13 +6,17 @@ ghost use Rattle.reduce_port.specs.Faults.{fault_of};
 use breakers::Interrupted;
 use node_pool::Full;
 use rational128::Overflow;
+use thiserror::Error;
 use tree_handles::NumberFault;
 
 /// A reduction needs more bytes than are free, an operation in it does not fit, or a breaker tripped.
-#[derive(Clone, Copy, Debug)]
+#[derive(Clone, Copy, Debug, Error)]
 pub enum ReduceFault {
+    #[error(transparent)]
     Full(Full),
+    #[error(transparent)]
     Overflow(Overflow),
+    #[error(transparent)]
     Interrupted(Interrupted),
 }
 

@@ -10,7 +10,7 @@ use Rattle.calc_terms.specs.Trees.{Tree, num, Trees, none, more, append, count, 
 use Rattle.calc_algebra.proofs.MeaningRewrites.{Permuted, permuted_more, permuted_trans, Permuted-append_right}
 use Rattle.coefficients.specs.Coefficients.{coefficient_of}
 use Rattle.coefficients.specs.Overflows.{NamesPut}
-use Rattle.number_forms.specs.Overflows.{OfOverflow}
+use Rattle.tree_handles.specs.Faults.{OfOverflow}
 use Rattle.coefficients.proofs.Factors.{monic_part}
 use Rattle.node_pool.specs.State.{State}
 use Rattle.number_forms.specs.Answers.{AnswersRationals}

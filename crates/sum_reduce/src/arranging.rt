@@ -2,7 +2,6 @@
 ghost use Rattle.std.specs.Prelude.{◌≡◌, ◌<◌, ◌≤◌, ◌+◌, ◌^◌, true, false, IfErr, IfSome, MatchOption, OnOk, [], ◌∷◌};
 ghost use Rattle.calc_measures.specs.PlainValues.{plain_value};
 ghost use Rattle.calc_terms.specs.Trees.{add, count, are_rationals};
-ghost use Rattle.number_forms.specs.Overflows.{OfOverflow};
 ghost use Rattle.sum_reduce.specs.Overflows.{Overflows};
 ghost use Rattle.tree_handles.specs.Causes.{IsCaused};
 ghost use Rattle.sum_reduce.specs.Arranging.{IsLed, IsArranged, IsSettled, AnswersFold};
@@ -12,7 +11,7 @@ ghost use Rattle.sum_reduce.specs.Terms.{AreFormed, is_loose, IsPair, IsFirstPai
 ghost use Rattle.calc_algebra.specs.Reduced.{NoneIs};
 ghost use Rattle.number_forms.specs.Sums.{removed};
 ghost use Rattle.tree_handles.specs.Expressions.{nth};
-ghost use Rattle.tree_handles.specs.Faults.{Faults};
+ghost use Rattle.tree_handles.specs.Faults.{Faults, OfOverflow};
 ghost use Rattle.tree_handles.specs.Handed.{KeepsFront};
 ghost use Rattle.tree_handles.specs.Standing.{Stands, forest, KeepsRefusals};
 

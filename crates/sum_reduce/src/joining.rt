@@ -6,7 +6,6 @@ ghost use Rattle.calc_terms.specs.Trees.{Trees, count, is_undef, none, more};
 ghost use Rattle.coefficients.specs.Coefficients.{coefficient_of, with_coefficient};
 ghost use Rattle.number_forms.specs.Answers.{IsNumberOf};
 ghost use Rattle.coefficients.specs.Overflows.{NamesPut};
-ghost use Rattle.number_forms.specs.Overflows.{OfOverflow};
 ghost use Rattle.sum_reduce.specs.Overflows.{NamesSum, Overflows};
 ghost use Rattle.tree_handles.specs.Causes.{IsCaused};
 ghost use Rattle.tree_handles.specs.Standing.{LacksBytes, Stands, forest, KeepsRefusals, Refuses};
@@ -17,7 +16,7 @@ ghost use Rattle.sum_reduce.specs.Sums.{IsSum, Changes, Takes, terms_in};
 ghost use Rattle.number_forms.specs.Sums.{removed};
 ghost use Rattle.sum_reduce.specs.Terms.{AreFormed, IsPair, is_loose};
 ghost use Rattle.tree_handles.specs.Expressions.{nth, inserted};
-ghost use Rattle.tree_handles.specs.Faults.{Faults};
+ghost use Rattle.tree_handles.specs.Faults.{Faults, OfOverflow};
 ghost use Rattle.tree_handles.specs.Forest.{Forest};
 ghost use Rattle.tree_handles.specs.Roots.{without_root};
 

@@ -3,7 +3,6 @@ ghost use Rattle.std.specs.Prelude.{◌≡◌, ◌≤◌, true, false, IfOk, IfE
 ghost use Rattle.calc_measures.specs.PlainValues.{plain_value};
 ghost use Rattle.calc_terms.specs.Trees.{count, is_add, are_rationals, has_undef};
 ghost use Rattle.number_forms.specs.Answers.{AnswersRationals};
-ghost use Rattle.number_forms.specs.Overflows.{OfOverflow};
 ghost use Rattle.sum_reduce.specs.Overflows.{Overflows};
 ghost use Rattle.tree_handles.specs.Causes.{IsCaused};
 ghost use Rattle.calc_algebra.specs.Reduced.{are_reduced};
@@ -12,7 +11,7 @@ ghost use Rattle.sum_reduce.specs.Collected.{others_in, AreUnlike, IsWrittenSum}
 ghost use Rattle.sum_reduce.specs.SumAnswers.{IsSumAnswer, IsCollected};
 ghost use Rattle.sum_reduce.specs.Terms.{opened};
 ghost use Rattle.tree_handles.specs.Expressions.{children_of};
-ghost use Rattle.tree_handles.specs.Faults.{Faults};
+ghost use Rattle.tree_handles.specs.Faults.{Faults, OfOverflow};
 ghost use Rattle.tree_handles.specs.Roots.{without_root};
 ghost use Rattle.tree_handles.specs.Standing.{Stands, forest, KeepsRefusals};
 

@@ -8,4 +8,5 @@ pub mod Children
 pub mod Copies
 pub mod Walks
 pub mod Faults
+pub mod Building
 pub mod Causes

@@ -10,7 +10,8 @@ use Rattle.tree_handles.specs.Standing.{forest}
 use Rattle.tree_handles.proofs.Fronts.{behind_first, behind_later, behind_new, front_same, front_at, front_without, front_after_one}
 use Rattle.tree_handles.proofs.Given.{given_told, given_rest, given_other, gives_as, handed_beside, handed_at, owned}
 use Rattle.tree_handles.proofs.Roots.{tree-without}
-use Rattle.number_forms.specs.Overflows.{OfOverflow, SumOverflows}
+use Rattle.number_forms.specs.Overflows.{SumOverflows}
+use Rattle.tree_handles.specs.Faults.{OfOverflow}
 use Rattle.number_forms.proofs.Overflows.{passed_on, overflow_as, sum_overflows_as}
 use Rattle.number_forms.proofs.adding.add_terms.Goals as goal
 

@@ -9,7 +9,8 @@ use Rattle.tree_handles.specs.Handed.{tree_of}
 use Rattle.surd_terms.specs.Terms.{term_of}
 use Rattle.tree_handles.proofs.Given.{given_other}
 use Rattle.tree_handles.proofs.Lasts.{plain_root}
-use Rattle.number_forms.specs.Overflows.{OfOverflow, SumOverflows}
+use Rattle.number_forms.specs.Overflows.{SumOverflows}
+use Rattle.tree_handles.specs.Faults.{OfOverflow}
 use Rattle.number_forms.proofs.Overflows.{passed_on, overflow_as}
 use Rattle.tree_handles.proofs.Given.{given_told}
 use Rattle.number_forms.proofs.adding.join_terms.Goals as goal

@@ -8,7 +8,8 @@ use Rattle.tree_handles.specs.Handed.{tree_of}
 use Rattle.surd_terms.specs.Terms.{term_of}
 use Rattle.tree_handles.proofs.Fronts.{behind_first, front_same, front_at, front_without, front_after}
 use Rattle.tree_handles.proofs.Given.{gives_as, owned}
-use Rattle.number_forms.specs.Overflows.{OfOverflow, InverseOverflows, inverting_calculations}
+use Rattle.number_forms.specs.Overflows.{InverseOverflows, inverting_calculations}
+use Rattle.tree_handles.specs.Faults.{OfOverflow}
 use Rattle.number_forms.proofs.Overflows.{passed_on}
 use Rattle.surd_terms.specs.Calculations.{first_misfit}
 use Rattle.tree_handles.specs.declared.fault.NumberFault.TheVariants as fault

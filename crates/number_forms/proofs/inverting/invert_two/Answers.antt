@@ -4,7 +4,8 @@ use Rattle.calc_algebra.specs.Numbers.{is_number, value, classes}
 use Rattle.calc_terms.specs.Trees.{Tree}
 use Rattle.calc_algebra.specs.Surds.{Term}
 use Rattle.number_forms.proofs.InverseSteps.{both_terms, apart_terms, inverse_number, two_rise}
-use Rattle.number_forms.specs.Overflows.{OfOverflow, InverseOverflows, inverting_calculations}
+use Rattle.number_forms.specs.Overflows.{InverseOverflows, inverting_calculations}
+use Rattle.tree_handles.specs.Faults.{OfOverflow}
 use Rattle.number_forms.proofs.Overflows.{passed_on}
 use Rattle.surd_terms.specs.Calculations.{first_misfit}
 use Rattle.tree_handles.specs.declared.fault.NumberFault.TheVariants as fault

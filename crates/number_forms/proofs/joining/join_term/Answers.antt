@@ -6,7 +6,8 @@ use Rattle.tree_handles.specs.Handed.{tree_of}
 use Rattle.surd_terms.specs.Terms.{term_of}
 use Rattle.tree_handles.proofs.Fronts.{behind_first, front_after_one}
 use Rattle.tree_handles.proofs.Given.{given_root, given_handed, given_told, given_rest, gives_as}
-use Rattle.number_forms.specs.Overflows.{OfOverflow, JoinOverflows}
+use Rattle.number_forms.specs.Overflows.{JoinOverflows}
+use Rattle.tree_handles.specs.Faults.{OfOverflow}
 use Rattle.number_forms.proofs.Overflows.{passed_on}
 use Rattle.tree_handles.specs.declared.fault.NumberFault.TheVariants as fault
 use Rattle.number_forms.proofs.joining.join_term.Goals as goal

@@ -11,7 +11,8 @@ use Rattle.surd_terms.specs.Terms.{term_of}
 use Rattle.tree_handles.proofs.Given.{given_other}
 use Rattle.tree_handles.proofs.Lasts.{plain_root}
 use Rattle.std.proofs.Common.{inl, inr}
-use Rattle.number_forms.specs.Overflows.{OfOverflow, RowOverflows}
+use Rattle.number_forms.specs.Overflows.{RowOverflows}
+use Rattle.tree_handles.specs.Faults.{OfOverflow}
 use Rattle.number_forms.proofs.Overflows.{passed_on, overflow_as}
 use Rattle.number_forms.proofs.multiplying.join_products.Goals.{After-nth_term-other}
 use Rattle.tree_handles.proofs.Given.{given_told}

@@ -13,7 +13,8 @@ use Rattle.tree_handles.specs.Standing.{forest}
 use Rattle.tree_handles.proofs.Given.{given_other, given_rest, handed_at}
 use Rattle.tree_handles.proofs.Lasts.{plain_root}
 use Rattle.calc_algebra.specs.SquareClasses.{Same}
-use Rattle.number_forms.specs.Overflows.{OfOverflow, RowOverflows, ProductOverflows}
+use Rattle.number_forms.specs.Overflows.{RowOverflows, ProductOverflows}
+use Rattle.tree_handles.specs.Faults.{OfOverflow}
 use Rattle.number_forms.proofs.Overflows.{passed_on, overflow_as}
 use Rattle.tree_handles.proofs.Given.{given_told}
 use Rattle.number_forms.proofs.multiplying.join_rows.Goals as goal

@@ -11,7 +11,8 @@ use Rattle.tree_handles.specs.Roots.{without_root}
 use Rattle.tree_handles.specs.Standing.{forest}
 use Rattle.tree_handles.proofs.Fronts.{behind_new, front_same, front_after_one}
 use Rattle.tree_handles.proofs.Given.{given_told, given_rest, gives_as, handed_at}
-use Rattle.number_forms.specs.Overflows.{OfOverflow, ProductOverflows}
+use Rattle.number_forms.specs.Overflows.{ProductOverflows}
+use Rattle.tree_handles.specs.Faults.{OfOverflow}
 use Rattle.number_forms.proofs.Overflows.{passed_on, overflow_as}
 use Rattle.number_forms.proofs.multiplying.product_of.Goals as goal
 

@@ -1,12 +1,18 @@
-use Rattle.std.proofs.Common.{◌≡◌, ◌+◌, ◌∙◌, refl, arith, ◌≤◌}
+use Rattle.std.proofs.Common.{◌≡◌, ℕ, pos, Err, ◌+◌, ◌∙◌, refl, arith, ◌≤◌, [], ◌∷◌}
+use Rattle.calc_terms.specs.Fractions.{whole_fraction}
 use Rattle.calc_terms.specs.declared.kind.Kind.TheVariants as kind
 use Rattle.calc_terms.specs.Payload.{bare}
-use Rattle.calc_terms.specs.Trees.{mult, more, none}
+use Rattle.calc_terms.specs.Rat.{value_of}
+use Rattle.calc_terms.specs.Trees.{num, root, mult, more, none}
+use Rattle.calc_terms.specs.declared.rat.Rat.{Rat}
 use Rattle.tree_handles.proofs.Fronts.{behind_new, front_same, front_end, front_without}
 use Rattle.tree_handles.proofs.Given.{represents_none, represents_handed, represents_with, represents_node, gives, gives_as, given_root, given_handed, given_told, given_rest}
 use Rattle.tree_handles.proofs.Lasts.{last_held, last_apart, other_root, ends_as}
 use Rattle.node_pool.specs.State.{free_of}
-use Rattle.number_forms.proofs.Placings.{free_before, refused}
+use Rattle.node_pool.specs.declared.full.Full.{Full}
+use Rattle.tree_handles.specs.Building.{building}
+use Rattle.number_forms.proofs.Overflows.{passed_on}
+use Rattle.number_forms.proofs.Placings.{free_before, refused, taken, lacking, lacking_on}
 use Rattle.number_forms.proofs.placing.place_multiple.Goals as goal
 use Rattle.number_forms.proofs.placing.place_multiple.Goals.{In_ok-rational, In_ok-root}
 
@@ -69,3 +75,25 @@ returns-clause-exactly c =
     let at = goal.at.returns-clause-exactly c in
     let least : 8 ≤ free_of c.place_root.new.pool = c.in_ok-product.ensures.exactly.0 refl in
     (λ _. omega (arith, least, mid at.In_ok-rational, late at.In_ok-root), λ _. refl)
+
+-- ---- the first node that lacks bytes
+
+abbrev Short : ℕ → Rat → ℕ → Full → Type 0
+Short free q r full = building free (mult (more (num (value_of q)) (more (root (num (whole_fraction (pos r)))) none))) ≡ Err full
+
+pub returns-in_err-rational-clause-first_lack : goal.returns-in_err-rational-clause-first_lack
+returns-in_err-rational-clause-first_lack c = passed_on c.from_residual.result c.in_err-rational.field-0.0 (Short (free_of c.args.pool.now) c.args.coefficient c.args.radicand) c.from_residual.ensures.0 c.from_residual.ensures.1 (lacking (40 ∷ 8 ∷ 8 ∷ []) c.in_err-rational.ensures.full)
+
+pub returns-in_err-root-clause-first_lack : goal.returns-in_err-root-clause-first_lack
+returns-in_err-root-clause-first_lack c =
+    let at = goal.at.returns-in_err-root-clause-first_lack c in
+    passed_on c.from_residual-in_err-root.result c.in_err-root.field-0.0 (Short (free_of c.args.pool.now) c.args.coefficient c.args.radicand) c.from_residual-in_err-root.ensures.0 c.from_residual-in_err-root.ensures.1
+    (taken _ _ 40 (40 ∷ 8 ∷ 8 ∷ []) (mid at.In_ok-rational) ∙ lacking_on (free_of at.In_ok-rational.number.new.pool) (40 ∷ 8 ∷ []) (8 ∷ []) _ c.in_err-root.ensures.first_lack)
+
+pub returns-in_err-product-clause-first_lack : goal.returns-in_err-product-clause-first_lack
+returns-in_err-product-clause-first_lack c =
+    let at = goal.at.returns-in_err-product-clause-first_lack c in
+    let rest = free_of c.place_root.new.pool in
+    let root : free_of c.number.new.pool ≡ (rest + 8) + 40 = omega (arith, late at.In_ok-root) in
+    passed_on c.from_residual-in_err-product.result c.in_err-product.field-0.0 (Short (free_of c.args.pool.now) c.args.coefficient c.args.radicand) c.from_residual-in_err-product.ensures.0 c.from_residual-in_err-product.ensures.1
+    (taken _ _ 40 (40 ∷ 8 ∷ 8 ∷ []) (mid at.In_ok-rational) ∙ taken _ _ 40 (8 ∷ 8 ∷ []) root ∙ taken _ rest 8 (8 ∷ []) refl ∙ lacking [] c.in_err-product.ensures.full)

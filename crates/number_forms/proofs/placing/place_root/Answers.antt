@@ -1,4 +1,5 @@
-use Rattle.std.proofs.Common.{◌≡◌, ◌+◌, ◌≤◌, ap, ◌∙◌, refl, arith}
+use Rattle.std.proofs.Common.{◌≡◌, ℕ, pos, Err, ◌+◌, ◌≤◌, [], ◌∷◌, ap, ◌∙◌, refl, arith}
+use Rattle.calc_terms.specs.Fractions.{whole_fraction}
 use Rattle.calc_terms.specs.declared.kind.Kind.TheVariants as kind
 use Rattle.calc_terms.specs.Payload.{bare}
 use Rattle.calc_terms.specs.Trees.{num, root}
@@ -6,7 +7,10 @@ use Rattle.tree_handles.proofs.Fronts.{behind_new, front_same, front_end, front_
 use Rattle.tree_handles.proofs.Given.{represents_none, represents_handed, represents_with, represents_node, gives, gives_as, given_root, given_handed, given_told, given_rest}
 use Rattle.tree_handles.proofs.Lasts.{last_held, last_apart, other_root}
 use Rattle.node_pool.specs.State.{free_of}
-use Rattle.number_forms.proofs.Placings.{free_before, refused}
+use Rattle.node_pool.specs.declared.full.Full.{Full}
+use Rattle.tree_handles.specs.Building.{building}
+use Rattle.number_forms.proofs.Overflows.{passed_on}
+use Rattle.number_forms.proofs.Placings.{free_before, refused, taken, lacking}
 use Rattle.number_forms.proofs.placing.place_root.Goals as goal
 use Rattle.number_forms.proofs.placing.place_root.Goals.{In_ok-rational}
 
@@ -46,3 +50,16 @@ pub returns-clause-exactly : goal.returns-clause-exactly
 returns-clause-exactly c =
     let least : 8 ≤ free_of c.number.new.pool = c.in_ok-root.ensures.exactly.0 refl in
     (λ _. omega (arith, least, mid (goal.at.returns-clause-exactly c).In_ok-rational), λ _. refl)
+
+-- ---- the first node that lacks bytes
+
+abbrev Short : ℕ → ℕ → Full → Type 0
+Short free r full = building free (root (num (whole_fraction (pos r)))) ≡ Err full
+
+pub returns-in_err-rational-clause-first_lack : goal.returns-in_err-rational-clause-first_lack
+returns-in_err-rational-clause-first_lack c = passed_on c.from_residual.result c.in_err-rational.field-0.0 (Short (free_of c.args.pool.now) c.args.radicand) c.from_residual.ensures.0 c.from_residual.ensures.1 (lacking (8 ∷ []) c.in_err-rational.ensures.full)
+
+pub returns-in_err-root-clause-first_lack : goal.returns-in_err-root-clause-first_lack
+returns-in_err-root-clause-first_lack c =
+    passed_on c.from_residual-in_err-root.result c.in_err-root.field-0.0 (Short (free_of c.args.pool.now) c.args.radicand) c.from_residual-in_err-root.ensures.0 c.from_residual-in_err-root.ensures.1
+    (taken _ _ 40 (8 ∷ []) (mid (goal.at.returns-in_err-root-clause-first_lack c).In_ok-rational) ∙ lacking [] c.in_err-root.ensures.full)

@@ -15,7 +15,8 @@ use Rattle.tree_handles.specs.Roots.{root_tree}
 use Rattle.tree_handles.proofs.Fronts.{behind_new, front_same, front_at, front_end, front_after_one}
 use Rattle.tree_handles.proofs.Given.{given_handed, given_told, given_rest, given_other, gives_as, handed_at}
 use Rattle.calc_algebra.proofs.TermLaws.{Same-refl}
-use Rattle.number_forms.specs.Overflows.{OfOverflow, PowerOverflows, ProductOverflows}
+use Rattle.number_forms.specs.Overflows.{PowerOverflows, ProductOverflows}
+use Rattle.tree_handles.specs.Faults.{OfOverflow}
 use Rattle.number_forms.proofs.Overflows.{passed_on, overflow_as, refused_as, power_overflows_more, square_overflows, last_overflows}
 use Rattle.number_forms.proofs.PowerSteps.{half_positive, half_below, half_odd_within}
 use Rattle.number_forms.proofs.powers.+power_of.Goals as goal

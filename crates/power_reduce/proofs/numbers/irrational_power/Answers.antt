@@ -1,11 +1,11 @@
 use Rattle.std.proofs.Common.{refl, ap, ◌∙◌}
 use Rattle.calc_algebra.specs.Numbers.{is_number}
-use Rattle.calc_terms.specs.Trees.{num}
+use Rattle.calc_terms.specs.Trees.{num, is_num}
 use Rattle.coefficients.proofs.Steps.{one_value, if_map}
 use Rattle.tree_handles.proofs.Fronts.{behind_first, behind_new, front_same, front_without, front_after_one}
 use Rattle.tree_handles.proofs.Given.{gives_as, given_handed, given_rest, given_told}
-use Rattle.reduce_port.proofs.Unfits.{any_overflow}
-use Rattle.power_reduce.proofs.Written.{positive_power_is}
+use Rattle.number_forms.proofs.Overflows.{refused_as}
+use Rattle.power_reduce.proofs.Misfits.{positive_misfit}
 use Rattle.power_reduce.proofs.NumberPowers.{irrational_power, zero_answer, one_answer, power_answer}
 use Rattle.power_reduce.proofs.RationalPowers.{zero_bits, no_zero_bits, not_below}
 use Rattle.power_reduce.proofs.Whole.{one_bits, no_one_bits}
@@ -40,4 +40,6 @@ returns-clause-front c = front_after_one (behind_new c.take_base-base.ensures.gi
 
 pub returns-clause-overflow : goal.returns-clause-overflow
 returns-clause-overflow c =
-    any_overflow c.power_number.result _ (positive_power_is _ _ c.args.n c.requires.number (not_below c.args.n c.requires.fits c.if-n-lt0.false (no_zero_bits c.args.n c.if-n-eq0.false)) c.requires.exponent)
+    let g = c.take_base-base.ensures.gives in
+    refused_as c.power_number.result (c.power_number.ensures.overflow (ap is_num (given_told g) ∙ c.requires.base))
+    (λ o h. positive_misfit _ _ _ _ c.args.n o c.requires.exponent (not_below c.args.n c.requires.fits c.if-n-lt0.false (no_zero_bits c.args.n c.if-n-eq0.false)) c.requires.number c.requires.base (given_told g) (told c.args.n c.requires.fits) h)

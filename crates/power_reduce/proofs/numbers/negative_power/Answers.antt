@@ -1,13 +1,13 @@
-use Rattle.std.proofs.Common.{true, ◌≡◌, ◌≤◌, refl, sym, ap, ◌∙◌, arith, subst, pos, ◌≤ℤ◌}
+use Rattle.std.proofs.Common.{◌≡◌, ◌≤◌, refl, sym, ap, ◌∙◌, arith, subst, pos, ◌≤ℤ◌}
 use Rattle.calc_algebra.specs.Numbers.{is_number, classes}
 use Rattle.coefficients.proofs.Steps.{if_map}
 use Rattle.tree_handles.specs.Handed.{tree_of}
 use Rattle.tree_handles.specs.Standing.{forest}
 use Rattle.tree_handles.proofs.Fronts.{behind_first, behind_new, front_same, front_at, front_end, front_without, front_after_one}
 use Rattle.tree_handles.proofs.Given.{gives, gives_as, given_handed, given_rest, given_told, represents_handed}
-use Rattle.power_reduce.specs.PowerAnswers.{base_in, exponent_in, has_number_power}
-use Rattle.reduce_port.proofs.Unfits.{any_overflow}
-use Rattle.power_reduce.proofs.Written.{inverse_power_is}
+use Rattle.power_reduce.specs.PowerAnswers.{base_in}
+use Rattle.number_forms.proofs.Overflows.{passed_on, overflow_as, refused_as}
+use Rattle.power_reduce.proofs.Misfits.{inverse_misfit, negative_misfit, raised_misfit}
 use Rattle.power_reduce.proofs.NumberPowers.{irrational_power, wide_answer, inverse_answer, inverse_given, has_inverse}
 use Rattle.power_reduce.proofs.RationalPowers.{opposite, opposite_above}
 use Rattle.power_reduce.proofs.numbers.negative_power.Goals as goal
@@ -62,13 +62,21 @@ returns-clause-front c =
     let rest = front_at (front_without (behind_new c.take_base-base.ensures.gives.ends (front_without behind_first front_same)) c.take_base-base.ensures.front) refl in
     front_after_one (behind_new i.ends rest) front c.power_number.ensures.front
 
-few : (c : Else-classes-gt2) → has_number_power (base_in (tree_of c.args.power c.args.pool.now)) (exponent_in (tree_of c.args.power c.args.pool.now)) ≡ true
+few : (c : Else-classes-gt2) → classes (base_in (tree_of c.args.power c.args.pool.now)) ≤ 2
 few c =
     let n : c.classes.result ≡ classes (base_in (tree_of c.args.power c.args.pool.now)) = c.classes.ensures ∙ ap classes c.base_id.ensures.tree in
-    inverse_power_is _ _ c.args.n c.requires.number (omega (arith, n, c.if-classes-gt2.false)) c.requires.exponent
+    omega (arith, n, c.if-classes-gt2.false)
 
 pub returns-in_err-inverse-clause-overflow : goal.returns-in_err-inverse-clause-overflow
-returns-in_err-inverse-clause-overflow c = any_overflow _ _ (few (goal.at.returns-in_err-inverse-clause-overflow c).Else-classes-gt2)
+returns-in_err-inverse-clause-overflow c =
+    passed_on c.from_residual.result c.in_err-inverse.field-0.0 _ c.from_residual.ensures.0 c.from_residual.ensures.1 (overflow_as c.in_err-inverse.field-0.0 c.in_err-inverse.ensures.overflow
+    (λ o h. inverse_misfit _ _ _ c.args.n o c.requires.exponent c.requires.negative (few (goal.at.returns-in_err-inverse-clause-overflow c).Else-classes-gt2) c.requires.number c.requires.base (given_told c.take_base-base.ensures.gives) h))
 
 pub returns-clause-overflow : goal.returns-clause-overflow
-returns-clause-overflow c = any_overflow c.power_number.result _ (few (goal.at.returns-clause-overflow c).Else-classes-gt2)
+returns-clause-overflow c =
+    let i = inverse_given c.take_base-base.result _ (forest c.take_base-base.new.pool) _ _ _ c.in-Value.is c.in_ok-inverse.ensures.ok in
+    let y = opposite c.args.n c.requires.fits c.requires.negative in
+    refused_as c.power_number.result
+    (raised_misfit _ _ c.power_number.new.pool c.power_number.result (subst (λ z. pos 1 ≤ℤ z) (sym y) (opposite_above c.args.n c.requires.negative)) c.power_number.ensures.rational c.power_number.ensures.overflow)
+    (λ o h. negative_misfit _ _ _ _ _ c.args.n o c.requires.exponent c.requires.negative (few (goal.at.returns-clause-overflow c).Else-classes-gt2) c.requires.number c.requires.base
+    (given_told c.take_base-base.ensures.gives) y (given_told i) h)

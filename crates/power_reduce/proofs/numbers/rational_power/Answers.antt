@@ -1,11 +1,12 @@
 use Rattle.std.proofs.Common.{◌≡◌, pos, ◌≤ℤ◌, true, refl, sym, ap, ◌∙◌, subst}
 use Rattle.calc_terms.specs.Fractions.{is_zero_fraction}
-use Rattle.calc_measures.specs.PlainValues.{powered}
+use Rattle.calc_measures.specs.PlainValues.{PlainValue, powered}
 use Rattle.calc_terms.specs.Rat.{value_of}
 use Rattle.calc_measures.specs.PlainTrees.{IsPlainOverflow}
 use Rattle.tree_handles.proofs.Given.{gives_as, given_told}
-use Rattle.reduce_port.proofs.Unfits.{any_overflow}
-use Rattle.power_reduce.proofs.Written.{rational_power_is}
+use Rattle.number_forms.proofs.Overflows.{passed_on}
+use Rattle.tree_handles.specs.declared.fault.NumberFault.TheVariants as fault
+use Rattle.power_reduce.proofs.Misfits.{rational_misfit}
 use Rattle.power_reduce.proofs.Powers.{power_is}
 use Rattle.power_reduce.proofs.RationalPowers.{at_most, not_at_most, zero_rational, no_zero_rational, plain_power, powered_undefined, nothing_answer, value_answer, overflow_answer, plain_as, rationals_as}
 use Rattle.rational128.proofs.Signed.{told}
@@ -54,4 +55,9 @@ returns-clause-rationals c =
     (given_told c.with_number.ensures.gives)
 
 pub returns-in_err-value-clause-overflow : goal.returns-in_err-value-clause-overflow
-returns-in_err-value-clause-overflow c = any_overflow _ _ (rational_power_is _ _ (value_of c.args.q) c.args.n c.requires.base c.requires.exponent)
+returns-in_err-value-clause-overflow c =
+    let p = power_is _ c.requires.sides.power in
+    passed_on c.from_residual.result (fault.Overflow c.in_err-value.field-0.0) _ c.from_residual.ensures.0 c.from_residual.ensures.1
+    (rational_misfit _ _ _ (value_of c.args.q) c.args.n c.in_err-value.field-0.0 p c.requires.base c.requires.exponent
+    (subst (λ (v : PlainValue). IsPlainOverflow v c.in_err-value.field-0.0) (sym (plain_power _ _ _ _ c.args.n p c.requires.base c.requires.exponent))
+    (subst (λ z. IsPlainOverflow (powered (value_of c.args.q) z 1) c.in_err-value.field-0.0) (told c.args.n c.requires.fits) c.in_err-value.ensures.named)))

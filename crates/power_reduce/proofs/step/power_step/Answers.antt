@@ -7,7 +7,7 @@ use Rattle.rational128.proofs.Signed.{told}
 use Rattle.tree_handles.specs.Handed.{tree_of}
 use Rattle.tree_handles.proofs.Given.{gives_as}
 use Rattle.power_reduce.specs.PowerAnswers.{base_in, exponent_in}
-use Rattle.reduce_port.proofs.Unfits.{overflow_as}
+use Rattle.number_forms.proofs.Overflows.{refused_as}
 use Rattle.power_reduce.proofs.Cases.{HasUndef, undef_base, undef_exponent, undef_kept, undef_answer, defined_rationals}
 use Rattle.power_reduce.proofs.step.power_step.Goals as goal
 use Rattle.power_reduce.proofs.step.power_step.Goals.{Joined-then-is_undefined, then-is_undefined-via-then-is_undefined, then-is_undefined-via-else-is_undefined+then-is_undefined-2}
@@ -54,4 +54,4 @@ pub returns-then-is_undefined-clause-rationals : goal.returns-then-is_undefined-
 returns-then-is_undefined-clause-rationals c = λ b e. defined_rationals (base_in (tree_of c.args.power c.args.pool.now)) (exponent_in (tree_of c.args.power c.args.pool.now)) (undef (goal.at.returns-then-is_undefined-clause-rationals c).Joined-then-is_undefined) b e
 
 pub returns-in-None-clause-overflow : goal.returns-in-None-clause-overflow
-returns-in-None-clause-overflow c = overflow_as c.other_power.result ⊥ _ c.other_power.ensures.overflow (λ x. absurd x)
+returns-in-None-clause-overflow c = refused_as c.other_power.result c.other_power.ensures.overflow (λ o x. absurd x)

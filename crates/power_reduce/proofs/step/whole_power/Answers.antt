@@ -2,7 +2,7 @@ use Rattle.std.proofs.Common.{sym, ap, ◌∙◌}
 use Rattle.calc_terms.specs.Trees.{root_kind}
 use Rattle.tree_handles.specs.Handed.{tree_of}
 use Rattle.power_reduce.specs.PowerAnswers.{base_in}
-use Rattle.reduce_port.proofs.Unfits.{overflow_on}
+use Rattle.number_forms.proofs.Overflows.{passed_on}
 use Rattle.power_reduce.proofs.Cases.{no_num_kind, number_kept, no_rational, rational_number, step_fault}
 use Rattle.power_reduce.proofs.step.whole_power.Goals as goal
 
@@ -31,4 +31,4 @@ pub returns-in_default-clause-rationals : goal.returns-in_default-clause-rationa
 returns-in_default-clause-rationals c = λ b e. no_rational _ b (no_num_kind (base_in (tree_of c.args.power c.args.pool.now)) (λ x. c.in_default.not-Num ((c.kind.ensures.plain c.base_id-base.ensures.expression ∙ ap root_kind c.base_id-base.ensures.tree) ∙ sym x)))
 
 pub returns-in_err-answer-in-Num-clause-overflow : goal.returns-in_err-answer-in-Num-clause-overflow
-returns-in_err-answer-in-Num-clause-overflow c = overflow_on c.in_err-answer-in-Num.field-0.0 _ _ c.in_err-answer-in-Num.ensures.overflow c.from_residual.ensures.1
+returns-in_err-answer-in-Num-clause-overflow c = passed_on c.from_residual.result c.in_err-answer-in-Num.field-0.0 _ c.from_residual.ensures.0 c.from_residual.ensures.1 c.in_err-answer-in-Num.ensures.overflow

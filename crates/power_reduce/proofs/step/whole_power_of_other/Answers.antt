@@ -8,7 +8,7 @@ use Rattle.tree_handles.specs.Handed.{tree_of}
 use Rattle.tree_handles.proofs.Given.{gives_as}
 use Rattle.power_reduce.specs.PowerAnswers.{base_in, exponent_in}
 use Rattle.power_reduce.specs.PowerSteps.{is_even_whole}
-use Rattle.reduce_port.proofs.Unfits.{overflow_as, overflow_on}
+use Rattle.number_forms.proofs.Overflows.{passed_on, refused_as}
 use Rattle.power_reduce.proofs.Cases.{number_kept, zero_kept, one_kept, other_power, whole_goes_inside, no_number, even_bits, odd_bits, even_whole, odd_root_kept, again}
 use Rattle.power_reduce.proofs.NumberPowers.{zero_answer, one_answer}
 use Rattle.power_reduce.proofs.RationalPowers.{zero_bits, no_zero_bits}
@@ -70,7 +70,7 @@ power_inside-requires-clause-root c = elim c.else-n-eq0-2.branch [
 ]
 
 pub returns-in_err-answer-clause-overflow : goal.returns-in_err-answer-clause-overflow
-returns-in_err-answer-clause-overflow c = overflow_on c.in_err-answer.field-0.0 _ _ c.in_err-answer.ensures.overflow c.from_residual.ensures.1
+returns-in_err-answer-clause-overflow c = passed_on c.from_residual.result c.in_err-answer.field-0.0 _ c.from_residual.ensures.0 c.from_residual.ensures.1 c.in_err-answer.ensures.overflow
 
 pub returns-clause-overflow : goal.returns-clause-overflow
-returns-clause-overflow c = overflow_as c.power_inside.result ⊥ _ c.power_inside.ensures.overflow (λ x. absurd x)
+returns-clause-overflow c = refused_as c.power_inside.result c.power_inside.ensures.overflow (λ o x. absurd x)

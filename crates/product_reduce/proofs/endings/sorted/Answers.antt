@@ -10,6 +10,7 @@ use Rattle.tree_handles.proofs.Given.{given_apart, given_handed, given_other, gi
 use Rattle.tree_handles.proofs.Lasts.{ends_as, last_tree}
 use Rattle.tree_handles.proofs.Outcomes.{eqb-sym}
 use Rattle.product_reduce.specs.Products.{factors_in}
+use Rattle.product_reduce.proofs.Misfits.{put_misfit, put_named}
 use Rattle.product_reduce.proofs.Products.{product_at, factors_are}
 use Rattle.product_reduce.proofs.Readied.{readied, alone_handed, alone_tree, alone_given, none_behind, part_reduced, part_given, put_given}
 use Rattle.product_reduce.proofs.endings.sorted.Goals as goal
@@ -85,3 +86,9 @@ returns-clause-front c =
     let start = front_after_one behind_first front_same c.sort_factors.ensures.sorts.becomes.front in
     front_after_two (behind_later behind_first) (behind_new c.unwrapped-part.ensures.tree.ends (front_without behind_first start))
     (front_after_one behind_first start c.unwrapped-part.ensures.front) c.put_coefficient.ensures.front
+
+pub returns-clause-overflow : goal.returns-clause-overflow
+returns-clause-overflow c =
+    let r = readied c.args.product c.args.coefficient c.requires.stands c.sort_factors.ensures.stands c.requires.product c.requires.coefficient c.requires.apart c.requires.differ c.sort_factors.ensures.sorts in
+    put_named c.put_coefficient.result c.put_coefficient.ensures.named
+    (λ o h. put_misfit c.args.product c.args.coefficient c.unwrapped-part.result _ _ _ c.requires.apart r (part_given c.args.product c.args.coefficient c.unwrapped-part.result _ _ _ r c.unwrapped-part.ensures.tree) o h)

@@ -7,6 +7,8 @@ use Rattle.tree_handles.proofs.Given.{handed_by_put, given_told}
 use Rattle.tree_handles.proofs.Fronts.{behind_first, behind_later, front_same, front_end, front_put, front_after_two}
 use Rattle.tree_handles.proofs.Outcomes.{eqb-sym}
 use Rattle.product_reduce.proofs.Beside.{beside_other, beside_apart, behind_clear, taken_factor, without_factor}
+use Rattle.number_forms.proofs.Overflows.{refused_as}
+use Rattle.product_reduce.proofs.Misfits.{product_named, product_as}
 use Rattle.product_reduce.proofs.Products.{product_within}
 use Rattle.product_reduce.proofs.Multiplied.{if_ok_map, multiplied_out, so_far_tree}
 use Rattle.product_reduce.proofs.numbers.multiply_in.Goals as goal
@@ -80,3 +82,12 @@ returns-clause-rationals c =
     let n = (without_nth c.args.at (kids (root_tree c.args.product.now (forest c.args.pool.now)))) in
     let a = handed_by_put c.args.product.now n (eqb-sym c.args.so_far c.args.product.now c.requires.apart) c.requires.handed in
     λ p q h k. c.multiply_numbers.ensures.rationals p q (so_far_tree c.args.product.now c.args.so_far n (forest c.args.pool.now) x c.requires.apart a.root ∙ h) (x.tree ∙ k)
+
+pub returns-clause-overflow : goal.returns-clause-overflow
+returns-clause-overflow c =
+    let e = c.take_child-number.ensures.last c.requires.product.handed.root in
+    let x = taken_factor c.args.at c.requires.product c.requires.within e in
+    let n = (without_nth c.args.at (kids (root_tree c.args.product.now (forest c.args.pool.now)))) in
+    let a = handed_by_put c.args.product.now n (eqb-sym c.args.so_far c.args.product.now c.requires.apart) c.requires.handed in
+    refused_as c.multiply_numbers.result (product_named _ _ c.multiply_numbers.new.pool c.multiply_numbers.result c.multiply_numbers.ensures.rationals c.multiply_numbers.ensures.overflow)
+    (λ o h. product_as o (so_far_tree c.args.product.now c.args.so_far n (forest c.args.pool.now) x c.requires.apart a.root) x.tree h)

@@ -1,18 +1,18 @@
-use Rattle.std.proofs.Common.{◌≡◌, ◌≤◌, ℕ, Err, ◌+◌, ap, arith}
+use Rattle.std.proofs.Common.{◌≡◌, ◌+◌, ap, arith}
 use Rattle.number_forms.specs.Sums.{removed}
 use Rattle.calc_terms.specs.Trees.{count}
 use Rattle.tree_handles.specs.Handed.{tree_of}
 use Rattle.tree_handles.specs.Standing.{forest}
 use Rattle.tree_handles.proofs.Forests.{keeps_after}
 use Rattle.tree_handles.proofs.Fronts.{behind_first, front_after_two}
-use Rattle.reduce_port.proofs.Unfits.{any_overflow}
-use Rattle.product_reduce.specs.Factors.{numbers_in}
+use Rattle.number_forms.proofs.Overflows.{overflow_as}
+use Rattle.product_reduce.proofs.Misfits.{none_named}
 use Rattle.product_reduce.specs.Products.{factors_in}
 use Rattle.product_reduce.proofs.Beside.{beside_product, behind_beside}
 use Rattle.product_reduce.proofs.Joins.{count_removed}
 use Rattle.product_reduce.proofs.Multiplied.{seen, underway_more}
 use Rattle.product_reduce.proofs.Products.{becomes_as, factors_are}
-use Rattle.product_reduce.proofs.Progress.{multiplied, faulted, completed, some_number, two_numbers}
+use Rattle.product_reduce.proofs.Progress.{multiplied, faulted, completed, some_number, next_misfit}
 use Rattle.product_reduce.proofs.numbers.take_coefficient.Goals as goal
 
 pub returns-in_err-coefficient-clause-rationals : goal.returns-in_err-coefficient-clause-rationals
@@ -61,7 +61,8 @@ returns-in-Err-clause-rationals c =
 pub returns-in-Err-clause-overflow : goal.returns-in-Err-clause-overflow
 returns-in-Err-clause-overflow c =
     let w = seen c.args.product.now c.loop-at.coefficient (factors_in c.args.product.now (forest c.args.pool.now)) (forest c.args.pool.now) (forest c.loop-at.pool) c.loop-at.invariant.underway in
-    any_overflow {A = ℕ} (Err c.in-Err.fault) (2 ≤ count (numbers_in (factors_in c.args.product.now (forest c.args.pool.now)))) (two_numbers c.in-Some.at (factors_in c.args.product.now (forest c.args.pool.now)) (factors_in c.args.product.now (forest c.loop-at.pool)) (tree_of c.loop-at.coefficient c.loop-at.pool) c.in-Some.ensures.within c.in-Some.ensures.number c.in-Some.ensures.before w.progress)
+    overflow_as c.in-Err.fault c.in-Err.ensures.overflow
+    (λ o h. next_misfit c.in-Some.at (factors_in c.args.product.now (forest c.args.pool.now)) (factors_in c.args.product.now (forest c.loop-at.pool)) (tree_of c.loop-at.coefficient c.loop-at.pool) o c.in-Some.ensures.within c.in-Some.ensures.number c.in-Some.ensures.before w.progress h)
 
 pub returns-in-Err-clause-front : goal.returns-in-Err-clause-front
 returns-in-Err-clause-front c =
@@ -85,3 +86,6 @@ returns-clause-rationals c =
     let w = seen c.args.product.now c.loop-at.coefficient (factors_in c.args.product.now (forest c.args.pool.now)) (forest c.args.pool.now) (forest c.loop-at.pool) c.loop-at.invariant.underway in
     let z = completed (count (factors_in c.args.product.now (forest c.loop-at.pool))) (factors_in c.args.product.now (forest c.args.pool.now)) (factors_in c.args.product.now (forest c.loop-at.pool)) (tree_of c.loop-at.coefficient c.loop-at.pool) (omega arith) c.in_default.ensures w.progress in
     z.plain
+
+pub returns-in_err-coefficient-clause-overflow : goal.returns-in_err-coefficient-clause-overflow
+returns-in_err-coefficient-clause-overflow c = none_named c.from_residual.result c.in_err-coefficient.field-0.0 _ c.from_residual.ensures.1

@@ -10,6 +10,8 @@ use Rattle.tree_handles.proofs.Lasts.{ends_as, expression_root, last_tree, plain
 use Rattle.tree_handles.proofs.Outcomes.{eqb-sym}
 use Rattle.tree_handles.proofs.Roots.{tree-without, without-swap}
 use Rattle.product_reduce.specs.Answers.{at_zero, at_end}
+use Rattle.number_forms.proofs.Overflows.{passed_on}
+use Rattle.product_reduce.proofs.Misfits.{none_named}
 use Rattle.product_reduce.proofs.Pairs.{some_partners}
 use Rattle.product_reduce.proofs.steps.join_or_end.Goals as goal
 
@@ -62,3 +64,10 @@ returns-in_ok-sorted-in-None-clause-done c =
     let seen = rw c.id.ensures at c.is_zero.ensures in
     let nonzero = ap is_zero (sym (plain_root c.args.coefficient c.requires.stands c.requires.coefficient.root)) ∙ sym seen ∙ c.if-is_zero.false in
     gives_as c.in_ok-sorted-in-None.ensures.ok refl (λ t e. at_end nonzero c.in-None.ensures e)
+
+pub returns-in_err-product-in-Some-clause-overflow : goal.returns-in_err-product-in-Some-clause-overflow
+returns-in_err-product-in-Some-clause-overflow c = none_named c.from_residual.result c.in_err-product-in-Some.field-0.0 _ c.from_residual.ensures.1
+
+pub returns-in_err-sorted-in-None-clause-overflow : goal.returns-in_err-sorted-in-None-clause-overflow
+returns-in_err-sorted-in-None-clause-overflow c =
+    passed_on c.from_residual-in_err-sorted-in-None.result c.in_err-sorted-in-None.field-0.0 _ c.from_residual-in_err-sorted-in-None.ensures.0 c.from_residual-in_err-sorted-in-None.ensures.1 c.in_err-sorted-in-None.ensures.overflow

@@ -1,18 +1,19 @@
-use Rattle.std.proofs.Common.{ℕ, ◌≡◌, ◌≤◌, ◌∙◌, Err, ap, sym, refl, subst, true, false}
+use Rattle.std.proofs.Common.{◌≡◌, ◌≤◌, ◌∙◌, Err, ap, sym, refl, subst, true, false}
 use Rattle.calc_measures.specs.PlainValues.{PlainValue, plain_value}
 use Rattle.calc_terms.specs.Trees.{Trees, mult, count, are_rationals}
 use Rattle.number_forms.specs.Answers.{AnswersRationals}
 use Rattle.calc_algebra.specs.Reduced.{are_reduced}
 use Rattle.calc_measures.specs.PlainTrees.{IsPlainAnswer}
-use Rattle.reduce_port.proofs.Unfits.{overflow_as, overflow_on}
+use Rattle.number_forms.proofs.Overflows.{passed_on, overflow_as, refused_as as refused_on}
 use Rattle.tree_handles.specs.Handed.{tree_of}
 use Rattle.tree_handles.specs.Expressions.{children_of}
 use Rattle.tree_handles.specs.Standing.{forest}
 use Rattle.tree_handles.proofs.Fronts.{behind_first, front_after_one}
 use Rattle.tree_handles.proofs.Given.{gives_as}
-use Rattle.product_reduce.specs.Answers.{AreOthers, IsFinished, Calculates, multiplies, spreads}
+use Rattle.product_reduce.specs.Answers.{AreOthers, IsFinished}
 use Rattle.product_reduce.specs.Factors.{IsCoefficient, numbers_in}
-use Rattle.product_reduce.specs.Joining.{IsFirstJoint, have_partners}
+use Rattle.product_reduce.specs.Joining.{IsFirstJoint}
+use Rattle.product_reduce.specs.Misfits.{MultiplyingOverflows, SpreadingOverflows, multiplying, spreading}
 use Rattle.product_reduce.specs.Products.{factors_in}
 use Rattle.product_reduce.proofs.Finished.{reduced_opened, undef_finished, rationals_defined}
 use Rattle.product_reduce.proofs.Products.{factors_are}
@@ -113,14 +114,14 @@ returns-in_err-coefficient-clause-rationals c = λ r.
 
 pub returns-in_err-coefficient-clause-overflow : goal.returns-in_err-coefficient-clause-overflow
 returns-in_err-coefficient-clause-overflow c =
-    let ts = factors_in c.args.product (forest c.args.pool.now) in
-    overflow_on c.in_err-coefficient.field-0.0 c.from_residual.result (Calculates ts)
-    (overflow_as {A = ℕ} (Err c.in_err-coefficient.field-0.0) (2 ≤ count (numbers_in (factors_in c.args.product (forest c.open_products.new.pool)))) (Calculates ts) c.in_err-coefficient.ensures.overflow
-    (λ m. multiplies (subst (λ (us : Trees). 2 ≤ count (numbers_in us)) (factors_are c.open_products.ensures.opened.product) m))) c.from_residual.ensures.1
+    passed_on c.from_residual.result c.in_err-coefficient.field-0.0 _ c.from_residual.ensures.0 c.from_residual.ensures.1 (overflow_as c.in_err-coefficient.field-0.0 c.in_err-coefficient.ensures.overflow
+    (λ o m. multiplying (subst (λ (us : Trees). MultiplyingOverflows (numbers_in us) o) (factors_are c.open_products.ensures.opened.product) m)))
 
 pub returns-clause-overflow : goal.returns-clause-overflow
 returns-clause-overflow c =
-    let ts = factors_in c.args.product (forest c.args.pool.now) in
-    let p = parted c.args.product c.in_ok-coefficient.coefficient ts _ _ _ c.open_products.ensures.opened c.in_ok-coefficient.ensures.taken in
-    overflow_as c.join_or_end.result (have_partners (factors_in c.args.product (forest c.take_coefficient.new.pool)) ≡ false) (Calculates ts) c.join_or_end.ensures.overflow
-    (λ d. spreads (sym (ap have_partners p.factors) ∙ d))
+    let b = c.open_products.ensures.opened in
+    let d = tree_of c.in_ok-coefficient.coefficient c.take_coefficient.new.pool in
+    let p = parted c.args.product c.in_ok-coefficient.coefficient (factors_in c.args.product (forest c.args.pool.now)) _ _ _ b c.in_ok-coefficient.ensures.taken in
+    let k = subst (λ (ts : Trees). IsCoefficient d ts) (factors_are b.product) c.in_ok-coefficient.ensures.coefficient in
+    refused_on c.join_or_end.result c.join_or_end.ensures.overflow
+    (λ o h. spreading d k (subst (λ (ts : Trees). SpreadingOverflows d ts o) p.factors h))

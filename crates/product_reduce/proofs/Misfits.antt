@@ -1,0 +1,94 @@
+-- Which operation of a product does not fit, from the call that was refused.
+use Rattle.std.proofs.Common.{◌≡◌, ℕ, eqb, ◌&&◌, false, Result, Ok, Err, refl, ap, ◌∙◌, subst}
+use Rattle.std.specs.Prelude.{IfErr, IsErrAnd}
+use Rattle.calc_algebra.proofs.MeaningRewrites.{Permuted, permuted_none, permuted_more, permuted_swap, permuted_trans, Permuted-sym}
+use Rattle.calc_algebra.specs.Numbers.{value}
+use Rattle.calc_algebra.specs.Reduced.{product_tree, num_one}
+use Rattle.calc_measures.specs.PlainTrees.{IsPlainOverflow}
+use Rattle.calc_measures.specs.PlainValues.{calculated}
+use Rattle.calc_terms.specs.Fits.{mul_op}
+use Rattle.calc_terms.specs.Fractions.{Fraction}
+use Rattle.calc_terms.specs.Trees.{Tree, num, add, mult, Trees, none, more, is_num, is_add}
+use Rattle.coefficients.proofs.Named.{put_as}
+use Rattle.coefficients.specs.Overflows.{NamesPut}
+use Rattle.node_pool.specs.State.{State}
+use Rattle.node_pool.specs.declared.full.Full.{Full}
+use Rattle.number_forms.specs.Answers.{AnswersRationals}
+use Rattle.tree_handles.specs.Faults.{OfOverflow}
+use Rattle.number_forms.specs.Overflows.{ProductOverflows}
+use Rattle.product_reduce.proofs.LastSteps.{permuted_none_is}
+use Rattle.product_reduce.proofs.Readied.{AreReadied, alone_handed, alone_tree}
+use Rattle.product_reduce.specs.Misfits.{NamesProduct, SpreadingOverflows}
+use Rattle.product_reduce.specs.Products.{factors_in}
+use Rattle.rational128.specs.declared.overflow.Overflow.{Overflow}
+use Rattle.tree_handles.proofs.Given.{given_same, given_told}
+use Rattle.tree_handles.specs.Expressions.{plain}
+use Rattle.tree_handles.specs.Forest.{Forest}
+use Rattle.tree_handles.specs.Handed.{Gives}
+use Rattle.tree_handles.specs.Roots.{root_tree, without_root}
+use Rattle.tree_handles.specs.declared.fault.NumberFault.{NumberFault}
+use Rattle.tree_handles.specs.declared.fault.NumberFault.TheVariants as fault
+
+-- ---- two Numbers
+
+names_product : (a b : Tree) (o : Overflow) → ((p q : Fraction) → a ≡ num p → b ≡ num q → IsPlainOverflow (calculated mul_op p q) o) → ((is_num a && is_num b) ≡ false → ProductOverflows (value a) (value b) o) → NamesProduct a b o
+names_product (num p) (num q) o h k = h p q refl refl
+names_product (num p) b o h k = k refl
+names_product a b o h k = k refl
+
+pub product_named : (a b : Tree) (new : State) (r : Result ℕ NumberFault) → ((p q : Fraction) → a ≡ num p → b ≡ num q → AnswersRationals (calculated mul_op p q) new r)
+    → ((is_num a && is_num b) ≡ false → IfErr r (OfOverflow (ProductOverflows (value a) (value b)))) → IfErr r (OfOverflow (NamesProduct a b))
+product_named a b new (Ok x) h k = tt
+product_named a b new (Err (fault.Full full)) h k = tt
+product_named a b new (Err (fault.Overflow o)) h k = names_product a b o h k
+
+pub product_as : {a b c d : Tree} (o : Overflow) → a ≡ c → b ≡ d → NamesProduct a b o → NamesProduct c d o
+product_as {b = b} {c = c} o e f h = subst (λ (x : Tree). NamesProduct c x o) f (subst (λ (x : Tree). NamesProduct x b o) e h)
+
+-- ---- a coefficient and a sum
+
+permuted_one_is : {ts us : Trees} (x : Tree) → Permuted ts us → ts ≡ more x none → us ≡ more x none
+permuted_one_is x permuted_none e = cc
+permuted_one_is x (permuted_more {t} {ts} {us} h) e =
+    let n : us ≡ none = permuted_none_is h (rest e) in
+    ap (more t) n ∙ ap (λ (y : Tree). more y none) (first e)
+  where
+    rest : {t x : Tree} {ts : Trees} → more t ts ≡ more x none → ts ≡ none
+    rest e = cc
+
+    first : {t x : Tree} {ts : Trees} → more t ts ≡ more x none → t ≡ x
+    first e = cc
+permuted_one_is x permuted_swap e = absurd (no_two e)
+  where
+    no_two : {t u x : Tree} {ts : Trees} → more t (more u ts) ≡ more x none → ⊥
+    no_two e = cc
+permuted_one_is x (permuted_trans h k) e = permuted_one_is x k (permuted_one_is x h e)
+
+no_put : (c p : Tree) (o : Overflow) → is_add p ≡ false → NamesPut c p o → ⊥
+no_put (num q) (add ts) o e h = absurd cc
+no_put (num q) p o e h = h
+no_put c p o e h = h
+
+put_alone : (c : Tree) (us ts : Trees) (o : Overflow) → Permuted us ts → NamesPut c (product_tree us) o → SpreadingOverflows c ts o
+put_alone c none ts o m h = absurd (no_put c num_one o refl h)
+put_alone c (more t none) ts o m h = record { sum = t; alone = permuted_one_is t m refl; named = h }
+put_alone c (more t (more u us)) ts o m h = absurd (no_put c (mult (more t (more u us))) o refl h)
+
+pub put_misfit : (i c p : ℕ) (old now f : Forest) → eqb c i ≡ false → (r : AreReadied i c old now) → Gives (without_root i now) f p (λ t. t ≡ product_tree r.us) → (o : Overflow)
+    → NamesPut (plain (root_tree c f)) (plain (root_tree p f)) o → SpreadingOverflows (plain (root_tree c old)) (factors_in i old) o
+put_misfit i c p old now f d r g o h =
+    let same : plain (root_tree c f) ≡ plain (root_tree c old) = ap plain (given_same c g (alone_handed i c old now d r).root) ∙ alone_tree i c old now d r in
+    put_alone (plain (root_tree c old)) r.us (factors_in i old) o (Permuted-sym r.permuted) (put_as o same (given_told g) h)
+
+-- ---- results
+
+pub put_named : {A : Type 0} {P Q : Overflow → Type 0} (r : Result A NumberFault) → IfErr r (OfOverflow P) → ((o : Overflow) → P o → Q o) → IfErr r (OfOverflow Q)
+put_named (Ok x) h k = tt
+put_named (Err (fault.Full full)) h k = tt
+put_named (Err (fault.Overflow o)) h k = k o h
+
+-- bytes that are lacking
+pub none_named : {A : Type 0} (r : Result A NumberFault) (f : Full) (P : Overflow → Type 0) → IsErrAnd r (λ e. e ≡ fault.Full f) → IfErr r (OfOverflow P)
+none_named (Ok x) f P h = tt
+none_named (Err (fault.Full g)) f P h = tt
+none_named (Err (fault.Overflow o)) f P h = absurd cc
