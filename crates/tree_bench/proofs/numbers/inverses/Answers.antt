@@ -12,4 +12,6 @@ pub release-requires-clause-releasable : goal.release-requires-clause-releasable
 release-requires-clause-releasable _ c = inl (given_root (rw c.in-Value.is at c.in-Ok-invert_number.ensures.ok).2)
 
 pub release-requires-in-Wide-clause-releasable : goal.release-requires-in-Wide-clause-releasable
-release-requires-in-Wide-clause-releasable _ c = inl (given_root (rw c.in-Wide.is at c.in-Ok-invert_number.ensures.ok).1)
+release-requires-in-Wide-clause-releasable _ c =
+    let wide = rw c.in-Wide.is at c.in-Ok-invert_number.ensures.ok in
+    inl (rw (wide.1, wide.2) (given_root c.in-Ok.ensures.ok))
