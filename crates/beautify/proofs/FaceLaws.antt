@@ -16,7 +16,8 @@ use Rattle.calc_algebra.specs.Reduced.{none_is, num_one, split, split_product, i
 use Rattle.calc_algebra.proofs.ReducedLaws.{reduced_words, AllParts-map}
 use Rattle.calc_algebra.proofs.SurdLaws.{Agree, Agree-refl, Agree-sym, Agree-trans, Agree-eq, Agree-Same, Agree-append, Agree-surd_times, Agree-surd_times_right, surd_times_assoc, surd_times-surd_one, surd_times-one, surd_times_left_comm, surd_times-surd_of, inverse_times, inverse_power}
 use Rattle.calc_algebra.proofs.SquareClassLaws.{Same-Agree}
-use Rattle.calc_algebra.proofs.MeaningLaws.{Means-Same, surd_of_one, whole_one}
+use Rattle.calc_algebra.proofs.MeaningLaws.{Means-Same}
+use Rattle.calc_algebra.proofs.PowerRewrites.{exponent_is}
 use Rattle.beautify.proofs.FaceRewrites.{sum_joined}
 
 Same-refl : (v : Surd) → Same v v
@@ -184,7 +185,7 @@ module _ (f : Assignment) where
 
   -- an exponent that stands below as n + 1 means -(n + 1)
   inverse_exponent : (e : Tree) (n : ℕ) (w x v : Surd) → exponent_below e ≡ suc n → Means e f x → IsPower w x v → IsWholePower (negsuc n) w v
-  inverse_exponent (num q) n w x v h m (k, s, i) = subst (λ z. IsWholePower z w v) same i
+  inverse_exponent (num q) n w x v h m i = exponent_is (negsuc n) w x v (Agree-Same (Agree-trans (Same-Agree m) (Agree-eq (ap surd_of q_is)))) i
     where
       parts_are : (z : ℤ) (d : ℕ) → below_zero z d ≡ suc n → (z ≡ negsuc n) × (d ≡ 1)
       parts_are (pos p) d e = cc
@@ -194,9 +195,6 @@ module _ (f : Assignment) where
 
       q_is : q ≡ whole_fraction (negsuc n)
       q_is = let (a, b) = parts_are q.num q.den h in lowest_parts q ∙ (λ i. lowest (a i) (b i))
-
-      same : k ≡ negsuc n
-      same = whole_one k (negsuc n) (surd_of_one _ _ (Agree-trans (Agree-sym (Same-Agree s)) (Agree-trans (Same-Agree m) (Agree-eq (ap surd_of q_is)))))
   inverse_exponent e n w x v h m i = cc
 
   power_below_means : (b : Tree) (n : ℕ) (w : Surd) → Means b f w → Means (power_below b (suc n)) f (surd_power w (suc n))
@@ -204,7 +202,7 @@ module _ (f : Assignment) where
     where
       by : (k : Bool) → (suc n == 1) ≡ k → Means (if k then b else power b (whole_num (suc n))) f (surd_power w (suc n))
       by true e = let z : zero ≡ n = omega (arith, eqb-true (suc n) 1 e) in subst (λ k. Means b f (surd_power w (suc k))) z m
-      by false e = (w, surd_of (whole_fraction (pos (suc n))), m, Same-refl _, (pos (suc n), Same-refl _, Same-refl _))
+      by false e = (w, surd_of (whole_fraction (pos (suc n))), m, Same-refl _, inl (pos (suc n), Same-refl _, Same-refl _))
 
   inverted : (b : Tree) (n : ℕ) (w v : Surd) (above below : Trees) (r : Surd) → Means b f w → IsWholePower (negsuc n) w v → Sides above below r → Sides above (more (power_below b (suc n)) below) (surd_times v r)
   inverted b n w v above below r m (y, i, e) h =

@@ -1,18 +1,20 @@
 -- A Bad tree has no value, and an Easy tree has one or is Bad.
-use Rattle.std.proofs.Common.{◌≡◌, ℕ, zero, suc, ◌⊎◌, ℤ, pos, negsuc, [], true, ap, ◌∙◌, arith}
+use Rattle.std.proofs.Common.{◌≡◌, ℕ, zero, suc, ◌⊎◌, inl, inr, ℤ, pos, negsuc, [], true, sym, ap, ◌∙◌, arith}
 use Rattle.std.specs.Prelude.{◌≤ℤ◌}
 use Rattle.std.proofs.lemmas.Int.{ints}
 use Rattle.calc_terms.specs.Integers.{int_is_negative}
-use Rattle.calc_terms.specs.Fractions.{zero_fraction, one_fraction, whole_fraction, lowest}
+use Rattle.calc_terms.specs.Fractions.{Fraction, zero_fraction, one_fraction, whole_fraction, lowest}
 use Rattle.calc_terms.specs.Gcd.{gcd}
 use Rattle.calc_terms.specs.Trees.{Tree, undef, add, mult, power, root, neg, sub, div, Trees, none, more, IsPart, itself, in_add, in_mult, in_base, in_exponent, in_root, in_neg, in_left, in_right, in_dividend, in_divisor, IsPartOf, first, later}
-use Rattle.calc_algebra.specs.Surds.{Surd, surd_one}
-use Rattle.calc_algebra.specs.SquareClasses.{Inverts}
-use Rattle.calc_algebra.specs.Meanings.{MeansSum, MeansProduct, IsWholePower, IsRootOf, IsAssignment}
-use Rattle.calc_algebra.specs.BadAndEasy.{HasValue, IsBadNode, IsBad, IsEasy}
+use Rattle.calc_algebra.specs.Surds.{Surd, surd_of, surd_one}
+use Rattle.calc_algebra.specs.SquareClasses.{Same, Inverts}
+use Rattle.calc_algebra.specs.Meanings.{MeansSum, MeansProduct, IsWholePower, IsPower, IsRootOf, IsAssignment}
+use Rattle.calc_algebra.specs.BadAndEasy.{HasValue, IsNegative, IsHalf, GivesZeroNoPower, IsBadNode, IsBad, IsEasy}
 use Rattle.calc_algebra.proofs.SurdLaws.{Agree, Agree-Same, Agree-sym, Agree-trans, Agree-eq, Agree-surd_times_right, surd_times-nil}
 use Rattle.calc_algebra.proofs.SquareClassLaws.{Same-Agree}
-use Rattle.calc_algebra.proofs.MeaningLaws.{one_meaning, surd_of_one, whole_one, class_coefficient-surd_of}
+use Rattle.calc_algebra.proofs.PowerLaws.{root_zero}
+use Rattle.calc_algebra.proofs.TermLaws.{Same-refl}
+use Rattle.calc_algebra.proofs.MeaningLaws.{one_meaning, one_rational, whole_is_no_half, whole_one, class_coefficient-surd_of}
 
 -- a value of a tree comes from values of its parts
 Valued : Tree → Type 0
@@ -69,14 +71,47 @@ no_root : (z : ℤ) (d : ℕ) (v : Surd) → int_is_negative z ≡ true → IsRo
 no_root (pos n) d v h i = cc
 no_root (negsuc n) d v h i = i
 
+no_negative_power : (k : ℤ) (w v : Surd) → Agree w [] → int_is_negative k ≡ true → IsWholePower k w v → ⊥
+no_negative_power (pos n) w v z l h = cc
+no_negative_power (negsuc n) w v z l (y, i, e) = no_inverse y w z i
+
+-- the meaning of an exponent
+module _ (e : Tree) (x : Surd) (n : HasValue e x) where
+  rational_is : (p q : Fraction) → HasValue e (surd_of q) → Same x (surd_of p) → p ≡ q
+  rational_is p q g s = one_rational p q x (surd_of q) (one_value e x (surd_of q) n g) s (Same-refl (surd_of q))
+
+  zero_to_whole : (k : ℤ) (w v : Surd) → Agree w [] → k ≤ℤ pos 0 → HasValue e (surd_of (whole_fraction k)) → IsPower w x v → ⊥
+  zero_to_whole k w v z l g (inl (k', s, i)) =
+      let same : k' ≡ k = whole_one k' k (rational_is (whole_fraction k') (whole_fraction k) g s) in
+      no_power k w v z l (rw same at i)
+  zero_to_whole k w v z l g (inr (h, d, s, u, r, i)) = whole_is_no_half k h d (sym (rational_is h (whole_fraction k) g s))
+
+  zero_to_half : (h : Fraction) (w v : Surd) → Agree w [] → int_is_negative h.num ≡ true → IsHalf e h → IsPower w x v → ⊥
+  zero_to_half h w v z l (d, g) (inl (k, s, i)) = whole_is_no_half k h d (rational_is (whole_fraction k) h g s)
+  zero_to_half h w v z l (d, g) (inr (h', d', s, u, r, i)) =
+      let same : h' ≡ h = rational_is h' h g s in
+      no_negative_power h.num u v (Same-Agree (root_zero w u r (Agree-Same z))) l (rw same at i)
+
+  zero_to : (w v : Surd) → Agree w [] → GivesZeroNoPower e → IsPower w x v → ⊥
+  zero_to w v z (inl (k, l, g)) i = zero_to_whole k w v z l g i
+  zero_to w v z (inr (h, l, g)) i = zero_to_half h w v z l g i
+
+  negative_to_half : (b : Tree) (h : Fraction) (w v : Surd) → HasValue b w → IsNegative b → IsHalf e h → IsPower w x v → ⊥
+  negative_to_half b h w v m q (d, g) (inl (k, s, i)) = whole_is_no_half k h d (rational_is (whole_fraction k) h g s)
+  negative_to_half b h w v m (q, l, g') (d, g) (inr (h', d', s, u, (p, t, o), i)) =
+      let same : p ≡ q = one_rational p q w (surd_of q) (one_value b w (surd_of q) m g') t (Same-refl (surd_of q)) in
+      no_root q.num q.den u l (rw same at o)
+
+bad_power : (b e : Tree) (w x v : Surd) → HasValue b w → HasValue e x → IsPower w x v → IsBadNode (power b e) → ⊥
+bad_power b e w x v m n i (inl (z, g)) = zero_to e x n w v (one_value b w [] m z) g i
+bad_power b e w x v m n i (inr (q, h, g)) = negative_to_half e x n b h w v m q g i
+
 bad_node : (p : Tree) → IsBadNode p → (v : Surd) → HasValue p v → ⊥
 bad_node undef h v m = m
 bad_node (div a b) z v (w, u, y, m, n, i, e) = no_inverse y u (one_value b u [] n z) i
-bad_node (power b e) (z, k, l, g) v (w, x, m, n, (k', s, i)) =
-    let same : k' ≡ k = whole_one k' k (surd_of_one (whole_fraction k') (whole_fraction k) (Agree-trans (Agree-sym (Same-Agree s)) (one_value e x _ n g))) in
-    no_power k w v (one_value b w [] m z) l (rw same at i)
+bad_node (power b e) h v (w, x, m, n, i) = bad_power b e w x v m n i h
 bad_node (root a) (q, g, n) v (x, m, (q', s, i)) =
-    let same : q' ≡ q = surd_of_one q' q (Agree-trans (Agree-sym (Same-Agree s)) (one_value a x _ m n)) in
+    let same : q' ≡ q = one_rational q' q x (surd_of q) (one_value a x (surd_of q) m n) s (Same-refl (surd_of q)) in
     no_root q.num q.den v g (rw same at i)
 bad_node _ h v m = h
 

@@ -1,7 +1,7 @@
 -- Bad and Easy trees from their children, and what their reduced trees tell.
 use Rattle.std.proofs.Common.{◌≡◌, ◌≢◌, ℕ, ◌≤◌, ◌⊎◌, inl, inr, ℤ, pos, negsuc, List, [], ◌∷◌, ◌++◌, true, false, refl, subst}
 use Rattle.std.specs.Prelude.{◌≤ℤ◌}
-use Rattle.calc_algebra.specs.BadAndEasy.{HasValue, IsZero, IsWhole, IsNegative, IsBadNode, IsBad, IsEasy}
+use Rattle.calc_algebra.specs.BadAndEasy.{HasValue, IsZero, IsWhole, IsNegative, GivesZeroNoPower, IsBadNode, IsBad, IsEasy}
 use Rattle.calc_terms.specs.Fractions.{Fraction, zero_fraction, whole_fraction}
 use Rattle.calc_terms.specs.Integers.{int_is_negative}
 use Rattle.calc_algebra.specs.Meanings.{Means, IsPower, IsRootOf}
@@ -143,7 +143,7 @@ bad_div a b (p, h, n) = div_by_part p a b h n
 pub div_by_zero_is_bad : (a b : Tree) → IsZero b → IsBad (div a b)
 div_by_zero_is_bad a b z = (div a b, itself, z)
 
--- a power is Bad where a child is, or zero stands to a whole power of at most 0
+-- a power is Bad where a child is, or its base has no such power
 power_by_part : (p b e : Tree) → IsPart p (power b e) → IsBadNode p → IsBad b ⊎ (IsBad e ⊎ IsBadNode (power b e))
 power_by_part p b e itself n = inr (inr n)
 power_by_part p b e (in_base h) n = inl (p, h, n)
@@ -152,8 +152,8 @@ power_by_part p b e (in_exponent h) n = inr (inl (p, h, n))
 pub bad_power : (b e : Tree) → IsBad (power b e) → IsBad b ⊎ (IsBad e ⊎ IsBadNode (power b e))
 bad_power b e (p, h, n) = power_by_part p b e h n
 
-pub zero_power_is_bad : (b e : Tree) (n : ℤ) → IsZero b → n ≤ℤ pos 0 → IsWhole e n → IsBad (power b e)
-zero_power_is_bad b e n z l w = (power b e, itself, (z, n, l, w))
+pub zero_power_is_bad : (b e : Tree) → IsZero b → GivesZeroNoPower e → IsBad (power b e)
+zero_power_is_bad b e z g = (power b e, itself, inl (z, g))
 
 -- a root is Bad where its argument is, or is a negative rational
 root_by_part : (p a : Tree) → IsPart p (root a) → IsBadNode p → IsBad a ⊎ IsNegative a
@@ -233,30 +233,52 @@ easy_divisor a b r e n k h =
       number_short r w h (Same-trans (Same-sym (value_reduced b r v k h m)) s) l,
     )
 
--- what is known of the reduced base r and the reduced exponent of an Easy power
-pub record EasyPower (r x : Tree) : Type 0 where
+-- what is known of the reduced base r and the reduced exponent x of an Easy power, where x is a whole number
+pub record EasyWholePower (r x : Tree) : Type 0 where
   pub exponent : ℤ
   pub exponent_is : x ≡ num (whole_fraction exponent)
   pub not_zero : exponent ≤ℤ pos 0 → r ≢ num zero_fraction
   pub short : (n : ℕ) → exponent ≡ negsuc n → classes r ≤ 2
 
-pub easy_power : (b g r x : Tree) → IsEasy (power b g) → ¬ (IsBad (power b g)) → KeepsMeanings b r → KeepsMeanings g x → IsNumber r → IsNumber x → EasyPower r x
-easy_power b g r x e n k l h j =
-    let (v, m) = easy_has_value (power b g) e n in
-    let p : IsPower m.0 m.1 v = m.4 in
-    let w : IsWhole g p.0 = Means-Same g [] m.1 (surd_of (whole_fraction p.0)) m.3 p.1 in
-    record {
-      exponent = p.0;
-      exponent_is = whole_reduced g x p.0 l j w;
-      not_zero = λ q z. n (zero_power_is_bad b g p.0 (reduced_to_zero b r k z m.0 m.2) q w);
-      short = λ i f.
-          let (u, s, t) = e.short_bases b g itself i (subst (λ z. IsWhole g z) f w) m.0 m.2 in
-          number_short r u h (Same-trans (Same-sym (value_reduced b r m.0 k h m.2)) s) t;
-    }
+-- and where it is half of an odd one
+pub record EasyHalfPower (r x : Tree) : Type 0 where
+  pub exponent : Fraction
+  pub half : exponent.den ≡ 2
+  pub exponent_is : x ≡ num exponent
+  pub base : Fraction
+  pub base_is : r ≡ num base
+  pub not_negative : int_is_negative base.num ≡ false
+  pub not_zero : int_is_negative exponent.num ≡ true → r ≢ num zero_fraction
 
 not_negative : (z : ℤ) (d : ℕ) (v : Surd) → IsRootOf z d v → int_is_negative z ≡ false
 not_negative (pos n) d v h = refl
 not_negative (negsuc n) d v h = absurd h
+
+pub easy_power : (b g r x : Tree) → IsEasy (power b g) → ¬ (IsBad (power b g)) → KeepsMeanings b r → KeepsMeanings g x → IsNumber r → IsNumber x → EasyWholePower r x ⊎ EasyHalfPower r x
+easy_power b g r x e n k l h j = let (v, m) = easy_has_value (power b g) e n in by m.0 m.1 v m.2 m.3 m.4
+  where
+    by : (w y v : Surd) → HasValue b w → HasValue g y → IsPower w y v → EasyWholePower r x ⊎ EasyHalfPower r x
+    by w y v mb mg (inl (i, s, p)) =
+        let whole : IsWhole g i = Means-Same g [] y (surd_of (whole_fraction i)) mg s in
+        inl (record {
+          exponent = i;
+          exponent_is = whole_reduced g x i l j whole;
+          not_zero = λ q z. n (zero_power_is_bad b g (reduced_to_zero b r k z w mb) (inl (i, q, whole)));
+          short = λ a f.
+              let (u, t, c) = e.short_bases b g itself a (subst (λ z. IsWhole g z) f whole) w mb in
+              number_short r u h (Same-trans (Same-sym (value_reduced b r w k h mb)) t) c;
+        })
+    by w y v mb mg (inr (i, d, s, u, (q, t, o), p)) =
+        let half : HasValue g (surd_of i) = Means-Same g [] y (surd_of i) mg s in
+        inr (record {
+          exponent = i;
+          half = d;
+          exponent_is = rational_reduced g x i l j half;
+          base = q;
+          base_is = rational_reduced b r q k h (Means-Same b [] w (surd_of q) mb t);
+          not_negative = not_negative q.num q.den u o;
+          not_zero = λ f z. n (zero_power_is_bad b g (reduced_to_zero b r k z w mb) (inr (i, f, (d, half))));
+        })
 
 -- the argument of a root is a rational that is not negative
 pub easy_root : (a r : Tree) → IsEasy (root a) → ¬ (IsBad (root a)) → KeepsMeanings a r → IsNumber r → (q : Fraction) × (r ≡ num q) × (int_is_negative q.num ≡ false)

@@ -12,6 +12,8 @@ pub mod TermLaws
 pub mod CleanLaws
 pub mod InverseLaws
 pub mod PowerLaws
+pub mod HalfLaws
+pub mod ExponentLaws
 pub mod MeaningRewrites
 pub mod PowerRewrites
 pub mod NumberRewrites

@@ -5,7 +5,8 @@ use Rattle.std.proofs.lemmas.List.{get_or-map, length-map}
 use Rattle.calc_terms.specs.FractionLaws.{times_comm, one_times, zero_plus}
 use Rattle.calc_terms.specs.Fractions.{Fraction, lowest, zero_fraction, one_fraction, plus_comm, lowest_cross, den_pos, whole_fraction, minus_one_fraction}
 use Rattle.calc_terms.specs.Integers.{cancel_pos}
-use Rattle.calc_algebra.specs.Meanings.{Gives, Binding, bound_names, Assignment, IsAssignment, Means, MeansSum, MeansProduct, IsWholePower, IsRootOf}
+use Rattle.calc_terms.proofs.FractionFacts.{whole_denominator}
+use Rattle.calc_algebra.specs.Meanings.{Gives, Binding, bound_names, Assignment, IsAssignment, Means, MeansSum, MeansProduct, IsWholePower, IsPower, IsRootOf, IsRoot}
 use Rattle.calc_algebra.specs.SquareClasses.{Same, Inverts, class_coefficient}
 use Rattle.calc_algebra.specs.SquareRoots.{square_root}
 use Rattle.calc_algebra.specs.Surds.{Surd, surd_one, surd_of}
@@ -26,6 +27,10 @@ root_same (pos zero) q v u h e = Same-trans (Same-sym e) h
 root_same (pos (suc p)) q v u h e = Same-trans (Same-sym e) h
 root_same (negsuc p) q v u h e = h
 
+row_same : (w x v u : Surd) → IsPower w x v → Same v u → IsPower w x u
+row_same w x v u (inl (n, i, h)) e = inl (n, i, power_same n w v u h e)
+row_same w x v u (inr (h, d, i, r, k, p)) e = inr (h, d, i, r, k, power_same h.num r v u p e)
+
 pub Means-Same : (t : Tree) (f : Assignment) (v u : Surd) → Means t f v → Same v u → Means t f u
 Means-Same (num q) f v u h e = Same-trans (Same-sym e) h
 Means-Same (symbol x) f v u (q, m, h) e = (q, m, Same-trans (Same-sym e) h)
@@ -35,7 +40,7 @@ Means-Same (mult ts) f v u (w, m, h) e = (w, m, Same-trans (Same-sym e) h)
 Means-Same (neg a) f v u (w, m, h) e = (w, m, Same-trans (Same-sym e) h)
 Means-Same (sub a b) f v u (w, x, m, n, h) e = (w, x, m, n, Same-trans (Same-sym e) h)
 Means-Same (div a b) f v u (w, x, y, m, n, i, h) e = (w, x, y, m, n, i, Same-trans (Same-sym e) h)
-Means-Same (power b p) f v u (w, x, m, k, (n, i, h)) e = (w, x, m, k, (n, i, power_same n w v u h e))
+Means-Same (power b p) f v u (w, x, m, k, h) e = (w, x, m, k, row_same w x v u h e)
 Means-Same (root a) f v u (x, m, (q, i, h)) e = (x, m, (q, i, root_same q.num q.den v u h e))
 
 pub class_coefficient-surd_of : (q : Fraction) → class_coefficient (surd_of q) 1 ≡ q
@@ -63,6 +68,31 @@ one_root : (p : ℤ) (q : ℕ) (v u : Surd) → IsRootOf p q v → IsRootOf p q 
 one_root (pos zero) q v u h k = join h k (Agree-refl [])
 one_root (pos (suc p)) q v u h k = join h k (Agree-refl _)
 one_root (negsuc p) q v u h k = absurd h
+
+-- a surd that is two rationals
+pub one_rational : (p q : Fraction) (x y : Surd) → Agree x y → Same x (surd_of p) → Same y (surd_of q) → p ≡ q
+one_rational p q x y a h k = surd_of_one p q (Agree-trans (Agree-sym (Same-Agree h)) (Agree-trans a (Same-Agree k)))
+
+-- a surd has at most one root
+pub one_root_of : (x y v u : Surd) → Agree x y → IsRoot x v → IsRoot y u → Agree v u
+one_root_of x y v u a (q, i, h) (q', i', h') = let z : q' ≡ q = sym (one_rational q q' x y a i i') in one_root q.num q.den v u h (rw z at h')
+
+one_is_not_two : (a b : ℕ) → a ≡ 1 → b ≡ 2 → a ≡ b → ⊥
+one_is_not_two a b h k e = absurd (omega arith)
+
+-- no whole number is half of an odd one
+pub whole_is_no_half : (n : ℤ) (h : Fraction) → h.den ≡ 2 → whole_fraction n ≡ h → ⊥
+whole_is_no_half n h d e = one_is_not_two _ _ (whole_denominator n) d (ap (λ (q : Fraction). q.den) e)
+
+one_row : (w w' x x' v u : Surd) → Agree w w' → Agree x x' → IsPower w x v → IsPower w' x' u → Agree v u
+one_row w w' x x' v u a b (inl (n, i, h)) (inl (n', i', h')) =
+    let z : n' ≡ n = sym (whole_one n n' (one_rational (whole_fraction n) (whole_fraction n') x x' b i i')) in
+    one_power n w w' v u a h (rw z at h')
+one_row w w' x x' v u a b (inl (n, i, h)) (inr (q, d, i', r, k, h')) = absurd (whole_is_no_half n q d (one_rational (whole_fraction n) q x x' b i i'))
+one_row w w' x x' v u a b (inr (q, d, i, r, k, h)) (inl (n, i', h')) = absurd (whole_is_no_half n q d (sym (one_rational q (whole_fraction n) x x' b i i')))
+one_row w w' x x' v u a b (inr (q, d, i, r, k, h)) (inr (q', d', i', r', k', h')) =
+    let z : q' ≡ q = sym (one_rational q q' x x' b i i') in
+    one_power q.num r r' v u (one_root_of w w' r r' a k k') h (rw z at h')
 
 -- one element is the first or is contained in the rest
 at_front : {X : Type 0} (x : X) (xs : List X) (z : X) → Contains (x ∷ xs) z → (x ≡ z) ⊎ Contains xs z
@@ -100,13 +130,8 @@ module _ (f : Assignment) (once : IsAssignment f) where
     one_meaning (neg a) v u (w, m, h) (x, n, k) = join h k (Agree-surd_scale minus_one_fraction (one_meaning a w x m n))
     one_meaning (sub a b) v u (w, y, m, n, h) (w', y', m', n', k) = join h k (Agree-append (one_meaning a w w' m m') (Agree-surd_scale minus_one_fraction (one_meaning b y y' n n')))
     one_meaning (div a b) v u (w, x, y, m, n, i, h) (w', x', y', m', n', i', k) = join h k (Agree-surd_times (one_meaning a w w' m m') (one_inverse' y y' x x' i i' (one_meaning b x x' n n')))
-    one_meaning (power b e) v u (w, x, mb, me, (n, i, h)) (w', x', mb', me', (n', i', h')) =
-        let s : Agree (surd_of (whole_fraction n)) (surd_of (whole_fraction n')) = Agree-trans (Agree-sym (Same-Agree i)) (Agree-trans (one_meaning e x x' me me') (Same-Agree i')) in
-        let z : n' ≡ n = sym (whole_one n n' (surd_of_one (whole_fraction n) (whole_fraction n') s)) in
-        one_power n w w' v u (one_meaning b w w' mb mb') h (rw z at h')
-    one_meaning (root a) v u (x, m, (q, i, h)) (x', m', (q', i', h')) =
-        let z : q' ≡ q = sym (surd_of_one q q' (Agree-trans (Agree-sym (Same-Agree i)) (Agree-trans (one_meaning a x x' m m') (Same-Agree i')))) in
-        one_root q.num q.den v u h (rw z at h')
+    one_meaning (power b e) v u (w, x, mb, me, h) (w', x', mb', me', h') = one_row w w' x x' v u (one_meaning b w w' mb mb') (one_meaning e x x' me me') h h'
+    one_meaning (root a) v u (x, m, h) (x', m', h') = one_root_of x x' v u (one_meaning a x x' m m') h h'
 
     pub one_sum : (ts : Trees) (v u : Surd) → MeansSum ts f v → MeansSum ts f u → Agree v u
     one_sum none v u h k = Agree-eq (h ∙ sym k)

@@ -1,18 +1,18 @@
 -- Powers: laws of exponents for natural and for whole exponents, powers of products, of powers and of roots, and powers of rationals.
-use Rattle.std.proofs.Common.{◌≡◌, ◌≢◌, ℕ, zero, suc, ◌+◌, ◌*◌, ◌<◌, ◌⊎◌, inl, inr, ℤ, pos, negsuc, neg_ℤ, ◌+ℤ◌, ◌*ℤ◌, [], ◌++◌, refl, sym, ap, ◌∙◌, arith, subst}
+use Rattle.std.proofs.Common.{◌≡◌, ◌≢◌, ℕ, zero, suc, ◌+◌, ◌*◌, ◌<◌, ◌⊎◌, inl, inr, ℤ, pos, negsuc, neg_ℤ, ◌+ℤ◌, ◌*ℤ◌, [], refl, sym, ap, ◌∙◌, arith, subst}
 use Rattle.std.proofs.lemmas.Int.{ints}
 use borrow.Author.Differences.{up, down}
 use Rattle.calc_terms.specs.Fits.{fraction_power}
-use Rattle.calc_terms.specs.Fractions.{Fraction, lowest, plus, plus_lowest, times, inverse, zero_fraction, one_fraction, same_lowest, lowest_parts, den_pos, times_lowest, mul_pos, whole_fraction}
+use Rattle.calc_terms.specs.Fractions.{Fraction, lowest, times, inverse, zero_fraction, same_lowest, lowest_parts, den_pos, times_lowest, mul_pos, whole_fraction}
 use Rattle.calc_terms.specs.Gcd.{gcd}
 use Rattle.calc_terms.specs.Integers.{parts, diff_eq, mul_diff}
-use Rattle.calc_algebra.specs.Meanings.{IsWholePower, IsPower, IsRootOf, IsRoot}
+use Rattle.calc_algebra.specs.Meanings.{IsWholePower, IsRootOf, IsRoot}
 use Rattle.calc_algebra.specs.SquareClasses.{Same, Inverts}
 use Rattle.calc_algebra.specs.Surds.{Surd, surd_of, surd_one, surd_times, surd_power}
 use Rattle.calc_algebra.proofs.MeaningLaws.{class_coefficient-surd_of, Same-sym}
 use Rattle.calc_algebra.proofs.SquareClassLaws.{Same-Agree, Same-trans}
 use Rattle.calc_algebra.proofs.SurdLaws.{Agree, Agree-refl, Agree-sym, Agree-trans, Agree-eq, Agree-Same, Agree-surd_times, Agree-surd_times_right, Agree-surd_power, surd_times_comm, surd_times_assoc, surd_times-surd_one, surd_times-one, surd_times_exchange}
-use Rattle.calc_algebra.proofs.TermLaws.{joined_radicand, Same-append, Same-refl, Same-eq, Same-surd_times, Same-surd_power, zero_term, extracted}
+use Rattle.calc_algebra.proofs.TermLaws.{Same-refl, Same-eq, Same-surd_times, Same-surd_power, zero_term, extracted}
 use Rattle.calc_algebra.proofs.InverseLaws.{Inverts-sym, Inverts-Same, Inverts-surd_times, Inverts-surd_one, Inverts-surd_power, Inverts-not_zero, Inverts-one, Inverts-surd_of, Same-times_zero, inverse_times_itself}
 
 -- ---- natural exponents
@@ -394,47 +394,3 @@ even_power_of_root n k x v u e r h = by k (subst (λ m. IsWholePower m v u) e h)
       where
         doubled : (a : ℕ) → suc (suc (a + a)) ≡ 2 * suc a
         doubled a = omega arith
-
--- ---- exponents that are surds
-
-pub whole_plus : (m n : ℤ) → plus (whole_fraction m) (whole_fraction n) ≡ whole_fraction (m +ℤ n)
-whole_plus m n = plus_lowest m n 1 1 (omega arith) (omega arith) ∙ ap (λ z. lowest z 1) (λ i. times_one m i +ℤ times_one n i)
-  where
-    times_one : (z : ℤ) → z *ℤ pos 1 ≡ z
-    times_one z = omega (arith, ints)
-
-pub whole_times : (m n : ℤ) → times (whole_fraction m) (whole_fraction n) ≡ whole_fraction (m *ℤ n)
-whole_times m n = times_lowest m n 1 1 (omega arith) (omega arith)
-
--- the same base, exponent and value
-pub IsPower-Same : {w w' x x' v v' : Surd} → Same w w' → Same x x' → Same v v' → IsPower w x v → IsPower w' x' v'
-IsPower-Same a b c (n, s, h) = (n, Same-trans (Same-sym b) s, IsWholePower-Same n a c h)
-
--- exponents are added
-pub power_add : (w x y u v : Surd) → IsPower w x u → IsPower w y v → IsPower w (x ++ y) (surd_times u v)
-power_add w x y u v (m, s, h) (n, t, k) = (
-  m +ℤ n,
-  Same-trans (Same-append s t) (Same-trans (joined_radicand (whole_fraction m) (whole_fraction n) 1) (Same-eq (ap surd_of (whole_plus m n)))),
-  whole_power_add m n w u v h k,
-)
-
--- exponents are multiplied
-pub power_mul : (w x y u v : Surd) → IsPower w x u → IsPower u y v → IsPower w (surd_times x y) v
-power_mul w x y u v (m, s, h) (n, t, k) = (
-  m *ℤ n,
-  Same-trans (Same-surd_times s t) (Same-eq (ap surd_of (whole_times m n))),
-  whole_power_mul m n w u v h k,
-)
-
--- the power of a product is the product of the powers
-pub power_of_product : (u w x v : Surd) → IsPower (surd_times u w) x v → (p q : Surd) × IsPower u x p × IsPower w x q × Same v (surd_times p q)
-power_of_product u w x v (n, s, h) = let (p, q, a, b, k) = whole_power_of_product n u w v h in (p, q, (n, s, a), (n, s, b), k)
-
--- powers of 1 are 1
-pub power_of_one : (x v : Surd) → IsPower surd_one x v → Same v surd_one
-power_of_one x v (n, s, h) = whole_power_of_one n v h
-
--- w to the exponent 1
-pub power_one : (w : Surd) → IsPower w surd_one w
-unfolding one_fraction
-power_one w = (pos 1, Same-refl surd_one, Same-refl w)

@@ -1,25 +1,26 @@
 -- Rewritings of quotients, powers and roots that keep meanings.
-use Rattle.std.proofs.Common.{◌≡◌, ℤ, pos, negsuc, ◌+ℤ◌, ◌++◌, Bool, true, false, sym, ap, subst, if◌then◌else◌}
-use Rattle.calc_terms.specs.Fractions.{zero_fraction, one_fraction, minus_one_fraction, whole_fraction}
-use Rattle.calc_algebra.specs.Meanings.{Assignment, Means, IsPower, IsWholePower}
+use Rattle.std.proofs.Common.{◌≡◌, inl, inr, ℤ, pos, negsuc, ◌+ℤ◌, ◌++◌, Bool, true, false, sym, ap, subst, if◌then◌else◌}
+use Rattle.calc_terms.specs.Fractions.{Fraction, zero_fraction, one_fraction, minus_one_fraction, whole_fraction}
+use Rattle.calc_algebra.specs.Meanings.{Assignment, Means, IsPower, IsWholePower, IsRoot}
 use Rattle.calc_algebra.specs.Reduced.{is_opaque_exponent, base_of}
 use Rattle.calc_algebra.specs.SquareClasses.{Same}
 use Rattle.calc_algebra.specs.Surds.{Surd, surd_of, surd_times}
 use Rattle.calc_terms.specs.Trees.{Tree, num, add, mult, power, root, div, Trees, none, more}
-use Rattle.calc_algebra.proofs.MeaningLaws.{one_meaning, Means-Same, Same-sym, surd_of_one, whole_one}
-use Rattle.calc_algebra.proofs.SquareClassLaws.{Same-Agree}
-use Rattle.calc_algebra.proofs.SurdLaws.{Agree-sym, Agree-trans, Agree-Same}
+use Rattle.calc_algebra.proofs.MeaningLaws.{one_meaning, Means-Same, Same-sym, whole_one, one_rational, whole_is_no_half}
+use Rattle.calc_algebra.proofs.SurdLaws.{Agree-refl, Agree-Same}
 use Rattle.calc_algebra.proofs.TermLaws.{Same-refl}
-use Rattle.calc_algebra.proofs.PowerLaws.{IsPower-Same, power_add, power_mul, power_of_product as IsPower-of_product, power_of_one, even_power_of_root}
+use Rattle.calc_algebra.proofs.ExponentLaws.{IsPower-Same, power_add, power_mul}
+use Rattle.calc_algebra.proofs.PowerLaws.{IsWholePower-Same, whole_power_of_product, whole_power_of_one, even_power_of_root}
 use Rattle.calc_algebra.proofs.MeaningRewrites.{KeepsMeanings, KeepsMeanings-refl, KeepsMeanings-eq, KeepsMeanings-trans, KeepsMeanings-product_more, two, sum_two, product_parts, product_more, product_none, product_two, two_product, none_product}
 
 -- ---- exponents that are written
 
 -- the whole number that an exponent means
 pub exponent_is : (k : ℤ) (w x v : Surd) → Same x (surd_of (whole_fraction k)) → IsPower w x v → IsWholePower k w v
-exponent_is k w x v e (n, s, h) =
-    let z : n ≡ k = whole_one n k (surd_of_one (whole_fraction n) (whole_fraction k) (Agree-trans (Agree-sym (Same-Agree s)) (Same-Agree e))) in
+exponent_is k w x v e (inl (n, s, h)) =
+    let z : n ≡ k = whole_one n k (one_rational (whole_fraction n) (whole_fraction k) x x (Agree-refl x) s e) in
     subst (λ m. IsWholePower m w v) z h
+exponent_is k w x v e (inr (h, d, s, u, r, p)) = absurd (whole_is_no_half k h d (one_rational (whole_fraction k) h x x (Agree-refl x) e s))
 
 -- a meaning of b to a written whole exponent
 pub record PowerParts (b : Tree) (k : ℤ) (f : Assignment) (v : Surd) : Type 0 where
@@ -31,7 +32,7 @@ pub power_parts : (f : Assignment) (b : Tree) (k : ℤ) (v : Surd) → Means (po
 power_parts f b k v (w, x, m, n, p) = record { base = w; base_means = m; is = exponent_is k w x v n p }
 
 pub power_whole : (f : Assignment) (b : Tree) (k : ℤ) (w v : Surd) → Means b f w → IsWholePower k w v → Means (power b (num (whole_fraction k))) f v
-power_whole f b k w v m p = (w, surd_of (whole_fraction k), m, Same-refl (surd_of (whole_fraction k)), (k, Same-refl (surd_of (whole_fraction k)), p))
+power_whole f b k w v m p = (w, surd_of (whole_fraction k), m, Same-refl (surd_of (whole_fraction k)), inl (k, Same-refl (surd_of (whole_fraction k)), p))
 
 -- ---- exponents 0 and 1
 
@@ -49,10 +50,6 @@ power_one_is_base b = record { means = λ f once v m. let p = power_parts f b (p
 pub to_power_one : (b : Tree) → KeepsMeanings b (power b (num one_fraction))
 unfolding one_fraction
 to_power_one b = record { means = λ f once v m. power_whole f b (pos 1) v v m (Same-refl v) }
-
--- 1 ^ e is 1
-pub one_to_power : (e : Tree) → KeepsMeanings (power (num one_fraction) e) (num one_fraction)
-one_to_power e = record { means = λ f once v m. power_of_one m.1 v (IsPower-Same m.2 (Same-refl m.1) (Same-refl v) m.4) }
 
 -- ---- quotients
 
@@ -101,17 +98,19 @@ same_bases t u e =
 
 -- ---- powers of powers, products and roots
 
--- (c ^ f) ^ e is c ^ (f * e)
-pub power_of_power : (c g e : Tree) → KeepsMeanings (power (power c g) e) (power c (mult (two g e)))
-power_of_power c g e = record {
+-- (c ^ g) ^ n is c ^ (g * n) for a whole n
+pub power_of_power : (c g : Tree) (n : ℤ) → KeepsMeanings (power (power c g) (num (whole_fraction n))) (power c (mult (two g (num (whole_fraction n)))))
+power_of_power c g n = record {
   means = λ f once v m.
-      let y = m.2 in
-      let product : Surd = surd_times y.1 m.1 in (
+      let p = power_parts f (power c g) n v m in
+      let y = p.base_means in
+      let e : Surd = surd_of (whole_fraction n) in
+      let product : Surd = surd_times y.1 e in (
         y.0,
         product,
         y.2,
-        product_two f g e product y.1 m.1 y.3 m.3 (Same-refl product),
-        power_mul y.0 y.1 m.1 m.0 v y.4 m.4,
+        product_two f g (num (whole_fraction n)) product y.1 e y.3 (Same-refl e) (Same-refl product),
+        power_mul n y.0 y.1 p.base v y.4 p.is,
       );
 }
 
@@ -120,16 +119,32 @@ abbrev pub powers : Trees → Tree → Trees
 powers none e = none
 powers (more t ts) e = more (power t e) (powers ts e)
 
-powers_mean : (f : Assignment) (ts : Trees) (e : Tree) (w x v : Surd) → Means (mult ts) f w → Means e f x → IsPower w x v → Means (mult (powers ts e)) f v
-powers_mean f none e w x v m n p = product_none f v (power_of_one x v (IsPower-Same (none_product f w m) (Same-refl x) (Same-refl v) p))
-powers_mean f (more t ts) e w x v m n p =
+powers_mean : (f : Assignment) (ts : Trees) (n : ℤ) (w v : Surd) → Means (mult ts) f w → IsWholePower n w v → Means (mult (powers ts (num (whole_fraction n)))) f v
+powers_mean f none n w v m p = product_none f v (whole_power_of_one n v (IsWholePower-Same n (none_product f w m) (Same-refl v) p))
+powers_mean f (more t ts) n w v m p =
+    let e : Tree = num (whole_fraction n) in
     let k = product_parts f t ts w m in
-    let (a, b, c, d, s) = IsPower-of_product k.first k.rest x v (IsPower-Same k.same (Same-refl x) (Same-refl v) p) in
-    product_more f (power t e) (powers ts e) v a b (k.first, x, k.first_means, n, c) (powers_mean f ts e k.rest x b k.rest_means n d) s
+    let (a, b, c, d, s) = whole_power_of_product n k.first k.rest v (IsWholePower-Same n k.same (Same-refl v) p) in
+    product_more f (power t e) (powers ts e) v a b (power_whole f t n k.first a k.first_means c) (powers_mean f ts n k.rest b k.rest_means d) s
 
--- the power of a product is the product of the powers
-pub power_of_product : (ts : Trees) (e : Tree) → KeepsMeanings (power (mult ts) e) (mult (powers ts e))
-power_of_product ts e = record { means = λ f once v m. powers_mean f ts e m.0 m.1 v m.2 m.3 m.4 }
+-- a whole power of a product is the product of the powers
+pub power_of_product : (ts : Trees) (n : ℤ) → KeepsMeanings (power (mult ts) (num (whole_fraction n))) (mult (powers ts (num (whole_fraction n))))
+power_of_product ts n = record { means = λ f once v m. let p = power_parts f (mult ts) n v m in powers_mean f ts n p.base v p.base_means p.is }
+
+-- the root that the power by half of an odd whole number is taken of
+half_exponent_is : (h : Fraction) (w x v : Surd) → h.den ≡ 2 → Same x (surd_of h) → IsPower w x v → (u : Surd) × IsRoot w u × IsWholePower h.num u v
+half_exponent_is h w x v d e (inl (n, s, p)) = absurd (whole_is_no_half n h d (one_rational (whole_fraction n) h x x (Agree-refl x) s e))
+half_exponent_is h w x v d e (inr (q, c, s, u, r, p)) =
+    let z : q ≡ h = one_rational q h x x (Agree-refl x) s e in
+    (u, r, subst (λ (k : Fraction). IsWholePower k.num u v) z p)
+
+-- b ^ (n/2) for an odd n is the power n of the root of b
+pub half_power : (b : Tree) (h : Fraction) → h.den ≡ 2 → KeepsMeanings (power b (num h)) (power (root b) (num (whole_fraction h.num)))
+half_power b h d = record {
+  means = λ f once v m.
+      let (u, r, p) = half_exponent_is h m.0 m.1 v d m.3 m.4 in
+      power_whole f (root b) h.num u v (m.0, m.2, r) p;
+}
 
 -- an even power of a root is a power of its argument, with half the exponent
 pub power_of_root : (a : Tree) (n k : ℤ) → n ≡ k +ℤ k → KeepsMeanings (power (root a) (num (whole_fraction n))) (power a (num (whole_fraction k)))

@@ -1,15 +1,15 @@
 -- The test for reduced trees says what its words say.
-use Rattle.std.proofs.Common.{◌≡◌, ◌⊎◌, inl, inr, Bool, true, false, not, ◌&&◌, ◌||◌, ◌==◌, nat_le, if◌then◌else◌, refl, ap}
+use Rattle.std.proofs.Common.{◌≡◌, ◌≢◌, ◌⊎◌, inl, inr, ℕ, Bool, true, false, not, ◌&&◌, ◌||◌, ◌==◌, nat_le, if◌then◌else◌, refl, ap, arith}
 use Rattle.std.specs.declared.cmp.Ordering.{Ordering}
 use Rattle.std.specs.declared.cmp.Ordering.TheVariants.{Less, Equal, Greater}
 use Rattle.std.specs.Ordering.{is_lt}
-use Rattle.std.proofs.lemmas.Bool.{and_parts, and_from, or_left, or_right, not-true, not_from_false, eqb-true, eq-eqb, leb-true, le-leb}
+use Rattle.std.proofs.lemmas.Bool.{and_parts, and_from, or_left, or_right, not-true, not_from_false, eqb-true, eq-eqb, leb-true, le-leb, false_from_ne_true}
 use Rattle.calc_terms.specs.Integers.{int_is_negative, int_is_even}
 use Rattle.calc_terms.specs.Fractions.{Fraction, is_zero_fraction, is_one_fraction}
 use Rattle.calc_terms.specs.Trees.{Tree, num, symbol, undef, add, mult, power, root, neg, sub, div, Trees, none, more, has_two, HasTwo, AllParts, AllPartsOf, is_num, is_add, is_mult, is_root, is_undef}
 use Rattle.calc_algebra.specs.TreeOrder.{tree_cmp}
 use Rattle.calc_algebra.specs.Numbers.{is_number, terms_of, rises, classes}
-use Rattle.calc_algebra.specs.Reduced.{is_transparent_power, base_of, whole_power_form, power_form, split_product, part_of, none_is, rises_by, number_terms, other_terms, sum_form, front_form, is_undistributed, product_form, node_form, has_form, all_parts, all_parts_of, is_reduced, NoneIs, RisesBy, IsWholePowerForm, IsOtherPowerForm, IsPowerForm, IsSumForm, IsFrontForm, IsProductForm, IsNodeForm, HasForm, IsReduced}
+use Rattle.calc_algebra.specs.Reduced.{is_transparent_power, base_of, whole_power_form, power_form, split_product, part_of, none_is, rises_by, number_terms, other_terms, sum_form, front_form, is_undistributed, product_form, node_form, has_form, all_parts, all_parts_of, is_reduced, NoneIs, RisesBy, IsWholePowerForm, IsPowerForm, IsSumForm, IsFrontForm, IsProductForm, IsNodeForm, HasForm, IsReduced}
 use Rattle.calc_algebra.proofs.NumberLaws.{number_words, number_test, rises_words, rises_test}
 use Rattle.calc_terms.proofs.FractionFacts.{no_zero, no_one, zero_test, one_test}
 
@@ -91,42 +91,28 @@ whole_power_test b n h =
     (implied (int_is_even n.num) (not (is_root b)) (λ e. not_from_false _ (h.no_root e))))
     (implied (is_number b) _ (λ e. and_from _ _ (h.wide e).0 (le-leb 3 (classes b) (h.wide e).1)))
 
-other_power_words : (b e : Tree) → (is_number e || not (is_transparent_power b) && (not (is_mult b) || is_number b)) ≡ true → is_number e ≡ false → IsOtherPowerForm b
-other_power_words b e h k =
-    let (p, q) = and_parts (not (is_transparent_power b)) (not (is_mult b) || is_number b) (second (is_number e) _ k h) in
-    record { no_power = from_not (is_transparent_power b) p; no_product = implies (is_mult b) (is_number b) q }
-  where
-    second : (a c : Bool) → a ≡ false → (a || c) ≡ true → c ≡ true
-    second true c e f = cc
-    second false c e f = f
-
-other_power_test : (b e : Tree) → (is_number e ≡ false → IsOtherPowerForm b) → (is_number e || not (is_transparent_power b) && (not (is_mult b) || is_number b)) ≡ true
-other_power_test b e h = by (is_number e) refl
-  where
-    by : (k : Bool) → is_number e ≡ k → (k || not (is_transparent_power b) && (not (is_mult b) || is_number b)) ≡ true
-    by true f = refl
-    by false f = and_from _ _ (not_from_false _ (h f).no_power) (implied (is_mult b) (is_number b) (h f).no_product)
-
--- an exponent that is no rational is opaque where it is a Number
-opaque_is : (k : Bool) → (k && true) ≡ k
-opaque_is true = refl
-opaque_is false = refl
+one_and_two : (n : ℕ) → n ≡ 1 → n ≡ 2 → ⊥
+one_and_two n e f = absurd (omega arith)
 
 pub power_words : (b e : Tree) → power_form b e ≡ true → IsPowerForm b e
-power_words b (num q) h = λ d. whole_power_words b q (taken (q.den == 1) (eq-eqb q.den 1 d) h)
+power_words b (num q) h = by (q.den == 1) refl h
   where
-    taken : (k : Bool) → k ≡ true → (if k then whole_power_form b q else true) ≡ true → whole_power_form b q ≡ true
-    taken true e f = f
-    taken false e f = cc
-power_words b e h = other_power_words b e (rw opaque_is at h)
+    by : (k : Bool) → (q.den == 1) ≡ k → (if k then whole_power_form b q else not (q.den == 2)) ≡ true → (q.den ≢ 2) × (q.den ≡ 1 → IsWholePowerForm b q)
+    by true e h = ((λ d. absurd (one_and_two q.den (eqb-true q.den 1 e) d)), λ d. whole_power_words b q h)
+    by false e h = ((λ d. contrary (q.den == 2) (eq-eqb q.den 2 d) h), λ d. contrary (q.den == 1) (eq-eqb q.den 1 d) (not_from_false (q.den == 1) e))
+      where
+        contrary : {A : Type 0} (k : Bool) → k ≡ true → not k ≡ true → A
+        contrary true e f = cc
+        contrary false e f = cc
+power_words b e h = tt
 
 pub power_test : (b e : Tree) → IsPowerForm b e → power_form b e ≡ true
 power_test b (num q) h = by (q.den == 1) refl
   where
-    by : (k : Bool) → (q.den == 1) ≡ k → (if k then whole_power_form b q else true) ≡ true
-    by true e = whole_power_test b q (h (eqb-true q.den 1 e))
-    by false e = refl
-power_test b e h = rw opaque_is (other_power_test b e h)
+    by : (k : Bool) → (q.den == 1) ≡ k → (if k then whole_power_form b q else not (q.den == 2)) ≡ true
+    by true e = whole_power_test b q (h.1 (eqb-true q.den 1 e))
+    by false e = not_from_false (q.den == 2) (false_from_ne_true (q.den == 2) (λ k. h.0 (eqb-true q.den 2 k)))
+power_test b e h = refl
 
 -- ---- sums and products
 

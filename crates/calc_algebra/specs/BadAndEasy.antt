@@ -19,15 +19,24 @@ IsZero t = HasValue t []
 abbrev pub IsWhole : Tree → ℤ → Type 0
 IsWhole t n = HasValue t (surd_of (whole_fraction n))
 
+-- it means half of an odd whole number, a fraction h with denominator 2
+abbrev pub IsHalf : Tree → Fraction → Type 0
+IsHalf t h = (h.den ≡ 2) × HasValue t (surd_of h)
+
 -- it means a rational below zero
 abbrev pub IsNegative : Tree → Type 0
 IsNegative t = (q : Fraction) × (int_is_negative q.num ≡ true) × HasValue t (surd_of q)
 
--- Undef, a division by zero, zero to a whole power of at most 0, or the root of a negative rational
+-- as an exponent it gives zero no power: it means a whole number of at most 0, or half of an odd one below 0
+abbrev pub GivesZeroNoPower : Tree → Type 0
+GivesZeroNoPower e = ((n : ℤ) × (n ≤ℤ pos 0) × IsWhole e n) ⊎ ((h : Fraction) × (int_is_negative h.num ≡ true) × IsHalf e h)
+
+-- Undef, a division by zero, zero to a power that it does not have, a negative rational to half of an odd whole number, or
+-- the root of a negative rational
 abbrev pub IsBadNode : Tree → Type 0
 IsBadNode undef = Unit {0}
 IsBadNode (div a b) = IsZero b
-IsBadNode (power b e) = IsZero b × (n : ℤ) × (n ≤ℤ pos 0) × IsWhole e n
+IsBadNode (power b e) = (IsZero b × GivesZeroNoPower e) ⊎ (IsNegative b × (h : Fraction) × IsHalf e h)
 IsBadNode (root a) = IsNegative a
 IsBadNode _ = ⊥
 

@@ -1,5 +1,5 @@
 -- What an expression means under an assignment of fractions to names.
-use Rattle.std.specs.Prelude.{ℕ, zero, suc, ◌*◌, ◌≡◌, ℤ, pos, negsuc, List, [], ◌∷◌, ◌++◌, map, Contains, ⊤}
+use Rattle.std.specs.Prelude.{ℕ, zero, suc, ◌*◌, ◌≡◌, ◌⊎◌, ℤ, pos, negsuc, List, [], ◌∷◌, ◌++◌, map, Contains, ⊤}
 use Rattle.calc_terms.specs.Fractions.{Fraction, lowest, whole_fraction, minus_one_fraction}
 use Rattle.calc_terms.specs.Trees.{Tree, num, symbol, undef, add, mult, power, root, neg, sub, div, Trees, none, more}
 use Rattle.calc_algebra.specs.Surds.{Surd, term, surd_of, surd_one, surd_scale, surd_times, surd_power}
@@ -31,10 +31,6 @@ IsWholePower (pos zero) w v = ¬ (Same w []) × Same v surd_one
 IsWholePower (pos (suc n)) w v = Same v (surd_power w (suc n))
 IsWholePower (negsuc n) w v = (y : Surd) × Inverts y w × Same v (surd_power y (suc n))
 
--- the row of powers: base w, exponent x, value v
-abbrev pub IsPower : Surd → Surd → Surd → Type 0
-IsPower w x v = (n : ℤ) × Same x (surd_of (whole_fraction n)) × IsWholePower n w v
-
 -- v is the square root of p/q
 abbrev pub IsRootOf : ℤ → ℕ → Surd → Type 0
 IsRootOf (pos zero) q v = Same v []
@@ -44,6 +40,18 @@ IsRootOf (negsuc p) q v = ⊥
 -- the row of roots: argument x, value v
 abbrev pub IsRoot : Surd → Surd → Type 0
 IsRoot x v = (q : Fraction) × Same x (surd_of q) × IsRootOf q.num q.den v
+
+-- base w, exponent x, value v, where the exponent is a whole number
+abbrev pub IsPowerByWhole : Surd → Surd → Surd → Type 0
+IsPowerByWhole w x v = (n : ℤ) × Same x (surd_of (whole_fraction n)) × IsWholePower n w v
+
+-- and where it is half of an odd whole number, a fraction h with denominator 2: the square root u of w to that number
+abbrev pub IsPowerByHalf : Surd → Surd → Surd → Type 0
+IsPowerByHalf w x v = (h : Fraction) × (h.den ≡ 2) × Same x (surd_of h) × (u : Surd) × IsRoot w u × IsWholePower h.num u v
+
+-- the row of powers
+abbrev pub IsPower : Surd → Surd → Surd → Type 0
+IsPower w x v = IsPowerByWhole w x v ⊎ IsPowerByHalf w x v
 
 -- v is a meaning of the tree under f
 abbrev mutual

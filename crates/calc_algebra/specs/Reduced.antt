@@ -15,6 +15,11 @@ abbrev pub is_whole_num : Tree → Bool
 is_whole_num (num q) = q.den == 1
 is_whole_num _ = false
 
+-- half of an odd whole number: a rational with denominator 2
+abbrev pub is_half_num : Tree → Bool
+is_half_num (num q) = q.den == 2
+is_half_num _ = false
+
 -- an exponent that makes a power opaque ("sealed"): a Number that is not whole
 abbrev pub is_opaque_exponent : Tree → Bool
 is_opaque_exponent e = is_number e && not (is_whole_num e)
@@ -35,10 +40,11 @@ whole_power_form b n =
     not (is_zero_fraction n) && not (is_one_fraction n) && not (is_mult b) && not (is_transparent_power b)
     && (not (int_is_even n.num) || not (is_root b)) && (not (is_number b) || int_is_negative n.num && nat_le 3 (classes b))
 
--- the form of a power, by the case of its exponent
+-- the form of a power: its exponent is not half of an odd whole number, and where it is no whole number either, nothing
+-- more is asked
 abbrev pub power_form : Tree → Tree → Bool
-power_form b (num q) = if q.den == 1 then whole_power_form b q else true
-power_form b e = is_opaque_exponent e || not (is_transparent_power b) && (not (is_mult b) || is_number b)
+power_form b (num q) = if q.den == 1 then whole_power_form b q else not (q.den == 2)
+power_form b e = true
 
 -- ---- coefficients
 
@@ -175,15 +181,10 @@ pub record IsWholePowerForm (b : Tree) (n : Fraction) : Type 0 where
   pub no_root : int_is_even n.num ≡ true → is_root b ≡ false
   pub wide : is_number b ≡ true → (int_is_negative n.num ≡ true) × (3 ≤ classes b)
 
--- a base to a power that is no Number
-pub record IsOtherPowerForm (b : Tree) : Type 0 where
-  pub no_power : is_transparent_power b ≡ false
-  pub no_product : is_mult b ≡ true → is_number b ≡ true
-
--- nothing is asked of an opaque power
+-- nothing is asked of a power whose exponent is neither a whole number nor half of an odd one
 abbrev pub IsPowerForm : Tree → Tree → Type 0
-IsPowerForm b (num q) = q.den ≡ 1 → IsWholePowerForm b q
-IsPowerForm b e = is_number e ≡ false → IsOtherPowerForm b
+IsPowerForm b (num q) = (q.den ≢ 2) × (q.den ≡ 1 → IsWholePowerForm b q)
+IsPowerForm b e = ⊤
 
 pub record IsSumForm (ts : Trees) : Type 0 where
   pub two : HasTwo ts

@@ -43,7 +43,9 @@ pub fn reduced_trees()
     ensures a_wide_inverse { is_reduced (power (add (three (whole_num 1) (root_of 2) (root_of 3))) (ratio (negsuc 0) 1))
         ≡ true }
     ensures a_symbol_as_exponent { is_reduced (power (product (whole_num 2) (root_of 3)) x) ≡ true }
-    ensures an_opaque_power { is_reduced (power (power x (whole_num 2)) (ratio (pos 1) 2)) ≡ true }
+    ensures an_opaque_power { is_reduced (power (power x (whole_num 2)) (ratio (pos 1) 3)) ≡ true }
+    ensures a_power_to_a_symbol { is_reduced (power (power x (whole_num 2)) y) ≡ true }
+    ensures a_product_to_a_symbol { is_reduced (power (product x y) z) ≡ true }
     ensures a_sum { is_reduced (add (more (whole_num 1) (three (root_of 2) x (mult (three (whole_num 2) (root_of 3) (power x (ratio (negsuc 1) 1)))))))
         ≡ true }
     ensures a_product { is_reduced (mult (three (whole_num 2) x (power (sum (whole_num 1) x) (ratio (negsuc 0) 1))))
@@ -68,8 +70,7 @@ pub fn other_trees()
     ensures an_even_power_of_a_root { is_reduced (power (root x) (whole_num 2)) ≡ false }
     ensures a_power_of_a_number { is_reduced (power (whole_num 2) (whole_num 3)) ≡ false }
     ensures an_inverse_of_two_classes { is_reduced (power (sum (whole_num 1) (root_of 2)) (ratio (negsuc 0) 1)) ≡ false }
-    ensures a_symbol_to_a_power_of_a_power { is_reduced (power (power x (whole_num 2)) y) ≡ false }
-    ensures a_product_to_a_symbol { is_reduced (power (product x y) z) ≡ false }
+    ensures a_half_as_exponent { is_reduced (power x (ratio (pos 1) 2)) ≡ false }
     ensures a_sum_in_a_sum { is_reduced (sum x (sum y z)) ≡ false }
     ensures the_number_behind { is_reduced (sum x (whole_num 1)) ≡ false }
     ensures a_zero_in_front { is_reduced (sum (whole_num 0) x) ≡ false }
@@ -94,7 +95,10 @@ pub fn surds_compared()
 pub fn meanings_found()
     ensures an_inverse { (f : Assignment) → Means one_over_two_roots f (term minus_one_fraction 2 ∷ term one_fraction 3 ∷ []) }
     ensures a_root_of_a_ratio { (f : Assignment) → Means (root (ratio (pos 1) 2)) f (term (quotient 1 2) 2 ∷ []) }
+    ensures a_power_of_a_root { (f : Assignment) → Means (power (whole_num 4) (ratio (pos 3) 2)) f (term (whole_fraction (pos 8)) 1 ∷ []) }
     ensures zero_to_the_zero { (f : Assignment) (v : Surd) → ¬ (Means (power (whole_num 0) (whole_num 0)) f v) }
     ensures a_root_of_a_negative { (f : Assignment) (v : Surd) → ¬ (Means (root (ratio (negsuc 0) 1)) f v) }
+    ensures a_negative_to_a_half { (f : Assignment) (v : Surd) → ¬ (Means (power (ratio (negsuc 3) 1) (ratio (pos 1) 2)) f v) }
+    ensures zero_to_a_negative_half { (f : Assignment) (v : Surd) → ¬ (Means (power (whole_num 0) (ratio (negsuc 0) 2)) f v) }
     ensures undefined { (f : Assignment) (v : Surd) → ¬ (Means undef f v) }
 {}

@@ -1,11 +1,12 @@
 //! Laws of the algebra, each the contract of a function without a body.
 
-ghost use Rattle.std.specs.Prelude.{◌≡◌, ◌↔◌, ◌⊎◌, ℕ, ◌<◌, ◌*◌, ℤ, ◌+ℤ◌, ◌*ℤ◌, [], ◌++◌, true, ◌^◌, Contains, ◌≤◌};
+ghost use Rattle.std.specs.Prelude.{◌≡◌, ◌↔◌, ◌⊎◌, ℕ, ◌<◌, ◌*◌, ℤ, ◌+ℤ◌, ◌*ℤ◌, [], ◌++◌, true, false, ◌^◌, Contains, ◌≤◌};
 ghost use Rattle.std.specs.Int.{◌∣◌};
 ghost use Rattle.calc_algebra.specs.SquareRoots.{square_root, IsSquareRoot};
 ghost use Rattle.std.specs.Cmp.{IsTotalOrder};
 ghost use Rattle.std.specs.declared.cmp.Ordering.TheVariants.{Equal};
-ghost use Rattle.calc_terms.specs.Fractions.{Fraction};
+ghost use Rattle.calc_terms.specs.Fractions.{Fraction, lowest};
+ghost use Rattle.calc_terms.specs.Integers.{int_is_even};
 ghost use Rattle.calc_terms.specs.Trees.{Tree};
 ghost use Rattle.calc_algebra.specs.TreeOrder.{tree_cmp};
 ghost use Rattle.calc_algebra.specs.Surds.{Surd, surd_one, surd_scale, surd_times, surd_power};
@@ -121,4 +122,10 @@ pub fn one_number()
         → ((r : ℕ) → Contains (radicands (value t)) r → r < 10 ^ 12)
         → ((r : ℕ) → Contains (radicands (value u)) r → r < 10 ^ 12)
         → Same (value t) (value u) → t ≡ u }
+{}
+
+/// A fraction with denominator 2 is half of an odd whole number, and half of each odd one is such a fraction.
+pub fn halves_of_odd_numbers()
+    ensures odd { (h : Fraction) → h.den ≡ 2 → (int_is_even h.num ≡ false) × (h ≡ lowest h.num 2) }
+    ensures each { (n : ℤ) → int_is_even n ≡ false → ((lowest n 2).num ≡ n) × ((lowest n 2).den ≡ 2) }
 {}

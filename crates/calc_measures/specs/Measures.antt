@@ -1,16 +1,16 @@
 -- Bounds on the bytes and on the bits that the reduction of a tree takes.
 use Rattle.std.specs.Prelude.{ℕ, zero, suc, ◌+◌, ◌*◌, ◌^◌, max, ℤ, pos, negsuc, nat_abs, Bool, true, false, ◌&&◌, ◌||◌, nat_le, if◌then◌else◌, Option, Some, None}
 use Rattle.calc_terms.specs.Trees.{Tree, num, symbol, undef, add, mult, power, root, neg, sub, div, Trees, none, more, count, nodes, is_num, is_symbol}
-use Rattle.calc_measures.specs.Literals.{whole_literal, is_whole_literal}
+use Rattle.calc_measures.specs.Literals.{whole_literal, half_literal, or_literal, is_whole_literal, is_half_literal}
 
 -- ---- Room
 
--- how many of its nodes are roots
+-- how many of its nodes are roots, or powers with a half literal exponent
 abbrev mutual
   pub roots : Tree → ℕ
   roots (add ts) = roots_of ts
   roots (mult ts) = roots_of ts
-  roots (power b e) = roots b + roots e
+  roots (power b e) = (if is_half_literal e then 1 else 0) + roots b + roots e
   roots (root a) = suc (roots a)
   roots (neg a) = roots a
   roots (sub a b) = roots a + roots b
@@ -21,9 +21,9 @@ abbrev mutual
   roots_of none = 0
   roots_of (more t ts) = roots t + roots_of ts
 
--- a whole literal exponent, or a rational or symbol with a symbol as its exponent
+-- a whole or a half literal exponent, or a rational or symbol with a symbol as its exponent
 abbrev pub is_simple_power : Tree → Tree → Bool
-is_simple_power b e = is_whole_literal e || (is_num b || is_symbol b) && is_symbol e
+is_simple_power b e = is_whole_literal e || is_half_literal e || (is_num b || is_symbol b) && is_symbol e
 
 -- every power in it is simple
 abbrev mutual
@@ -68,7 +68,7 @@ pub record HighLow : Type 0 where
 abbrev pub div_bounds : HighLow → HighLow → HighLow
 div_bounds a b = record { high = a.high + b.high + 2 * b.low; low = a.low + 2 * b.high + 2 * b.low }
 
--- by the whole literal exponent, and those of the base for any other
+-- by the exponent n, or n/2 of a half literal, and those of the base for any other
 abbrev pub power_bounds : Option ℤ → HighLow → HighLow
 power_bounds (Some (pos n)) b = record { high = max 1 n * b.high; low = max 1 n * b.low }
 power_bounds (Some (negsuc n)) b = record { high = suc n * (b.high + 2 * b.low); low = suc n * (2 * b.high + 2 * b.low) }
@@ -81,7 +81,7 @@ abbrev mutual
   bounds undef = record { high = 1; low = 0 }
   bounds (add ts) = let b = bounds_of_terms ts in record { high = b.high + ceil_log2 (count ts); low = b.low }
   bounds (mult ts) = bounds_of_factors ts
-  bounds (power b e) = power_bounds (whole_literal e) (bounds b)
+  bounds (power b e) = power_bounds (or_literal (whole_literal e) (half_literal e)) (bounds b)
   bounds (root a) = bounds a
   bounds (neg a) = bounds a
   bounds (sub a b) = let x = bounds a in let y = bounds b in record { high = max x.high y.high + 1; low = x.low + y.low }

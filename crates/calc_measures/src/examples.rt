@@ -2,7 +2,7 @@
 
 ghost use Rattle.std.specs.Prelude.{◌≡◌, pos};
 ghost use Rattle.calc_terms.specs.Fractions.{minus_one_fraction, whole_fraction, quotient};
-ghost use Rattle.calc_terms.specs.Trees.{undef, mult, power, root, neg, sub, div, whole_num, size, depth, nodes};
+ghost use Rattle.calc_terms.specs.Trees.{num, undef, mult, power, root, neg, sub, div, whole_num, size, depth, nodes};
 ghost use Rattle.calc_measures.specs.Measures.{room, high, low, bits};
 ghost use Rattle.calc_measures.specs.Loads.{nest, weight, load};
 ghost use Rattle.calc_terms.specs.Fits.{mul_op, pow_op};
@@ -34,6 +34,11 @@ pub fn an_inverse_measured()
 pub fn powers_measured()
     ensures a_negative_power { high (power (div (whole_num 2) (whole_num 3)) (neg (whole_num 3))) ≡ 33 }
     ensures its_denominator { low (power (div (whole_num 2) (whole_num 3)) (neg (whole_num 3))) ≡ 42 }
+    ensures a_half { bits (power (whole_num 4) (div (whole_num 3) (whole_num 2))) ≡ 14 }
+    ensures its_room { room (power (whole_num 4) (div (whole_num 3) (whole_num 2))) ≡ 10240 }
+    ensures a_negative_half { high (power (whole_num 4) (neg (div (whole_num 1) (whole_num 2)))) ≡ 2 }
+    ensures a_half_as_one_number { room (power x (num (quotient 1 2))) ≡ 6144 }
+    ensures no_half { room (power x (div (whole_num 2) (whole_num 2))) ≡ 4294967295 }
     ensures a_computed_exponent { room (power x (sum (whole_num 1) (whole_num 1))) ≡ 4294967295 }
     ensures its_bits { bits (power x (sum (whole_num 1) (whole_num 1))) ≡ 125 }
     ensures no_literal { bits (power x (neg (neg (whole_num 2)))) ≡ 125 }

@@ -1,9 +1,9 @@
 -- What a step is known to have made, in the arm for it.
 use Rattle.std.proofs.Common.{◌≡◌, ℕ, subst}
-use Rattle.std.specs.Prelude.{Some}
+use Rattle.std.specs.Prelude.{Some, None}
 use Rattle.calc_terms.specs.Trees.{Tree, Trees}
 use Rattle.node_pool.specs.State.{State}
-use Rattle.power_reduce.specs.PowerAnswers.{base_in, exponent_in, IsStep}
+use Rattle.power_reduce.specs.PowerAnswers.{base_in, exponent_in, IsPowerAnswer, IsStep}
 use Rattle.power_reduce.specs.PowerSteps.{rewritten}
 use Rattle.product_reduce.specs.Answers.{IfFinished, IfJoined, IsFinished, IsJoined}
 use Rattle.product_reduce.specs.Joining.{IsJointAt}
@@ -32,6 +32,10 @@ module _ (i : ℕ) (old new : State) where
   is_at e h = subst (λ (x : Joining). IfJoined x (λ k n. IsJointAt n (children_of (tree_of k new)))) e h
 
   -- a power's step
+  pub is_done : {s : Step} {h : ℕ} → s ≡ step.Done h → IsStep (tree_of i old) (without_root i (forest old)) new s
+      → (rewritten (base_in (tree_of i old)) (exponent_in (tree_of i old)) ≡ None) × Gives (without_root i (forest old)) (forest new) h (IsPowerAnswer (base_in (tree_of i old)) (exponent_in (tree_of i old)))
+  is_done e h = subst (IsStep (tree_of i old) (without_root i (forest old)) new) e h
+
   pub is_again : {s : Step} {h : ℕ} → s ≡ step.Again h → IsStep (tree_of i old) (without_root i (forest old)) new s
       → Gives (without_root i (forest old)) (forest new) h (λ u. (rewritten (base_in (tree_of i old)) (exponent_in (tree_of i old)) ≡ Some u) × Rewrites (tree_of i old) u)
   is_again e h = subst (IsStep (tree_of i old) (without_root i (forest old)) new) e h

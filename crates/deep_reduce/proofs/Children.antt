@@ -56,6 +56,11 @@ pub exponent_taken : {i h : ℕ} {f new : Forest} {b e : Tree} → IsOver kind.P
     → IsTaken kind.Pow i 1 e (more b none) f new h
 exponent_taken {b = b} {e = e} o d = taken 1 (more b none) e none o refl d
 
+-- and its base
+pub base_taken : {i h : ℕ} {f new : Forest} {b e : Tree} → IsOver kind.Pow i (more b (more e none)) f → Ends h (tree_nth 0 (kids (root_tree i f))) (put i (without_nth 0 (kids (root_tree i f))) f) new
+    → IsTaken kind.Pow i 0 b (more e none) f new h
+base_taken {b = b} {e = e} o d = taken 0 none b (more e none) o refl d
+
 -- ---- a place among trees
 
 pub record IsPlaced (n : ℕ) (ts : Trees) : Type 0 where

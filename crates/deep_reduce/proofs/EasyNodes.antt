@@ -1,19 +1,23 @@
 -- The answer of an Easy node, from its children's answers.
 use Rattle.std.proofs.Common.{◌≡◌, ◌≢◌, ℕ, zero, suc, ◌≤◌, ◌⊎◌, inl, inr, ℤ, pos, negsuc, Bool, true, false, ◌&&◌, refl, sym, ap, ◌∙◌, arith}
 use Rattle.std.specs.Prelude.{◌||◌, ◌==◌, ◌≤ℤ◌, not, nat_le}
-use Rattle.std.proofs.lemmas.Bool.{le-leb}
+use Rattle.std.proofs.lemmas.Bool.{le-leb, eq-eqb, eqb-true}
 use Rattle.std.proofs.lemmas.Int.{ints}
 use Rattle.calc_algebra.proofs.BadLaws.{bad_has_no_value, easy_decided}
-use Rattle.calc_algebra.proofs.EasyLaws.{HasBad, easy_part, bad_part, bad_sum, bad_product, bad_neg, bad_sub, bad_div, bad_power, bad_root, undef_is_bad, num_is_not_bad, sum_of_bad, product_of_bad, reduced_value, zero_reduced, whole_reduced, negative_reduced, easy_divisor, easy_power, easy_root}
+use Rattle.calc_algebra.proofs.EasyLaws.{HasBad, easy_part, bad_part, bad_sum, bad_product, bad_neg, bad_sub, bad_div, bad_power, bad_root, undef_is_bad, num_is_not_bad, sum_of_bad, product_of_bad, reduced_value, zero_reduced, rational_reduced, negative_reduced, easy_divisor, EasyWholePower, EasyHalfPower, easy_power, easy_root}
 use Rattle.calc_terms.proofs.FractionFacts.{zero_is, whole_numerator, whole_denominator}
 use Rattle.calc_algebra.proofs.NumberLaws.{number_words, numbers_defined}
-use Rattle.calc_algebra.specs.BadAndEasy.{IsBad, IsBadNode, IsEasy, IsZero, IsNegative, HasValue}
-use Rattle.calc_terms.specs.Fractions.{Fraction, whole_fraction, minus_one_fraction, zero_fraction}
+use Rattle.calc_algebra.specs.BadAndEasy.{IsBad, IsBadNode, IsEasy, IsZero, IsHalf, IsNegative, GivesZeroNoPower, HasValue}
+use Rattle.calc_terms.specs.Fractions.{Fraction, whole_fraction, minus_one_fraction, zero_fraction, is_zero_fraction}
 use Rattle.calc_terms.specs.Integers.{int_is_negative, int_is_zero}
 use Rattle.calc_algebra.specs.Numbers.{is_number, classes, are_numbers}
-use Rattle.calc_algebra.specs.Surds.{Surd}
+use Rattle.calc_algebra.specs.Surds.{Surd, surd_of}
 use Rattle.calc_terms.specs.Trees.{Tree, num, undef, add, mult, power, root, neg, sub, div, Trees, none, more, is_undef, is_num, IsPartOf, itself, in_add, in_mult, in_base, in_exponent, in_root, in_neg, in_left, in_right, in_dividend, in_divisor, first, later, has_undef}
+use Rattle.deep_reduce.specs.Answers.{has_no_half_power, lacks_power, is_number_power}
 use Rattle.deep_reduce.specs.Nodes.{IsNodeAnswer, has_no_value, has_number}
+use Rattle.deep_reduce.proofs.Opened.{lacks_whole, number_whole}
+use Rattle.power_reduce.proofs.Exponents.{one_is_not_two, whole_no_half}
+use Rattle.power_reduce.proofs.Whole.{whole_is}
 use Rattle.deep_reduce.specs.Reductions.{IsReducedFrom}
 use Rattle.deep_reduce.proofs.NodeRewrites.{AreReducedFrom, IsOver, over_number, over_symbol, over_undef, over_sum, over_product, over_power, over_root, over_neg, over_sub, over_div}
 use Rattle.number_forms.specs.Readers.{is_zero}
@@ -81,7 +85,7 @@ low_integer (pos zero) l = refl
 low_integer (pos (suc k)) l = absurd (omega (arith, ints))
 low_integer (negsuc k) l = refl
 
-integer_low : (n : ℤ) → int_is_zero n || int_is_negative n ≡ true → n ≤ℤ pos 0
+pub integer_low : (n : ℤ) → int_is_zero n || int_is_negative n ≡ true → n ≤ℤ pos 0
 integer_low (pos zero) e = omega (arith, ints)
 integer_low (pos (suc k)) e = cc
 integer_low (negsuc k) e = omega (arith, ints)
@@ -93,18 +97,50 @@ negative_short : (n : ℤ) (c : ℕ) → ((k : ℕ) → n ≡ negsuc k → c ≤
 negative_short (pos k) c h = refl
 negative_short (negsuc k) c h = le-leb c 2 (h k refl)
 
-whole_power_number : (r : Tree) (n : ℤ) → is_number r ≡ true → ((k : ℕ) → n ≡ negsuc k → classes r ≤ 2) → has_number_power r (num (whole_fraction n)) ≡ true
+pub whole_power_number : (r : Tree) (n : ℤ) → is_number r ≡ true → ((k : ℕ) → n ≡ negsuc k → classes r ≤ 2) → has_number_power r (num (whole_fraction n)) ≡ true
 whole_power_number r n h s =
     (λ i. is_number r && (whole_denominator n i == 1) && (not (int_is_negative (whole_numerator n i)) || nat_le (classes r) 2))
     ∙ and_true (is_number r && true) (not (int_is_negative n) || nat_le (classes r) 2) (and_true (is_number r) true h refl) (negative_short n (classes r) s)
 
-whole_power_defined : (r : Tree) (n : ℤ) → is_number r ≡ true → (n ≤ℤ pos 0 → r ≢ num zero_fraction) → has_no_power r (num (whole_fraction n)) ≡ false
+pub whole_power_defined : (r : Tree) (n : ℤ) → is_number r ≡ true → (n ≤ℤ pos 0 → r ≢ num zero_fraction) → has_no_power r (num (whole_fraction n)) ≡ false
 whole_power_defined r n h z = or_none (is_undef r || false) (is_zero r && is_at_most_zero (num (whole_fraction n))) (or_none (is_undef r) false (number_defined r h) refl)
     (and_false (is_zero r) (is_at_most_zero (num (whole_fraction n))) (λ a b. z (integer_low n (sym (whole_exponent n) ∙ b)) (zero_words r a)))
 
-zero_power : (n : ℤ) (c : Tree) → n ≤ℤ pos 0 → c ≡ num zero_fraction → has_no_power c (num (whole_fraction n)) ≡ true
+pub zero_power : (n : ℤ) (c : Tree) → n ≤ℤ pos 0 → c ≡ num zero_fraction → has_no_power c (num (whole_fraction n)) ≡ true
 zero_power n c l e = or_true (is_undef c || false) (is_zero c && is_at_most_zero (num (whole_fraction n)))
     (inr (and_true (is_zero c) (is_at_most_zero (num (whole_fraction n))) (ap is_zero e ∙ zero_test) (whole_exponent n ∙ low_integer n l)))
+
+-- the same of a whole exponent, in the words of any
+whole_lacks : (r : Tree) (n : ℤ) (x : Bool) → has_no_power r (num (whole_fraction n)) ≡ x → lacks_power r (num (whole_fraction n)) ≡ x
+whole_lacks r n x h = lacks_whole r (num (whole_fraction n)) (whole_no_half (num (whole_fraction n)) (whole_is n)) ∙ h
+
+whole_number : (r : Tree) (n : ℤ) → has_number_power r (num (whole_fraction n)) ≡ true → is_number_power r (num (whole_fraction n)) ≡ true
+whole_number r n h = number_whole r (num (whole_fraction n)) (whole_no_half (num (whole_fraction n)) (whole_is n)) ∙ h
+
+-- and of half of an odd whole number
+half_lacks : (b h : Fraction) → h.den ≡ 2 → (int_is_negative b.num || is_zero_fraction b && int_is_negative h.num) ≡ true → lacks_power (num b) (num h) ≡ true
+half_lacks b h d e = or_true (has_no_power (num b) (num h)) (has_no_half_power (num b) (num h)) (inr (and_true (h.den == 2) (int_is_negative b.num || is_zero_fraction b && int_is_negative h.num) (eq-eqb h.den 2 d) e))
+
+half_defined : (b h : Fraction) → h.den ≡ 2 → int_is_negative b.num ≡ false → (int_is_negative h.num ≡ true → num b ≢ num zero_fraction) → lacks_power (num b) (num h) ≡ false
+half_defined b h d n z = or_none (has_no_power (num b) (num h)) (has_no_half_power (num b) (num h)) whole half
+  where
+    whole : has_no_power (num b) (num h) ≡ false
+    whole = and_false (is_zero_fraction b) (is_at_most_zero (num h)) (λ x y. one_is_not_two h.den (eqb-true h.den 1 (and_first (h.den == 1) (int_is_zero h.num || int_is_negative h.num) y)) d)
+
+    half : has_no_half_power (num b) (num h) ≡ false
+    half = and_false (h.den == 2) (int_is_negative b.num || is_zero_fraction b && int_is_negative h.num) (λ x y. by y)
+      where
+        by : (int_is_negative b.num || is_zero_fraction b && int_is_negative h.num) ≡ true → ⊥
+        by y =
+            let k : (is_zero_fraction b && int_is_negative h.num) ≡ true = second (int_is_negative b.num) (is_zero_fraction b && int_is_negative h.num) y n in
+            z (and_second (is_zero_fraction b) (int_is_negative h.num) k) (ap num (zero_is b (and_first (is_zero_fraction b) (int_is_negative h.num) k)))
+          where
+            second : (a c : Bool) → a || c ≡ true → a ≡ false → c ≡ true
+            second true c e f = cc
+            second false c e f = e
+
+half_number : (b h : Fraction) → h.den ≡ 2 → is_number_power (num b) (num h) ≡ true
+half_number b h d = or_true (has_number_power (num b) (num h)) (h.den == 2) (inr (eq-eqb h.den 2 d))
 
 -- ---- one child
 
@@ -200,15 +236,15 @@ div_decides a c b d h k e =
     let r : ¬ (IsBad (div a b)) → is_number d ≡ true = λ n. child_number b d k right (λ x. n (bad_part b (div a b) (in_divisor itself) x)) in
     let divisor = λ (n : ¬ (IsBad (div a b))). easy_divisor a b d e n (kept k.reduces.meanings) (number_words d (r n)) in
     record {
-      bad = λ x. or_true (is_undef c) (has_no_power d (num minus_one_fraction)) (by (bad_div a b x));
-      defined = λ n. or_none (is_undef c) (has_no_power d (num minus_one_fraction)) (number_defined c (l n)) (whole_power_defined d (negsuc 0) (r n) (λ z. (divisor n).0));
-      number = λ n. and_true (is_number c) (has_number_power d (num minus_one_fraction)) (l n) (whole_power_number d (negsuc 0) (r n) (λ i z. (divisor n).1));
+      bad = λ x. or_true (is_undef c) (lacks_power d (num minus_one_fraction)) (by (bad_div a b x));
+      defined = λ n. or_none (is_undef c) (lacks_power d (num minus_one_fraction)) (number_defined c (l n)) (whole_lacks d (negsuc 0) false (whole_power_defined d (negsuc 0) (r n) (λ z. (divisor n).0)));
+      number = λ n. and_true (is_number c) (is_number_power d (num minus_one_fraction)) (l n) (whole_number d (negsuc 0) (whole_power_number d (negsuc 0) (r n) (λ i z. (divisor n).1)));
     }
   where
-    by : IsBad a ⊎ (IsBad b ⊎ IsZero b) → (is_undef c ≡ true) ⊎ (has_no_power d (num minus_one_fraction) ≡ true)
+    by : IsBad a ⊎ (IsBad b ⊎ IsZero b) → (is_undef c ≡ true) ⊎ (lacks_power d (num minus_one_fraction) ≡ true)
     by (inl x) = inl (child_bad a c h (easy_part a (div a b) (in_dividend itself) e) x)
-    by (inr (inl x)) = inr (or_true (is_undef d || false) (is_zero d && is_at_most_zero (num minus_one_fraction)) (inl (or_true (is_undef d) false (inl (child_bad b d k (easy_part b (div a b) (in_divisor itself) e) x)))))
-    by (inr (inr z)) = inr (zero_power (negsuc 0) d (omega (arith, ints)) (zero_answer b d k (easy_part b (div a b) (in_divisor itself) e) z))
+    by (inr (inl x)) = inr (whole_lacks d (negsuc 0) true (or_true (is_undef d || false) (is_zero d && is_at_most_zero (num minus_one_fraction)) (inl (or_true (is_undef d) false (inl (child_bad b d k (easy_part b (div a b) (in_divisor itself) e) x))))))
+    by (inr (inr z)) = inr (whole_lacks d (negsuc 0) true (zero_power (negsuc 0) d (omega (arith, ints)) (zero_answer b d k (easy_part b (div a b) (in_divisor itself) e) z)))
 
 power_decides : (b c g x : Tree) → IsReducedFrom b c → IsReducedFrom g x → IsEasy (power b g) → Decides (power b g) (power c x)
 power_decides b c g x h k e =
@@ -217,8 +253,8 @@ power_decides b c g x h k e =
     let known = λ (n : ¬ (IsBad (power b g))). easy_power b g c x e n (kept h.reduces.meanings) (kept k.reduces.meanings) (number_words c (l n)) (number_words x (r n)) in
     record {
       bad = λ y. by (bad_power b g y);
-      defined = λ n. ap (has_no_power c) (known n).exponent_is ∙ whole_power_defined c (known n).exponent (l n) (known n).not_zero;
-      number = λ n. ap (has_number_power c) (known n).exponent_is ∙ whole_power_number c (known n).exponent (l n) (known n).short;
+      defined = λ n. defined_by (l n) (known n);
+      number = λ n. number_by (l n) (known n);
     }
   where
     base : IsEasy b
@@ -227,10 +263,37 @@ power_decides b c g x h k e =
     exponent : IsEasy g
     exponent = easy_part g (power b g) (in_exponent itself) e
 
-    by : IsBad b ⊎ (IsBad g ⊎ IsBadNode (power b g)) → has_no_power c x ≡ true
-    by (inl y) = or_true (is_undef c || is_undef x) (is_zero c && is_at_most_zero x) (inl (or_true (is_undef c) (is_undef x) (inl (child_bad b c h base y))))
-    by (inr (inl y)) = or_true (is_undef c || is_undef x) (is_zero c && is_at_most_zero x) (inl (or_true (is_undef c) (is_undef x) (inr (child_bad g x k exponent y))))
-    by (inr (inr (z, n, low, w))) = ap (has_no_power c) (whole_reduced g x n (kept k.reduces.meanings) (number_words x (child_number g x k exponent (valued g _ w))) w) ∙ zero_power n c low (zero_answer b c h base z)
+    defined_by : is_number c ≡ true → EasyWholePower c x ⊎ EasyHalfPower c x → lacks_power c x ≡ false
+    defined_by n (inl p) = ap (lacks_power c) p.exponent_is ∙ whole_lacks c p.exponent false (whole_power_defined c p.exponent n p.not_zero)
+    defined_by n (inr p) = (λ i. lacks_power (p.base_is i) (p.exponent_is i)) ∙ half_defined p.base p.exponent p.half p.not_negative (λ f z. p.not_zero f (p.base_is ∙ z))
+
+    number_by : is_number c ≡ true → EasyWholePower c x ⊎ EasyHalfPower c x → is_number_power c x ≡ true
+    number_by n (inl p) = ap (is_number_power c) p.exponent_is ∙ whole_number c p.exponent (whole_power_number c p.exponent n p.short)
+    number_by n (inr p) = (λ i. is_number_power (p.base_is i) (p.exponent_is i)) ∙ half_number p.base p.exponent p.half
+
+    -- what the exponent means is answered for it
+    exponent_answer : (q : Fraction) → HasValue g (surd_of q) → x ≡ num q
+    exponent_answer q w = rational_reduced g x q (kept k.reduces.meanings) (number_words x (child_number g x k exponent (valued g (surd_of q) w))) w
+
+    side : is_undef c || is_undef x ≡ true → lacks_power c x ≡ true
+    side u = or_true (has_no_power c x) (has_no_half_power c x) (inl (or_true (is_undef c || is_undef x) (is_zero c && is_at_most_zero x) (inl u)))
+
+    zero_base : IsZero b → GivesZeroNoPower g → lacks_power c x ≡ true
+    zero_base z (inl (n, low, w)) = ap (lacks_power c) (exponent_answer (whole_fraction n) w) ∙ whole_lacks c n true (zero_power n c low (zero_answer b c h base z))
+    zero_base z (inr (q, low, (d, w))) =
+        (λ i. lacks_power (zero_answer b c h base z i) (exponent_answer q w i))
+        ∙ half_lacks zero_fraction q d (or_true (int_is_negative zero_fraction.num) (is_zero_fraction zero_fraction && int_is_negative q.num) (inr (and_true (is_zero_fraction zero_fraction) (int_is_negative q.num) zero_test low)))
+
+    negative_base : IsNegative b → (q : Fraction) → IsHalf g q → lacks_power c x ≡ true
+    negative_base m q (d, w) =
+        let (p, s, is) = negative_reduced b c (kept h.reduces.meanings) (number_words c (child_number b c h base (valued b _ m.2))) m in
+        (λ i. lacks_power (is i) (exponent_answer q w i)) ∙ half_lacks p q d (or_true (int_is_negative p.num) (is_zero_fraction p && int_is_negative q.num) (inl s))
+
+    by : IsBad b ⊎ (IsBad g ⊎ IsBadNode (power b g)) → lacks_power c x ≡ true
+    by (inl y) = side (or_true (is_undef c) (is_undef x) (inl (child_bad b c h base y)))
+    by (inr (inl y)) = side (or_true (is_undef c) (is_undef x) (inr (child_bad g x k exponent y)))
+    by (inr (inr (inl (z, y)))) = zero_base z y
+    by (inr (inr (inr (m, q, y)))) = negative_base m q y
 
 root_decides : (a c : Tree) → IsReducedFrom a c → IsEasy (root a) → Decides (root a) (root c)
 root_decides a c h e = record {

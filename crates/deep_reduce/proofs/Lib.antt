@@ -6,6 +6,7 @@ mod Joints
 mod Joined
 mod Settled
 mod Opened
+mod HalfPowers
 mod Finished
 mod Measures
 mod Children

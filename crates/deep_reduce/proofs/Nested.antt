@@ -22,6 +22,11 @@ exponent_seen {s} {i} {j} e st h p whole child told =
     let here = expression e st h in
     told (whole here) ∙ ap root_kind (child here ∙ ap (λ (t : Tree). nth 1 (children_of t)) (seen e st h ∙ p))
 
+-- the exponent, as it is read
+pub exponent_at : {s : State} {i j : ℕ} (k : ℕ) → j ≡ i → Stands s → IsHanded i (forest s) → tree_of i s ≡ power (base_in (tree_of i s)) (exponent_in (tree_of i s))
+    → (IsExpression j (forest s) → plain (tree_at k (forest s)) ≡ nth 1 (children_of (plain (tree_at j (forest s))))) → plain (tree_at k (forest s)) ≡ exponent_in (tree_of i s)
+exponent_at {s} {i} {j} k e st h p child = child (expression e st h) ∙ ap (λ (t : Tree). nth 1 (children_of t)) (seen e st h ∙ p)
+
 product_is : (t : Tree) → is_mult t ≡ true → t ≡ mult (children_of t)
 product_is (mult ts) h = refl
 product_is t h = cc

@@ -1,12 +1,12 @@
 -- What a rewriting of a power leaves to be reduced: it nests no more, and weighs less.
-use Rattle.std.proofs.Common.{◌≡◌, ℕ, ℤ, suc, ◌+◌, ◌≤◌, ◌<◌, ◌⊎◌, inl, inr, Bool, true, false, ◌&&◌, ◌==◌, not, if◌then◌else◌, pos, Some, None, refl, sym, ap, ◌∙◌, subst, arith}
+use Rattle.std.proofs.Common.{◌≡◌, ℕ, ℤ, suc, ◌+◌, ◌≤◌, ◌<◌, ◌⊎◌, inl, inr, Bool, true, false, ◌&&◌, ◌||◌, ◌==◌, not, if◌then◌else◌, pos, Some, None, refl, sym, ap, ◌∙◌, subst, arith}
 use Rattle.std.specs.Prelude.{max}
 use Rattle.std.proofs.lemmas.Bool.{and_parts}
 use Rattle.calc_terms.specs.Fractions.{whole_fraction, zero_fraction, one_fraction, is_one_fraction}
 use Rattle.calc_measures.specs.Loads.{nest, nest_of, weight, has_coefficient}
 use Rattle.calc_algebra.specs.Numbers.{is_number}
-use Rattle.calc_algebra.specs.Reduced.{Split, is_reduced, is_opaque_exponent, is_num_one, num_one, split_product, HasForm, IsProductForm}
-use Rattle.calc_terms.specs.Trees.{Tree, num, symbol, undef, add, mult, power, root, neg, sub, div, Trees, none, more, append, count, is_undef, AllPartsOf, HasTwo}
+use Rattle.calc_algebra.specs.Reduced.{Split, is_reduced, is_half_num, is_opaque_exponent, is_num_one, num_one, split_product, HasForm, IsProductForm}
+use Rattle.calc_terms.specs.Trees.{Tree, num, symbol, undef, add, mult, power, root, neg, sub, div, Trees, none, more, append, count, is_num, is_undef, AllPartsOf, HasTwo}
 use Rattle.calc_terms.proofs.FractionFacts.{whole_denominator}
 use Rattle.calc_algebra.proofs.NumberLaws.{number_test}
 use Rattle.coefficients.specs.Coefficients.{factors_of}
@@ -14,13 +14,14 @@ use Rattle.coefficients.proofs.Coefficients.{product_form_of}
 use Rattle.coefficients.proofs.Factors.{no_split}
 use Rattle.coefficients.proofs.Forms.{reduced_parts, parts_reduced, one_is_one}
 use Rattle.coefficients.proofs.Splits.{Leads, in_front}
-use Rattle.deep_reduce.specs.Answers.{IsReducedPower}
+use Rattle.deep_reduce.specs.Answers.{has_no_half_power, lacks_power, is_number_power, IsReducedPower}
 use Rattle.deep_reduce.specs.Unfinished.{nest_over, nest_of_rewritten, weight_of_bases, weight_below, IsTransparent, AreTransparent, IsNested, IsUnfinished, Finishes}
 use Rattle.deep_reduce.proofs.Heavy.{base_reduced, exponent_reduced}
 use Rattle.deep_reduce.proofs.Nests.{to_number, base_nest}
 use Rattle.power_reduce.specs.PowerAnswers.{has_no_power, has_number_power, IsWrittenPower, IsPowerAnswer}
-use Rattle.power_reduce.specs.PowerSteps.{goes_inside, half, is_even_whole, parts_of, raised, rewritten}
-use Rattle.power_reduce.proofs.ByRule.{is_rewritable}
+use Rattle.power_reduce.specs.PowerSteps.{goes_inside, half, is_even_whole, parts_of, raised, rewritten, rewritten_whole}
+use Rattle.power_reduce.proofs.ByRule.{is_rewritable, transparent_whole}
+use Rattle.power_reduce.proofs.Exponents.{as_whole, no_half}
 use Rattle.power_reduce.proofs.Cases.{zero_kept, one_kept}
 use Rattle.power_reduce.proofs.Rules.{chosen, nothing}
 use Rattle.power_reduce.proofs.Weights.{weights, weights_none, weights_more, power_nest, product_parts}
@@ -132,21 +133,65 @@ is_false true h = cc
 is_false false h = refl
 
 inside_transparent : (e : Tree) → goes_inside e ≡ true → is_opaque_exponent e ≡ false
-inside_transparent e h = is_false _ (and_parts _ _ h).1
+inside_transparent e h = transparent_whole e (and_parts _ _ h).0
 
-pub opened : (b e t : Tree) → is_reduced b ≡ true → is_reduced e ≡ true → rewritten b e ≡ Some t → IsOpened b e t
-opened (root a) (num q) t r s h = chosen _ _ t (IsOpened (root a) (num q)) h (λ k. opened_root a (half q.num) (num q) (number_test (num q) tt) r (is_false _ (and_parts _ _ k).1))
-opened (power c f) e t r s h = chosen _ _ t (IsOpened (power c f) e) h (λ k. opened_power c f e r s)
-opened (mult ts) e t r s h = chosen _ _ t (IsOpened (mult ts) e) h (λ k. let (p, n) = and_parts _ _ k in opened_product ts e r (is_false _ n) s (inside_transparent e p))
-opened b e t r s h = nothing t (IsOpened b e) h
+opened_whole : (b e t : Tree) → is_reduced b ≡ true → is_reduced e ≡ true → rewritten_whole b e ≡ Some t → IsOpened b e t
+opened_whole (root a) (num q) t r s h = chosen _ _ t (IsOpened (root a) (num q)) h (λ k. opened_root a (half q.num) (num q) (number_test (num q) tt) r (is_false _ (and_parts _ _ k).1))
+opened_whole (power c f) e t r s h = chosen _ _ t (IsOpened (power c f) e) h (λ k. opened_power c f e r s)
+opened_whole (mult ts) e t r s h = chosen _ _ t (IsOpened (mult ts) e) h (λ k. let (p, n) = and_parts _ _ k in opened_product ts e r (is_false _ n) s (inside_transparent e p))
+opened_whole b e t r s h = nothing t (IsOpened b e) h
+
+pub opened : (b e t : Tree) → is_half_num e ≡ false → is_reduced b ≡ true → is_reduced e ≡ true → rewritten b e ≡ Some t → IsOpened b e t
+opened b e t n r s h = opened_whole b e t r s (sym (as_whole b e n) ∙ h)
 
 -- ---- the answers
 
 clash : {x : Bool} {A : Type 0} → x ≡ true → x ≡ false → A
 clash e f = absurd cc
 
+or_false : (x : Bool) → (x || false) ≡ x
+or_false true = refl
+or_false false = refl
+
+and_false : (x : Bool) → (x && false) ≡ false
+and_false true = refl
+and_false false = refl
+
+-- an exponent that is no half asks for no root
+no_half_power : (b e : Tree) → is_half_num e ≡ false → has_no_half_power b e ≡ false
+no_half_power (num p) (num q) h = rw h refl
+no_half_power b e h = refl
+
+pub lacks_whole : (b e : Tree) → is_half_num e ≡ false → lacks_power b e ≡ has_no_power b e
+lacks_whole b e h = ap (λ (x : Bool). has_no_power b e || x) (no_half_power b e h) ∙ or_false (has_no_power b e)
+
+pub number_whole : (b e : Tree) → is_half_num e ≡ false → is_number_power b e ≡ has_number_power b e
+number_whole b e h = ap (λ (x : Bool). has_number_power b e || is_num b && x) h ∙ ap (λ (x : Bool). has_number_power b e || x) (and_false (is_num b)) ∙ or_false (has_number_power b e)
+
+-- nor does a power that is kept
+kept_half : (b e : Tree) → rewritten b e ≡ None → (is_half_num e ≡ false) ⊎ (is_undef b ≡ true)
+kept_half b e r = by (is_undef b) refl
+  where
+    by : (u : Bool) → is_undef b ≡ u → (is_half_num e ≡ false) ⊎ (is_undef b ≡ true)
+    by true u = inr u
+    by false u = inl (no_half b e u r)
+
+undef_lacks : (b e : Tree) → is_undef b ≡ true → lacks_power b e ≡ has_no_power b e
+undef_lacks undef e h = refl
+undef_lacks b e h = absurd cc
+
+undef_number : (b e : Tree) → is_undef b ≡ true → is_number_power b e ≡ has_number_power b e
+undef_number undef e h = or_false (has_number_power undef e)
+undef_number b e h = absurd cc
+
+lacks_kept : (b e : Tree) → rewritten b e ≡ None → lacks_power b e ≡ has_no_power b e
+lacks_kept b e r = elim (kept_half b e r) [ inl h ↦ lacks_whole b e h | inr u ↦ undef_lacks b e u ]
+
+number_kept : (b e : Tree) → rewritten b e ≡ None → is_number_power b e ≡ has_number_power b e
+number_kept b e r = elim (kept_half b e r) [ inl h ↦ number_whole b e h | inr u ↦ undef_number b e u ]
+
 -- no rule names the tree for a power that is rewritten
-rewritten_written : (b e t r : Tree) → rewritten b e ≡ Some t → IsWrittenPower b e r
+pub rewritten_written : (b e t r : Tree) → rewritten b e ≡ Some t → IsWrittenPower b e r
 unfolding zero_fraction one_fraction
 rewritten_written b e t r h = record {
   zero = λ k. let n : rewritten b e ≡ None = zero_kept b e (pos 0) k refl in cc;
@@ -154,14 +199,14 @@ rewritten_written b e t r h = record {
   kept = λ k. let n : rewritten b e ≡ None = k.not_rewritten in cc;
 }
 
-pub power_after : (b e t r : Tree) → is_reduced b ≡ true → is_reduced e ≡ true → (rewritten b e ≡ Some t) × Rewrites (power b e) t → Finishes t r → IsReducedPower b e r
-power_after b e t r h k s f =
-    let o = opened b e t h k s.0 in
-    let w = is_rewritable b e t s.0 in
+pub power_after : (b e t r : Tree) → is_half_num e ≡ false → is_reduced b ≡ true → is_reduced e ≡ true → (rewritten b e ≡ Some t) × Rewrites (power b e) t → Finishes t r → IsReducedPower b e r
+power_after b e t r n h k s f =
+    let o = opened b e t n h k s.0 in
+    let w = is_rewritable b e t n s.0 in
     record {
       reduces = reduces_after s.1 f.reduces;
-      undefined = λ x. clash x w.has_power;
-      number = λ x y. clash x w.no_number;
+      undefined = λ x. clash x (lacks_whole b e n ∙ w.has_power);
+      number = λ x y. clash x (number_whole b e n ∙ w.no_number);
       written = λ x. rewritten_written b e t r s.0;
       nest = omega (arith, f.nest, o.nests);
       load = λ x. omega (arith, f.load, o.weighs);
@@ -172,12 +217,13 @@ undef_is : (t : Tree) → is_undef t ≡ true → t ≡ undef
 undef_is undef h = refl
 undef_is t h = cc
 
-pub power_finished : (b e t : Tree) → IsPowerAnswer b e t → IsReducedPower b e t
-power_finished b e t a = record {
+-- what a step answers that rewrites nothing
+pub power_finished : (b e t : Tree) → rewritten b e ≡ None → IsPowerAnswer b e t → IsReducedPower b e t
+power_finished b e t r a = record {
   reduces = a.reduces;
-  undefined = λ h. undef_is t (a.undefined ∙ h);
-  number = a.number;
-  written = a.written;
+  undefined = λ h. undef_is t (a.undefined ∙ sym (lacks_kept b e r) ∙ h);
+  number = λ h n. a.number (sym (number_kept b e r) ∙ h) (sym (lacks_kept b e r) ∙ n);
+  written = λ n. a.written (sym (lacks_kept b e r) ∙ n);
   nest = a.nest_bound;
   opaque_load = a.opaque_bound;
   load = a.load_bound;

@@ -5,6 +5,7 @@ use Rattle.calc_terms.specs.Fits.{add_op, mul_op}
 use Rattle.calc_terms.specs.Fractions.{Fraction, negative, minus_one_fraction}
 use Rattle.calc_measures.specs.PlainValues.{PlainValue, exactly, undefined, overflow, nothing, Gathered, decided, values, gather, folded, on_one, on_two, divided, calculated, powered, plain_of, plain_of_children, is_plain, are_plain, plain_value}
 use Rattle.calc_terms.specs.Trees.{Tree, num, symbol, undef, add, mult, power, root, neg, sub, div, Trees, none, more, append, is_undef, is_num, has_undef, are_rationals}
+use Rattle.deep_reduce.specs.Answers.{has_no_half_power}
 use Rattle.deep_reduce.specs.Nodes.{IsNodeAnswer, IsNodeOverflow, has_no_value}
 use Rattle.deep_reduce.specs.Reductions.{IsReducedFrom}
 use Rattle.deep_reduce.proofs.NodeRewrites.{AreReducedFrom, IsOver, over_number, over_symbol, over_undef, over_sum, over_product, over_power, over_root, over_neg, over_sub, over_div}
@@ -177,15 +178,15 @@ or_false : (a : Bool) → a || false ≡ true → a ≡ true
 or_false true e = refl
 or_false false e = e
 
-two_undefined : (a b c : Bool) → a || (b || false) ≡ true → a || b || c ≡ true
-two_undefined true b c e = refl
-two_undefined false true c e = refl
-two_undefined false false c e = cc
+two_undefined : (a b c d : Bool) → a || (b || false) ≡ true → a || b || c || d ≡ true
+two_undefined true b c d e = refl
+two_undefined false true c d e = refl
+two_undefined false false c d e = cc
 
-divisor_undefined : (a b c : Bool) → a || (b || false) ≡ true → a || (b || false || c) ≡ true
-divisor_undefined true b c e = refl
-divisor_undefined false true c e = refl
-divisor_undefined false false c e = cc
+divisor_undefined : (a b c d : Bool) → a || (b || false) ≡ true → a || (b || false || c || d) ≡ true
+divisor_undefined true b c d e = refl
+divisor_undefined false true c d e = refl
+divisor_undefined false false c d e = cc
 
 one_undefined : (a b : Bool) → a || (b || false) ≡ true → a || b ≡ true
 one_undefined true b e = refl
@@ -201,11 +202,11 @@ undef_has_no_value (symbol x) e = cc
 undef_has_no_value undef e = refl
 undef_has_no_value (add ts) e = e
 undef_has_no_value (mult ts) e = e
-undef_has_no_value (power b g) e = two_undefined (is_undef b) (is_undef g) (is_zero b && is_at_most_zero g) e
+undef_has_no_value (power b g) e = two_undefined (is_undef b) (is_undef g) (is_zero b && is_at_most_zero g) (has_no_half_power b g) e
 undef_has_no_value (root a) e = root_undefined a (or_false (is_undef a) e)
 undef_has_no_value (neg a) e = or_false (is_undef a) e
 undef_has_no_value (sub a b) e = one_undefined (is_undef a) (is_undef b) e
-undef_has_no_value (div a b) e = divisor_undefined (is_undef a) (is_undef b) (is_zero b && is_at_most_zero (num minus_one_fraction)) e
+undef_has_no_value (div a b) e = divisor_undefined (is_undef a) (is_undef b) (is_zero b && is_at_most_zero (num minus_one_fraction)) (has_no_half_power b (num minus_one_fraction)) e
 
 -- the answer of a node over reduced children is that of the plain value
 pub answered_plain : (t u r : Tree) → IsOver t u → IsNodeAnswer u r → IsPlainAnswer (plain_value t) r

@@ -14,7 +14,7 @@ use Rattle.deep_reduce.proofs.EasyNodes.{and_true, and_first, and_second, or_non
 use Rattle.deep_reduce.proofs.NodeRewrites.{both}
 use Rattle.deep_reduce.proofs.Rationals.{inverse_value, zero_inverse}
 use Rattle.deep_reduce.proofs.Steps.{two, or_split, or_first, or_second, left_undefined, right_undefined, undef_test, two_rationals, product_value, AreTwo, are_two, undef_number, undef_reduced, no_names}
-use Rattle.power_reduce.specs.PowerAnswers.{has_no_power, has_number_power}
+use Rattle.deep_reduce.specs.Answers.{lacks_power, is_number_power}
 use Rattle.rational128.specs.declared.overflow.Overflow.{Overflow}
 use Rattle.calc_algebra.proofs.Rewritings.{keeps, kept, reduces_after}
 use Rattle.calc_measures.specs.PlainTrees.{IsPlainAnswer, IsPlainOverflow}
@@ -77,15 +77,15 @@ module _ (a b c : Tree) (fit : (q : Fraction) → b ≡ num q → fraction_fits 
     pub div_answer : (r : Tree) → IsNodeAnswer (mult (two a c)) r → IsNodeAnswer (div a b) r
     div_answer r h = record {
       reduces = reduces_after (div_rewrites a b c known.reduces) h.reduces;
-      undefined = λ e. by (or_split (is_undef a) (has_no_power b (num minus_one_fraction)) e);
+      undefined = λ e. by (or_split (is_undef a) (lacks_power b (num minus_one_fraction)) e);
       number = λ n d.
-          let number : is_number c ≡ true = known.number (and_second (is_number a) (has_number_power b (num minus_one_fraction)) n) (or_second (is_undef a) (has_no_power b (num minus_one_fraction)) d) in
-          h.number (and_true (is_number a) (is_number c && true) (and_first (is_number a) (has_number_power b (num minus_one_fraction)) n) (and_true (is_number c) true number refl))
-          (or_none (is_undef a) (is_undef c || false) (or_first (is_undef a) (has_no_power b (num minus_one_fraction)) d) (or_none (is_undef c) false (number_defined c number) refl));
+          let number : is_number c ≡ true = known.number (and_second (is_number a) (is_number_power b (num minus_one_fraction)) n) (or_second (is_undef a) (lacks_power b (num minus_one_fraction)) d) in
+          h.number (and_true (is_number a) (is_number c && true) (and_first (is_number a) (is_number_power b (num minus_one_fraction)) n) (and_true (is_number c) true number refl))
+          (or_none (is_undef a) (is_undef c || false) (or_first (is_undef a) (lacks_power b (num minus_one_fraction)) d) (or_none (is_undef c) false (number_defined c number) refl));
       rational = λ e. subst (λ (v : PlainValue). IsPlainAnswer v r) (quotient_value (are_two a b e)) (h.rational (factors_rational e));
     }
       where
-        by : (is_undef a ≡ true) ⊎ (has_no_power b (num minus_one_fraction) ≡ true) → r ≡ undef
+        by : (is_undef a ≡ true) ⊎ (lacks_power b (num minus_one_fraction) ≡ true) → r ≡ undef
         by (inl e) = h.undefined (left_undefined a c e)
         by (inr e) = h.undefined (right_undefined a c (undef_test c (known.undefined e)))
 
@@ -105,7 +105,7 @@ module _ (a b c : Tree) (fit : (q : Fraction) → b ≡ num q → fraction_fits 
       meanings = keeps (rewrites.KeepsMeanings-trans (div_as_product a b) (undefined_part (inverse_tree b) (mult (two a (inverse_tree b))) (in_mult (later (first itself))) (kept (subst (λ (t : Tree). KeepsMeanings (inverse_tree b) t) e known.reduces.meanings))));
     };
     undefined = λ h. refl;
-    number = λ n d. absurd (undef_number (ap is_number (sym e) ∙ known.number (and_second (is_number a) (has_number_power b (num minus_one_fraction)) n) (or_second (is_undef a) (has_no_power b (num minus_one_fraction)) d)));
+    number = λ n d. absurd (undef_number (ap is_number (sym e) ∙ known.number (and_second (is_number a) (is_number_power b (num minus_one_fraction)) n) (or_second (is_undef a) (lacks_power b (num minus_one_fraction)) d)));
     rational = λ h.
         let d = are_two a b h in
         subst (λ (v : PlainValue). IsPlainAnswer v undef) (sym ((λ i. plain_value (div (d.left-is i) (d.right-is i))) ∙ zero_divisor d.left d.right c (fit d.right d.right-is) (told d) e)) refl;

@@ -1,12 +1,13 @@
 -- What calls on a node of a kind tell, in the words of any node.
-use Rattle.std.proofs.Common.{◌≡◌, ◌≢◌, pos, negsuc, true, false, ◌&&◌, refl, sym, ap, ◌∙◌, subst, arith}
+use Rattle.std.proofs.lemmas.Bool.{false_from_ne_true}
+use Rattle.std.proofs.Common.{◌≡◌, ◌≢◌, pos, negsuc, Bool, true, false, ◌&&◌, refl, sym, ap, ◌∙◌, subst, arith}
 use Rattle.std.specs.Prelude.{◌||◌}
 use Rattle.calc_terms.specs.declared.rat.Rat.{Rat}
 use Rattle.calc_terms.specs.Fractions.{lowest, whole_fraction, zero_fraction, one_fraction, minus_one_fraction}
 use Rattle.calc_terms.specs.Rat.{ratio_of, value_of}
 use Rattle.calc_terms.specs.Ratio.{Ratio, whole}
-use Rattle.calc_measures.specs.PlainValues.{plain_value}
-use Rattle.calc_algebra.specs.Reduced.{is_reduced, are_reduced}
+use Rattle.calc_measures.specs.PlainValues.{PlainValue, nothing, plain_value}
+use Rattle.calc_algebra.specs.Reduced.{is_half_num, is_reduced, is_whole_num, are_reduced}
 use Rattle.calc_terms.specs.Trees.{Tree, num, symbol, undef, add, mult, power, root, neg, sub, div, Trees, none, more, count, is_add, is_mult, is_root, is_sub, is_div, is_num, is_undef, root_kind, are_rationals, has_undef}
 use Rattle.calc_terms.specs.declared.kind.Kind.TheVariants as kind
 use Rattle.deep_reduce.specs.Answers.{IsReducedProduct, IsReducedPower}
@@ -14,6 +15,9 @@ use Rattle.deep_reduce.specs.Nodes.{IsNodeAnswer, IsNodeOverflow, is_neg}
 use Rattle.deep_reduce.proofs.EasyNodes.{and_true, and_first, and_second, or_none}
 use Rattle.deep_reduce.proofs.Steps.{two, or_first, or_second, sum_answer, product_answer, power_answer, root_answer, empty_sum_answer, empty_product_answer, number_answer, symbol_answer, undef_answer}
 use Rattle.power_reduce.specs.PowerAnswers.{base_in, exponent_in}
+use Rattle.power_reduce.proofs.Cases.{no_plain_value}
+use Rattle.power_reduce.proofs.Exponents.{whole_no_half}
+use Rattle.power_reduce.proofs.Whole.{whole_is}
 use Rattle.radical_forms.specs.RootAnswers.{argument_of, IsRootAnswer}
 use Rattle.rational128.specs.declared.overflow.Overflow.{Overflow}
 use Rattle.calc_measures.specs.PlainTrees.{IsPlainAnswer, IsPlainOverflow}
@@ -94,6 +98,38 @@ power_told t r k a p = cc
 pub power_sides : (t : Tree) → t ≡ power (base_in t) (exponent_in t) → are_rationals (children_of t) ≡ true → (is_num (base_in t) ≡ true) × (is_num (exponent_in t) ≡ true)
 power_sides (power b e) k h = (and_first (is_num b) (is_num e && true) h, and_first (is_num e) true (and_second (is_num b) (is_num e && true) h))
 power_sides t k h = cc
+
+-- both sides are rationals, and the exponent is no half
+pub record IsRationalPower (t : Tree) : Type 0 where
+  pub rationals : are_rationals (children_of t) ≡ true
+  pub no_half : is_half_num (exponent_in t) ≡ false
+
+half_no_whole : (e : Tree) → is_half_num e ≡ true → is_whole_num e ≡ false
+half_no_whole e h = false_from_ne_true (is_whole_num e) (λ w. clash (is_half_num e) h (whole_no_half e w))
+  where
+    clash : (x : Bool) → x ≡ true → x ≡ false → ⊥
+    clash x e f = cc
+
+-- a power by half of an odd whole number has no plain value
+half_plain : (t : Tree) → t ≡ power (base_in t) (exponent_in t) → are_rationals (children_of t) ≡ true → is_half_num (exponent_in t) ≡ true → plain_value t ≡ nothing
+half_plain t k h e = let s = power_sides t k h in ap plain_value k ∙ no_plain_value (base_in t) (exponent_in t) s.0 s.1 (half_no_whole (exponent_in t) e)
+
+pub rational_answer : (t r : Tree) → t ≡ power (base_in t) (exponent_in t) → (IsRationalPower t → IsPlainAnswer (plain_value t) r) → are_rationals (children_of t) ≡ true → IsPlainAnswer (plain_value t) r
+rational_answer t r k p h = by (is_half_num (exponent_in t)) refl
+  where
+    by : (x : Bool) → is_half_num (exponent_in t) ≡ x → IsPlainAnswer (plain_value t) r
+    by true e = subst (λ (v : PlainValue). IsPlainAnswer v r) (sym (half_plain t k h e)) tt
+    by false e = p (record { rationals = h; no_half = e })
+
+pub rational_overflow : (t : Tree) (o : Overflow) → t ≡ power (base_in t) (exponent_in t) → (IsRationalPower t → IsPlainOverflow (plain_value t) o) → are_rationals (children_of t) ≡ true → IsPlainOverflow (plain_value t) o
+rational_overflow t o k p h = by (is_half_num (exponent_in t)) refl
+  where
+    by : (x : Bool) → is_half_num (exponent_in t) ≡ x → IsPlainOverflow (plain_value t) o
+    by true e = subst (λ (v : PlainValue). IsPlainOverflow v o) (sym (half_plain t k h e)) tt
+    by false e = p (record { rationals = h; no_half = e })
+
+pub inverse_no_half : (t b : Tree) → t ≡ power b (num minus_one_fraction) → is_half_num (exponent_in t) ≡ false
+inverse_no_half t b e = ap (λ (u : Tree). is_half_num (exponent_in u)) e ∙ whole_no_half (num minus_one_fraction) (whole_is (negsuc 0))
 
 pub power_reduced : (t : Tree) → t ≡ power (base_in t) (exponent_in t) → are_reduced (children_of t) ≡ true → (is_reduced (base_in t) ≡ true) × (is_reduced (exponent_in t) ≡ true)
 power_reduced (power b e) k h = (and_first (is_reduced b) (is_reduced e && true) h, and_first (is_reduced e) true (and_second (is_reduced b) (is_reduced e && true) h))

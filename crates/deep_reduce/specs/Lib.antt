@@ -1,4 +1,5 @@
 pub mod Answers
+pub mod Halves
 pub mod Unfinished
 pub mod Nodes
 pub mod Reductions

@@ -4,7 +4,7 @@ use Rattle.calc_terms.specs.Fractions.{minus_one_fraction}
 use Rattle.calc_algebra.specs.Numbers.{is_number, are_numbers}
 use Rattle.calc_measures.specs.PlainValues.{plain_value}
 use Rattle.calc_terms.specs.Trees.{Tree, num, undef, add, mult, power, root, neg, sub, div, is_num, is_undef, has_undef, are_rationals}
-use Rattle.power_reduce.specs.PowerAnswers.{has_no_power, has_number_power}
+use Rattle.deep_reduce.specs.Answers.{lacks_power, is_number_power}
 use Rattle.radical_forms.specs.RootAnswers.{has_no_root}
 use Rattle.rational128.specs.declared.overflow.Overflow.{Overflow}
 use Rattle.calc_measures.specs.PlainTrees.{IsPlainAnswer, IsPlainOverflow}
@@ -15,17 +15,17 @@ abbrev pub is_neg : Tree → Bool
 is_neg (neg a) = true
 is_neg _ = false
 
--- its children show that it has no value: one is Undef, a divisor is zero, zero stands to a whole power of at most 0, or a
--- negative rational stands under a root
+-- its children show that it has no value: one is Undef, a divisor is zero, zero or a negative rational stands to a power
+-- that it does not have, or a negative rational stands under a root
 abbrev pub has_no_value : Tree → Bool
 has_no_value undef = true
 has_no_value (add ts) = has_undef ts
 has_no_value (mult ts) = has_undef ts
-has_no_value (power b e) = has_no_power b e
+has_no_value (power b e) = lacks_power b e
 has_no_value (root a) = has_no_root a
 has_no_value (neg a) = is_undef a
 has_no_value (sub a b) = is_undef a || is_undef b
-has_no_value (div a b) = is_undef a || has_no_power b (num minus_one_fraction)
+has_no_value (div a b) = is_undef a || lacks_power b (num minus_one_fraction)
 has_no_value _ = false
 
 -- its children show that it is worth a Number, where it has a value
@@ -33,11 +33,11 @@ abbrev pub has_number : Tree → Bool
 has_number (num q) = true
 has_number (add ts) = are_numbers ts
 has_number (mult ts) = are_numbers ts
-has_number (power b e) = has_number_power b e
+has_number (power b e) = is_number_power b e
 has_number (root a) = is_num a
 has_number (neg a) = is_number a
 has_number (sub a b) = is_number a && is_number b
-has_number (div a b) = is_number a && has_number_power b (num minus_one_fraction)
+has_number (div a b) = is_number a && is_number_power b (num minus_one_fraction)
 has_number _ = false
 
 -- the answer for a node t over reduced children

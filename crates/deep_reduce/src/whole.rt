@@ -1,8 +1,8 @@
 //! Products and powers of reduced trees: steps are taken, and the new powers of each are reduced,
 //! until nothing is left to reduce.
-ghost use Rattle.std.specs.Prelude.{◌≡◌, ◌≤◌, IfOk, IfErr, OnOk, [], ◌∷◌, true};
+ghost use Rattle.std.specs.Prelude.{◌≡◌, ◌≤◌, IfOk, IfErr, OnOk, [], ◌∷◌, true, false};
 ghost use Rattle.calc_measures.specs.PlainValues.{plain_value};
-ghost use Rattle.calc_algebra.specs.Reduced.{is_reduced, are_reduced};
+ghost use Rattle.calc_algebra.specs.Reduced.{is_half_num, is_reduced, are_reduced};
 ghost use Rattle.calc_terms.specs.Trees.{count, is_mult, is_num, power as power_tree, are_rationals};
 ghost use Rattle.deep_reduce.specs.Answers.{IsReducedProduct, IsWrittenApart, IsReducedPower};
 ghost use Rattle.deep_reduce.specs.Unfinished.{AreTransparent, Finishes, IsLifted, IsProductOfPowers, IsSettled, IsUnfinished};
@@ -17,6 +17,7 @@ ghost use Rattle.tree_handles.specs.Roots.{without_root};
 ghost use Rattle.tree_handles.specs.Standing.{Stands, forest, KeepsRefusals};
 
 use crate::exponents::sum_exponent;
+use crate::halves::{has_half_exponent, reduce_half_power};
 use calc_terms::Kind;
 use node_pool::Pool;
 use power_reduce::power_step;
@@ -90,13 +91,17 @@ pub fn reduce_power(pool: &mut Pool, power: Handle) -> Result<Handle, NumberFaul
         IfOk result (λ h. Gives (without_root power (forest pool.old)) (forest pool.new) h
         (IsReducedPower (base_in t) (exponent_in t))) }
     ensures rationals { let t = tree_of power pool.old in
-        is_num (base_in t) ≡ true → is_num (exponent_in t) ≡ true → AnswersRationals (plain_value t) pool.new result }
+        is_num (base_in t) ≡ true → is_num (exponent_in t) ≡ true → is_half_num (exponent_in t) ≡ false
+        → AnswersRationals (plain_value t) pool.new result }
     ensures front { KeepsFront (power ∷ []) (forest pool.old) (forest pool.new) }
     ensures kept { OnOk result (KeepsRefusals pool.old pool.new) }
     ensures faults { IfErr result (Faults pool.old pool.new) }
     ensures caused { IfErr result (IsCaused pool.new) }
     ensures stands { Stands pool.new }
 {
+    if has_half_exponent(pool, &power) {
+        return reduce_half_power(pool, power);
+    }
     match power_step(pool, power)? {
         Step::Done(answer) => Ok(answer),
         Step::Again(tree) => reduce_rewritten(pool, tree),

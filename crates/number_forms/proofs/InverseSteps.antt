@@ -1,17 +1,24 @@
 -- Inverses by terms.
-use Rattle.std.proofs.Common.{◌≡◌, [], ◌∷◌, Some, length, true, false, sym, ap, subst, arith}
-use Rattle.std.specs.Prelude.{slice_get}
+use Rattle.std.proofs.Common.{◌≡◌, ℕ, ◌≤◌, [], ◌∷◌, Some, Err, length, true, false, refl, sym, ap, ◌∙◌, subst, arith}
+use Rattle.std.specs.Prelude.{slice_get, None}
 use Rattle.calc_algebra.specs.Numbers.{is_number, is_term, term_of, value, Rises}
 use Rattle.calc_algebra.specs.SquareClasses.{are_alike, Inverts}
 use Rattle.calc_algebra.specs.Surds.{Term, Surd}
-use Rattle.calc_terms.specs.Trees.{Tree, add, more, none}
+use Rattle.calc_terms.specs.Trees.{Tree, add, Trees, more, none, size, sizes}
 use Rattle.calc_algebra.proofs.InverseLaws.{Inverts-Same}
 use Rattle.calc_algebra.proofs.NumberClasses.{value_rises}
 use Rattle.calc_algebra.proofs.NumberLaws.{number_words, term_words}
 use Rattle.calc_algebra.proofs.SquareClassLaws.{Same-trans}
 use Rattle.calc_algebra.proofs.TermLaws.{Same-eq}
 use Rattle.number_forms.specs.Answers.{IsNumberOf}
-use Rattle.number_forms.specs.Inverses.{IsInverseOf}
+use Rattle.node_pool.specs.declared.full.Full.{Full}
+use Rattle.number_forms.specs.Inverses.{inverse_trees, IsInverseOf, HasInverse, LacksInverse}
+use Rattle.number_forms.specs.Overflows.{inverting_calculations}
+use Rattle.number_forms.specs.Shapes.{term_tree, sum_of_terms}
+use Rattle.surd_terms.specs.Calculations.{Calculation, first_misfit}
+use Rattle.surd_terms.specs.Inverses.{inverse_of, first_of_inverse, second_of_inverse}
+use Rattle.tree_handles.specs.Building.{building, node_sizes, nodes_sizes, taking}
+use Rattle.number_forms.proofs.Placings.{lacking_on}
 use Rattle.number_forms.proofs.Shaped.{single_number, sum_number}
 use Rattle.number_forms.proofs.Worth.{Same-sym}
 
@@ -35,13 +42,13 @@ apart_terms t x y h e = by (value t) e (value_rises t (number_words t h))
     by : (v : Surd) → v ≡ x ∷ y ∷ [] → Rises v → are_alike x.radicand y.radicand ≡ false
     by v q r = let w : Rises (x ∷ y ∷ []) = subst Rises q r in w.0.1
 
-pub inverse_term : (v : Surd) (t : Tree) (x y : Term) → v ≡ x ∷ [] → Inverts (y ∷ []) (x ∷ []) → is_term t ≡ true → term_of t ≡ y → IsInverseOf v t
-inverse_term v t x y e i h f =
+pub inverse_term : (v : Surd) (t : Tree) (x y : Term) → v ≡ x ∷ [] → Inverts (y ∷ []) (x ∷ []) → is_term t ≡ true → term_of t ≡ y → inverse_trees v ≡ more t none → IsInverseOf v t
+inverse_term v t x y e i h f w =
     let n : IsNumberOf (term_of t ∷ []) t = single_number t (term_words t h) in
-    record { number = n.number; inverts = Inverts-Same (Same-sym (Same-trans n.worth (Same-eq (ap (λ (z : Term). z ∷ []) f)))) (Same-eq (sym e)) i }
+    record { number = n.number; inverts = Inverts-Same (Same-sym (Same-trans n.worth (Same-eq (ap (λ (z : Term). z ∷ []) f)))) (Same-eq (sym e)) i; written = w }
 
-pub inverse_number : (v w : Surd) (t : Tree) (u : Surd) → v ≡ w → Inverts u w → IsNumberOf u t → IsInverseOf v t
-inverse_number v w t u e i n = record { number = n.number; inverts = Inverts-Same (Same-sym n.worth) (Same-eq (sym e)) i }
+pub inverse_number : (v w : Surd) (t : Tree) (u : Surd) → v ≡ w → Inverts u w → IsNumberOf u t → inverse_trees v ≡ more t none → IsInverseOf v t
+inverse_number v w t u e i n r = record { number = n.number; inverts = Inverts-Same (Same-sym n.worth) (Same-eq (sym e)) i; written = r }
 
 -- the terms of a Number of two classes rise, and so do terms with their radicands
 pub two_rise : (t : Tree) (x y p q : Term) → is_number t ≡ true → value t ≡ x ∷ y ∷ [] → p.radicand ≡ x.radicand → q.radicand ≡ y.radicand → Rises (p ∷ q ∷ [])
@@ -56,3 +63,40 @@ placed_two t u x a b e h f k g r =
     subst (λ (s : Tree). IsNumberOf (a ∷ b ∷ []) s) (sym e)
     (subst (λ (v : Surd). IsNumberOf v (add (more u (more x none)))) these
     (sum_number (more u (more x none)) (omega arith) (term_words u h, (term_words x k, tt)) (subst Rises (sym these) r)))
+
+-- ---- the new tree, and whether its bytes suffice
+
+pub tree_of_one : (v : Surd) (x y : Term) → v ≡ x ∷ [] → y ≡ inverse_of x → inverse_trees v ≡ more (term_tree y) none
+tree_of_one v x y e f = ap inverse_trees e ∙ ap (λ (z : Term). more (term_tree z) none) (sym f)
+
+pub tree_of_two : (v : Surd) (x y p q : Term) → v ≡ x ∷ y ∷ [] → p ≡ first_of_inverse x y → q ≡ second_of_inverse x y → inverse_trees v ≡ more (sum_of_terms p q) none
+tree_of_two v x y p q e f g = ap inverse_trees e ∙ (λ i. more (sum_of_terms (sym f i) (sym g i)) none)
+
+pub fits_as : (v w : Surd) → v ≡ w → None ≡ first_misfit (inverting_calculations w) → first_misfit (inverting_calculations v) ≡ None
+fits_as v w e m = ap (λ (u : Surd). first_misfit (inverting_calculations u)) e ∙ sym m
+
+pub unfit : (v w : Surd) (c : Calculation) (free : ℕ) → v ≡ w → Some c ≡ first_misfit (inverting_calculations w) → HasInverse v free → ⊥
+unfit v w c free e m h = let k : first_misfit (inverting_calculations w) ≡ None = ap (λ (u : Surd). first_misfit (inverting_calculations u)) (sym e) ∙ h.calculated in cc (m, k)
+
+pub has_inverse : (v : Surd) (t : Tree) (free : ℕ) → first_misfit (inverting_calculations v) ≡ None → inverse_trees v ≡ more t none → size t ≤ free → HasInverse v free
+has_inverse v t free m w l = record { calculated = m; room = omega (arith, ap sizes w, l) }
+
+pub room_for : (v : Surd) (t : Tree) (free : ℕ) → inverse_trees v ≡ more t none → HasInverse v free → size t ≤ free
+room_for v t free w h = omega (arith, ap sizes w, h.room)
+
+pub lacks_inverse : (v : Surd) (t : Tree) (now free : ℕ) (full : Full) → first_misfit (inverting_calculations v) ≡ None → inverse_trees v ≡ more t none → now ≡ free → building now t ≡ Err full → LacksInverse v free full
+lacks_inverse v t now free full m w e b = record {
+  calculated = m;
+  lacks = ap (λ (ts : Trees). taking free (nodes_sizes ts)) w ∙ lacking_on free (node_sizes t) [] full (subst (λ (n : ℕ). building n t ≡ Err full) e b);
+}
+
+-- none is made for no class, or for three or more
+pub none_to_make : (v : Surd) (free : ℕ) → length v ≡ 0 → HasInverse v free
+none_to_make [] free e = record { calculated = refl; room = omega arith }
+none_to_make (x ∷ v) free e = absurd (omega arith)
+
+pub too_wide : (v : Surd) (free : ℕ) → 3 ≤ length v → HasInverse v free
+too_wide [] free l = absurd (omega arith)
+too_wide (x ∷ []) free l = absurd (omega arith)
+too_wide (x ∷ y ∷ []) free l = absurd (omega arith)
+too_wide (x ∷ y ∷ z ∷ v) free l = record { calculated = refl; room = omega arith }

@@ -1,18 +1,22 @@
 -- Whether the bytes of a term's tree suffice.
 use Rattle.std.proofs.Common.{◌≡◌, ◌≢◌, ◌↔◌, ℕ, ◌+◌, ◌-◌, ◌==◌, ◌<◌, ◌≤◌, true, false, Bool, pos, List, length, [], ◌∷◌, ◌++◌, Result, Ok, Err, refl, sym, ap, ◌∙◌, subst, arith}
-use Rattle.std.specs.Prelude.{IsOk, IsErr, IfErr, nat_le, if◌then◌else◌}
+use Rattle.std.specs.Prelude.{IsOk, IsErr, IfOk, IfErr, nat_le, if◌then◌else◌}
 use Rattle.std.proofs.lemmas.Bool.{eqb-true, eq-eqb, le-leb, lt-leb}
 use Rattle.calc_terms.specs.Fractions.{Fraction, lowest, one_fraction, is_one_fraction, is_zero_fraction, whole_fraction}
 use Rattle.calc_terms.specs.Gcd.{gcd}
-use Rattle.calc_terms.specs.Trees.{Tree, num, root, mult, more, none, size}
+use Rattle.calc_terms.specs.Trees.{Tree, num, symbol, undef, add, mult, power, root, neg, sub, div, Trees, more, none, size, sizes, root_size}
 use Rattle.calc_terms.proofs.FractionFacts.{one_is}
 use Rattle.calc_algebra.specs.Numbers.{value, classes}
 use Rattle.calc_algebra.specs.Surds.{Term, surd_of}
 use Rattle.node_pool.specs.State.{State, free_of}
 use Rattle.node_pool.specs.declared.full.Full.{Full}
 use Rattle.number_forms.specs.Shapes.{term_tree}
-use Rattle.tree_handles.specs.Building.{taking}
-use Rattle.tree_handles.specs.Handed.{Gives}
+use Rattle.tree_handles.specs.Building.{node_sizes, nodes_sizes, taking}
+use Rattle.tree_handles.specs.Forest.{Forest}
+use Rattle.tree_handles.specs.Handed.{tree_of, Gives}
+use Rattle.tree_handles.specs.Roots.{root_tree}
+use Rattle.tree_handles.specs.Expressions.{plain}
+use Rattle.tree_handles.proofs.Lasts.{last_tree}
 use Rattle.tree_handles.specs.Standing.{Stands, forest, KeepsRefusals, IsRefused}
 use Rattle.tree_handles.proofs.Given.{given_told}
 use Rattle.tree_handles.proofs.Room.{given_free}
@@ -51,11 +55,53 @@ lacking_on free (n ∷ ns) ms full e = by (nat_le n free) e (lacking_on (free - 
     by true h k = k h
     by false h k = h
 
+-- nodes for which there is room, before others
+abbrev total : List ℕ → ℕ
+total [] = 0
+total (n ∷ ns) = n + total ns
+
+past : (free left : ℕ) (ns ms : List ℕ) → free ≡ left + total ns → taking free (ns ++ ms) ≡ taking left ms
+past free left [] ms e = ap (λ f. taking f ms) (omega arith)
+past free left (n ∷ ns) ms e = taken free (left + total ns) n (ns ++ ms) (omega arith) ∙ past (left + total ns) left ns ms refl
+
+total-behind : (ns : List ℕ) (n : ℕ) → total (ns ++ n ∷ []) ≡ total ns + n
+total-behind [] n = omega arith
+total-behind (m ∷ ns) n = omega (arith, total-behind ns n)
+
+total-both : (ns ms : List ℕ) → total (ns ++ ms) ≡ total ns + total ms
+total-both [] ms = omega arith
+total-both (n ∷ ns) ms = omega (arith, total-both ns ms)
+
+mutual
+  total-node_sizes : (t : Tree) → total (node_sizes t) ≡ size t
+  total-node_sizes (num q) = omega arith
+  total-node_sizes (symbol x) = omega arith
+  total-node_sizes undef = omega arith
+  total-node_sizes (add ts) = omega (arith, total-behind (nodes_sizes ts) (root_size (add ts)), total-nodes_sizes ts)
+  total-node_sizes (mult ts) = omega (arith, total-behind (nodes_sizes ts) (root_size (mult ts)), total-nodes_sizes ts)
+  total-node_sizes (power b e) = omega (arith, total-behind (node_sizes b ++ node_sizes e) (root_size (power b e)), total-both (node_sizes b) (node_sizes e), total-node_sizes b, total-node_sizes e)
+  total-node_sizes (root a) = omega (arith, total-behind (node_sizes a) (root_size (root a)), total-node_sizes a)
+  total-node_sizes (neg a) = omega (arith, total-behind (node_sizes a) (root_size (neg a)), total-node_sizes a)
+  total-node_sizes (sub a b) = omega (arith, total-behind (node_sizes a ++ node_sizes b) (root_size (sub a b)), total-both (node_sizes a) (node_sizes b), total-node_sizes a, total-node_sizes b)
+  total-node_sizes (div a b) = omega (arith, total-behind (node_sizes a ++ node_sizes b) (root_size (div a b)), total-both (node_sizes a) (node_sizes b), total-node_sizes a, total-node_sizes b)
+
+  total-nodes_sizes : (ts : Trees) → total (nodes_sizes ts) ≡ sizes ts
+  total-nodes_sizes none = refl
+  total-nodes_sizes (more t ts) = omega (arith, total-both (node_sizes t) (nodes_sizes ts), total-node_sizes t, total-nodes_sizes ts)
+
+-- a tree for which there is room, before other nodes
+pub built : (free left : ℕ) (t : Tree) (ms : List ℕ) → free ≡ left + size t → taking free (node_sizes t ++ ms) ≡ taking left ms
+built free left t ms e = past free left (node_sizes t) ms (omega (arith, total-node_sizes t))
+
+-- two trees for which there is room, before other nodes
+pub placed_before : (free mid left : ℕ) (x y : Tree) (ms : List ℕ) → free ≡ mid + size x → mid ≡ left + size y → taking free (nodes_sizes (more x (more y none)) ++ ms) ≡ taking left ms
+placed_before free mid left x y ms e f = past free left (nodes_sizes (more x (more y none))) ms (omega (arith, total-nodes_sizes (more x (more y none))))
+
 pub number_lacks : {A : Type 0} (s t : State) (r : Result A Full) → IfErr r (IsRefused 40 s t) → IfErr r (λ full. taking (free_of s) (40 ∷ []) ≡ Err full)
 number_lacks s t (Ok x) h = tt
 number_lacks s t (Err full) h = lacking [] h
 
-one_test : is_one_fraction one_fraction ≡ true
+pub one_test : is_one_fraction one_fraction ≡ true
 unfolding one_fraction lowest gcd
 one_test = refl
 
@@ -104,3 +150,14 @@ rational_radicand t q x e f = by (is_zero_fraction q) (sym (ap value e) ∙ f)
       where
         first_of : {y z : Term} → y ∷ [] ≡ z ∷ [] → y ≡ z
         first_of k = cc
+
+-- ---- the very tree
+
+-- an answer that is this tree
+pub told_tree : {E : Type 0} (r : Result ℕ E) (f : Forest) (s : State) (u v : Tree) → IfOk r (λ h. Gives f (forest s) h (λ t. t ≡ u)) → u ≡ v → IfOk r (λ h. tree_of h s ≡ v)
+told_tree (Ok h) f s u v g e = given_told g ∙ e
+told_tree (Err x) f s u v g e = tt
+
+-- what is told of it, and that it is this one
+pub given_tree : {f g : Forest} {i : ℕ} {P : Tree → Type 0} {u : Tree} → Gives f g i P → plain (root_tree i g) ≡ u → Gives f g i (λ t. P t × (t ≡ u))
+given_tree g e = record { tree = g.tree; ends = g.ends; once = g.once; whole = g.whole; told = (g.told, sym (ap plain (last_tree g.ends)) ∙ e) }

@@ -1,19 +1,42 @@
 -- What inverting a Number comes to.
-use Rattle.std.specs.Prelude.{ℕ, ◌≡◌, ◌≤◌, true}
+use Rattle.std.specs.Prelude.{ℕ, ◌≡◌, ◌≤◌, true, None, Err, [], ◌∷◌}
 use Rattle.calc_algebra.specs.Numbers.{is_number, value, classes}
 use Rattle.calc_algebra.specs.SquareClasses.{Inverts}
 use Rattle.calc_algebra.specs.Surds.{Surd}
-use Rattle.calc_terms.specs.Trees.{Tree}
+use Rattle.calc_terms.specs.Trees.{Tree, Trees, none, more, sizes}
+use Rattle.node_pool.specs.declared.full.Full.{Full}
+use Rattle.number_forms.specs.Overflows.{inverting_calculations}
+use Rattle.number_forms.specs.Shapes.{term_tree, sum_of_terms}
 use Rattle.number_forms.specs.declared.inverting.Inverse.{Inverse}
 use Rattle.number_forms.specs.declared.inverting.Inverse.TheVariants as inverse
+use Rattle.surd_terms.specs.Calculations.{first_misfit}
+use Rattle.surd_terms.specs.Inverses.{inverse_of, first_of_inverse, second_of_inverse}
+use Rattle.tree_handles.specs.Building.{nodes_sizes, taking}
 use Rattle.tree_handles.specs.Forest.{Forest}
 use Rattle.tree_handles.specs.Handed.{Gives}
 use Rattle.tree_handles.specs.Roots.{without_root}
 
--- a Number that inverts v
+-- the new tree for the inverse of one term, or of the sum of two; there is none for others
+abbrev pub inverse_trees : Surd → Trees
+inverse_trees (x ∷ []) = more (term_tree (inverse_of x)) none
+inverse_trees (x ∷ y ∷ []) = more (sum_of_terms (first_of_inverse x y) (second_of_inverse x y)) none
+inverse_trees _ = none
+
+-- a Number that inverts v, written as the terms of the formula
 pub record IsInverseOf (v : Surd) (t : Tree) : Type 0 where
   pub number : is_number t ≡ true
   pub inverts : Inverts (value t) v
+  pub written : inverse_trees v ≡ more t none
+
+-- each calculation fits, and so does the new tree in the free bytes
+pub record HasInverse (v : Surd) (free : ℕ) : Type 0 where
+  pub calculated : first_misfit (inverting_calculations v) ≡ None
+  pub room : sizes (inverse_trees v) ≤ free
+
+-- each calculation fits, but a node of the new tree finds no room: what it needs, and what is left for it
+pub record LacksInverse (v : Surd) (free : ℕ) (full : Full) : Type 0 where
+  pub calculated : first_misfit (inverting_calculations v) ≡ None
+  pub lacks : taking free (nodes_sizes (inverse_trees v)) ≡ Err full
 
 -- the inverse of a Number of one class or two; no tree for one of no class; the Number itself, where it stands, for one of three or more
 abbrev pub AnswersInverse : ℕ → Tree → Forest → Forest → Inverse → Type 0

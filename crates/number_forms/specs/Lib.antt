@@ -5,3 +5,4 @@ pub mod Answers
 pub mod Joins
 pub mod Inverses
 pub mod Overflows
+pub mod Lacks

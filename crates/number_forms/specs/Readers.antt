@@ -1,5 +1,5 @@
 -- What readers of Numbers tell.
-use Rattle.std.specs.Prelude.{Bool, false}
+use Rattle.std.specs.Prelude.{ℤ, pos, Bool, false}
 use Rattle.calc_terms.specs.Fractions.{is_zero_fraction}
 use Rattle.calc_terms.specs.Trees.{Tree, num}
 
@@ -7,3 +7,8 @@ use Rattle.calc_terms.specs.Trees.{Tree, num}
 abbrev pub is_zero : Tree → Bool
 is_zero (num q) = is_zero_fraction q
 is_zero _ = false
+
+-- the numerator of a rational
+abbrev pub numerator : Tree → ℤ
+numerator (num q) = q.num
+numerator _ = pos 0

@@ -2,7 +2,7 @@
 use Rattle.std.specs.Prelude.{Bool, true, false, ◌≡◌, ◌==◌, pos, if◌then◌else◌}
 use Rattle.calc_terms.specs.Fractions.{is_one_fraction, whole_fraction}
 use Rattle.calc_terms.specs.Rat.{value_of}
-use Rattle.calc_terms.specs.Trees.{Tree, num, mult, root, none, more}
+use Rattle.calc_terms.specs.Trees.{Tree, num, add, mult, root, none, more}
 use Rattle.calc_algebra.specs.Surds.{Term}
 use Rattle.number_forms.specs.declared.shape.Shape.{Shape}
 use Rattle.number_forms.specs.declared.shape.Shape.TheVariants as shape
@@ -32,3 +32,7 @@ term_tree t =
     if t.radicand == 1 then num t.coefficient
     else if is_one_fraction t.coefficient then root (num (whole_fraction (pos t.radicand)))
     else mult (more (num t.coefficient) (more (root (num (whole_fraction (pos t.radicand)))) none))
+
+-- the tree of the sum of two terms
+abbrev pub sum_of_terms : Term → Term → Tree
+sum_of_terms s t = add (more (term_tree s) (more (term_tree t) none))

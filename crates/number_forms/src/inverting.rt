@@ -1,11 +1,15 @@
 //! Inverses of Numbers.
-ghost use Rattle.std.specs.Prelude.{◌≡◌, ◌∷◌, [], true, IfOk, IfErr, IsOk, OnOk};
+ghost use Rattle.std.specs.Prelude.{◌≡◌, ◌↔◌, ◌≤◌, ◌+◌, ◌∷◌, [], true, Err, IfOk, IfErr, IsOk, OnOk};
 ghost use Rattle.calc_terms.specs.Fractions.{Fraction};
-ghost use Rattle.calc_terms.specs.Trees.{num};
+ghost use Rattle.calc_terms.specs.Trees.{num, size};
 ghost use Rattle.calc_algebra.specs.Numbers.{is_number, value, classes, Rises};
 ghost use Rattle.number_forms.specs.Answers.{IsNumberOf};
-ghost use Rattle.number_forms.specs.Inverses.{AnswersInverse, IsInverseOf};
+ghost use Rattle.node_pool.specs.State.{free_of};
+ghost use Rattle.number_forms.specs.Inverses.{AnswersInverse, HasInverse, IsInverseOf, LacksInverse};
+ghost use Rattle.number_forms.specs.Lacks.{OfFull};
 ghost use Rattle.number_forms.specs.Overflows.{InverseOverflows};
+ghost use Rattle.number_forms.specs.Shapes.{sum_of_terms};
+ghost use Rattle.tree_handles.specs.Building.{building};
 ghost use Rattle.tree_handles.specs.Causes.{IsCaused};
 ghost use Rattle.tree_handles.specs.Handed.{tree_of, IsHanded, Gives, KeepsFront};
 ghost use Rattle.surd_terms.specs.Terms.{term_of};
@@ -33,7 +37,7 @@ pub enum Inverse {
 }
 
 /// The inverse of a Number of one class or two, by the conjugate. The Number is consumed, but for three
-/// classes or more.
+/// classes or more: its bytes are free again before the inverse is placed, child before parent.
 pub fn invert_number(pool: &mut Pool, a: Handle) -> Result<Inverse, NumberFault>
     requires stands { Stands pool.old }
     requires handed { IsHanded a (forest pool.old) }
@@ -43,7 +47,9 @@ pub fn invert_number(pool: &mut Pool, a: Handle) -> Result<Inverse, NumberFault>
     ensures kept { OnOk result (KeepsRefusals pool.old pool.new) }
     ensures faults { IfErr result (Faults pool.old pool.new) }
     ensures rational { (q : Fraction) → tree_of a pool.old ≡ num q → IsOk result }
+    ensures exactly { IsOk result ↔ HasInverse (value (tree_of a pool.old)) (free_of pool.old + size (tree_of a pool.old)) }
     ensures overflow { IfErr result (OfOverflow (InverseOverflows (value (tree_of a pool.old)))) }
+    ensures first_lack { IfErr result (OfFull (LacksInverse (value (tree_of a pool.old)) (free_of pool.old + size (tree_of a pool.old)))) }
     ensures caused { IfErr result (IsCaused pool.new) }
     ensures stands { Stands pool.new }
 {
@@ -71,7 +77,9 @@ fn invert_one(pool: &mut Pool, a: Handle) -> Result<Handle, NumberFault>
     ensures kept { OnOk result (KeepsRefusals pool.old pool.new) }
     ensures faults { IfErr result (Faults pool.old pool.new) }
     ensures rational { (q : Fraction) → tree_of a pool.old ≡ num q → IsOk result }
+    ensures exactly { IsOk result ↔ HasInverse (value (tree_of a pool.old)) (free_of pool.old + size (tree_of a pool.old)) }
     ensures overflow { IfErr result (OfOverflow (InverseOverflows (value (tree_of a pool.old)))) }
+    ensures first_lack { IfErr result (OfFull (LacksInverse (value (tree_of a pool.old)) (free_of pool.old + size (tree_of a pool.old)))) }
     ensures caused { IfErr result (IsCaused pool.new) }
     ensures stands { Stands pool.new }
 {
@@ -90,7 +98,9 @@ fn invert_two(pool: &mut Pool, a: Handle) -> Result<Handle, NumberFault>
     ensures front { KeepsFront (a ∷ []) (forest pool.old) (forest pool.new) }
     ensures kept { OnOk result (KeepsRefusals pool.old pool.new) }
     ensures faults { IfErr result (Faults pool.old pool.new) }
+    ensures exactly { IsOk result ↔ HasInverse (value (tree_of a pool.old)) (free_of pool.old + size (tree_of a pool.old)) }
     ensures overflow { IfErr result (OfOverflow (InverseOverflows (value (tree_of a pool.old)))) }
+    ensures first_lack { IfErr result (OfFull (LacksInverse (value (tree_of a pool.old)) (free_of pool.old + size (tree_of a pool.old)))) }
     ensures caused { IfErr result (IsCaused pool.new) }
     ensures stands { Stands pool.new }
 {
@@ -106,10 +116,13 @@ fn place_sum(pool: &mut Pool, a: Term, b: Term) -> Result<Handle, Full>
     requires stands { Stands pool.old }
     requires rises { Rises (term_of a ∷ term_of b ∷ []) }
     ensures ok { IfOk result (λ h. Gives (forest pool.old) (forest pool.new) h (IsNumberOf (term_of a ∷ term_of b ∷ []))) }
+    ensures tree { IfOk result (λ h. tree_of h pool.new ≡ sum_of_terms (term_of a) (term_of b)) }
     ensures front { KeepsFront [] (forest pool.old) (forest pool.new) }
     ensures kept { OnOk result (KeepsRefusals pool.old pool.new) }
     ensures full { IfErr result (Refuses pool.old pool.new) }
     ensures caused { IfErr result (LacksBytes pool.new) }
+    ensures exactly { IsOk result ↔ (size (sum_of_terms (term_of a) (term_of b)) ≤ free_of pool.old) }
+    ensures first_lack { IfErr result (λ full. building (free_of pool.old) (sum_of_terms (term_of a) (term_of b)) ≡ Err full) }
     ensures stands { Stands pool.new }
 {
     let first = place_term(pool, a)?;

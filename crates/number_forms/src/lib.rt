@@ -20,7 +20,7 @@ pub use inverting::{Inverse, invert_number};
 pub use multiplying::multiply_numbers;
 pub use placing::place_term;
 pub use powers::power_number;
-pub use read::{classes, is_reduced_number, is_zero, whole};
+pub use read::{classes, half, is_reduced_number, is_zero, whole};
 pub use recognize::is_number;
 pub use term::term_at;
 

@@ -9,7 +9,7 @@ ghost use Rattle.number_forms.specs.Shapes.{term_tree};
 ghost use Rattle.tree_handles.specs.Building.{building};
 ghost use Rattle.tree_handles.specs.Standing.{LacksBytes, Stands, forest, KeepsRefusals, Refuses};
 ghost use Rattle.surd_terms.specs.Terms.{term_of};
-ghost use Rattle.tree_handles.specs.Handed.{Gives, KeepsFront};
+ghost use Rattle.tree_handles.specs.Handed.{tree_of, Gives, KeepsFront};
 
 use calc_terms::{Kind, Rat};
 use node_pool::{Full, Pool};
@@ -21,6 +21,7 @@ use tree_handles::{Handle, add_child, node, number};
 pub fn place_term(pool: &mut Pool, term: Term) -> Result<Handle, Full>
     requires stands { Stands pool.old }
     ensures ok { IfOk result (λ h. Gives (forest pool.old) (forest pool.new) h (λ t. (is_term t ≡ true) × (term_of_tree t ≡ term_of term))) }
+    ensures tree { IfOk result (λ h. tree_of h pool.new ≡ term_tree (term_of term)) }
     ensures front { KeepsFront [] (forest pool.old) (forest pool.new) }
     ensures kept { OnOk result (KeepsRefusals pool.old pool.new) }
     ensures full { IfErr result (Refuses pool.old pool.new) }

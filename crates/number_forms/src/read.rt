@@ -3,9 +3,9 @@ ghost use Rattle.std.specs.Prelude.{◌≡◌, ◌==◌, ◌<◌, ◌^◌, true,
 ghost use Rattle.calc_terms.specs.Fractions.{whole_fraction};
 ghost use Rattle.calc_algebra.specs.Numbers.{is_number, classes};
 ghost use Rattle.calc_terms.specs.Rat.{value_of};
-ghost use Rattle.calc_algebra.specs.Reduced.{is_reduced, is_whole_num};
+ghost use Rattle.calc_algebra.specs.Reduced.{is_reduced, is_half_num, is_whole_num};
 ghost use Rattle.calc_terms.specs.Trees.{num};
-ghost use Rattle.number_forms.specs.Readers.{is_zero};
+ghost use Rattle.number_forms.specs.Readers.{is_zero, numerator};
 ghost use Rattle.tree_handles.specs.Expressions.{IsExpression, plain};
 ghost use Rattle.tree_handles.specs.Inside.{tree_at};
 ghost use Rattle.tree_handles.specs.Standing.{Stands, forest};
@@ -46,6 +46,27 @@ pub(crate) fn whole_of(q: Rat) -> Option<i128>
     ensures fits { IfSome result (λ n. nat_abs n < 2 ^ 127) }
 {
     if q.is_whole() { Some(q.num()) } else { None }
+}
+
+/// The odd number n where the tree is n/2.
+pub fn half(pool: &Pool, id: Id) -> Option<i128>
+    requires stands { Stands pool.now }
+    requires expression { IsExpression id (forest pool.now) }
+    ensures value { let t = plain (tree_at id (forest pool.now)) in MatchOption result (is_half_num t ≡ false) (λ n. (is_half_num t ≡ true) × (numerator t ≡ n)) }
+    ensures fits { IfSome result (λ n. nat_abs n < 2 ^ 127) }
+{
+    match kind(pool, id) {
+        Kind::Num => half_of(rational(pool, id)),
+        _ => None,
+    }
+}
+
+/// The odd number n where a rational is n/2.
+fn half_of(q: Rat) -> Option<i128>
+    ensures value { MatchOption result ((value_of q).den == 2 ≡ false) (λ n. ((value_of q).den == 2 ≡ true) × ((value_of q).num ≡ n)) }
+    ensures fits { IfSome result (λ n. nat_abs n < 2 ^ 127) }
+{
+    if q.den() == 2 { Some(q.num()) } else { None }
 }
 
 /// The number of square classes of a Number: none for 0.

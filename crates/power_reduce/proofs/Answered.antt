@@ -151,7 +151,7 @@ whole_number : (b : Tree) (q : Fraction) → IsPowerForm b (num q) → has_numbe
 whole_number b q f h =
     let (p, s) = and_parts _ _ h in
     let (n, d) = and_parts _ _ p in
-    let w = (f (eqb-true q.den 1 d)).wide n in
+    let w = (f.1 (eqb-true q.den 1 d)).wide n in
     narrow (int_is_negative q.num) (nat_le (classes b) 2) s w.0 (lt-leb _ _ (let l : 3 ≤ classes b = w.1 in omega arith))
   where
     narrow : (m l : Bool) → (not m || l) ≡ true → m ≡ true → l ≡ false → ⊥

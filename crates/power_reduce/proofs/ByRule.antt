@@ -1,11 +1,11 @@
 -- By which rule a power was rewritten, and what falls.
-use Rattle.std.proofs.Common.{◌≡◌, ◌+◌, ◌≤◌, ◌<◌, suc, inl, inr, Bool, true, false, ◌&&◌, ◌||◌, not, if◌then◌else◌, Some, refl, sym, subst, arith}
+use Rattle.std.proofs.Common.{◌≡◌, ◌+◌, ◌≤◌, ◌<◌, suc, inl, inr, Bool, true, false, ◌&&◌, ◌||◌, not, if◌then◌else◌, Some, refl, sym, ◌∙◌, subst, arith}
 use Rattle.std.specs.Prelude.{max, ◌==◌}
 use Rattle.std.proofs.lemmas.Bool.{and_parts}
 use Rattle.calc_terms.specs.Fractions.{Fraction, whole_fraction}
 use Rattle.calc_measures.specs.Loads.{nest, load, weight, load_of_factor}
 use Rattle.calc_algebra.specs.Numbers.{is_number}
-use Rattle.calc_algebra.specs.Reduced.{is_reduced, is_whole_num, is_opaque_exponent}
+use Rattle.calc_algebra.specs.Reduced.{is_reduced, is_half_num, is_whole_num, is_opaque_exponent}
 use Rattle.calc_terms.specs.Trees.{Tree, num, mult, power, root, Trees, none, more, is_undef}
 use Rattle.calc_terms.proofs.FractionFacts.{whole_denominator}
 use Rattle.calc_algebra.proofs.NumberLaws.{number_test, number_words}
@@ -13,7 +13,8 @@ use Rattle.coefficients.proofs.Forms.{reduced_parts, parts_reduced}
 use Rattle.number_forms.specs.Readers.{is_zero}
 use Rattle.power_reduce.specs.PowerAnswers.{has_no_power, has_number_power}
 use Rattle.power_reduce.specs.PowerRules.{EachTree, HalvesRoot, JoinsExponents, IsLighterPart, RaisesParts, IsByRule, IsRewritable}
-use Rattle.power_reduce.specs.PowerSteps.{goes_inside, is_even_whole, half, parts_of, raised, rewritten}
+use Rattle.power_reduce.specs.PowerSteps.{goes_inside, is_even_whole, half, parts_of, raised, rewritten, rewritten_whole}
+use Rattle.power_reduce.proofs.Exponents.{inside_whole, whole_defined, as_whole}
 use Rattle.power_reduce.proofs.Answered.{number_plain}
 use Rattle.power_reduce.proofs.Bounds.{number_load}
 use Rattle.power_reduce.proofs.Rules.{chosen, nothing}
@@ -126,16 +127,16 @@ is_false : (b : Bool) → not b ≡ true → b ≡ false
 is_false true h = cc
 is_false false h = refl
 
-pub by_rule : (b e t : Tree) → is_reduced b ≡ true → rewritten b e ≡ Some t → IsByRule b e t
-by_rule (root a) (num q) t r h = chosen _ _ t (IsByRule (root a) (num q)) h (λ k. inl (halves a q r (is_false _ (and_parts _ _ k).1)))
-by_rule (power c f) e t r h = chosen _ _ t (IsByRule (power c f) e) h (λ k. inr (inl (joins c f e r)))
-by_rule (mult ts) e t r h = chosen _ _ t (IsByRule (mult ts) e) h (λ k. inr (inr (raises ts e r (is_false _ (and_parts _ _ k).1))))
-by_rule b e t r h = nothing t (IsByRule b e) h
+whole_by_rule : (b e t : Tree) → is_reduced b ≡ true → rewritten_whole b e ≡ Some t → IsByRule b e t
+whole_by_rule (root a) (num q) t r h = chosen _ _ t (IsByRule (root a) (num q)) h (λ k. inl (halves a q r (is_false _ (and_parts _ _ k).1)))
+whole_by_rule (power c f) e t r h = chosen _ _ t (IsByRule (power c f) e) h (λ k. inr (inl (joins c f e r)))
+whole_by_rule (mult ts) e t r h = chosen _ _ t (IsByRule (mult ts) e) h (λ k. inr (inr (raises ts e r (is_false _ (and_parts _ _ k).1))))
+whole_by_rule b e t r h = nothing t (IsByRule b e) h
+
+pub by_rule : (b e t : Tree) → is_half_num e ≡ false → is_reduced b ≡ true → rewritten b e ≡ Some t → IsByRule b e t
+by_rule b e t n r h = whole_by_rule b e t r (sym (as_whole b e n) ∙ h)
 
 -- ---- what is known of the exponent and the base
-
-inside : (e : Tree) → goes_inside e ≡ true → (is_undef e ≡ false) × (is_opaque_exponent e ≡ false)
-inside e h = let (p, q) = and_parts _ _ h in let (u, z) = and_parts _ _ p in (is_false _ u, is_false _ q)
 
 -- a whole exponent makes no opaque power
 pub transparent_whole : (e : Tree) → is_whole_num e ≡ true → is_opaque_exponent e ≡ false
@@ -144,6 +145,9 @@ transparent_whole e h = rw h (never (is_number e))
     never : (b : Bool) → (b && false) ≡ false
     never true = refl
     never false = refl
+
+inside : (e : Tree) → goes_inside e ≡ true → (is_undef e ≡ false) × (is_opaque_exponent e ≡ false)
+inside e h = let w = inside_whole e h in (whole_defined e w, transparent_whole e w)
 
 whole_is : (q : Fraction) → (q.den == 1) ≡ true → is_whole_num (num q) ≡ true
 whole_is q h = h
@@ -165,11 +169,14 @@ has_power b e u z v = rw (u, z, v) refl
 rewritable : (b e : Tree) → is_undef b ≡ false → is_zero b ≡ false → is_number b ≡ false → is_undef e ≡ false → is_opaque_exponent e ≡ false → IsRewritable b e
 rewritable b e u z n v o = record { exponent_defined = v; transparent = o; has_power = has_power b e u z v; no_number = no_number_power b e n }
 
-pub is_rewritable : (b e t : Tree) → rewritten b e ≡ Some t → IsRewritable b e
-is_rewritable (root a) (num q) t h =
+whole_rewritable : (b e t : Tree) → rewritten_whole b e ≡ Some t → IsRewritable b e
+whole_rewritable (root a) (num q) t h =
     chosen _ _ t (λ u. IsRewritable (root a) (num q)) h (λ k. let (p, n) = and_parts _ _ k in rewritable (root a) (num q) refl refl (is_false _ n) refl (even_inside q p))
-is_rewritable (power c f) e t h =
+whole_rewritable (power c f) e t h =
     chosen _ _ t (λ u. IsRewritable (power c f) e) h (λ k. let i = inside e (and_parts _ _ k).0 in rewritable (power c f) e refl refl (power_no_number c f) i.0 i.1)
-is_rewritable (mult ts) e t h =
+whole_rewritable (mult ts) e t h =
     chosen _ _ t (λ u. IsRewritable (mult ts) e) h (λ k. let (p, n) = and_parts _ _ k in let i = inside e p in rewritable (mult ts) e refl refl (is_false _ n) i.0 i.1)
-is_rewritable b e t h = nothing t (λ u. IsRewritable b e) h
+whole_rewritable b e t h = nothing t (λ u. IsRewritable b e) h
+
+pub is_rewritable : (b e t : Tree) → is_half_num e ≡ false → rewritten b e ≡ Some t → IsRewritable b e
+is_rewritable b e t n h = whole_rewritable b e t (sym (as_whole b e n) ∙ h)

@@ -1,5 +1,5 @@
 -- Which powers no rule rewrites, by what the program tests.
-use Rattle.std.proofs.Common.{◌≡◌, ◌≢◌, ℕ, ◌%◌, ◌<◌, ◌^◌, ℤ, pos, negsuc, zero, suc, neg_ℤ, Bool, true, false, ◌&&◌, ◌||◌, not, if◌then◌else◌, Some, None, Result, Ok, Err, ◌⊎◌, inl, inr, refl, sym, ap, ◌∙◌, subst, arith, to_z, of_z, FitsSigned}
+use Rattle.std.proofs.Common.{◌≡◌, ◌≢◌, ℕ, ◌%◌, ◌<◌, ◌^◌, ℤ, pos, negsuc, zero, suc, neg_ℤ, Bool, true, false, ◌&&◌, ◌||◌, not, if◌then◌else◌, Option, Some, None, Result, Ok, Err, ◌⊎◌, inl, inr, refl, sym, ap, ◌∙◌, subst, arith, to_z, of_z, FitsSigned}
 use Rattle.std.proofs.lemmas.Bool.{and_parts, eqb-true, eq-eqb}
 use Rattle.std.proofs.lemmas.Int.{ints, rem_is, fits_signed_from_abs}
 use Rattle.std.specs.Int.{w128}
@@ -10,7 +10,7 @@ use Rattle.calc_terms.specs.Fractions.{Fraction, whole_fraction, zero_fraction, 
 use Rattle.calc_terms.specs.Integers.{int_is_zero, int_is_one, int_is_even}
 use Rattle.calc_algebra.specs.Numbers.{is_number}
 use Rattle.calc_measures.specs.PlainValues.{PlainValue, plain_value, powered, nothing}
-use Rattle.calc_algebra.specs.Reduced.{is_whole_num, is_opaque_exponent}
+use Rattle.calc_algebra.specs.Reduced.{is_half_num, is_whole_num, is_opaque_exponent}
 use Rattle.calc_terms.specs.Trees.{Tree, num, symbol, undef, add, mult, power, root, neg, sub, div, none, more, root_kind, is_num, is_undef, is_root}
 use Rattle.calc_terms.proofs.FractionFacts.{whole_numerator, whole_denominator, zero_is}
 use Rattle.calc_algebra.proofs.NumberLaws.{number_test, number_words}
@@ -18,13 +18,16 @@ use Rattle.node_pool.specs.State.{State}
 use Rattle.number_forms.specs.Answers.{AnswersRationals}
 use Rattle.number_forms.specs.Readers.{is_zero}
 use Rattle.power_reduce.specs.PowerAnswers.{is_power, base_in, exponent_in, is_at_most_zero, has_no_power, IsPowerAnswer, HasReducedSides}
-use Rattle.power_reduce.specs.PowerSteps.{goes_inside, is_zero_or_one, is_even_whole, half, parts_of, raised, rewritten}
+use Rattle.power_reduce.specs.PowerSteps.{goes_inside, is_zero_or_one, is_even_whole, half, parts_of, raised, rewritten, rewritten_whole}
+use Rattle.calc_algebra.proofs.HalfLaws.{half_is_odd}
+use Rattle.number_forms.specs.Readers.{numerator}
 use Rattle.power_reduce.proofs.Answered.{kept_answer, undef_base_answer, undef_exponent_answer}
 use Rattle.power_reduce.proofs.ByRule.{has_power}
-use Rattle.power_reduce.proofs.Kept.{reduced_power, kept_form, whole_inside, other_inside}
+use Rattle.power_reduce.proofs.Exponents.{as_whole, inside_whole, whole_no_half}
+use Rattle.power_reduce.proofs.Kept.{reduced_power, kept_form, whole_inside}
 use Rattle.power_reduce.proofs.Powers.{power_is}
 use Rattle.power_reduce.proofs.Rules.{rewriting}
-use Rattle.power_reduce.proofs.Whole.{opaque_is}
+use Rattle.power_reduce.proofs.Whole.{whole_is}
 use Rattle.rational128.proofs.Signed.{told}
 use Rattle.rational128.specs.declared.overflow.Overflow.{Overflow}
 use Rattle.calc_measures.specs.PlainTrees.{IsPlainAnswer, IsPlainOverflow}
@@ -66,14 +69,6 @@ power_kind (neg a) h = cc
 power_kind (sub a b) h = cc
 power_kind (div a b) h = cc
 
-pub no_rational_power : {A : Type 0} (t : Tree) → kind.Pow ≡ root_kind t → is_num t ≡ true → A
-no_rational_power (num q) h k = absurd cc
-no_rational_power t h k = absurd cc
-
-pub no_rational_product : {A : Type 0} (t : Tree) → kind.Mult ≡ root_kind t → is_num t ≡ true → A
-no_rational_product (num q) h k = absurd cc
-no_rational_product t h k = absurd cc
-
 pub no_rational : {A : Type 0} (t : Tree) → is_num t ≡ true → is_num t ≡ false → A
 no_rational t h k = absurd cc
 
@@ -87,7 +82,7 @@ no_num_kind t h = refl
 -- ---- what goes inside
 
 pub inside_other : (e : Tree) → goes_inside e ≡ true → is_zero_or_one e ≡ false
-inside_other e h = is_false _ (and_parts _ _ (and_parts _ _ h).0).1
+inside_other e h = is_false _ (and_parts _ _ h).1
 
 zero_is_whole : (q : Fraction) → is_zero_fraction q ≡ true → (q.den == 1) ≡ true
 unfolding zero_fraction
@@ -112,9 +107,6 @@ broken_other (root a) h = refl
 broken_other (neg a) h = refl
 broken_other (sub a b) h = refl
 broken_other (div a b) h = refl
-
-pub broken_inside : (e : Tree) → is_undef e ≡ false → is_whole_num e ≡ false → is_number e ≡ false → goes_inside e ≡ true
-broken_inside e u w n = other_inside e u (broken_other e w) n
 
 pub broken_number : (b e : Tree) → is_whole_num e ≡ false → (is_number b && is_whole_num e) ≡ false
 broken_number b e h = rw h (and_false (is_number b))
@@ -181,7 +173,7 @@ odd_whole z h = rw (whole_numerator z, whole_denominator z, h) refl
 -- ---- powers that no rule rewrites
 
 -- an exponent that does not go inside, and is no even whole number
-outside_kept : (b e : Tree) → goes_inside e ≡ false → ((q : Fraction) → e ≡ num q → is_even_whole q ≡ false) → rewritten b e ≡ None
+outside_kept : (b e : Tree) → goes_inside e ≡ false → ((q : Fraction) → e ≡ num q → is_even_whole q ≡ false) → rewritten_whole b e ≡ None
 outside_kept (root a) (num q) h k = rw (k q refl) refl
 outside_kept (root a) (symbol x) h k = refl
 outside_kept (root a) undef h k = refl
@@ -207,75 +199,88 @@ undef_exponent_kept b undef h = outside_kept b undef refl (λ q k. absurd cc)
 undef_exponent_kept b e h = absurd cc
 
 pub undef_base_kept : (b e : Tree) → is_undef b ≡ true → rewritten b e ≡ None
-undef_base_kept undef e h = refl
+undef_base_kept undef e h = by (is_half_num e)
+  where
+    by : (k : Bool) → ◌≡◌ {A = Option Tree} (if k then None else None) None
+    by true = refl
+    by false = refl
 undef_base_kept b e h = absurd cc
 
 num_same : {p q : Fraction} → num p ≡ num q → p ≡ q
 num_same e = cc
 
--- an opaque exponent
-pub opaque_kept : (b e : Tree) → is_number e ≡ true → is_whole_num e ≡ false → rewritten b e ≡ None
-opaque_kept b e n w =
-    outside_kept b e (rw (opaque_is e w, n) (and_false (not (is_undef e) && not (is_zero_or_one e))))
-    (λ q h. ap (λ (x : Bool). x && int_is_even q.num && not (is_zero_fraction q)) (ap is_whole_num (sym h) ∙ w))
+-- an exponent that is neither whole nor half of an odd whole number
+pub broken_kept : (b e : Tree) → is_whole_num e ≡ false → is_half_num e ≡ false → rewritten b e ≡ None
+broken_kept b e w h =
+    as_whole b e h
+    ∙ outside_kept b e (rw w refl) (λ q k. ap (λ (x : Bool). x && int_is_even q.num && not (is_zero_fraction q)) (ap is_whole_num (sym k) ∙ w))
 
 -- the exponents 0 and 1
+whole_exponent_no_half : (e : Tree) (z : ℤ) → e ≡ num (whole_fraction z) → is_half_num e ≡ false
+whole_exponent_no_half e z w = whole_no_half e (ap is_whole_num w ∙ whole_is z)
+
 pub zero_kept : (b e : Tree) (z : ℤ) → e ≡ num (whole_fraction z) → z ≡ pos 0 → rewritten b e ≡ None
 unfolding is_number
 zero_kept b e z h k =
     let w : e ≡ num (whole_fraction (pos 0)) = h ∙ ap (λ x. num (whole_fraction x)) k in
-    outside_kept b e (ap goes_inside w ∙ rw (whole_numerator (pos 0)) refl)
+    as_whole b e (whole_exponent_no_half e (pos 0) w) ∙ outside_kept b e (ap goes_inside w ∙ rw (whole_numerator (pos 0)) (and_false ((whole_fraction (pos 0)).den == 1)))
     (λ q l. ap is_even_whole (num_same (sym l ∙ w)) ∙ rw (whole_denominator (pos 0), whole_numerator (pos 0)) refl)
 
 pub one_kept : (b e : Tree) (z : ℤ) → e ≡ num (whole_fraction z) → z ≡ pos 1 → rewritten b e ≡ None
 unfolding is_number
 one_kept b e z h k =
     let w : e ≡ num (whole_fraction (pos 1)) = h ∙ ap (λ x. num (whole_fraction x)) k in
-    outside_kept b e (ap goes_inside w ∙ rw (whole_numerator (pos 1), whole_denominator (pos 1)) refl)
+    as_whole b e (whole_exponent_no_half e (pos 1) w) ∙ outside_kept b e (ap goes_inside w ∙ rw (whole_numerator (pos 1), whole_denominator (pos 1)) refl)
     (λ q l. ap is_even_whole (num_same (sym l ∙ w)) ∙ rw (whole_denominator (pos 1), whole_numerator (pos 1)) refl)
 
 -- a Number
-pub number_kept : (b e : Tree) → is_number b ≡ true → rewritten b e ≡ None
-number_kept (root a) (num q) h = rw h (ap (λ (x : Bool). if x then Some (power a (num (whole_fraction (half q.num)))) else None) (and_false (is_even_whole q)))
-number_kept (mult ts) e h = rw h (ap (λ (x : Bool). if x then Some (mult (raised (parts_of ts) e)) else None) (and_false (goes_inside e)))
-number_kept (power c f) e h = absurd (number_words (power c f) h)
-number_kept (root a) (symbol x) h = refl
-number_kept (root a) undef h = refl
-number_kept (root a) (add ts) h = refl
-number_kept (root a) (mult ts) h = refl
-number_kept (root a) (power b e) h = refl
-number_kept (root a) (root b) h = refl
-number_kept (root a) (neg b) h = refl
-number_kept (root a) (sub b c) h = refl
-number_kept (root a) (div b c) h = refl
-number_kept (num p) e h = refl
-number_kept (symbol x) e h = refl
-number_kept undef e h = refl
-number_kept (add ts) e h = refl
-number_kept (neg b) e h = refl
-number_kept (sub b c) e h = refl
-number_kept (div b c) e h = refl
+whole_number_kept : (b e : Tree) → is_number b ≡ true → rewritten_whole b e ≡ None
+whole_number_kept (root a) (num q) h = rw h (ap (λ (x : Bool). if x then Some (power a (num (whole_fraction (half q.num)))) else None) (and_false (is_even_whole q)))
+whole_number_kept (mult ts) e h = rw h (ap (λ (x : Bool). if x then Some (mult (raised (parts_of ts) e)) else None) (and_false (goes_inside e)))
+whole_number_kept (power c f) e h = absurd (number_words (power c f) h)
+whole_number_kept (root a) (symbol x) h = refl
+whole_number_kept (root a) undef h = refl
+whole_number_kept (root a) (add ts) h = refl
+whole_number_kept (root a) (mult ts) h = refl
+whole_number_kept (root a) (power b e) h = refl
+whole_number_kept (root a) (root b) h = refl
+whole_number_kept (root a) (neg b) h = refl
+whole_number_kept (root a) (sub b c) h = refl
+whole_number_kept (root a) (div b c) h = refl
+whole_number_kept (num p) e h = refl
+whole_number_kept (symbol x) e h = refl
+whole_number_kept undef e h = refl
+whole_number_kept (add ts) e h = refl
+whole_number_kept (neg b) e h = refl
+whole_number_kept (sub b c) e h = refl
+whole_number_kept (div b c) e h = refl
+
+pub number_kept : (b e : Tree) → is_number b ≡ true → is_whole_num e ≡ true → rewritten b e ≡ None
+number_kept b e n w = as_whole b e (whole_no_half e w) ∙ whole_number_kept b e n
 
 -- an opaque power
-pub sealed_kept : (b e : Tree) → is_power b ≡ true → is_opaque_exponent (exponent_in b) ≡ true → rewritten b e ≡ None
-sealed_kept (power c f) e p h = rw h (ap (λ (x : Bool). if x then Some (power c (mult (more f (more e none)))) else None) (and_false (goes_inside e)))
-sealed_kept b e p h = absurd cc
+pub sealed_kept : (b e : Tree) → is_power b ≡ true → goes_inside e ≡ true → is_opaque_exponent (exponent_in b) ≡ true → rewritten b e ≡ None
+sealed_kept (power c f) e p i h = as_whole (power c f) e (whole_no_half e (inside_whole e i)) ∙ rw h (ap (λ (x : Bool). if x then Some (power c (mult (more f (more e none)))) else None) (and_false (goes_inside e)))
+sealed_kept b e p i h = absurd cc
 
 -- any other base
-pub other_kept : (b e : Tree) → (kind.Pow ≡ root_kind b → ⊥) → (kind.Mult ≡ root_kind b → ⊥) → (is_root b ≡ true → rewritten b e ≡ None) → rewritten b e ≡ None
-other_kept (power c f) e p m r = absurd (p refl)
-other_kept (mult ts) e p m r = absurd (m refl)
-other_kept (root a) e p m r = r refl
-other_kept (num q) e p m r = refl
-other_kept (symbol x) e p m r = refl
-other_kept undef e p m r = refl
-other_kept (add ts) e p m r = refl
-other_kept (neg b) e p m r = refl
-other_kept (sub b c) e p m r = refl
-other_kept (div b c) e p m r = refl
+whole_other_kept : (b e : Tree) → (kind.Pow ≡ root_kind b → ⊥) → (kind.Mult ≡ root_kind b → ⊥) → (is_root b ≡ true → rewritten_whole b e ≡ None) → rewritten_whole b e ≡ None
+whole_other_kept (power c f) e p m r = absurd (p refl)
+whole_other_kept (mult ts) e p m r = absurd (m refl)
+whole_other_kept (root a) e p m r = r refl
+whole_other_kept (num q) e p m r = refl
+whole_other_kept (symbol x) e p m r = refl
+whole_other_kept undef e p m r = refl
+whole_other_kept (add ts) e p m r = refl
+whole_other_kept (neg b) e p m r = refl
+whole_other_kept (sub b c) e p m r = refl
+whole_other_kept (div b c) e p m r = refl
 
--- an odd power of a root, and one that is no whole power
-root_kept : (b e : Tree) → is_root b ≡ true → ((q : Fraction) → e ≡ num q → is_even_whole q ≡ false) → rewritten b e ≡ None
+pub other_kept : (b e : Tree) → goes_inside e ≡ true → (kind.Pow ≡ root_kind b → ⊥) → (kind.Mult ≡ root_kind b → ⊥) → (is_root b ≡ true → rewritten b e ≡ None) → rewritten b e ≡ None
+other_kept b e i p m r = let h = as_whole b e (whole_no_half e (inside_whole e i)) in h ∙ whole_other_kept b e p m (λ k. sym h ∙ r k)
+
+-- an odd power of a root
+root_kept : (b e : Tree) → is_root b ≡ true → ((q : Fraction) → e ≡ num q → is_even_whole q ≡ false) → rewritten_whole b e ≡ None
 root_kept (root a) (num q) r k = rw (k q refl) refl
 root_kept (root a) (symbol x) r k = refl
 root_kept (root a) undef r k = refl
@@ -289,10 +294,20 @@ root_kept (root a) (div b c) r k = refl
 root_kept b e r k = absurd cc
 
 pub odd_root_kept : (b e : Tree) (z : ℤ) → is_root b ≡ true → e ≡ num (whole_fraction z) → int_is_even z ≡ false → rewritten b e ≡ None
-odd_root_kept b e z r h k = root_kept b e r (λ q l. ap is_even_whole (num_same (sym l ∙ h)) ∙ odd_whole z k)
+odd_root_kept b e z r h k = as_whole b e (whole_exponent_no_half e z h) ∙ root_kept b e r (λ q l. ap is_even_whole (num_same (sym l ∙ h)) ∙ odd_whole z k)
 
-pub broken_root_kept : (b e : Tree) → is_root b ≡ true → is_whole_num e ≡ false → rewritten b e ≡ None
-broken_root_kept b e r h = root_kept b e r (λ q l. ap (λ (x : Bool). x && int_is_even q.num && not (is_zero_fraction q)) (ap is_whole_num (sym l) ∙ h))
+-- an odd power of a reduced root
+pub root_once : (r e : Tree) → is_half_num e ≡ true → (is_undef r || is_number r || is_root r) ≡ true → rewritten r (num (whole_fraction (numerator e))) ≡ None
+root_once r (num q) h k = by (is_undef r) (is_number r) refl refl k
+  where
+    whole : is_whole_num (num (whole_fraction q.num)) ≡ true
+    whole = whole_is q.num
+
+    by : (u n : Bool) → is_undef r ≡ u → is_number r ≡ n → (u || n || is_root r) ≡ true → rewritten r (num (whole_fraction q.num)) ≡ None
+    by true n a b c = undef_base_kept r (num (whole_fraction q.num)) a
+    by false true a b c = number_kept r (num (whole_fraction q.num)) b whole
+    by false false a b c = odd_root_kept r (num (whole_fraction q.num)) q.num c refl (half_is_odd q (eqb-true q.den 2 h))
+root_once r e h k = absurd cc
 
 -- ---- the base and the exponent of a power of another base
 
@@ -335,7 +350,7 @@ pub kept_power_answer : (t : Tree) → HasReducedSides t → is_zero_or_one (exp
 kept_power_answer t s z n r =
     let b = base_in t in
     let e = exponent_in t in
-    let form = reduced_power b e s.base s.exponent s.base_defined s.exponent_defined (kept_form b e s.exponent_defined z n r) in
+    let form = reduced_power b e s.base s.exponent s.base_defined s.exponent_defined (kept_form b e s.base_defined z n r) in
     subst (IsPowerAnswer b e) (sym (power_is t s.power)) (kept_answer b e form (rw (s.base_defined, s.exponent_defined) (no_zero_power b e n)) z)
 
 -- ---- one rewriting
@@ -356,7 +371,7 @@ no_whole q (negsuc n) zero h = refl
 no_whole q (negsuc n) (suc zero) h = cc
 no_whole q (negsuc n) (suc (suc d)) h = refl
 
-no_plain_value : (b e : Tree) → is_num b ≡ true → is_num e ≡ true → is_whole_num e ≡ false → plain_value (power b e) ≡ nothing
+pub no_plain_value : (b e : Tree) → is_num b ≡ true → is_num e ≡ true → is_whole_num e ≡ false → plain_value (power b e) ≡ nothing
 no_plain_value (num p) (num q) h k w = no_whole p q.num q.den w
 no_plain_value (num p) (symbol x) h k w = absurd cc
 no_plain_value (num p) undef h k w = absurd cc
@@ -381,10 +396,6 @@ no_plain_value (div a b) e h k w = absurd cc
 pub rational_kept : (t : Tree) (s : State) (x : Step) → is_power t ≡ true → is_whole_num (exponent_in t) ≡ false → IfAgain x (λ h. ⊥) → is_num (base_in t) ≡ true → is_num (exponent_in t) ≡ true → AnswersRationalStep (plain_value t) s (Ok x)
 rational_kept t s (step.Done h) p w k b e = subst (λ (v : PlainValue). IsPlainAnswer v (tree_of h s)) (sym (ap plain_value (power_is t p) ∙ no_plain_value (base_in t) (exponent_in t) b e w)) tt
 rational_kept t s (step.Again h) p w k b e = absurd k
-
-pub rational_whole : (b e : Tree) → is_num b ≡ true → (is_number b && is_whole_num e) ≡ false → is_whole_num e ≡ false
-rational_whole (num p) e h k = ap (λ (x : Bool). x && is_whole_num e) (sym (number_test (num p) tt)) ∙ k
-rational_whole b e h k = absurd cc
 
 -- a refusal, of a step
 pub step_fault : (v : PlainValue) (s : State) (x : NumberFault) (r : Result Step NumberFault) → IsErrAnd r (λ e. e ≡ x) → AnswersRationals v s (Err x) → AnswersRationalStep v s r

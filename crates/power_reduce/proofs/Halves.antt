@@ -11,6 +11,8 @@ use Rattle.calc_terms.specs.Ratio.{Ratio, whole}
 use Rattle.calc_terms.specs.Trees.{Tree, num, power, root, is_root}
 use Rattle.calc_terms.proofs.FractionFacts.{whole_numerator}
 use Rattle.power_reduce.specs.PowerSteps.{half, is_even_whole, rewritten}
+use Rattle.power_reduce.proofs.Exponents.{as_whole, whole_no_half}
+use Rattle.power_reduce.proofs.Whole.{whole_is}
 use Rattle.tree_handles.specs.Expressions.{nth, children_of}
 
 half_is : (z : ℤ) → int_div z (pos 2) ≡ half z
@@ -28,5 +30,5 @@ halved z r fits e =
 pub half_rewritten : (b e : Tree) (z : ℤ) (r : Rat) → is_root b ≡ true → is_number b ≡ false → is_even_whole (whole_fraction z) ≡ true → e ≡ num (whole_fraction z) → value_of r ≡ whole_fraction (half z)
     → rewritten b e ≡ Some (power (nth 0 (children_of b)) (num (value_of r)))
 half_rewritten (root a) e z r t n even k v =
-    ap (rewritten (root a)) k ∙ rw (even, n) (ap (λ x. Some (power a (num (whole_fraction (half x))))) (whole_numerator z) ∙ ap (λ q. Some (power a (num q))) (sym v))
+    ap (rewritten (root a)) k ∙ as_whole (root a) (num (whole_fraction z)) (whole_no_half (num (whole_fraction z)) (whole_is z)) ∙ rw (even, n) (ap (λ x. Some (power a (num (whole_fraction (half x))))) (whole_numerator z) ∙ ap (λ q. Some (power a (num q))) (sym v))
 half_rewritten b e z r t n even k v = cc

@@ -1,5 +1,5 @@
 -- The exponents of a power of a power are joined in a product, which takes their place.
-use Rattle.std.proofs.Common.{◌≡◌, ℕ, refl, ap, subst, true, false, Some}
+use Rattle.std.proofs.Common.{◌≡◌, ◌∙◌, ℕ, refl, ap, subst, true, false, Some}
 use Rattle.calc_terms.specs.declared.kind.Kind.TheVariants as kind
 use Rattle.calc_terms.specs.Payload.{bare}
 use Rattle.calc_algebra.specs.Reduced.{is_opaque_exponent}
@@ -8,6 +8,7 @@ use Rattle.coefficients.proofs.Places.{IsOver, IsTaken, taken, over_put}
 use Rattle.coefficients.proofs.Steps.{IsAdded}
 use Rattle.power_reduce.specs.PowerAnswers.{is_power, base_in, exponent_in}
 use Rattle.power_reduce.specs.PowerSteps.{goes_inside, rewritten}
+use Rattle.power_reduce.proofs.Exponents.{as_whole, inside_whole, whole_no_half}
 use Rattle.power_reduce.proofs.InPlace.{merged, taken_on}
 use Rattle.power_reduce.proofs.Powers.{over_power, power_children}
 use Rattle.node_pool.specs.State.{State}
@@ -57,5 +58,5 @@ alone_over o b = over_put b.now o b.kids
 -- ---- the tree
 
 pub joined : (b e : Tree) → is_power b ≡ true → goes_inside e ≡ true → is_opaque_exponent (exponent_in b) ≡ false → rewritten b e ≡ Some (power (base_in b) (mult (more (exponent_in b) (more e none))))
-joined (power c f) e p i o = rw (i, o) refl
+joined (power c f) e p i o = as_whole (power c f) e (whole_no_half e (inside_whole e i)) ∙ rw (i, o) refl
 joined b e p i o = absurd cc

@@ -1,14 +1,15 @@
 -- Powers that no rule changes are reduced.
-use Rattle.std.proofs.Common.{◌≡◌, ◌≤◌, Bool, true, false, ◌&&◌, ◌||◌, not, if◌then◌else◌, inl, inr, Some, None, pos, refl, ap, ◌∙◌, arith}
+use Rattle.std.proofs.Common.{◌≡◌, ◌≤◌, Bool, true, false, ◌&&◌, ◌||◌, ◌==◌, not, if◌then◌else◌, inl, inr, Some, None, pos, refl, sym, ap, ◌∙◌, arith}
 use Rattle.std.proofs.lemmas.Bool.{and_from, eq-eqb, not_from_false}
 use Rattle.calc_terms.specs.Fractions.{Fraction, zero_fraction, one_fraction, is_zero_fraction, is_one_fraction}
 use Rattle.calc_terms.specs.Integers.{int_is_zero, int_is_one, int_is_even, int_is_negative}
 use Rattle.calc_algebra.specs.Numbers.{is_number, classes}
-use Rattle.calc_algebra.specs.Reduced.{is_reduced, is_whole_num, is_transparent_power, IsReduced, HasForm, IsPowerForm, IsWholePowerForm, IsOtherPowerForm}
+use Rattle.calc_algebra.specs.Reduced.{is_reduced, is_whole_num, is_transparent_power, IsReduced, HasForm, IsPowerForm, IsWholePowerForm}
 use Rattle.calc_terms.specs.Trees.{Tree, num, symbol, undef, add, mult, power, root, neg, sub, div, AllParts, is_undef, is_mult, is_root}
 use Rattle.calc_terms.proofs.FractionFacts.{whole_numerator, whole_denominator}
 use Rattle.calc_algebra.proofs.ReducedLaws.{reduced_words, reduced_test}
-use Rattle.power_reduce.specs.PowerSteps.{is_zero_or_one, goes_inside, is_even_whole, rewritten}
+use Rattle.power_reduce.specs.PowerSteps.{is_zero_or_one, goes_inside, is_even_whole, rewritten, rewritten_whole}
+use Rattle.power_reduce.proofs.Exponents.{as_whole, no_half, one_is_not_two}
 
 -- the parts of a reduced tree that is not Undef have their forms
 parts_of : (t : Tree) → is_reduced t ≡ true → is_undef t ≡ false → AllParts HasForm t
@@ -48,7 +49,6 @@ either_fails false b h = (refl, h)
 -- ---- whole exponents
 
 pub whole_inside : (q : Fraction) → q.den ≡ 1 → is_zero_or_one (num q) ≡ false → goes_inside (num q) ≡ true
-unfolding is_number
 whole_inside q d z = rw (z, eq-eqb q.den 1 d) refl
 
 whole_is : (q : Fraction) → q.den ≡ 1 → is_whole_num (num q) ≡ true
@@ -83,10 +83,10 @@ whole_form b q z m p r n =
 even_whole : (q : Fraction) → q.den ≡ 1 → is_zero_or_one (num q) ≡ false → int_is_even q.num ≡ true → is_even_whole q ≡ true
 even_whole q d z e = and_from _ _ (and_from _ _ (eq-eqb q.den 1 d) e) (not_from_false _ (either_fails (is_zero_fraction q) (is_one_fraction q) z).0)
 
-no_even_root : (a : Tree) (q : Fraction) → q.den ≡ 1 → is_zero_or_one (num q) ≡ false → is_number (root a) ≡ false → rewritten (root a) (num q) ≡ None → int_is_even q.num ≡ true → is_root (root a) ≡ false
+no_even_root : (a : Tree) (q : Fraction) → q.den ≡ 1 → is_zero_or_one (num q) ≡ false → is_number (root a) ≡ false → rewritten_whole (root a) (num q) ≡ None → int_is_even q.num ≡ true → is_root (root a) ≡ false
 no_even_root a q d z n r e = absurd (contradiction (is_number (root a)) (not_fails _ (second_fails _ _ (refused _ _ r) (even_whole q d z e))) n)
 
-whole_kept : (b : Tree) (q : Fraction) → q.den ≡ 1 → is_zero_or_one (num q) ≡ false → is_number b ≡ false → rewritten b (num q) ≡ None → IsWholePowerForm b q
+whole_kept : (b : Tree) (q : Fraction) → q.den ≡ 1 → is_zero_or_one (num q) ≡ false → is_number b ≡ false → rewritten_whole b (num q) ≡ None → IsWholePowerForm b q
 whole_kept (root a) q d z n r = whole_form (root a) q z refl refl (no_even_root a q d z n r) n
 whole_kept (power c f) q d z n r = whole_form (power c f) q z refl (second_fails _ _ (refused _ _ r) (whole_inside q d z)) (λ e. refl) n
 whole_kept (mult ts) q d z n r = absurd (contradiction (is_number (mult ts)) (not_fails _ (second_fails _ _ (refused _ _ r) (whole_inside q d z))) n)
@@ -98,27 +98,14 @@ whole_kept (neg a) q d z n r = whole_form (neg a) q z refl refl (λ e. refl) n
 whole_kept (sub a c) q d z n r = whole_form (sub a c) q z refl refl (λ e. refl) n
 whole_kept (div a c) q d z n r = whole_form (div a c) q z refl refl (λ e. refl) n
 
--- ---- other exponents
-
-pub other_inside : (e : Tree) → is_undef e ≡ false → is_zero_or_one e ≡ false → is_number e ≡ false → goes_inside e ≡ true
-other_inside e u z n = rw (u, z, n) refl
-
-other_kept : (b e : Tree) → is_undef e ≡ false → is_zero_or_one e ≡ false → is_number e ≡ false → rewritten b e ≡ None → IsOtherPowerForm b
-other_kept (power c f) e u z n r = record { no_power = second_fails _ _ (refused _ _ r) (other_inside e u z n); no_product = λ m. absurd cc }
-other_kept (mult ts) e u z n r = record { no_power = refl; no_product = λ m. not_fails _ (second_fails _ _ (refused _ _ r) (other_inside e u z n)) }
-other_kept (root a) e u z n r = record { no_power = refl; no_product = λ m. absurd cc }
-other_kept (num p) e u z n r = record { no_power = refl; no_product = λ m. absurd cc }
-other_kept (symbol x) e u z n r = record { no_power = refl; no_product = λ m. absurd cc }
-other_kept undef e u z n r = record { no_power = refl; no_product = λ m. absurd cc }
-other_kept (add ts) e u z n r = record { no_power = refl; no_product = λ m. absurd cc }
-other_kept (neg a) e u z n r = record { no_power = refl; no_product = λ m. absurd cc }
-other_kept (sub a c) e u z n r = record { no_power = refl; no_product = λ m. absurd cc }
-other_kept (div a c) e u z n r = record { no_power = refl; no_product = λ m. absurd cc }
-
 -- a power that no rule changes has its form
-pub kept_form : (b e : Tree) → is_undef e ≡ false → is_zero_or_one e ≡ false → (is_number b && is_whole_num e) ≡ false → rewritten b e ≡ None → IsPowerForm b e
-kept_form b (num q) u z n r = λ d. whole_kept b q d z (no_number b q d n) r
-kept_form b e u z n r = λ k. other_kept b e u z k r
+pub kept_form : (b e : Tree) → is_undef b ≡ false → is_zero_or_one e ≡ false → (is_number b && is_whole_num e) ≡ false → rewritten b e ≡ None → IsPowerForm b e
+kept_form b (num q) u z n r =
+    let h = no_half b (num q) u r in (
+      λ d. contradiction (q.den == 2) (eq-eqb q.den 2 d) h,
+      λ d. whole_kept b q d z (no_number b q d n) (sym (as_whole b (num q) h) ∙ r),
+    )
+kept_form b e u z n r = tt
 
 -- ---- Numbers of three classes
 
@@ -148,14 +135,17 @@ one_not_negative : int_is_negative one_fraction.num ≡ false
 unfolding one_fraction
 one_not_negative = ap int_is_negative (whole_numerator (pos 1))
 
-pub wide_power : (b : Tree) (n : Fraction) → is_reduced b ≡ true → 3 ≤ classes b → int_is_negative n.num ≡ true → is_reduced (power b (num n)) ≡ true
-wide_power b n h c l =
+pub wide_power : (b : Tree) (n : Fraction) → is_reduced b ≡ true → 3 ≤ classes b → n.den ≡ 1 → int_is_negative n.num ≡ true → is_reduced (power b (num n)) ≡ true
+wide_power b n h c one l =
     let w = wide_sum b c in
-    reduced_power b (num n) h (reduced_test (num n) (inr (inl tt))) w.defined refl (λ d. record {
-      not_zero = λ e. contradiction (int_is_negative n.num) l (ap (λ (q : Fraction). int_is_negative q.num) e ∙ zero_not_negative);
-      not_one = λ e. contradiction (int_is_negative n.num) l (ap (λ (q : Fraction). int_is_negative q.num) e ∙ one_not_negative);
-      no_product = w.no_product;
-      no_power = w.no_power;
-      no_root = λ e. w.no_root;
-      wide = λ e. (l, c);
-    })
+    reduced_power b (num n) h (reduced_test (num n) (inr (inl tt))) w.defined refl (
+      (λ d. one_is_not_two n.den one d),
+      λ d. record {
+        not_zero = λ e. contradiction (int_is_negative n.num) l (ap (λ (q : Fraction). int_is_negative q.num) e ∙ zero_not_negative);
+        not_one = λ e. contradiction (int_is_negative n.num) l (ap (λ (q : Fraction). int_is_negative q.num) e ∙ one_not_negative);
+        no_product = w.no_product;
+        no_power = w.no_power;
+        no_root = λ e. w.no_root;
+        wide = λ e. (l, c);
+      },
+    )

@@ -1,3 +1,4 @@
+pub mod Exponents
 pub mod Rules
 pub mod Kept
 pub mod Bounds
@@ -14,6 +15,7 @@ pub mod Halves
 pub mod Joining
 pub mod Raising
 pub mod PartsOf
+pub mod Roots
 pub mod Cases
 pub mod Leaves
 pub mod Misfits

@@ -9,7 +9,7 @@ use Rattle.calc_algebra.specs.SquareClasses.{Inverts}
 use Rattle.calc_algebra.specs.Surds.{Surd, surd_power}
 use Rattle.calc_algebra.specs.Reduced.{is_reduced, num_one}
 use Rattle.calc_terms.specs.Trees.{Tree, num, undef, add, power, is_num, is_undef}
-use Rattle.calc_terms.proofs.FractionFacts.{whole_numerator}
+use Rattle.calc_terms.proofs.FractionFacts.{whole_numerator, whole_denominator}
 use Rattle.calc_algebra.proofs.NumberLaws.{number_words}
 use Rattle.calc_algebra.proofs.NumberRewrites.{power_of_number, power_of_inverse}
 use Rattle.number_forms.specs.Answers.{IsNumberOf}
@@ -83,7 +83,7 @@ negative_other (negsuc n) h = rw (whole_numerator (negsuc n)) refl
 -- a Number of three classes or more is kept
 pub wide_answer : (t : Tree) (z : ℤ) → HasReducedSides t → exponent_in t ≡ num (whole_fraction z) → z <ℤ pos 0 → 3 ≤ classes (base_in t) → has_no_power (base_in t) (exponent_in t) ≡ false → IsPowerAnswer (base_in t) (exponent_in t) t
 wide_answer t z s e l c d =
-    let w : is_reduced (power (base_in t) (num (whole_fraction z))) ≡ true = wide_power (base_in t) (whole_fraction z) s.base c (ap int_is_negative (whole_numerator z) ∙ negative_is z l) in
+    let w : is_reduced (power (base_in t) (num (whole_fraction z))) ≡ true = wide_power (base_in t) (whole_fraction z) s.base c (whole_denominator z) (ap int_is_negative (whole_numerator z) ∙ negative_is z l) in
     subst (IsPowerAnswer (base_in t) (exponent_in t)) (sym (power_is t s.power))
     (kept_answer (base_in t) (exponent_in t) (ap (λ (x : Tree). is_reduced (power (base_in t) x)) e ∙ w) d (ap is_zero_or_one e ∙ negative_other z l))
 

@@ -7,16 +7,17 @@ use Rattle.std.proofs.lemmas.List.Elements.{Contains-append_left, Contains-appen
 use Rattle.calc_terms.specs.Fractions.{Fraction, whole_fraction}
 use Rattle.calc_terms.specs.Integers.{int_is_even}
 use Rattle.calc_algebra.specs.Numbers.{is_number, is_radicand}
-use Rattle.calc_algebra.specs.Reduced.{is_num_one, split_product, split, num_one}
-use Rattle.calc_terms.specs.Trees.{Tree, num, symbol, undef, add, mult, power, root, neg, sub, div, Trees, none, more, names, names_of}
+use Rattle.calc_algebra.specs.Reduced.{is_half_num, is_num_one, is_whole_num, split_product, split, num_one}
+use Rattle.calc_terms.specs.Trees.{Tree, num, symbol, undef, add, mult, power, root, neg, sub, div, Trees, none, more, names, names_of, is_undef}
 use Rattle.calc_terms.proofs.FractionFacts.{one_is}
 use Rattle.calc_algebra.proofs.MeaningRewrites as rewrites
 use Rattle.calc_algebra.proofs.MeaningRewrites.{KeepsMeanings-trans, KeepsMeanings-refl, KeepsMeanings-eq, KeepsMeanings-power, one_factor_of_product}
 use Rattle.calc_algebra.proofs.NumberRewrites.{fraction_whole, split_keeps}
-use Rattle.calc_algebra.proofs.PowerRewrites.{powers, power_of_power, power_of_product, power_of_root}
+use Rattle.calc_algebra.proofs.PowerRewrites.{powers, power_of_power, power_of_product, power_of_root, half_power}
 use Rattle.calc_algebra.specs.Rewritings.{Rewrites, HasNoNewName}
 use Rattle.calc_algebra.proofs.Rewritings.{keeps}
-use Rattle.power_reduce.specs.PowerSteps.{is_even_whole, half, raised, parts_of, rewritten}
+use Rattle.power_reduce.specs.PowerSteps.{is_even_whole, half, raised, parts_of, power_of_root as root_power, rewritten, rewritten_whole}
+use Rattle.power_reduce.proofs.Exponents.{inside_whole, whole_exponent}
 
 -- ---- even powers of roots
 
@@ -37,10 +38,13 @@ even_root a q h =
 
 -- ---- powers of powers
 
-nested : (c f e : Tree) → Rewrites (power (power c f) e) (power c (mult (more f (more e none))))
-nested c f e = record {
+nested_means : (c f e : Tree) → is_whole_num e ≡ true → rewrites.KeepsMeanings (power (power c f) e) (power c (mult (more f (more e none))))
+nested_means c f e w = let n = whole_exponent e w in subst (λ (x : Tree). rewrites.KeepsMeanings (power (power c f) x) (power c (mult (more f (more x none))))) (sym n.is) (power_of_power c f n.exponent)
+
+nested : (c f e : Tree) → is_whole_num e ≡ true → Rewrites (power (power c f) e) (power c (mult (more f (more e none))))
+nested c f e w = record {
   no_new_name = record { name = λ x k. subst (λ l. Contains l x) (moved (names c) (names f) (names e)) k };
-  meanings = keeps (power_of_power c f e);
+  meanings = keeps (nested_means c f e w);
 }
   where
     moved : (a b d : List (List ℕ)) → a ++ (b ++ (d ++ [])) ≡ (a ++ b) ++ d
@@ -72,10 +76,13 @@ without_one c ts = by (is_num_one c) refl
     by true e = KeepsMeanings-trans (KeepsMeanings-eq (ap (λ t. mult (more t ts)) (one_is_written c e))) (one_factor_of_product ts)
     by false e = KeepsMeanings-refl (mult (more c ts))
 
-product_power : (ts : Trees) (e : Tree) → rewrites.KeepsMeanings (power (mult ts) e) (mult (raised (parts_of ts) e))
-product_power ts e =
+whole_powers : (ts : Trees) (e : Tree) → is_whole_num e ≡ true → rewrites.KeepsMeanings (power (mult ts) e) (mult (powers ts e))
+whole_powers ts e w = let n = whole_exponent e w in subst (λ (x : Tree). rewrites.KeepsMeanings (power (mult ts) x) (mult (powers ts x))) (sym n.is) (power_of_product ts n.exponent)
+
+product_power : (ts : Trees) (e : Tree) → is_whole_num e ≡ true → rewrites.KeepsMeanings (power (mult ts) e) (mult (raised (parts_of ts) e))
+product_power ts e w =
     KeepsMeanings-trans (KeepsMeanings-power (KeepsMeanings-trans (split_keeps ts) (without_one (split_product ts).coefficient (split_product ts).factors)) (KeepsMeanings-refl e))
-    (KeepsMeanings-trans (power_of_product (parts_of ts) e) (KeepsMeanings-eq (ap mult (raised_powers (parts_of ts) e))))
+    (KeepsMeanings-trans (whole_powers (parts_of ts) e w) (KeepsMeanings-eq (ap mult (raised_powers (parts_of ts) e))))
 
 -- a coefficient and the factors behind it have the names of the product
 split_names : (ts : Trees) → names (split_product ts).coefficient ++ names_of (split_product ts).factors ≡ names_of ts
@@ -131,8 +138,14 @@ product_names ts e = record { name = λ x k. by x (raised_names (parts_of ts) e 
     by x (inl h) = Contains-append_left (names_of ts) (names e) x (factor_names ts x h)
     by x (inr h) = Contains-append_right (names_of ts) (names e) x h
 
-powered : (ts : Trees) (e : Tree) → Rewrites (power (mult ts) e) (mult (raised (parts_of ts) e))
-powered ts e = record { no_new_name = product_names ts e; meanings = keeps (product_power ts e) }
+powered : (ts : Trees) (e : Tree) → is_whole_num e ≡ true → Rewrites (power (mult ts) e) (mult (raised (parts_of ts) e))
+powered ts e w = record { no_new_name = product_names ts e; meanings = keeps (product_power ts e w) }
+
+-- ---- powers of roots
+
+rooted : (b e : Tree) → is_half_num e ≡ true → Rewrites (power b e) (root_power b e)
+rooted b (num q) h = record { no_new_name = record { name = λ x k. k }; meanings = keeps (half_power b q (eqb-true q.den 2 h)) }
+rooted b e h = absurd cc
 
 -- ---- all rewritings
 
@@ -153,8 +166,19 @@ nothing t P e = absurd (no t e)
     no : (t : Tree) → None ≡ Some t → ⊥
     no t e = cc
 
+whole_rewriting : (b e t : Tree) → rewritten_whole b e ≡ Some t → Rewrites (power b e) t
+whole_rewriting (root a) (num q) t h = chosen _ _ t (Rewrites (power (root a) (num q))) h (λ k. even_root a q (and_parts _ _ k).0)
+whole_rewriting (power c f) e t h = chosen _ _ t (Rewrites (power (power c f) e)) h (λ k. nested c f e (inside_whole e (and_parts _ _ k).0))
+whole_rewriting (mult ts) e t h = chosen _ _ t (Rewrites (power (mult ts) e)) h (λ k. powered ts e (inside_whole e (and_parts _ _ k).0))
+whole_rewriting b e t h = nothing t (Rewrites (power b e)) h
+
+half_rewriting : (u : Bool) (b e t : Tree) → is_half_num e ≡ true → (if u then None else Some (root_power b e)) ≡ Some t → Rewrites (power b e) t
+half_rewriting true b e t h k = nothing t (Rewrites (power b e)) k
+half_rewriting false b e t h k = chosen true _ t (Rewrites (power b e)) k (λ x. rooted b e h)
+
 pub rewriting : (b e t : Tree) → rewritten b e ≡ Some t → Rewrites (power b e) t
-rewriting (root a) (num q) t h = chosen _ _ t (Rewrites (power (root a) (num q))) h (λ k. even_root a q (and_parts _ _ k).0)
-rewriting (power c f) e t h = chosen _ _ t (Rewrites (power (power c f) e)) h (λ k. nested c f e)
-rewriting (mult ts) e t h = chosen _ _ t (Rewrites (power (mult ts) e)) h (λ k. powered ts e)
-rewriting b e t h = nothing t (Rewrites (power b e)) h
+rewriting b e t = by (is_half_num e) refl
+  where
+    by : (k : Bool) → is_half_num e ≡ k → (if k then (if is_undef b then None else Some (root_power b e)) else rewritten_whole b e) ≡ Some t → Rewrites (power b e) t
+    by true h r = half_rewriting (is_undef b) b e t h r
+    by false h r = whole_rewriting b e t r

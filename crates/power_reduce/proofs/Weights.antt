@@ -56,7 +56,7 @@ factor_weight (neg a) h = omega arith
 factor_weight (sub a c) h = omega arith
 factor_weight (div a c) h = omega arith
 
-number_weight : (t : Tree) → is_number t ≡ true → weight t ≡ 2
+pub number_weight : (t : Tree) → is_number t ≡ true → weight t ≡ 2
 number_weight (num q) h = refl
 number_weight (add ts) h = refl
 number_weight (root a) h = rw h refl

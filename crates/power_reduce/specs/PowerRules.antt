@@ -1,4 +1,4 @@
--- What the rewritings of a power of reduced trees are, rule by rule, and why going on from each ends.
+-- What the rewritings of a whole power of reduced trees are, rule by rule, and why going on from each ends.
 use Rattle.std.specs.Prelude.{◌≡◌, ◌≤◌, ◌<◌, ◌+◌, ◌⊎◌, ⊤, true, false, ◌&&◌}
 use Rattle.calc_terms.specs.Fractions.{Fraction}
 use Rattle.calc_measures.specs.Loads.{nest, load, weight}
@@ -67,7 +67,7 @@ pub record RaisesParts (b e t : Tree) : Type 0 where
 abbrev pub IsByRule : Tree → Tree → Tree → Type 0
 IsByRule b e t = HalvesRoot b e t ⊎ JoinsExponents b e t ⊎ RaisesParts b e t
 
--- a power that is rewritten has a transparent exponent other than Undef, it is no Number's, and it is not Undef at once
+-- a whole power that is rewritten has a transparent exponent other than Undef, it is no Number's, and it is not Undef at once
 pub record IsRewritable (b e : Tree) : Type 0 where
   pub exponent_defined : is_undef e ≡ false
   pub transparent : is_opaque_exponent e ≡ false

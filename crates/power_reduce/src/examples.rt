@@ -11,13 +11,17 @@ pub fn powers_rewritten()
     ensures negative_even_root { rewritten (root x) (ratio (negsuc 3) 1) ≡ Some (power x (ratio (negsuc 1) 1)) }
     ensures odd_root { rewritten (root x) (whole_num 3) ≡ None }
     ensures power_of_a_power { rewritten (power x (whole_num 2)) (whole_num 3) ≡ Some (power x (product (whole_num 2) (whole_num 3))) }
-    ensures opaque_power { rewritten (power x (ratio (pos 1) 2)) (whole_num 2) ≡ None }
-    ensures opaque_exponent { rewritten (power x (whole_num 2)) (ratio (pos 1) 2) ≡ None }
+    ensures opaque_power { rewritten (power x (ratio (pos 1) 3)) (whole_num 2) ≡ None }
+    ensures opaque_exponent { rewritten (power x (whole_num 2)) (ratio (pos 1) 3) ≡ None }
+    ensures half_exponent { rewritten (power x (whole_num 2)) (ratio (pos 3) 2) ≡ Some (power (root (power x (whole_num 2))) (whole_num 3)) }
+    ensures negative_half { rewritten (whole_num 2) (ratio (negsuc 0) 2) ≡ Some (power (root_of 2) (ratio (negsuc 0) 1)) }
+    ensures power_of_a_power_to_a_symbol { rewritten (power x (whole_num 2)) y ≡ None }
     ensures power_of_a_product { rewritten (mult (more (whole_num 2) (more (root_of 3) (more x (more y none))))) (whole_num 3)
         ≡ Some (mult (three (power (product (whole_num 2) (root_of 3)) (whole_num 3)) (power x (whole_num 3)) (power y (whole_num 3)))) }
-    ensures no_coefficient { rewritten (product x y) z ≡ Some (product (power x z) (power y z)) }
+    ensures no_coefficient { rewritten (product x y) (whole_num 2) ≡ Some (product (power x (whole_num 2)) (power y (whole_num 2))) }
+    ensures product_to_a_symbol { rewritten (product x y) z ≡ None }
     ensures power_of_a_sum { rewritten (sum x y) (whole_num 2) ≡ None }
-    ensures power_of_a_rational { rewritten (whole_num 2) (ratio (pos 1) 2) ≡ None }
+    ensures power_of_a_rational { rewritten (whole_num 2) (ratio (pos 1) 3) ≡ None }
     ensures power_of_a_number { rewritten (product (whole_num 2) (root_of 3)) (whole_num 3) ≡ None }
     ensures exponent_zero { rewritten (product x y) (whole_num 0) ≡ None }
     ensures exponent_one { rewritten (product x y) (whole_num 1) ≡ None }

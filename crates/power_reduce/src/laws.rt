@@ -1,14 +1,15 @@
 //! Laws of one step on a power, each the contract of a function without a body.
-ghost use Rattle.std.specs.Prelude.{◌≡◌, ◌≤◌, ◌+◌, ◌&&◌, true, false, Some, None};
+ghost use Rattle.std.specs.Prelude.{◌≡◌, ◌≤◌, ◌+◌, ◌&&◌, ◌||◌, true, false, Some, None};
 ghost use Rattle.calc_terms.specs.Integers.{int_is_negative};
 ghost use Rattle.calc_measures.specs.Loads.{load, weight};
 ghost use Rattle.calc_algebra.specs.Numbers.{is_number, classes};
-ghost use Rattle.calc_algebra.specs.Reduced.{is_reduced, is_whole_num, is_opaque_exponent, num_one};
-ghost use Rattle.calc_terms.specs.Trees.{Tree, num, power, undef, is_undef};
-ghost use Rattle.calc_terms.specs.Fractions.{Fraction, one_fraction, zero_fraction};
+ghost use Rattle.calc_algebra.specs.Reduced.{is_reduced, is_half_num, is_whole_num, is_opaque_exponent, num_one};
+ghost use Rattle.calc_terms.specs.Trees.{Tree, num, power, undef, is_root, is_undef};
+ghost use Rattle.calc_terms.specs.Fractions.{Fraction, one_fraction, whole_fraction, zero_fraction};
 ghost use Rattle.power_reduce.specs.PowerAnswers.{has_no_power, IsWrittenPower, IsPowerAnswer};
 ghost use Rattle.power_reduce.specs.PowerRules.{IsByRule, IsRewritable};
-ghost use Rattle.power_reduce.specs.PowerSteps.{is_zero_or_one, rewritten};
+ghost use Rattle.power_reduce.specs.PowerSteps.{is_zero_or_one, power_of_root, rewritten};
+ghost use Rattle.number_forms.specs.Readers.{numerator};
 ghost use Rattle.calc_algebra.specs.Rewritings.{Rewrites, Reduces, KeepsMeanings};
 
 /// A rewriting keeps every meaning and has no new name.
@@ -16,14 +17,22 @@ pub fn rewriting_keeps_meanings()
     ensures { (b e t : Tree) → rewritten b e ≡ Some t → Rewrites (power b e) t }
 {}
 
-/// A rewriting is by one of three rules, and each leaves trees that are reduced, weigh less and nest no more.
-pub fn rewritings_are_by_rule()
-    ensures { (b e t : Tree) → is_reduced b ≡ true → rewritten b e ≡ Some t → IsByRule b e t }
+/// With half of an odd whole number n as its exponent a power is the power n of a root. No rule rewrites that one once
+/// its root is reduced.
+pub fn halves_are_powers_of_roots()
+    ensures rewritten { (b e : Tree) → is_half_num e ≡ true → is_undef b ≡ false → rewritten b e ≡ Some (power_of_root b e) }
+    ensures once { (r e : Tree) → is_half_num e ≡ true → (is_undef r || is_number r || is_root r) ≡ true
+        → rewritten r (num (whole_fraction (numerator e))) ≡ None }
 {}
 
-/// A power that is rewritten is no Number's, and neither opaque nor Undef at once.
+/// Any other rewriting is by one of three rules, and each leaves trees that are reduced, weigh less and nest no more.
+pub fn rewritings_are_by_rule()
+    ensures { (b e t : Tree) → is_half_num e ≡ false → is_reduced b ≡ true → rewritten b e ≡ Some t → IsByRule b e t }
+{}
+
+/// A power that is so rewritten is no Number's, and neither opaque nor Undef at once.
 pub fn rewritten_powers_are_transparent()
-    ensures { (b e t : Tree) → rewritten b e ≡ Some t → IsRewritable b e }
+    ensures { (b e t : Tree) → is_half_num e ≡ false → rewritten b e ≡ Some t → IsRewritable b e }
 {}
 
 /// A power that no rule changes is reduced: none that is rewritten, whose exponent is 0 or 1, or that is a
@@ -37,7 +46,7 @@ pub fn other_powers_are_reduced()
 /// A negative whole power of a Number of three classes or more is reduced.
 pub fn wide_powers_are_reduced()
     ensures { (b : Tree) (n : Fraction) → is_reduced b ≡ true → is_number b ≡ true → 3 ≤ classes b
-        → int_is_negative n.num ≡ true → is_reduced (power b (num n)) ≡ true }
+        → n.den ≡ 1 → int_is_negative n.num ≡ true → is_reduced (power b (num n)) ≡ true }
 {}
 
 /// The power 1 of a reduced tree is that tree, and the power 0 of one is 1.

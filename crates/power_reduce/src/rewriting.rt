@@ -1,11 +1,12 @@
-//! The three rewritings of a power.
+//! The four rewritings of a power.
 ghost use Rattle.std.specs.Prelude.{◌≡◌, ◌==◌, ◌<◌, ◌≤◌, ◌^◌, nat_abs, Some, IfOk, IfErr, OnOk, [], ◌∷◌, true, false};
 ghost use Rattle.calc_terms.specs.Fractions.{whole_fraction};
 ghost use Rattle.calc_algebra.specs.Numbers.{is_number};
-ghost use Rattle.calc_algebra.specs.Reduced.{is_reduced, is_opaque_exponent};
+ghost use Rattle.calc_algebra.specs.Reduced.{is_reduced, is_half_num, is_opaque_exponent};
 ghost use Rattle.calc_terms.specs.Trees.{num, mult, count, is_mult, is_root};
 ghost use Rattle.power_reduce.specs.PowerAnswers.{is_power, base_in, exponent_in, HasReducedSides};
 ghost use Rattle.power_reduce.specs.PowerSteps.{goes_inside, is_even_whole, parts_of, raised, rewritten};
+ghost use Rattle.number_forms.specs.Readers.{numerator};
 ghost use Rattle.power_reduce.specs.Raising.{HasKids, raised_at};
 ghost use Rattle.tree_handles.specs.Standing.{LacksBytes, Stands, forest, KeepsRefusals, Refuses};
 ghost use Rattle.tree_handles.specs.Handed.{tree_of, IsHanded, Gives, KeepsFront};
@@ -17,9 +18,31 @@ use calc_terms::{Kind, Rat};
 use coefficients::split_product;
 use node_pool::{Full, Pool};
 use tree_handles::{
-    Handle, add_child, children, copy_tree, merge_children, move_last, node, number, release,
-    take_child,
+    Handle, add_child, children, copy_tree, merge_children, move_last, node, node_over,
+    node_over_two, number, release, take_child,
 };
+
+/// A power by half of n as the power n of the root of its base.
+pub(crate) fn root_base(pool: &mut Pool, power: Handle, n: i128) -> Result<Handle, Full>
+    requires stands { Stands pool.old }
+    requires handed { IsHanded power (forest pool.old) }
+    requires sides { HasReducedSides (tree_of power pool.old) }
+    requires half { is_half_num (exponent_in (tree_of power pool.old)) ≡ true }
+    requires numerator { numerator (exponent_in (tree_of power pool.old)) ≡ n }
+    requires fits { nat_abs n < 2 ^ 127 }
+    ensures ok { IfOk result (λ h. Gives (without_root power (forest pool.old)) (forest pool.new) h (λ u. rewritten (base_in (tree_of power pool.old)) (exponent_in (tree_of power pool.old)) ≡ Some u)) }
+    ensures front { KeepsFront (power ∷ []) (forest pool.old) (forest pool.new) }
+    ensures kept { OnOk result (KeepsRefusals pool.old pool.new) }
+    ensures full { IfErr result (Refuses pool.old pool.new) }
+    ensures caused { IfErr result (LacksBytes pool.new) }
+    ensures stands { Stands pool.new }
+{
+    let (base, exponent) = take_sides(pool, power);
+    release(pool, exponent);
+    let root = node_over(pool, Kind::Root, base)?;
+    let whole = number(pool, Rat::whole(n))?;
+    node_over_two(pool, Kind::Pow, root, whole)
+}
 
 /// An even power of a root as a power of its argument, in place: the bytes of the old exponent suffice for its
 /// half.

@@ -3,7 +3,7 @@ ghost use Rattle.std.specs.Prelude.{◌≡◌, ◌<◌, ◌^◌, ◌&&◌, nat_a
 ghost use Rattle.calc_terms.specs.Fractions.{whole_fraction};
 ghost use Rattle.calc_algebra.specs.Numbers.{is_number};
 ghost use Rattle.calc_measures.specs.PlainValues.{plain_value};
-ghost use Rattle.calc_algebra.specs.Reduced.{is_reduced, is_whole_num};
+ghost use Rattle.calc_algebra.specs.Reduced.{is_reduced, is_half_num, is_whole_num};
 ghost use Rattle.calc_terms.specs.Trees.{num, is_num, is_mult, is_root, is_undef};
 ghost use Rattle.power_reduce.specs.PowerAnswers.{is_power, base_in, exponent_in, HasReducedSides, IsStep};
 ghost use Rattle.power_reduce.specs.PowerSteps.{goes_inside, is_zero_or_one, rewritten};
@@ -18,15 +18,15 @@ ghost use Rattle.tree_handles.specs.Roots.{without_root};
 ghost use Rattle.tree_handles.specs.Standing.{Stands, forest, KeepsRefusals};
 
 use crate::numbers::{irrational_power, rational_power};
-use crate::rewriting::{halve_root, join_exponents, raise_factors};
+use crate::rewriting::{halve_root, join_exponents, raise_factors, root_base};
 use crate::sides::{base_id, exponent_id, first_exponent_is_opaque, take_base, with_number};
 use calc_terms::{Kind, Rat};
 use node_pool::{Id, Pool};
-use number_forms::{is_reduced_number, whole};
+use number_forms::{half, is_reduced_number, whole};
 use reduce_port::Step;
 use tree_handles::{Handle, NumberFault, is_undefined, kind, move_last, rational, undefined};
 
-/// One step on a power of reduced trees: a reduced tree, or one rewriting, whose new powers and product are
+/// One step on a power of reduced trees: a reduced tree, or one rewriting, whose new root, powers and product are
 /// not reduced yet.
 pub fn power_step(pool: &mut Pool, power: Handle) -> Result<Step, NumberFault>
     requires stands { Stands pool.old }
@@ -36,7 +36,7 @@ pub fn power_step(pool: &mut Pool, power: Handle) -> Result<Step, NumberFault>
     requires exponent { is_reduced (exponent_in (tree_of power pool.old)) ≡ true }
     ensures ok { IfOk result (IsStep (tree_of power pool.old) (without_root power (forest pool.old)) pool.new) }
     ensures rationals { is_num (base_in (tree_of power pool.old)) ≡ true → is_num (exponent_in (tree_of power pool.old)) ≡ true
-        → AnswersRationalStep (plain_value (tree_of power pool.old)) pool.new result }
+        → is_half_num (exponent_in (tree_of power pool.old)) ≡ false → AnswersRationalStep (plain_value (tree_of power pool.old)) pool.new result }
     ensures overflow { IfErr result (OfOverflow (IsPowerMisfit (base_in (tree_of power pool.old)) (exponent_in (tree_of power pool.old)))) }
     ensures front { KeepsFront (power ∷ []) (forest pool.old) (forest pool.new) }
     ensures kept { OnOk result (KeepsRefusals pool.old pool.new) }
@@ -127,7 +127,7 @@ fn whole_power_of_other(pool: &mut Pool, power: Handle, n: i128) -> Result<Step,
     power_inside(pool, power)
 }
 
-/// A power whose exponent is no whole number.
+/// A power whose exponent is no whole number: with half of one it is a power of a root, and any other is kept.
 fn other_power(pool: &mut Pool, power: Handle) -> Result<Step, NumberFault>
     requires stands { Stands pool.old }
     requires handed { IsHanded power (forest pool.old) }
@@ -135,7 +135,7 @@ fn other_power(pool: &mut Pool, power: Handle) -> Result<Step, NumberFault>
     requires exponent { is_whole_num (exponent_in (tree_of power pool.old)) ≡ false }
     ensures ok { IfOk result (IsStep (tree_of power pool.old) (without_root power (forest pool.old)) pool.new) }
     ensures rationals { is_num (base_in (tree_of power pool.old)) ≡ true → is_num (exponent_in (tree_of power pool.old)) ≡ true
-        → AnswersRationalStep (plain_value (tree_of power pool.old)) pool.new result }
+        → is_half_num (exponent_in (tree_of power pool.old)) ≡ false → AnswersRationalStep (plain_value (tree_of power pool.old)) pool.new result }
     ensures overflow { IfErr result (OfOverflow (λ _. ⊥)) }
     ensures front { KeepsFront (power ∷ []) (forest pool.old) (forest pool.new) }
     ensures kept { OnOk result (KeepsRefusals pool.old pool.new) }
@@ -143,13 +143,16 @@ fn other_power(pool: &mut Pool, power: Handle) -> Result<Step, NumberFault>
     ensures caused { IfErr result (IsCaused pool.new) }
     ensures stands { Stands pool.new }
 {
-    if is_reduced_number(pool, exponent_id(pool, &power)) {
-        return Ok(kept_power(pool, power));
+    match half(pool, exponent_id(pool, &power)) {
+        Some(n) => {
+            let rooted = root_base(pool, power, n)?;
+            Ok(Step::Again(rooted))
+        }
+        None => Ok(kept_power(pool, power)),
     }
-    power_inside(pool, power)
 }
 
-/// A power whose exponent goes into a power or a product. No even power of a root.
+/// A power whose exponent is a whole number other than 0 and 1. No even power of a root.
 fn power_inside(pool: &mut Pool, power: Handle) -> Result<Step, NumberFault>
     requires stands { Stands pool.old }
     requires handed { IsHanded power (forest pool.old) }
@@ -158,8 +161,6 @@ fn power_inside(pool: &mut Pool, power: Handle) -> Result<Step, NumberFault>
     requires number { (is_number (base_in (tree_of power pool.old)) && is_whole_num (exponent_in (tree_of power pool.old))) ≡ false }
     requires root { is_root (base_in (tree_of power pool.old)) ≡ true → rewritten (base_in (tree_of power pool.old)) (exponent_in (tree_of power pool.old)) ≡ None }
     ensures ok { IfOk result (IsStep (tree_of power pool.old) (without_root power (forest pool.old)) pool.new) }
-    ensures rationals { is_num (base_in (tree_of power pool.old)) ≡ true → is_num (exponent_in (tree_of power pool.old)) ≡ true
-        → AnswersRationalStep (plain_value (tree_of power pool.old)) pool.new result }
     ensures overflow { IfErr result (OfOverflow (λ _. ⊥)) }
     ensures front { KeepsFront (power ∷ []) (forest pool.old) (forest pool.new) }
     ensures kept { OnOk result (KeepsRefusals pool.old pool.new) }

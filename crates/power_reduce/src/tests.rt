@@ -165,8 +165,9 @@ fn outcome(pool: &Pool, step: &Result<Step, NumberFault>) -> u64 {
     }
 }
 
-// p/q, the exponent n/d and the outcome: Undef, a rational, or the power as it was.
-const RATIONALS: [([i128; 4], u64); 10] = [
+// p/q, the exponent n/d and the outcome: Undef, a rational, or the power as it was. For a root under the power bytes
+// are lacking.
+const RATIONALS: [([i128; 4], u64); 11] = [
     ([0, 1, 0, 1], 8),
     ([0, 1, -1, 1], 8),
     ([0, 1, 1, 1], 40),
@@ -176,7 +177,8 @@ const RATIONALS: [([i128; 4], u64); 10] = [
     ([2, 1, 126, 1], 40),
     ([2, 1, 127, 1], 2),
     ([2, 1, -127, 1], 2),
-    ([2, 1, 1, 2], 88),
+    ([2, 1, 1, 3], 88),
+    ([2, 1, 1, 2], 1),
 ];
 
 #[test]
@@ -203,6 +205,22 @@ fn powers_of_a_symbol(rt: HostRuntime) -> Result<(), Fail> {
     Ok(())
 }
 
+// x to half of an odd power is a power of √x, and to a third of one it is kept.
+#[test]
+fn roots_of_a_symbol(rt: HostRuntime) -> Result<(), Fail> {
+    if let Some(x) = Name::read(b"x") {
+        for (n, want) in [(1, 1072), (3, 1072), (-1, 1072), (-3, 1072)] {
+            let mut pool = opened(rt.alloc(), 72)?;
+            let answer = symbol_step(&mut pool, x, Rat::ratio(n, 2));
+            assert_eq!(rt; outcome(&pool, &answer), want, "x^({n}/2)");
+        }
+        let mut pool = opened(rt.alloc(), 64)?;
+        let answer = symbol_step(&mut pool, x, Rat::ratio(1, 3));
+        assert_eq!(rt; outcome(&pool, &answer), 64);
+    }
+    Ok(())
+}
+
 // √x to an odd power is kept, and to an even one it is x to the half.
 #[test]
 fn powers_of_a_root(rt: HostRuntime) -> Result<(), Fail> {
@@ -216,7 +234,7 @@ fn powers_of_a_root(rt: HostRuntime) -> Result<(), Fail> {
     Ok(())
 }
 
-// x^2 to the power 3 is x^(2×3), and x^(1/2) is opaque.
+// x^2 to the power 3 is x^(2×3), and x^(1/3) is opaque.
 #[test]
 fn powers_of_a_power(rt: HostRuntime) -> Result<(), Fail> {
     if let Some(x) = Name::read(b"x") {
@@ -224,7 +242,7 @@ fn powers_of_a_power(rt: HostRuntime) -> Result<(), Fail> {
         let answer = nested_step(&mut pool, x, Rat::whole(2), Rat::whole(3));
         assert_eq!(rt; outcome(&pool, &answer), 1112);
         let mut pool = opened(rt.alloc(), 112)?;
-        let answer = nested_step(&mut pool, x, Rat::ratio(1, 2), Rat::whole(2));
+        let answer = nested_step(&mut pool, x, Rat::ratio(1, 3), Rat::whole(2));
         assert_eq!(rt; outcome(&pool, &answer), 112);
     }
     Ok(())

@@ -64,7 +64,7 @@ pub inverse_square_reduced : (b : List ℕ) → is_reduced (power (symbol b) (nu
 unfolding is_reduced is_number one_fraction zero_fraction lowest gcd
 inverse_square_reduced b = refl
 
-pub opaque_reduced : (b : List ℕ) → is_reduced (power (symbol b) (num (lowest (pos 1) 2))) ≡ true
+pub opaque_reduced : (b : List ℕ) → is_reduced (power (symbol b) (num (lowest (pos 1) 3))) ≡ true
 unfolding is_reduced is_number lowest gcd
 opaque_reduced b = refl
 

@@ -12,7 +12,7 @@ pub fn factors_joined()
         ≡ more (power x (sum (whole_num 2) (ratio (negsuc 1) 1))) none }
     ensures one_pair_of_two { joined (more y (three x y x)) ≡ three (power y (sum (whole_num 1) (whole_num 1))) x x }
     ensures the_nearest_partner { joined (three x (power x y) (power x z)) ≡ two (power x (sum (whole_num 1) y)) (power x z) }
-    ensures beside_an_opaque_power { have_partners (two x (power x (ratio (pos 1) 2))) ≡ false }
+    ensures beside_an_opaque_power { have_partners (two x (power x (ratio (pos 1) 3))) ≡ false }
 {}
 
 /// How a coefficient stands before other factors.

@@ -62,7 +62,7 @@ enum Piece {
     Square(u8),
     /// A letter to the power -2.
     InverseSquare(u8),
-    /// A letter to the power 1/2.
+    /// A letter to the power 1/3.
     Opaque(u8),
     Undef,
 }
@@ -208,7 +208,7 @@ fn placed(pool: &mut Pool, piece: Piece) -> Result<Handle, NumberFault>
         Piece::Power(base, exponent) => power(pool, base, exponent),
         Piece::Square(base) => raised(pool, base, Rat::whole(2)),
         Piece::InverseSquare(base) => raised(pool, base, Rat::whole(-2)),
-        Piece::Opaque(base) => raised(pool, base, Rat::ratio(1, 2)),
+        Piece::Opaque(base) => raised(pool, base, Rat::ratio(1, 3)),
         Piece::Undef => undefined(pool),
     }
 }

@@ -1,9 +1,12 @@
 -- What each root of a reduced tree reduces to.
-use Rattle.std.proofs.Common.{◌≡◌, ℕ, ◌<◌, Bool, true, false, ℤ, pos, negsuc, zero, suc, ◌<ℤ◌, [], ◌∷◌, inl, inr, refl, sym, ap, ◌∙◌, subst, arith}
+use Rattle.std.proofs.Common.{◌≡◌, ◌≢◌, ◌==◌, ℕ, ◌<◌, ◌≤◌, Bool, true, false, ℤ, pos, negsuc, zero, suc, ◌<ℤ◌, [], ◌∷◌, inl, inr, refl, sym, ap, ◌∙◌, subst, arith}
+use Rattle.std.proofs.lemmas.Bool.{eqb-true, eq-eqb}
 use Rattle.std.proofs.lemmas.Int.{ints}
 use Rattle.std.specs.Prelude.{List, length, Result, Ok, Err, if◌then◌else◌}
-use Rattle.calc_terms.specs.Fractions.{Fraction, whole_fraction}
+use Rattle.calc_terms.specs.Fractions.{Fraction, zero_fraction, one_fraction, is_one_fraction, whole_fraction}
 use Rattle.calc_terms.specs.Integers.{int_is_negative, int_is_zero}
+use Rattle.calc_terms.proofs.FractionFacts.{one_is}
+use Rattle.calc_algebra.specs.Clean.{IsClean}
 use Rattle.calc_measures.specs.Loads.{nest, load}
 use Rattle.calc_algebra.specs.Meanings.{IsRootOf}
 use Rattle.calc_algebra.specs.Numbers.{is_number, is_term, term_of, value, IsTerm}
@@ -17,17 +20,21 @@ use Rattle.calc_algebra.proofs.NumberRewrites.{root_of_rational}
 use Rattle.calc_algebra.proofs.ReducedLaws.{reduced_test, reduced_words}
 use Rattle.calc_algebra.proofs.TermLaws.{Same-eq}
 use Rattle.calc_algebra.proofs.UndefRewrites.{undef_part, root_of_negative}
+use Rattle.number_forms.proofs.Placings.{rational_term, root_term, multiple_term, one_test}
 use Rattle.number_forms.proofs.Shaped.{term_number, term_value}
+use Rattle.number_forms.proofs.TermTrees.{rational_tree, root_tree, multiple_tree}
+use Rattle.number_forms.specs.Shapes.{term_tree}
 use Rattle.calc_algebra.specs.Rewritings.{HasNoNewName}
 use Rattle.calc_algebra.proofs.Rewritings.{keeps, Rewrites-refl, reduces}
 use Rattle.radical_forms.specs.RootAnswers.{has_no_root, IsRootAnswer}
-use Rattle.radical_forms.specs.Refusals.{HasWideRoot, IsOverflow}
+use Rattle.radical_forms.specs.Refusals.{HasWideRoot, LacksRoot, IsOverflow}
 use Rattle.tree_handles.specs.Faults.{IfOverflow}
 use Rattle.node_pool.specs.declared.full.Full.{Full}
 use Rattle.rational128.specs.Refusals.{DoesNotFit}
 use Rattle.rational128.specs.declared.overflow.Op.TheVariants.{Mul}
 use Rattle.rational128.specs.declared.overflow.Overflow.{Overflow}
 use Rattle.std.specs.Result.{IsErrAnd}
+use Rattle.tree_handles.specs.Building.{building}
 use Rattle.tree_handles.specs.declared.fault.NumberFault.{NumberFault}
 use Rattle.tree_handles.specs.declared.fault.NumberFault.TheVariants as fault
 use lib.Signed.{lt_z}
@@ -211,3 +218,27 @@ symbol_reduced x = reduced_test (symbol x) (inr (inr tt))
 
 pub undef_reduced : is_reduced undef ≡ true
 undef_reduced = reduced_test undef (inl refl)
+
+-- ---- the tree of a term
+
+two_or_more : (n : ℕ) → 1 ≤ n → n ≢ 1 → 2 ≤ n
+two_or_more n l h = grind arith
+
+pub term_tree_is : (s : Term) → s.coefficient ≢ zero_fraction → 1 ≤ s.radicand → IsClean s.radicand → (is_term (term_tree s) ≡ true) × (term_of (term_tree s) ≡ s)
+term_tree_is s z p c = by (s.radicand == 1) refl (is_one_fraction s.coefficient) refl
+  where
+    by : (b : Bool) → (s.radicand == 1) ≡ b → (o : Bool) → is_one_fraction s.coefficient ≡ o → (is_term (term_tree s) ≡ true) × (term_of (term_tree s) ≡ s)
+    by true e o f = let one : s.radicand ≡ 1 = eqb-true s.radicand 1 e in rational_tree s.coefficient s (term_tree s) refl z one (rational_term s one)
+    by false e true f =
+        let other : s.radicand ≢ 1 = λ k. let t : (s.radicand == 1) ≡ true = eq-eqb s.radicand 1 k in cc (e, t) in
+        root_tree s.radicand s (term_tree s) (sym (one_is s.coefficient f)) refl (two_or_more s.radicand p other) c (root_term s other (one_is s.coefficient f))
+    by false e false f =
+        let other : s.radicand ≢ 1 = λ k. let t : (s.radicand == 1) ≡ true = eq-eqb s.radicand 1 k in cc (e, t) in
+        let unlike : s.coefficient ≢ one_fraction = λ k. let t : is_one_fraction s.coefficient ≡ true = ap is_one_fraction k ∙ one_test in cc (f, t) in
+        multiple_tree s.coefficient s.radicand s (term_tree s) refl z unlike refl (two_or_more s.radicand p other) c (multiple_term s other unlike)
+
+-- ---- bytes that are lacking
+
+-- the root of a rational above 0, whose term has no room
+pub term_lacks : (q : Fraction) (s : Term) (now free : ℕ) (full : Full) → pos 0 <ℤ q.num → IsRootOf q.num q.den (s ∷ []) → (is_term (term_tree s) ≡ true) × (term_of (term_tree s) ≡ s) → now ≡ free → building now (term_tree s) ≡ Err full → LacksRoot (num q) free full
+term_lacks q s now free full p r t e b = record { answer = term_tree s; root = positive_answer q (term_tree s) s p t r; lacks = subst (λ (n : ℕ). building n (term_tree s) ≡ Err full) e b }

@@ -1,11 +1,14 @@
 -- When the reduction of a root is refused.
-use Rattle.std.specs.Prelude.{◌≡◌, ◌<ℤ◌, pos, Result, Ok, Err, ⊤}
+use Rattle.std.specs.Prelude.{ℕ, ◌≡◌, ◌<ℤ◌, pos, Result, Ok, Err, ⊤}
 use Rattle.calc_terms.specs.Fractions.{whole_fraction}
 use Rattle.calc_terms.specs.Rat.{value_of}
 use Rattle.calc_terms.specs.Trees.{Tree, num}
+use Rattle.node_pool.specs.declared.full.Full.{Full}
+use Rattle.radical_forms.specs.RootAnswers.{IsRootAnswer}
 use Rattle.rational128.specs.Refusals.{DoesNotFit}
 use Rattle.rational128.specs.declared.overflow.Op.TheVariants.{Mul}
 use Rattle.rational128.specs.declared.overflow.Overflow.{Overflow}
+use Rattle.tree_handles.specs.Building.{building}
 use Rattle.tree_handles.specs.declared.fault.NumberFault.{NumberFault}
 use Rattle.tree_handles.specs.declared.fault.NumberFault.TheVariants as fault
 
@@ -18,6 +21,12 @@ HasWideRoot _ = ⊥
 abbrev pub NamesProduct : Tree → Overflow → Type 0
 NamesProduct (num q) o = (o.op ≡ Mul) × (value_of o.a ≡ whole_fraction q.num) × (value_of o.b ≡ whole_fraction (pos q.den))
 NamesProduct _ o = ⊥
+
+-- the tree that the root of a reduces to has no room in the free bytes: what the first of its nodes that lacks bytes needs, and what is left for it
+pub record LacksRoot (a : Tree) (free : ℕ) (full : Full) : Type 0 where
+  pub answer : Tree
+  pub root : IsRootAnswer a answer
+  pub lacks : building free answer ≡ Err full
 
 -- refused because an operation does not fit
 abbrev pub IsOverflow : {A : Type 0} → Result A NumberFault → Type 0

@@ -1,10 +1,11 @@
 //! The root of a reduced tree.
-ghost use Rattle.std.specs.Prelude.{◌≡◌, ◌↔◌, ◌<◌, true, IfOk, IfErr, OnOk, [], ◌∷◌};
+ghost use Rattle.std.specs.Prelude.{◌≡◌, ◌↔◌, ◌<◌, ◌≤◌, ◌+◌, true, IfOk, IfErr, OnOk, [], ◌∷◌};
 ghost use Rattle.calc_terms.specs.Rat.{value_of};
 ghost use Rattle.calc_algebra.specs.Reduced.{is_reduced};
-ghost use Rattle.calc_terms.specs.Trees.{num, root as root_tree_of, is_root, is_num};
+ghost use Rattle.calc_terms.specs.Trees.{num, root as root_tree_of, is_root, is_num, size};
 ghost use Rattle.node_pool.specs.State.{free_of};
-ghost use Rattle.radical_forms.specs.Refusals.{HasWideRoot, NamesProduct, IsOverflow, IsFull};
+ghost use Rattle.number_forms.specs.Lacks.{OfFull};
+ghost use Rattle.radical_forms.specs.Refusals.{HasWideRoot, LacksRoot, NamesProduct, IsOverflow, IsFull};
 ghost use Rattle.radical_forms.specs.RootAnswers.{argument_of, IsRootAnswer};
 ghost use Rattle.tree_handles.specs.Causes.{IsCaused};
 ghost use Rattle.tree_handles.specs.Handed.{tree_of, IsHanded, Gives, KeepsFront};
@@ -21,7 +22,8 @@ use tree_handles::{
 };
 
 /// The root of a reduced tree: of a rational it is a Number, or Undef below 0; the root of Undef is Undef, and
-/// any other is kept.
+/// any other is kept. The bytes of the handed tree are free again before the answer is placed, child before
+/// parent.
 pub fn reduce_root(pool: &mut Pool, root: Handle) -> Result<Handle, NumberFault>
     requires stands { Stands pool.old }
     requires handed { IsHanded root (forest pool.old) }
@@ -34,7 +36,10 @@ pub fn reduce_root(pool: &mut Pool, root: Handle) -> Result<Handle, NumberFault>
     ensures overflows { IsOverflow result ↔ HasWideRoot (argument_of (tree_of root pool.old)) }
     ensures named { IfOverflow result (NamesProduct (argument_of (tree_of root pool.old))) }
 
-    // Bytes are lacking for a rational argument at most, and only where fewer than 96 are free.
+    // The answer has room in the free bytes and those of the handed tree. Bytes are lacking exactly where it has
+    // none: for a rational argument at most, and only where fewer than 96 are free.
+    ensures room { IfOk result (λ h. size (tree_of h pool.new) ≤ free_of pool.old + size (tree_of root pool.old)) }
+    ensures first_lack { IfErr result (OfFull (LacksRoot (argument_of (tree_of root pool.old)) (free_of pool.old + size (tree_of root pool.old)))) }
     ensures full_of_a_rational { IsFull result → is_num (argument_of (tree_of root pool.old)) ≡ true }
     ensures full_below_96_bytes { IsFull result → free_of pool.old < 96 }
 
@@ -66,6 +71,8 @@ fn root_of_rational(pool: &mut Pool, root: Handle, q: Rat) -> Result<Handle, Num
     ensures ok { IfOk result (λ h. Gives (without_root root (forest pool.old)) (forest pool.new) h (IsRootAnswer (num (value_of q)))) }
     ensures overflows { IsOverflow result ↔ HasWideRoot (num (value_of q)) }
     ensures named { IfOverflow result (NamesProduct (num (value_of q))) }
+    ensures room { IfOk result (λ h. size (tree_of h pool.new) ≤ free_of pool.old + size (tree_of root pool.old)) }
+    ensures first_lack { IfErr result (OfFull (LacksRoot (num (value_of q)) (free_of pool.old + size (tree_of root pool.old)))) }
     ensures full_below_96_bytes { IsFull result → free_of pool.old < 96 }
     ensures front { KeepsFront (root ∷ []) (forest pool.old) (forest pool.new) }
     ensures kept { OnOk result (KeepsRefusals pool.old pool.new) }

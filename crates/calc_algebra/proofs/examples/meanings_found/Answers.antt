@@ -1,13 +1,15 @@
-use Rattle.std.proofs.Common.{◌≡◌, refl, [], ◌∷◌, ◌++◌, ℤ, pos, negsuc, subst}
+use Rattle.std.proofs.Common.{◌≡◌, inl, inr, refl, [], ◌∷◌, ◌++◌, ℤ, pos, negsuc, subst}
 use Rattle.calc_terms.specs.Gcd.{gcd}
 use Rattle.calc_terms.specs.Fractions.{Fraction, lowest, quotient, plus, times, zero_fraction, one_fraction, whole_fraction, minus_one_fraction}
 use Rattle.calc_algebra.specs.SquareRoots.{square_root}
 use Rattle.calc_algebra.specs.Surds.{Surd, term, surd_of}
 use Rattle.calc_algebra.specs.SquareClasses.{Same}
-use Rattle.calc_algebra.specs.Meanings.{IsWholePower, IsRootOf}
+use Rattle.calc_algebra.specs.Meanings.{IsWholePower, IsPower, IsRootOf}
 use Rattle.calc_algebra.proofs.SurdLaws.{Agree-sym, Agree-trans}
 use Rattle.calc_algebra.proofs.SquareClassLaws.{Same-Agree, Same-trans}
-use Rattle.calc_algebra.proofs.MeaningLaws.{surd_of_one, whole_one}
+use Rattle.calc_algebra.proofs.MeaningLaws.{surd_of_one, whole_one, whole_is_no_half}
+use Rattle.calc_algebra.proofs.InverseLaws.{Inverts-not_zero}
+use Rattle.calc_algebra.proofs.PowerLaws.{root_zero}
 use Rattle.calc_algebra.proofs.Compared.{compared_same}
 use Rattle.calc_algebra.proofs.examples.meanings_found.Goals as goal
 
@@ -47,13 +49,28 @@ pub returns-clause-a_root_of_a_ratio : goal.returns-clause-a_root_of_a_ratio
 unfolding square_root gcd lowest plus times zero_fraction one_fraction
 returns-clause-a_root_of_a_ratio c = λ f. (surd_of (quotient 1 2), compared_same _ _ refl, (quotient 1 2, compared_same _ _ refl, compared_same _ _ refl))
 
+pub returns-clause-a_power_of_a_root : goal.returns-clause-a_power_of_a_root
+unfolding square_root gcd lowest plus times zero_fraction one_fraction
+returns-clause-a_power_of_a_root c = λ f.
+    let four = surd_of (lowest (pos 4) 1) in
+    let u = term (lowest (pos 1) 1) 4 ∷ [] in (
+      four,
+      surd_of (lowest (pos 3) 2),
+      compared_same _ _ refl,
+      compared_same _ _ refl,
+      inr (lowest (pos 3) 2, refl, compared_same _ _ refl, u, (lowest (pos 4) 1, compared_same _ _ refl, compared_same _ _ refl), compared_same _ _ refl),
+    )
+
 no_zero_power : (k : ℤ) (w v : Surd) → k ≡ pos 0 → Same w [] → IsWholePower k w v → ⊥
 no_zero_power k w v e z i = let j = subst (λ n. IsWholePower n w v) e i in j.0 z
 
 pub returns-clause-zero_to_the_zero : goal.returns-clause-zero_to_the_zero
 unfolding square_root gcd lowest plus times zero_fraction one_fraction
-returns-clause-zero_to_the_zero c = λ f v (w, x, m, n, (k, s, i)).
-    no_zero_power k w v (whole_one k (pos 0) (one_rational x (whole_fraction k) (whole_fraction (pos 0)) s n)) (Same-trans m (compared_same _ _ refl)) i
+returns-clause-zero_to_the_zero c = λ f v (w, x, m, n, i). by w x v (Same-trans m (compared_same _ _ refl)) n i
+  where
+    by : (w x v : Surd) → Same w [] → Same x (surd_of (whole_fraction (pos 0))) → IsPower w x v → ⊥
+    by w x v z n (inl (k, s, i)) = no_zero_power k w v (whole_one k (pos 0) (one_rational x (whole_fraction k) (whole_fraction (pos 0)) s n)) z i
+    by w x v z n (inr (h, d, s, u, r, p)) = whole_is_no_half (pos 0) h d (one_rational x (whole_fraction (pos 0)) h n s)
 
 no_negative_root : (q : Fraction) (v : Surd) → q ≡ lowest (negsuc 0) 1 → IsRootOf q.num q.den v → ⊥
 unfolding gcd lowest
@@ -61,6 +78,37 @@ no_negative_root q v e i = subst (λ x. IsRootOf x.num x.den v) e i
 
 pub returns-clause-a_root_of_a_negative : goal.returns-clause-a_root_of_a_negative
 returns-clause-a_root_of_a_negative c = λ f v (x, m, (q, s, i)). no_negative_root q v (one_rational x q (lowest (negsuc 0) 1) s m) i
+
+no_root_of_minus_four : (q : Fraction) (v : Surd) → q ≡ lowest (negsuc 3) 1 → IsRootOf q.num q.den v → ⊥
+unfolding gcd lowest
+no_root_of_minus_four q v e i = subst (λ x. IsRootOf x.num x.den v) e i
+
+half_den : (lowest (pos 1) 2).den ≡ 2
+unfolding gcd lowest
+half_den = refl
+
+minus_half_den : (lowest (negsuc 0) 2).den ≡ 2
+unfolding gcd lowest
+minus_half_den = refl
+
+pub returns-clause-a_negative_to_a_half : goal.returns-clause-a_negative_to_a_half
+returns-clause-a_negative_to_a_half c = λ f v (w, x, m, n, i). by w x v m n i
+  where
+    by : (w x v : Surd) → Same w (surd_of (lowest (negsuc 3) 1)) → Same x (surd_of (lowest (pos 1) 2)) → IsPower w x v → ⊥
+    by w x v m n (inl (k, s, i)) = whole_is_no_half k (lowest (pos 1) 2) half_den (one_rational x (whole_fraction k) (lowest (pos 1) 2) s n)
+    by w x v m n (inr (h, d, s, u, (q, t, o), i)) = no_root_of_minus_four q u (one_rational w q (lowest (negsuc 3) 1) t m) o
+
+no_inverse_power : (h : Fraction) (u v : Surd) → h ≡ lowest (negsuc 0) 2 → Same u [] → IsWholePower h.num u v → ⊥
+unfolding gcd lowest
+no_inverse_power h u v e z i = let (y, j, k) = subst (λ (x : Fraction). IsWholePower x.num u v) e i in Inverts-not_zero y u j z
+
+pub returns-clause-zero_to_a_negative_half : goal.returns-clause-zero_to_a_negative_half
+unfolding square_root gcd lowest plus times zero_fraction one_fraction
+returns-clause-zero_to_a_negative_half c = λ f v (w, x, m, n, i). by w x v (Same-trans m (compared_same _ _ refl)) n i
+  where
+    by : (w x v : Surd) → Same w [] → Same x (surd_of (lowest (negsuc 0) 2)) → IsPower w x v → ⊥
+    by w x v z n (inl (k, s, i)) = whole_is_no_half k (lowest (negsuc 0) 2) minus_half_den (one_rational x (whole_fraction k) (lowest (negsuc 0) 2) s n)
+    by w x v z n (inr (h, d, s, u, r, i)) = no_inverse_power h u v (one_rational x h (lowest (negsuc 0) 2) s n) (root_zero w u r z) i
 
 pub returns-clause-undefined : goal.returns-clause-undefined
 returns-clause-undefined c = λ f v m. m

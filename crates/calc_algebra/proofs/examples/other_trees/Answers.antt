@@ -63,13 +63,9 @@ pub returns-clause-an_inverse_of_two_classes : goal.returns-clause-an_inverse_of
 unfolding is_reduced is_number is_clean left_of square_root gcd lowest one_fraction zero_fraction
 returns-clause-an_inverse_of_two_classes c = refl
 
-pub returns-clause-a_symbol_to_a_power_of_a_power : goal.returns-clause-a_symbol_to_a_power_of_a_power
+pub returns-clause-a_half_as_exponent : goal.returns-clause-a_half_as_exponent
 unfolding is_reduced is_number is_clean left_of square_root gcd lowest one_fraction zero_fraction
-returns-clause-a_symbol_to_a_power_of_a_power c = refl
-
-pub returns-clause-a_product_to_a_symbol : goal.returns-clause-a_product_to_a_symbol
-unfolding is_reduced is_number is_clean left_of square_root gcd lowest one_fraction zero_fraction
-returns-clause-a_product_to_a_symbol c = refl
+returns-clause-a_half_as_exponent c = refl
 
 pub returns-clause-a_sum_in_a_sum : goal.returns-clause-a_sum_in_a_sum
 unfolding is_reduced is_number is_clean left_of square_root gcd lowest one_fraction zero_fraction

@@ -47,6 +47,14 @@ pub returns-clause-an_opaque_power : goal.returns-clause-an_opaque_power
 unfolding is_reduced is_number is_clean left_of square_root gcd lowest one_fraction zero_fraction
 returns-clause-an_opaque_power c = refl
 
+pub returns-clause-a_power_to_a_symbol : goal.returns-clause-a_power_to_a_symbol
+unfolding is_reduced is_number is_clean left_of square_root gcd lowest one_fraction zero_fraction
+returns-clause-a_power_to_a_symbol c = refl
+
+pub returns-clause-a_product_to_a_symbol : goal.returns-clause-a_product_to_a_symbol
+unfolding is_reduced is_number is_clean left_of square_root gcd lowest one_fraction zero_fraction
+returns-clause-a_product_to_a_symbol c = refl
+
 pub returns-clause-a_sum : goal.returns-clause-a_sum
 unfolding is_reduced is_number is_clean left_of square_root gcd lowest one_fraction zero_fraction
 returns-clause-a_sum c = refl

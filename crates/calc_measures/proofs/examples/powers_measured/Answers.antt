@@ -14,6 +14,26 @@ pub returns-clause-its_denominator : goal.returns-clause-its_denominator
 unfolding is_number is_clean left_of square_root gcd lowest one_fraction zero_fraction
 returns-clause-its_denominator c = refl
 
+pub returns-clause-a_half : goal.returns-clause-a_half
+unfolding is_number is_clean left_of square_root gcd lowest one_fraction zero_fraction
+returns-clause-a_half c = refl
+
+pub returns-clause-its_room : goal.returns-clause-its_room
+unfolding is_number is_clean left_of square_root gcd lowest one_fraction zero_fraction
+returns-clause-its_room c = refl
+
+pub returns-clause-a_negative_half : goal.returns-clause-a_negative_half
+unfolding is_number is_clean left_of square_root gcd lowest one_fraction zero_fraction
+returns-clause-a_negative_half c = refl
+
+pub returns-clause-a_half_as_one_number : goal.returns-clause-a_half_as_one_number
+unfolding is_number is_clean left_of square_root gcd lowest one_fraction zero_fraction
+returns-clause-a_half_as_one_number c = refl
+
+pub returns-clause-no_half : goal.returns-clause-no_half
+unfolding is_number is_clean left_of square_root gcd lowest one_fraction zero_fraction
+returns-clause-no_half c = refl
+
 pub returns-clause-a_computed_exponent : goal.returns-clause-a_computed_exponent
 unfolding is_number is_clean left_of square_root gcd lowest one_fraction zero_fraction
 returns-clause-a_computed_exponent c = refl

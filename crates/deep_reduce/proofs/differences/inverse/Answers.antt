@@ -11,7 +11,7 @@ use Rattle.tree_handles.proofs.Given.{gives_as, given_handed, given_other, given
 use Rattle.deep_reduce.proofs.Results.{answered, answer_as, overflowed}
 use Rattle.deep_reduce.proofs.Sides.{apart_second, new_second, reduced_front}
 use Rattle.deep_reduce.proofs.Steps.{number_reduced}
-use Rattle.deep_reduce.proofs.Told.{answer_at, minus_one_value, power_told, power_words, power_sides, inverse_overflowed}
+use Rattle.deep_reduce.proofs.Told.{answer_at, minus_one_value, power_told, power_words, power_sides, inverse_no_half, inverse_overflowed}
 use Rattle.deep_reduce.proofs.differences.inverse.Goals as goal
 
 pub returns-in_err-exponent-clause-front : goal.returns-in_err-exponent-clause-front
@@ -57,7 +57,7 @@ returns-clause-ok c =
     let words = power_words power _ (num minus_one_fraction) p.tree in
     answer_as _ _ c.reduce_power.new.pool _ _ _
     (answered _ (plain_value power) c.reduce_power.new.pool _ _ _ c.reduce_power.ensures.ok
-    (λ h. c.reduce_power.ensures.rationals (power_sides power words h).0 (power_sides power words h).1) (λ t a q. power_told power t words a q))
+    (λ h. c.reduce_power.ensures.rationals (power_sides power words h).0 (power_sides power words h).1 (inverse_no_half power _ p.tree)) (λ t a q. power_told power t words a q))
     p.rest (λ t h. answer_at t p.tree h)
 
 pub returns-clause-overflow : goal.returns-clause-overflow
@@ -67,7 +67,7 @@ returns-clause-overflow c =
     let power : Tree = tree_of c.in_ok-power.power c.node_over_two.new.pool in
     let words = power_words power _ (num minus_one_fraction) p.tree in
     overflowed (plain_value power) c.reduce_power.new.pool _ _
-    (λ h. c.reduce_power.ensures.rationals (power_sides power words h).0 (power_sides power words h).1)
+    (λ h. c.reduce_power.ensures.rationals (power_sides power words h).0 (power_sides power words h).1 (inverse_no_half power _ p.tree))
     (λ o h. inverse_overflowed power _ o p.tree c.requires.defined h)
 
 pub returns-clause-front : goal.returns-clause-front

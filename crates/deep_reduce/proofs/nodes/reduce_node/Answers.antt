@@ -11,7 +11,7 @@ use Rattle.tree_handles.specs.Expressions.{children_of}
 use Rattle.coefficients.proofs.Steps.{live, expression, seen, kind_of_root}
 use Rattle.deep_reduce.proofs.Results.{answered, answer_as, overflowed, overflow_as, any_overflow}
 use Rattle.deep_reduce.proofs.Steps.{undefined_answer}
-use Rattle.deep_reduce.proofs.Told.{sum_kind, product_kind, power_kind, root_kind_is, neg_kind, sub_kind, div_kind, power_told, power_sides, power_reduced, root_told, root_overflow, argument_reduced, leaf_told}
+use Rattle.deep_reduce.proofs.Told.{sum_kind, product_kind, power_kind, root_kind_is, neg_kind, sub_kind, div_kind, power_told, power_sides, IsRationalPower, rational_answer, rational_overflow, power_reduced, root_told, root_overflow, argument_reduced, leaf_told}
 use Rattle.deep_reduce.proofs.nodes.reduce_node.Goals as goal
 use Rattle.deep_reduce.proofs.nodes.reduce_node.Goals.{After-kind, After-has_undefined_child}
 
@@ -101,8 +101,8 @@ pub returns-in-Pow-clause-ok : goal.returns-in-Pow-clause-ok
 returns-in-Pow-clause-ok c =
     let t : Tree = tree_of c.args.tree c.args.pool.now in
     let is = power_kind t (sym c.in-Pow.is ∙ kind-is (goal.at.returns-in-Pow-clause-ok c).After-kind) in
-    answered _ (plain_value t) c.reduce_power.new.pool _ _ _ c.reduce_power.ensures.ok
-    (λ h. c.reduce_power.ensures.rationals (power_sides t is h).0 (power_sides t is h).1) (λ u a p. power_told t u is a p)
+    answered {C = IsRationalPower t} _ (plain_value t) c.reduce_power.new.pool _ _ _ c.reduce_power.ensures.ok
+    (λ h. c.reduce_power.ensures.rationals (power_sides t is h.rationals).0 (power_sides t is h.rationals).1 h.no_half) (λ u a p. power_told t u is a (rational_answer t u is p))
 
 pub returns-in-Pow-clause-overflow : goal.returns-in-Pow-clause-overflow
 returns-in-Pow-clause-overflow c =
@@ -110,8 +110,8 @@ returns-in-Pow-clause-overflow c =
     let k = (goal.at.returns-in-Pow-clause-overflow c).After-kind in
     let is = power_kind t (sym c.in-Pow.is ∙ kind-is k) in
     let whole = defined k in
-    overflowed (plain_value t) c.reduce_power.new.pool _ _
-    (λ h. c.reduce_power.ensures.rationals (power_sides t is h).0 (power_sides t is h).1) (λ o h. record { defined = whole; rational = h })
+    overflowed {C = IsRationalPower t} (plain_value t) c.reduce_power.new.pool _ _
+    (λ h. c.reduce_power.ensures.rationals (power_sides t is h.rationals).0 (power_sides t is h.rationals).1 h.no_half) (λ o h. record { defined = whole; rational = rational_overflow t o is h })
 
 pub returns-in_default : goal.returns-in_default
 returns-in_default c =

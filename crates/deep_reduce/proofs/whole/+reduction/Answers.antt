@@ -1,4 +1,4 @@
-use Rattle.std.proofs.Common.{◌≡◌, ap, ◌∙◌, refl, sym, subst, arith, OnOk, IfErr}
+use Rattle.std.proofs.Common.{◌≡◌, Bool, true, false, ap, ◌∙◌, refl, sym, subst, arith, OnOk, IfErr}
 use Rattle.calc_terms.specs.Trees.{Tree, Trees, add, count, is_mult, power as power_tree}
 use Rattle.coefficients.proofs.Places.{over_product}
 use Rattle.coefficients.proofs.Puttings.{on_ok_after, fault_after}
@@ -6,14 +6,14 @@ use Rattle.coefficients.proofs.Rewritten.{given_back, over_back, apart_back, put
 use Rattle.coefficients.proofs.Steps.{live, children_at, children_in, kind_of_root, product_kind, no_product_kind, if_map, moved, moved_front}
 use Rattle.deep_reduce.specs.Answers.{IsReducedProduct, IsReducedPower}
 use Rattle.deep_reduce.specs.Unfinished.{IsSummed}
-use Rattle.deep_reduce.proofs.Arms.{is_finished, is_joined, is_at, is_again}
+use Rattle.deep_reduce.proofs.Arms.{is_finished, is_joined, is_at, is_done, is_again}
 use Rattle.deep_reduce.proofs.Chains.{gives_next, front_next}
 use Rattle.deep_reduce.proofs.Children.{over_power, exponent_taken, placed, factor_taken, factor_inserted, itself}
 use Rattle.deep_reduce.proofs.Nested.{exponent_seen, with_product, without_product, taken_falls}
 use Rattle.deep_reduce.proofs.Falls.{joint_falls, product_falls, power_falls, rewritten_falls, powers_fall, ready_product_falls, exponent_falls, ready_power_falls, one_power_falls}
 use Rattle.deep_reduce.proofs.Finished.{product_of_powers, ready_product, transparent_children, ready_power, power_lifted, power_of_kind}
 use Rattle.deep_reduce.proofs.Measures.{few_factors}
-use Rattle.deep_reduce.proofs.Opened.{opened, power_after}
+use Rattle.deep_reduce.proofs.Opened.{opened, power_after, power_finished}
 use Rattle.deep_reduce.proofs.Ranks.{below_measure}
 use Rattle.deep_reduce.proofs.Rows.{IsPowerOf, none_reduced, part_front, next_power, next_within, back_within, next_of, next_taken, next_reduced, all_reduced}
 use Rattle.deep_reduce.proofs.Settled.{joint_at, ready_joint, ready_summed, settled_less, joint_less, product_after, product_finished}
@@ -194,11 +194,22 @@ reduce_joint-returns-clause-front t c =
 
 -- ---- reduce_power
 
+contrary : {A : Type 0} (b : Bool) → b ≡ true → b ≡ false → A
+contrary b e f = absurd cc
+
+pub reduce_power-returns-then-has_half_exponent-clause-rationals : goal.reduce_power-returns-then-has_half_exponent-clause-rationals
+reduce_power-returns-then-has_half_exponent-clause-rationals t c = λ b e n. contrary _ (sym c.has_half_exponent.ensures ∙ c.if-has_half_exponent.true) n
+
+pub reduce_power-returns-in-Done-clause-ok : goal.reduce_power-returns-in-Done-clause-ok
+reduce_power-returns-in-Done-clause-ok t c =
+    let d = is_done c.args.power c.args.pool.now c.power_step.new.pool c.in-Done.is c.in_ok-answer.ensures.ok in
+    gives_as d.1 refl (λ u a. power_finished (base_in (tree_of c.args.power c.args.pool.now)) (exponent_in (tree_of c.args.power c.args.pool.now)) u d.0 a)
+
 pub reduce_power-reduce_rewritten-requires : goal.reduce_power-reduce_rewritten-requires
 reduce_power-reduce_rewritten-requires t c =
     let g = is_again c.args.power c.args.pool.now c.power_step.new.pool c.in-Again.is c.in_ok-answer.ensures.ok in
     let w = given_told g in
-    let o = opened _ _ _ c.requires.base c.requires.exponent w.0 in
+    let o = opened _ _ _ (sym c.has_half_exponent.ensures ∙ c.if-has_half_exponent.false) c.requires.base c.requires.exponent w.0 in
     (below_measure c.decreases (rewritten_falls _ _ c.requires.power o), (c.in_ok-answer.ensures.stands, (given_handed g, o.unfinished)))
 
 pub reduce_power-returns-in-Again-clause-ok : goal.reduce_power-returns-in-Again-clause-ok
@@ -206,7 +217,7 @@ reduce_power-returns-in-Again-clause-ok t c =
     let g = is_again c.args.power c.args.pool.now c.power_step.new.pool c.in-Again.is c.in_ok-answer.ensures.ok in
     let w = given_told g in
     let same = subst (λ (x : Tree). Rewrites x (tree_of c.in-Again.tree c.power_step.new.pool)) c.requires.power w.1 in
-    if_map c.reduce_rewritten.result _ _ c.reduce_rewritten.ensures.ok (λ h x. gives_next g x (λ r f. power_after _ _ _ r c.requires.base c.requires.exponent (w.0, same) f))
+    if_map c.reduce_rewritten.result _ _ c.reduce_rewritten.ensures.ok (λ h x. gives_next g x (λ r f. power_after _ _ _ r (sym c.has_half_exponent.ensures ∙ c.if-has_half_exponent.false) c.requires.base c.requires.exponent (w.0, same) f))
 
 pub reduce_power-returns-in-Again-clause-front : goal.reduce_power-returns-in-Again-clause-front
 reduce_power-returns-in-Again-clause-front t c = front_next (is_again c.args.power c.args.pool.now c.power_step.new.pool c.in-Again.is c.in_ok-answer.ensures.ok) c.power_step.ensures.front c.reduce_rewritten.ensures.front

@@ -1,10 +1,11 @@
 use Rattle.std.proofs.Common.{◌≡◌, ◌≢◌, ◌≤◌, ℕ, refl, sym, ap, ◌∙◌, arith}
-use Rattle.calc_algebra.specs.Numbers.{is_number, classes}
+use Rattle.calc_algebra.specs.Numbers.{is_number, value, classes}
 use Rattle.number_forms.proofs.SumChanges.{same_plain, read_expression}
 use Rattle.tree_handles.specs.Handed.{tree_of}
 use Rattle.tree_handles.proofs.Fronts.{behind_first, front_same, front_at, front_without}
 use Rattle.tree_handles.proofs.Given.{owned}
 use Rattle.number_forms.proofs.Placings.{rational_classes}
+use Rattle.number_forms.proofs.InverseSteps.{none_to_make, too_wide}
 use Rattle.number_forms.proofs.inverting.invert_number.Goals as goal
 
 three_from : (n : ℕ) → n ≢ 0 → n ≢ 1 → n ≢ 2 → 3 ≤ n
@@ -50,3 +51,16 @@ pub returns-in_err-invert_two-clause-rational : goal.returns-in_err-invert_two-c
 returns-in_err-invert_two-clause-rational c = λ q e.
     let two = sym (c.term_count-terms.ensures ∙ ap classes (same_plain _ c.args.a c.args.pool.now c.id.ensures c.requires.stands c.requires.handed.root)) ∙ c.if-terms-eq2.true in
     absurd (rational_classes (tree_of c.args.a c.args.pool.now) q e two)
+
+-- ---- exactly where there is an inverse, or none to make
+
+pub returns-then-terms-eq0-clause-exactly : goal.returns-then-terms-eq0-clause-exactly
+returns-then-terms-eq0-clause-exactly c =
+    let none = sym (c.term_count-terms.ensures ∙ ap classes (same_plain _ c.args.a c.args.pool.now c.id.ensures c.requires.stands c.requires.handed.root)) ∙ c.if-terms-eq0.true in
+    (λ _. none_to_make (value (tree_of c.args.a c.args.pool.now)) _ none, λ _. refl)
+
+pub returns-else-terms-eq2-clause-exactly : goal.returns-else-terms-eq2-clause-exactly
+returns-else-terms-eq2-clause-exactly c =
+    let all : c.term_count-terms.result ≡ classes (tree_of c.args.a c.args.pool.now) = c.term_count-terms.ensures ∙ ap classes (same_plain _ c.args.a c.args.pool.now c.id.ensures c.requires.stands c.requires.handed.root) in
+    let many : 3 ≤ c.term_count-terms.result = three_from c.term_count-terms.result c.if-terms-eq0.false c.if-terms-eq1.false c.if-terms-eq2.false in
+    (λ _. too_wide (value (tree_of c.args.a c.args.pool.now)) _ (omega (arith, all, many)), λ _. refl)

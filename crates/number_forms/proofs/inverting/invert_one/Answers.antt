@@ -2,7 +2,10 @@ use Rattle.std.proofs.Common.{◌≡◌, Some, sym, ap, ◌∙◌, arith}
 use Rattle.std.specs.Prelude.{slice_get}
 use Rattle.calc_algebra.specs.Numbers.{is_number, value, classes}
 use Rattle.calc_terms.specs.Trees.{Tree}
-use Rattle.number_forms.proofs.InverseSteps.{only_term, inverse_term}
+use Rattle.number_forms.proofs.InverseSteps.{only_term, inverse_term, tree_of_one, fits_as, unfit, has_inverse, room_for, lacks_inverse}
+use Rattle.number_forms.specs.Inverses.{inverse_trees, LacksInverse}
+use Rattle.number_forms.specs.Lacks.{OfFull}
+use Rattle.surd_terms.specs.Inverses.{inverse_of}
 use Rattle.number_forms.proofs.SumChanges.{same_plain, read_expression}
 use Rattle.tree_handles.specs.Handed.{tree_of}
 use Rattle.surd_terms.specs.Terms.{term_of}
@@ -11,13 +14,13 @@ use Rattle.tree_handles.proofs.Given.{gives_as, owned}
 use Rattle.number_forms.specs.Overflows.{InverseOverflows, inverting_calculations}
 use Rattle.tree_handles.specs.Faults.{OfOverflow}
 use Rattle.number_forms.proofs.Overflows.{passed_on}
-use Rattle.surd_terms.specs.Calculations.{first_misfit}
+use Rattle.surd_terms.specs.Calculations.{first_misfit, calculation_of}
 use Rattle.tree_handles.specs.declared.fault.NumberFault.TheVariants as fault
-use Rattle.std.proofs.Common.{[], ◌∷◌, ◌≤◌}
+use Rattle.std.proofs.Common.{[], ◌∷◌, ◌≤◌, ◌+◌, refl}
 use Rattle.calc_algebra.specs.Surds.{Term}
-use Rattle.calc_terms.specs.Trees.{size}
+use Rattle.calc_terms.specs.Trees.{more, none, size}
 use Rattle.node_pool.specs.State.{free_of}
-use Rattle.number_forms.proofs.Placings.{rational_radicand, rational_term}
+use Rattle.number_forms.proofs.Placings.{rational_radicand, rational_term, refused, given_tree}
 use Rattle.tree_handles.proofs.Room.{released_free}
 use Rattle.number_forms.specs.Shapes.{term_tree}
 use Rattle.number_forms.proofs.inverting.invert_one.Goals.{After-nth_term}
@@ -45,8 +48,10 @@ returns-clause-ok c =
     let same = same_plain _ c.args.a c.args.pool.now c.id.ensures c.requires.stands c.requires.handed.root in
     let x = term_of c.nth_term.result in
     let first : slice_get (value (tree_of c.args.a c.args.pool.now)) 0 ≡ Some x = ap (λ (t : Tree). slice_get (value t) 0) (sym same) ∙ c.nth_term.ensures in
-    gives_as c.in_ok-place_term.ensures.ok (c.release.ensures.owned (owned c.requires.handed))
-    (λ t h. inverse_term (value (tree_of c.args.a c.args.pool.now)) t x (term_of c.in_ok-inverse.inverse) (only_term (value (tree_of c.args.a c.args.pool.now)) x c.requires.classes first) c.in_ok-inverse.ensures.inverts h.0 h.1)
+    let one = only_term (value (tree_of c.args.a c.args.pool.now)) x c.requires.classes first in
+    gives_as (given_tree c.in_ok-place_term.ensures.ok c.in_ok-place_term.ensures.tree) (c.release.ensures.owned (owned c.requires.handed))
+    (λ t h. inverse_term (value (tree_of c.args.a c.args.pool.now)) t x (term_of c.in_ok-inverse.inverse) one c.in_ok-inverse.ensures.inverts h.0.0 h.0.1
+    (tree_of_one (value (tree_of c.args.a c.args.pool.now)) x (term_of c.in_ok-inverse.inverse) one c.in_ok-inverse.ensures.value ∙ ap (λ (u : Tree). more u none) (sym h.1)))
 
 pub returns-in_err-inverse-clause-overflow : goal.returns-in_err-inverse-clause-overflow
 returns-in_err-inverse-clause-overflow c =
@@ -71,3 +76,44 @@ returns-in_err-place_term-clause-rational c = λ q e.
     let free = released_free c.requires.stands c.release.ensures.stands c.release.ensures.kept c.requires.handed (c.release.ensures.owned (owned c.requires.handed)) in
     let enough : size (term_tree (term_of c.in_ok-inverse.inverse)) ≤ free_of c.release.new.pool = omega (arith, ap size tree, free, ap size e) in
     absurd (cc (c.in_err-place_term.ensures.exactly.1 enough))
+
+-- ---- where it fits, and its bytes suffice
+
+made : (c : After-nth_term) (y : Term) → y ≡ inverse_of (term_of c.nth_term.result) → inverse_trees (value (tree_of c.args.a c.args.pool.now)) ≡ more (term_tree y) none
+made c y e = tree_of_one (value (tree_of c.args.a c.args.pool.now)) (term_of c.nth_term.result) y (only c) e
+
+pub returns-in_err-inverse-clause-exactly : goal.returns-in_err-inverse-clause-exactly
+returns-in_err-inverse-clause-exactly c =
+    refused c.from_residual.result _ c.from_residual.ensures.0 (unfit _ (term_of c.nth_term.result ∷ []) (calculation_of c.in_err-inverse.field-0.0) _ (only (goal.at.returns-in_err-inverse-clause-exactly c).After-nth_term) c.in_err-inverse.ensures.overflow)
+
+pub returns-in_err-inverse-clause-first_lack : goal.returns-in_err-inverse-clause-first_lack
+returns-in_err-inverse-clause-first_lack c =
+    let v = value (tree_of c.args.a c.args.pool.now) in
+    passed_on c.from_residual.result (fault.Overflow c.in_err-inverse.field-0.0) (OfFull (LacksInverse v (free_of c.args.pool.now + size (tree_of c.args.a c.args.pool.now)))) c.from_residual.ensures.0 c.from_residual.ensures.1 tt
+
+pub returns-in_err-place_term-clause-exactly : goal.returns-in_err-place_term-clause-exactly
+returns-in_err-place_term-clause-exactly c =
+    let v = value (tree_of c.args.a c.args.pool.now) in
+    let y = term_of c.in_ok-inverse.inverse in
+    let free = released_free c.requires.stands c.release.ensures.stands c.release.ensures.kept c.requires.handed (c.release.ensures.owned (owned c.requires.handed)) in
+    let w = made (goal.at.returns-in_err-place_term-clause-exactly c).After-nth_term y c.in_ok-inverse.ensures.value in
+    refused c.from_residual-in_err-place_term.result _ c.from_residual-in_err-place_term.ensures.0
+    (λ has. let enough : size (term_tree y) ≤ free_of c.release.new.pool = omega (arith, free, room_for v (term_tree y) _ w has) in absurd (cc (c.in_err-place_term.ensures.exactly.1 enough)))
+
+pub returns-in_err-place_term-clause-first_lack : goal.returns-in_err-place_term-clause-first_lack
+returns-in_err-place_term-clause-first_lack c =
+    let v = value (tree_of c.args.a c.args.pool.now) in
+    let y = term_of c.in_ok-inverse.inverse in
+    let free = released_free c.requires.stands c.release.ensures.stands c.release.ensures.kept c.requires.handed (c.release.ensures.owned (owned c.requires.handed)) in
+    let one = (goal.at.returns-in_err-place_term-clause-first_lack c).After-nth_term in
+    passed_on c.from_residual-in_err-place_term.result (fault.Full c.in_err-place_term.field-0.0) (OfFull (LacksInverse v (free_of c.args.pool.now + size (tree_of c.args.a c.args.pool.now)))) c.from_residual-in_err-place_term.ensures.0 c.from_residual-in_err-place_term.ensures.1
+    (lacks_inverse v (term_tree y) (free_of c.release.new.pool) _ c.in_err-place_term.field-0.0 (fits_as v (term_of c.nth_term.result ∷ []) (only one) c.in_ok-inverse.ensures.overflow) (made one y c.in_ok-inverse.ensures.value) free c.in_err-place_term.ensures.first_lack)
+
+pub returns-clause-exactly : goal.returns-clause-exactly
+returns-clause-exactly c =
+    let v = value (tree_of c.args.a c.args.pool.now) in
+    let y = term_of c.in_ok-inverse.inverse in
+    let free = released_free c.requires.stands c.release.ensures.stands c.release.ensures.kept c.requires.handed (c.release.ensures.owned (owned c.requires.handed)) in
+    let one = (goal.at.returns-clause-exactly c).After-nth_term in
+    let least : size (term_tree y) ≤ free_of c.release.new.pool = c.in_ok-place_term.ensures.exactly.0 refl in
+    (λ _. has_inverse v (term_tree y) _ (fits_as v (term_of c.nth_term.result ∷ []) (only one) c.in_ok-inverse.ensures.overflow) (made one y c.in_ok-inverse.ensures.value) (omega (arith, free, least)), λ _. refl)

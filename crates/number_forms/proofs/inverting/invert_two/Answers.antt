@@ -1,13 +1,20 @@
-use Rattle.std.proofs.Common.{◌≡◌, [], ◌∷◌, Some, sym, ap, ◌∙◌, arith}
+use Rattle.std.proofs.Common.{◌≡◌, ◌≤◌, ◌+◌, [], ◌∷◌, Some, refl, sym, ap, ◌∙◌, arith}
 use Rattle.std.specs.Prelude.{slice_get}
 use Rattle.calc_algebra.specs.Numbers.{is_number, value, classes}
-use Rattle.calc_terms.specs.Trees.{Tree}
+use Rattle.calc_terms.specs.Trees.{Tree, more, none, size}
 use Rattle.calc_algebra.specs.Surds.{Term}
-use Rattle.number_forms.proofs.InverseSteps.{both_terms, apart_terms, inverse_number, two_rise}
+use Rattle.number_forms.proofs.InverseSteps.{both_terms, apart_terms, inverse_number, two_rise, tree_of_two, fits_as, unfit, has_inverse, room_for, lacks_inverse}
+use Rattle.node_pool.specs.State.{free_of}
+use Rattle.number_forms.specs.Inverses.{inverse_trees, LacksInverse}
+use Rattle.number_forms.specs.Lacks.{OfFull}
+use Rattle.number_forms.specs.Shapes.{sum_of_terms}
+use Rattle.surd_terms.specs.Inverses.{first_of_inverse, second_of_inverse}
+use Rattle.number_forms.proofs.Placings.{refused, given_tree}
+use Rattle.tree_handles.proofs.Room.{released_free}
 use Rattle.number_forms.specs.Overflows.{InverseOverflows, inverting_calculations}
 use Rattle.tree_handles.specs.Faults.{OfOverflow}
 use Rattle.number_forms.proofs.Overflows.{passed_on}
-use Rattle.surd_terms.specs.Calculations.{first_misfit}
+use Rattle.surd_terms.specs.Calculations.{first_misfit, calculation_of}
 use Rattle.tree_handles.specs.declared.fault.NumberFault.TheVariants as fault
 use Rattle.number_forms.proofs.SumChanges.{same_plain, read_expression}
 use Rattle.tree_handles.specs.Handed.{tree_of}
@@ -48,6 +55,10 @@ both c =
     let second : slice_get (value sum) 1 ≡ Some y = ap (λ (t : Tree). slice_get (value t) 1) (sym (same_plain _ c.args.a c.args.pool.now c.id-2.ensures c.requires.stands c.requires.handed.root)) ∙ c.nth_term-second.ensures in
     both_terms (value sum) x y c.requires.classes first second
 
+made : (c : After-nth_term-second) (p q : Term) → p ≡ first_of_inverse (term_of c.nth_term-first.result) (term_of c.nth_term-second.result) → q ≡ second_of_inverse (term_of c.nth_term-first.result) (term_of c.nth_term-second.result)
+    → inverse_trees (value (tree_of c.args.a c.args.pool.now)) ≡ more (sum_of_terms p q) none
+made c p q e f = tree_of_two (value (tree_of c.args.a c.args.pool.now)) (term_of c.nth_term-first.result) (term_of c.nth_term-second.result) p q (both c) e f
+
 pub inverse_of_sum-requires : goal.inverse_of_sum-requires
 inverse_of_sum-requires c =
     apart_terms (tree_of c.args.a c.args.pool.now) (term_of c.nth_term-first.result) (term_of c.nth_term-second.result) c.requires.number (both (goal.at.inverse_of_sum-requires c).After-nth_term-second)
@@ -70,6 +81,51 @@ returns-clause-front c = front_after (front_at (front_without behind_first front
 
 pub returns-clause-ok : goal.returns-clause-ok
 returns-clause-ok c =
-    let sum = tree_of c.args.a c.args.pool.now in
-    gives_as c.in_ok-place_sum.ensures.ok (c.release.ensures.owned (owned c.requires.handed))
-    (λ t n. inverse_number (value sum) (term_of c.nth_term-first.result ∷ term_of c.nth_term-second.result ∷ []) t (term_of c.in_ok-inverse.inverse.0 ∷ term_of c.in_ok-inverse.inverse.1 ∷ []) (both (goal.at.returns-clause-ok c).After-nth_term-second) c.in_ok-inverse.ensures.inverts n)
+    let v = value (tree_of c.args.a c.args.pool.now) in
+    let x = term_of c.nth_term-first.result in
+    let y = term_of c.nth_term-second.result in
+    let p = term_of c.in_ok-inverse.inverse.0 in
+    let q = term_of c.in_ok-inverse.inverse.1 in
+    let two = (goal.at.returns-clause-ok c).After-nth_term-second in
+    gives_as (given_tree c.in_ok-place_sum.ensures.ok c.in_ok-place_sum.ensures.tree) (c.release.ensures.owned (owned c.requires.handed))
+    (λ t n. inverse_number v (x ∷ y ∷ []) t (p ∷ q ∷ []) (both two) c.in_ok-inverse.ensures.inverts n.0 (made two p q c.in_ok-inverse.ensures.first c.in_ok-inverse.ensures.second ∙ ap (λ (u : Tree). more u none) (sym n.1)))
+
+-- ---- where it fits, and its bytes suffice
+
+pub returns-in_err-inverse-clause-exactly : goal.returns-in_err-inverse-clause-exactly
+returns-in_err-inverse-clause-exactly c =
+    refused c.from_residual.result _ c.from_residual.ensures.0
+    (unfit _ (term_of c.nth_term-first.result ∷ term_of c.nth_term-second.result ∷ []) (calculation_of c.in_err-inverse.field-0.0) _ (both (goal.at.returns-in_err-inverse-clause-exactly c).After-nth_term-second) c.in_err-inverse.ensures.overflow)
+
+pub returns-in_err-inverse-clause-first_lack : goal.returns-in_err-inverse-clause-first_lack
+returns-in_err-inverse-clause-first_lack c =
+    let v = value (tree_of c.args.a c.args.pool.now) in
+    passed_on c.from_residual.result (fault.Overflow c.in_err-inverse.field-0.0) (OfFull (LacksInverse v (free_of c.args.pool.now + size (tree_of c.args.a c.args.pool.now)))) c.from_residual.ensures.0 c.from_residual.ensures.1 tt
+
+pub returns-in_err-place_sum-clause-exactly : goal.returns-in_err-place_sum-clause-exactly
+returns-in_err-place_sum-clause-exactly c =
+    let v = value (tree_of c.args.a c.args.pool.now) in
+    let t = sum_of_terms (term_of c.in_ok-inverse.inverse.0) (term_of c.in_ok-inverse.inverse.1) in
+    let free = released_free c.requires.stands c.release.ensures.stands c.release.ensures.kept c.requires.handed (c.release.ensures.owned (owned c.requires.handed)) in
+    let w = made (goal.at.returns-in_err-place_sum-clause-exactly c).After-nth_term-second _ _ c.in_ok-inverse.ensures.first c.in_ok-inverse.ensures.second in
+    refused c.from_residual-in_err-place_sum.result _ c.from_residual-in_err-place_sum.ensures.0
+    (λ has. let enough : size t ≤ free_of c.release.new.pool = omega (arith, free, room_for v t _ w has) in absurd (cc (c.in_err-place_sum.ensures.exactly.1 enough)))
+
+pub returns-in_err-place_sum-clause-first_lack : goal.returns-in_err-place_sum-clause-first_lack
+returns-in_err-place_sum-clause-first_lack c =
+    let v = value (tree_of c.args.a c.args.pool.now) in
+    let t = sum_of_terms (term_of c.in_ok-inverse.inverse.0) (term_of c.in_ok-inverse.inverse.1) in
+    let free = released_free c.requires.stands c.release.ensures.stands c.release.ensures.kept c.requires.handed (c.release.ensures.owned (owned c.requires.handed)) in
+    let two = (goal.at.returns-in_err-place_sum-clause-first_lack c).After-nth_term-second in
+    passed_on c.from_residual-in_err-place_sum.result (fault.Full c.in_err-place_sum.field-0.0) (OfFull (LacksInverse v (free_of c.args.pool.now + size (tree_of c.args.a c.args.pool.now)))) c.from_residual-in_err-place_sum.ensures.0 c.from_residual-in_err-place_sum.ensures.1
+    (lacks_inverse v t (free_of c.release.new.pool) _ c.in_err-place_sum.field-0.0 (fits_as v (term_of c.nth_term-first.result ∷ term_of c.nth_term-second.result ∷ []) (both two) c.in_ok-inverse.ensures.overflow)
+    (made two _ _ c.in_ok-inverse.ensures.first c.in_ok-inverse.ensures.second) free c.in_err-place_sum.ensures.first_lack)
+
+pub returns-clause-exactly : goal.returns-clause-exactly
+returns-clause-exactly c =
+    let v = value (tree_of c.args.a c.args.pool.now) in
+    let t = sum_of_terms (term_of c.in_ok-inverse.inverse.0) (term_of c.in_ok-inverse.inverse.1) in
+    let free = released_free c.requires.stands c.release.ensures.stands c.release.ensures.kept c.requires.handed (c.release.ensures.owned (owned c.requires.handed)) in
+    let two = (goal.at.returns-clause-exactly c).After-nth_term-second in
+    let least : size t ≤ free_of c.release.new.pool = c.in_ok-place_sum.ensures.exactly.0 refl in
+    (λ _. has_inverse v t _ (fits_as v (term_of c.nth_term-first.result ∷ term_of c.nth_term-second.result ∷ []) (both two) c.in_ok-inverse.ensures.overflow) (made two _ _ c.in_ok-inverse.ensures.first c.in_ok-inverse.ensures.second) (omega (arith, free, least)), λ _. refl)

@@ -30,6 +30,18 @@ pub returns-clause-opaque_exponent : goal.returns-clause-opaque_exponent
 unfolding gcd lowest is_number is_clean left_of square_root zero_fraction one_fraction
 returns-clause-opaque_exponent c = refl
 
+pub returns-clause-half_exponent : goal.returns-clause-half_exponent
+unfolding gcd lowest is_number is_clean left_of square_root zero_fraction one_fraction
+returns-clause-half_exponent c = refl
+
+pub returns-clause-negative_half : goal.returns-clause-negative_half
+unfolding gcd lowest is_number is_clean left_of square_root zero_fraction one_fraction
+returns-clause-negative_half c = refl
+
+pub returns-clause-power_of_a_power_to_a_symbol : goal.returns-clause-power_of_a_power_to_a_symbol
+unfolding gcd lowest is_number is_clean left_of square_root zero_fraction one_fraction
+returns-clause-power_of_a_power_to_a_symbol c = refl
+
 pub returns-clause-power_of_a_product : goal.returns-clause-power_of_a_product
 unfolding gcd lowest is_number is_clean left_of square_root zero_fraction one_fraction
 returns-clause-power_of_a_product c = refl
@@ -37,6 +49,10 @@ returns-clause-power_of_a_product c = refl
 pub returns-clause-no_coefficient : goal.returns-clause-no_coefficient
 unfolding gcd lowest is_number is_clean left_of square_root zero_fraction one_fraction
 returns-clause-no_coefficient c = refl
+
+pub returns-clause-product_to_a_symbol : goal.returns-clause-product_to_a_symbol
+unfolding gcd lowest is_number is_clean left_of square_root zero_fraction one_fraction
+returns-clause-product_to_a_symbol c = refl
 
 pub returns-clause-power_of_a_sum : goal.returns-clause-power_of_a_sum
 unfolding gcd lowest is_number is_clean left_of square_root zero_fraction one_fraction

@@ -3,7 +3,7 @@ use Rattle.calc_terms.specs.Trees.{root_kind}
 use Rattle.coefficients.proofs.Steps.{product_kind}
 use Rattle.tree_handles.specs.Handed.{tree_of}
 use Rattle.power_reduce.specs.PowerAnswers.{base_in, exponent_in}
-use Rattle.power_reduce.proofs.Cases.{power_kind, inside_other, other_kept, rational_kept, rational_whole, no_rational_power, no_rational_product}
+use Rattle.power_reduce.proofs.Cases.{power_kind, inside_other, other_kept}
 use Rattle.power_reduce.proofs.step.power_inside.Goals as goal
 
 pub kind-requires-clause-live : goal.kind-requires-clause-live
@@ -19,13 +19,4 @@ pub kept_power-requires-clause-exponent : goal.kept_power-requires-clause-expone
 kept_power-requires-clause-exponent c = inside_other (exponent_in (tree_of c.args.power c.args.pool.now)) c.requires.inside
 
 pub kept_power-requires-clause-kept : goal.kept_power-requires-clause-kept
-kept_power-requires-clause-kept c = other_kept _ _ (λ e. c.in_default.not-Pow ((c.kind.ensures.plain c.base_id.ensures.expression ∙ ap root_kind c.base_id.ensures.tree) ∙ sym e)) (λ e. c.in_default.not-Mult ((c.kind.ensures.plain c.base_id.ensures.expression ∙ ap root_kind c.base_id.ensures.tree) ∙ sym e)) c.requires.root
-
-pub returns-in-Pow-clause-rationals : goal.returns-in-Pow-clause-rationals
-returns-in-Pow-clause-rationals c = λ b e. no_rational_power _ (sym c.in-Pow.is ∙ (c.kind.ensures.plain c.base_id.ensures.expression ∙ ap root_kind c.base_id.ensures.tree)) b
-
-pub returns-in-Mult-clause-rationals : goal.returns-in-Mult-clause-rationals
-returns-in-Mult-clause-rationals c = λ b e. no_rational_product _ (sym c.in-Mult.is ∙ (c.kind.ensures.plain c.base_id.ensures.expression ∙ ap root_kind c.base_id.ensures.tree)) b
-
-pub returns-in_default-clause-rationals : goal.returns-in_default-clause-rationals
-returns-in_default-clause-rationals c = λ b e. rational_kept (tree_of c.args.power c.args.pool.now) c.kept_power.new.pool c.kept_power.result c.requires.sides.power (rational_whole (base_in (tree_of c.args.power c.args.pool.now)) (exponent_in (tree_of c.args.power c.args.pool.now)) b c.requires.number) c.kept_power.ensures.done b e
+kept_power-requires-clause-kept c = other_kept (base_in (tree_of c.args.power c.args.pool.now)) (exponent_in (tree_of c.args.power c.args.pool.now)) c.requires.inside (λ e. c.in_default.not-Pow ((c.kind.ensures.plain c.base_id.ensures.expression ∙ ap root_kind c.base_id.ensures.tree) ∙ sym e)) (λ e. c.in_default.not-Mult ((c.kind.ensures.plain c.base_id.ensures.expression ∙ ap root_kind c.base_id.ensures.tree) ∙ sym e)) c.requires.root

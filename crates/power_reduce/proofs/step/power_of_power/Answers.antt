@@ -1,6 +1,6 @@
 use Rattle.std.proofs.Common.{sym, ◌∙◌}
 use Rattle.tree_handles.specs.Handed.{tree_of}
-use Rattle.power_reduce.specs.PowerAnswers.{exponent_in}
+use Rattle.power_reduce.specs.PowerAnswers.{base_in, exponent_in}
 use Rattle.power_reduce.proofs.Cases.{inside_other, sealed_kept, again}
 use Rattle.power_reduce.proofs.step.power_of_power.Goals as goal
 
@@ -8,7 +8,7 @@ pub kept_power-requires-clause-exponent : goal.kept_power-requires-clause-expone
 kept_power-requires-clause-exponent c = inside_other (exponent_in (tree_of c.args.power c.args.pool.now)) c.requires.inside
 
 pub kept_power-requires-clause-kept : goal.kept_power-requires-clause-kept
-kept_power-requires-clause-kept c = sealed_kept _ _ c.requires.base (sym c.first_exponent_is_opaque.ensures ∙ c.if-first_exponent_is_opaque.true)
+kept_power-requires-clause-kept c = sealed_kept (base_in (tree_of c.args.power c.args.pool.now)) (exponent_in (tree_of c.args.power c.args.pool.now)) c.requires.base c.requires.inside (sym c.first_exponent_is_opaque.ensures ∙ c.if-first_exponent_is_opaque.true)
 
 pub returns-clause-ok : goal.returns-clause-ok
 returns-clause-ok c = again (tree_of c.args.power c.args.pool.now) c.requires.sides.power c.join_exponents.ensures.gives

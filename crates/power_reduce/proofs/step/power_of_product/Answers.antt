@@ -2,8 +2,9 @@ use Rattle.std.proofs.Common.{sym, ap, ◌∙◌}
 use Rattle.calc_algebra.specs.Numbers.{is_number}
 use Rattle.calc_algebra.specs.Reduced.{is_reduced}
 use Rattle.tree_handles.specs.Handed.{tree_of}
-use Rattle.power_reduce.specs.PowerAnswers.{exponent_in}
+use Rattle.power_reduce.specs.PowerAnswers.{base_in, exponent_in}
 use Rattle.power_reduce.proofs.Cases.{inside_other, number_kept, again}
+use Rattle.power_reduce.proofs.Exponents.{inside_whole}
 use Rattle.power_reduce.proofs.step.power_of_product.Goals as goal
 
 pub is_reduced_number-requires-clause-reduced : goal.is_reduced_number-requires-clause-reduced
@@ -13,7 +14,7 @@ pub kept_power-requires-clause-exponent : goal.kept_power-requires-clause-expone
 kept_power-requires-clause-exponent c = inside_other (exponent_in (tree_of c.args.power c.args.pool.now)) c.requires.inside
 
 pub kept_power-requires-clause-kept : goal.kept_power-requires-clause-kept
-kept_power-requires-clause-kept c = number_kept _ _ (sym (ap is_number c.base_id.ensures.tree) ∙ sym c.is_reduced_number.ensures ∙ c.if-is_reduced_number.true)
+kept_power-requires-clause-kept c = number_kept (base_in (tree_of c.args.power c.args.pool.now)) (exponent_in (tree_of c.args.power c.args.pool.now)) (sym (ap is_number c.base_id.ensures.tree) ∙ sym c.is_reduced_number.ensures ∙ c.if-is_reduced_number.true) (inside_whole (exponent_in (tree_of c.args.power c.args.pool.now)) c.requires.inside)
 
 pub raise_factors-requires-clause-number : goal.raise_factors-requires-clause-number
 raise_factors-requires-clause-number c = sym (ap is_number c.base_id.ensures.tree) ∙ sym c.is_reduced_number.ensures ∙ c.if-is_reduced_number.false

@@ -1,9 +1,11 @@
 use Rattle.std.proofs.Common.{sym, ap, ◌∙◌}
 use Rattle.calc_terms.specs.Trees.{root_kind}
 use Rattle.tree_handles.specs.Handed.{tree_of}
-use Rattle.power_reduce.specs.PowerAnswers.{base_in}
+use Rattle.power_reduce.specs.PowerAnswers.{base_in, exponent_in}
 use Rattle.number_forms.proofs.Overflows.{passed_on}
 use Rattle.power_reduce.proofs.Cases.{no_num_kind, number_kept, no_rational, rational_number, step_fault}
+use Rattle.calc_algebra.specs.Reduced.{is_whole_num}
+use Rattle.power_reduce.proofs.Whole.{whole_is}
 use Rattle.power_reduce.proofs.step.whole_power.Goals as goal
 
 pub kind-requires-clause-live : goal.kind-requires-clause-live
@@ -16,7 +18,7 @@ pub rational_power-requires-clause-base : goal.rational_power-requires-clause-ba
 rational_power-requires-clause-base c = sym c.base_id-base.ensures.tree ∙ c.rational-q.ensures.plain
 
 pub returns-in_ok-answer-in-Num-clause-ok : goal.returns-in_ok-answer-in-Num-clause-ok
-returns-in_ok-answer-in-Num-clause-ok c = (number_kept _ _ (rational_number _ _ (sym c.base_id-base.ensures.tree ∙ c.rational-q.ensures.plain)), c.in_ok-answer-in-Num.ensures.ok)
+returns-in_ok-answer-in-Num-clause-ok c = (number_kept (base_in (tree_of c.args.power c.args.pool.now)) (exponent_in (tree_of c.args.power c.args.pool.now)) (rational_number _ _ (sym c.base_id-base.ensures.tree ∙ c.rational-q.ensures.plain)) (ap is_whole_num c.requires.exponent ∙ whole_is c.args.n), c.in_ok-answer-in-Num.ensures.ok)
 
 pub returns-in_ok-answer-in-Num-clause-rationals : goal.returns-in_ok-answer-in-Num-clause-rationals
 returns-in_ok-answer-in-Num-clause-rationals c = λ b e. c.in_ok-answer-in-Num.ensures.rationals

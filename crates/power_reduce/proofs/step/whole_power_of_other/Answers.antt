@@ -1,7 +1,7 @@
 use Rattle.std.proofs.Common.{refl, sym, ap, ◌∙◌}
 use Rattle.calc_terms.specs.Fractions.{whole_fraction}
 use Rattle.calc_algebra.specs.Numbers.{is_number}
-use Rattle.calc_algebra.specs.Reduced.{is_reduced}
+use Rattle.calc_algebra.specs.Reduced.{is_reduced, is_whole_num}
 use Rattle.calc_terms.specs.Trees.{num, is_num, is_root}
 use Rattle.coefficients.proofs.Steps.{one_value}
 use Rattle.tree_handles.specs.Handed.{tree_of}
@@ -12,7 +12,7 @@ use Rattle.number_forms.proofs.Overflows.{passed_on, refused_as}
 use Rattle.power_reduce.proofs.Cases.{number_kept, zero_kept, one_kept, other_power, whole_goes_inside, no_number, even_bits, odd_bits, even_whole, odd_root_kept, again}
 use Rattle.power_reduce.proofs.NumberPowers.{zero_answer, one_answer}
 use Rattle.power_reduce.proofs.RationalPowers.{zero_bits, no_zero_bits}
-use Rattle.power_reduce.proofs.Whole.{one_bits, no_one_bits}
+use Rattle.power_reduce.proofs.Whole.{one_bits, no_one_bits, whole_is}
 use Rattle.rational128.proofs.Signed.{told}
 use Rattle.power_reduce.proofs.step.whole_power_of_other.Goals as goal
 use Rattle.power_reduce.proofs.step.whole_power_of_other.Goals.{else-n-eq0-2-via-then-n-eq0-2+else-is_root, else-n-eq0-2-via-else-n-eq0-2}
@@ -24,7 +24,7 @@ pub irrational_power-requires-clause-number : goal.irrational_power-requires-cla
 irrational_power-requires-clause-number c = sym (ap is_number c.base_id-base.ensures.tree) ∙ sym c.is_reduced_number.ensures ∙ c.if-is_reduced_number.true
 
 pub returns-then-is_reduced_number-clause-ok : goal.returns-then-is_reduced_number-clause-ok
-returns-then-is_reduced_number-clause-ok c = (number_kept (base_in (tree_of c.args.power c.args.pool.now)) (exponent_in (tree_of c.args.power c.args.pool.now)) (sym (ap is_number c.base_id-base.ensures.tree) ∙ sym c.is_reduced_number.ensures ∙ c.if-is_reduced_number.true), c.in_ok-answer.ensures.ok)
+returns-then-is_reduced_number-clause-ok c = (number_kept (base_in (tree_of c.args.power c.args.pool.now)) (exponent_in (tree_of c.args.power c.args.pool.now)) (sym (ap is_number c.base_id-base.ensures.tree) ∙ sym c.is_reduced_number.ensures ∙ c.if-is_reduced_number.true) (ap is_whole_num c.requires.exponent ∙ whole_is c.args.n), c.in_ok-answer.ensures.ok)
 
 pub with_number-requires-clause-exponent : goal.with_number-requires-clause-exponent
 with_number-requires-clause-exponent c = ap is_num c.requires.exponent

@@ -1,9 +1,12 @@
-use Rattle.std.proofs.Common.{◌≡◌, false, refl, sym, ap, ◌∙◌}
+use Rattle.std.proofs.Common.{◌≡◌, false, refl, sym, ap, ◌∙◌, arith}
 use Rattle.calc_terms.specs.Rat.{value_of}
-use Rattle.calc_terms.specs.Trees.{Tree, num, root, is_num, is_undef, root_kind}
-use Rattle.tree_handles.proofs.Lasts.{expression_root}
+use Rattle.calc_terms.specs.Trees.{Tree, num, root, is_num, is_undef, root_kind, size}
+use Rattle.tree_handles.proofs.Lasts.{expression_root, last_tree}
+use Rattle.tree_handles.proofs.Room.{least_size}
+use Rattle.tree_handles.specs.Expressions.{plain}
+use Rattle.tree_handles.specs.Forest.{Forest}
 use Rattle.tree_handles.proofs.Fronts.{behind_first, front_same, front_end, front_without}
-use Rattle.tree_handles.proofs.Given.{gives, gives_as, represents_handed}
+use Rattle.tree_handles.proofs.Given.{gives, gives_as, given_told, represents_handed}
 use Rattle.tree_handles.specs.Handed.{tree_of}
 use Rattle.radical_forms.specs.RootAnswers.{argument_of}
 use Rattle.radical_forms.proofs.Handed.{root_is, has_child, argument_at, undef_by_kind, no_num_by_kind, no_undef_by_kind}
@@ -29,6 +32,9 @@ returns-in-Num-clause-overflows c = rw (argument_is (goal.at.returns-in-Num-clau
 pub returns-in-Num-clause-named : goal.returns-in-Num-clause-named
 returns-in-Num-clause-named c = rw (argument_is (goal.at.returns-in-Num-clause-named c).After-rational-q) c.root_of_rational.ensures.named
 
+pub returns-in-Num-clause-first_lack : goal.returns-in-Num-clause-first_lack
+returns-in-Num-clause-first_lack c = rw (argument_is (goal.at.returns-in-Num-clause-first_lack c).After-rational-q) c.root_of_rational.ensures.first_lack
+
 pub returns-in-Num-clause-full_of_a_rational : goal.returns-in-Num-clause-full_of_a_rational
 returns-in-Num-clause-full_of_a_rational c = λ full. ap is_num (argument_is (goal.at.returns-in-Num-clause-full_of_a_rational c).After-rational-q)
 
@@ -47,6 +53,9 @@ returns-in-Undef-clause-overflows c =
     let a = undef_by_kind _ (sym (kind_is (goal.at.returns-in-Undef-clause-overflows c).After-kind) ∙ c.in-Undef.is) in
     (λ x. absurd x, λ w. no_other_wide _ (ap is_num a) w)
 
+pub returns-in-Undef-clause-room : goal.returns-in-Undef-clause-room
+returns-in-Undef-clause-room c = omega (arith, ap size (given_told c.undefined.ensures.gives), least_size (tree_of c.args.root c.args.pool.now))
+
 pub returns-in_default : goal.returns-in_default
 returns-in_default c =
     let kind_of = kind_is (goal.at.returns-in_default c).After-kind in
@@ -56,6 +65,8 @@ returns-in_default c =
       ok = gives c.move_last.ensures.last (represents_handed c.requires.handed) (answer_as refl (root_is tree c.requires.root) (other_answer (argument_of tree) no_num no_undef c.requires.reduced));
       overflows = (λ x. absurd x, λ w. no_other_wide (argument_of tree) no_num w);
       named = tt;
+      room = let same : size (tree_of c.args.root c.move_last.new.pool) ≡ size tree = ap (λ (f : Forest). size (plain f)) (last_tree c.move_last.ensures.last) in omega (arith, same);
+      first_lack = tt;
       full_of_a_rational = λ x. absurd x;
       full_below_96_bytes = λ x. absurd x;
       front = front_end c.move_last.ensures.last (front_without behind_first front_same);

@@ -1,20 +1,25 @@
-use Rattle.std.proofs.Common.{◌≡◌, pos, ◌<ℤ◌, ◌≤◌, true, refl, sym, ap, ◌∙◌, arith, to_z, of_z}
+use Rattle.std.proofs.Common.{◌≡◌, pos, ◌<ℤ◌, ◌≤◌, ◌+◌, true, refl, sym, ap, ◌∙◌, arith, to_z, of_z}
 use Rattle.std.specs.Int.{w128}
 use Rattle.calc_terms.specs.Fractions.{whole_fraction}
 use Rattle.calc_terms.specs.Integers.{int_is_negative}
 use Rattle.calc_terms.specs.Rat.{value_of}
-use Rattle.calc_terms.specs.Trees.{num}
+use Rattle.calc_terms.specs.Trees.{num, size}
 use Rattle.node_pool.specs.State.{free_of}
 use Rattle.rational128.proofs.LowestTerms.{ratio_parts}
 use Rattle.rational128.proofs.Signed.{told}
 use Rattle.surd_terms.specs.Terms.{term_of}
 use Rattle.surd_terms.proofs.Rationals.{whole_value}
 use Rattle.tree_handles.proofs.Fronts.{behind_first, front_same, front_at, front_without, front_after}
-use Rattle.tree_handles.proofs.Given.{gives_as, owned}
+use Rattle.tree_handles.proofs.Given.{gives_as, given_told, owned}
+use Rattle.tree_handles.specs.Handed.{tree_of}
+use Rattle.number_forms.specs.Lacks.{OfFull}
+use Rattle.number_forms.specs.Shapes.{term_tree}
+use Rattle.number_forms.proofs.Overflows.{passed_on}
+use Rattle.tree_handles.specs.declared.fault.NumberFault.TheVariants as fault
 use Rattle.rational128.specs.declared.overflow.Overflow.{Overflow}
-use Rattle.radical_forms.specs.Refusals.{NamesProduct}
-use Rattle.tree_handles.proofs.Room.{released_free}
-use Rattle.radical_forms.proofs.RootLaws.{zero_answer, positive_answer, negative_answer, not_above_zero, not_above_negative, answer_as, root_as, wide_as, positive_num, negative_num, not_negative_num, not_overflow, is_overflow, named_overflow}
+use Rattle.radical_forms.specs.Refusals.{LacksRoot, NamesProduct}
+use Rattle.tree_handles.proofs.Room.{released_free, least_size}
+use Rattle.radical_forms.proofs.RootLaws.{zero_answer, positive_answer, negative_answer, not_above_zero, not_above_negative, answer_as, root_as, wide_as, positive_num, negative_num, not_negative_num, not_overflow, is_overflow, named_overflow, term_tree_is, term_lacks}
 use Rattle.radical_forms.proofs.roots.root_of_rational.Goals as goal
 use Rattle.radical_forms.proofs.roots.root_of_rational.Goals.{Then-num-lt0, Then-num-eq0, Else-num-eq0}
 
@@ -100,3 +105,42 @@ returns-clause-overflows c =
 
 pub returns-clause-front : goal.returns-clause-front
 returns-clause-front c = front_after (front_at (front_without behind_first front_same) (c.release-2.ensures.owned (owned c.requires.handed))) c.place_term.ensures.front
+
+-- ---- bytes
+
+pub returns-then-num-lt0-clause-room : goal.returns-then-num-lt0-clause-room
+returns-then-num-lt0-clause-room c = omega (arith, ap size (given_told c.undefined.ensures.gives), least_size (tree_of c.args.root c.args.pool.now))
+
+pub returns-then-num-eq0-clause-room : goal.returns-then-num-eq0-clause-room
+returns-then-num-eq0-clause-room c =
+    let free = released_free c.requires.stands c.release.ensures.stands c.release.ensures.kept c.requires.handed (c.release.ensures.owned (owned c.requires.handed)) in
+    let least : 40 ≤ free_of c.release.new.pool = c.in_ok-zero.ensures.exactly.0 refl in
+    omega (arith, free, least, ap size (given_told c.in_ok-zero.ensures.given))
+
+pub returns-clause-room : goal.returns-clause-room
+returns-clause-room c =
+    let free = released_free c.requires.stands c.release-2.ensures.stands c.release-2.ensures.kept c.requires.handed (c.release-2.ensures.owned (owned c.requires.handed)) in
+    let least : size (term_tree (term_of c.in_ok-term.term)) ≤ free_of c.release-2.new.pool = c.in_ok-value.ensures.exactly.0 refl in
+    omega (arith, free, least, ap size c.in_ok-value.ensures.tree)
+
+-- the root of 0 has more bytes than 0
+pub returns-in_err-zero-clause-first_lack : goal.returns-in_err-zero-clause-first_lack
+returns-in_err-zero-clause-first_lack c =
+    let free = released_free c.requires.stands c.release.ensures.stands c.release.ensures.kept c.requires.handed (c.release.ensures.owned (owned c.requires.handed)) in
+    let enough : 40 ≤ free_of c.release.new.pool = omega (arith, free, ap size c.requires.root) in
+    absurd (cc (c.in_err-zero.ensures.exactly.1 enough))
+
+pub returns-in_err-term-clause-first_lack : goal.returns-in_err-term-clause-first_lack
+returns-in_err-term-clause-first_lack c =
+    passed_on c.from_residual-in_err-term.result (fault.Overflow c.in_err-term.field-0.0) (OfFull (LacksRoot (num (value_of c.args.q)) (free_of c.args.pool.now + size (tree_of c.args.root c.args.pool.now))))
+    c.from_residual-in_err-term.ensures.0 c.from_residual-in_err-term.ensures.1 tt
+
+pub returns-in_err-value-clause-first_lack : goal.returns-in_err-value-clause-first_lack
+returns-in_err-value-clause-first_lack c =
+    let p = ratio_parts c.args.q in
+    let t = c.in_ok-term.term in
+    let free = released_free c.requires.stands c.release-2.ensures.stands c.release-2.ensures.kept c.requires.handed (c.release-2.ensures.owned (owned c.requires.handed)) in
+    passed_on c.from_residual-in_err-value.result (fault.Full c.in_err-value.field-0.0) (OfFull (LacksRoot (num (value_of c.args.q)) (free_of c.args.pool.now + size (tree_of c.args.root c.args.pool.now))))
+    c.from_residual-in_err-value.ensures.0 c.from_residual-in_err-value.ensures.1
+    (term_lacks (value_of c.args.q) (term_of t) (free_of c.release-2.new.pool) _ c.in_err-value.field-0.0 (above (goal.at.returns-in_err-value-clause-first_lack c).Else-num-eq0) (root_as _ _ _ _ _ (sym p.num) (sym p.den) c.in_ok-term.ensures.root)
+    (term_tree_is (term_of t) t.not_zero t.positive t.clean) free c.in_err-value.ensures.first_lack)

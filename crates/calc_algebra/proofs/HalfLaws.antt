@@ -1,0 +1,81 @@
+-- Halves of odd whole numbers: fractions whose denominator is 2.
+use Rattle.std.proofs.Common.{◌≡◌, ℕ, zero, suc, ◌<◌, ◌%◌, ◌/◌, Bool, true, false, ◌==◌, ℤ, pos, negsuc, ◌+ℤ◌, ◌*ℤ◌, refl, ap, ◌∙◌, subst, arith}
+use Rattle.std.specs.Prelude.{nat_abs, nat_lt}
+use Rattle.std.proofs.lemmas.Bool.{eqb-true, eq-eqb}
+use Rattle.std.proofs.lemmas.Int.{ints}
+use Rattle.calc_terms.specs.Fractions.{Fraction, lowest, Holds, held, second_held, is_lowest, lowest_parts, same_lowest, plus, plus_lowest, times, times_lowest, whole_fraction}
+use Rattle.calc_terms.specs.Gcd.{gcd, gcd_in}
+use Rattle.calc_terms.specs.Integers.{int_is_even}
+
+gcd_two : (a r : ℕ) → a % 2 ≡ r → gcd a 2 ≡ gcd_in 1 2 r
+unfolding gcd
+gcd_two a r e = ap (gcd_in 1 2) e
+
+even_abs : (z : ℤ) → int_is_even z ≡ true → nat_abs z % 2 ≡ 0
+even_abs (pos n) h = eqb-true (n % 2) 0 h
+even_abs (negsuc n) h = let e : n % 2 ≡ 1 = eqb-true (n % 2) 1 h in omega arith
+
+no_zero : (r : ℕ) → r < 2 → (r == 0) ≡ false → r ≡ 1
+no_zero zero l h = cc
+no_zero (suc zero) l h = refl
+no_zero (suc (suc r)) l h = absurd (omega arith)
+
+no_one : (r : ℕ) → r < 2 → (r == 1) ≡ false → r ≡ 0
+no_one zero l h = refl
+no_one (suc zero) l h = cc
+no_one (suc (suc r)) l h = absurd (omega arith)
+
+odd_abs : (z : ℤ) → int_is_even z ≡ false → nat_abs z % 2 ≡ 1
+odd_abs (pos n) h = no_zero (n % 2) (omega arith) h
+odd_abs (negsuc n) h = let e : n % 2 ≡ 0 = no_one (n % 2) (omega arith) h in omega arith
+
+one_is_not_two : (a b : ℕ) → a ≡ 1 → b ≡ 2 → a ≡ b → ⊥
+one_is_not_two a b h k e = absurd (omega arith)
+
+-- a numerator over 2 is odd
+pub half_is_odd : (h : Fraction) → h.den ≡ 2 → int_is_even h.num ≡ false
+half_is_odd h d = by (int_is_even h.num) refl
+  where
+    one : gcd (nat_abs h.num) 2 ≡ 1
+    one = subst (λ n. gcd (nat_abs h.num) n ≡ 1) d (eqb-true (gcd (nat_abs h.num) h.den) 1 (second_held (nat_lt 0 h.den) (gcd (nat_abs h.num) h.den == 1) h.lowest))
+
+    by : (b : Bool) → int_is_even h.num ≡ b → int_is_even h.num ≡ false
+    by false e = e
+    by true e = absurd (one_is_not_two _ _ one (gcd_two (nat_abs h.num) 0 (even_abs h.num e)) refl)
+
+pub odd_holds : (n : ℤ) → int_is_even n ≡ false → Holds (is_lowest n 2)
+odd_holds n o = held (nat_lt 0 2) (gcd (nat_abs n) 2 == 1) refl (eq-eqb (gcd (nat_abs n) 2) 1 (gcd_two (nat_abs n) 1 (odd_abs n o)))
+
+-- half of an odd number
+abbrev pub half_of : (n : ℤ) → int_is_even n ≡ false → Fraction
+half_of n o = record { num = n; den = 2; lowest = odd_holds n o }
+
+pub half_of_is : (n : ℤ) (o : int_is_even n ≡ false) → half_of n o ≡ lowest n 2
+half_of_is n o = lowest_parts (half_of n o)
+
+pub half_parts : (h : Fraction) → h.den ≡ 2 → h ≡ lowest h.num 2
+half_parts h d = lowest_parts h ∙ ap (lowest h.num) d
+
+-- an even number is twice another
+pub even_split : (n : ℤ) → int_is_even n ≡ true → (k : ℤ) × (n ≡ k +ℤ k)
+even_split (pos n) h = let e : n % 2 ≡ 0 = eqb-true (n % 2) 0 h in (pos (n / 2), omega (arith, ints))
+even_split (negsuc n) h = let e : n % 2 ≡ 1 = eqb-true (n % 2) 1 h in (negsuc (n / 2), omega (arith, ints))
+
+-- ---- sums and products of halves
+
+pub half_whole : (n k : ℤ) → n ≡ k +ℤ k → lowest n 2 ≡ whole_fraction k
+half_whole n k e = same_lowest n k 2 1 (omega arith) (omega arith) (omega (arith, ints, e))
+
+pub whole_plus_half : (m n : ℤ) → plus (whole_fraction m) (lowest n 2) ≡ lowest (pos 2 *ℤ m +ℤ n) 2
+whole_plus_half m n = plus_lowest m n 1 2 (omega arith) (omega arith) ∙ ap (λ z. lowest z 2) (twice m n)
+  where
+    twice : (m n : ℤ) → m *ℤ pos 2 +ℤ n *ℤ pos 1 ≡ pos 2 *ℤ m +ℤ n
+    twice m n = omega (arith, ints)
+
+pub half_plus_half : (m n : ℤ) → plus (lowest m 2) (lowest n 2) ≡ lowest (m +ℤ n) 2
+half_plus_half m n =
+    plus_lowest m n 2 2 (omega arith) (omega arith)
+    ∙ same_lowest (m *ℤ pos 2 +ℤ n *ℤ pos 2) (m +ℤ n) 4 2 (omega arith) (omega arith) (omega (arith, ints))
+
+pub half_times_whole : (m n : ℤ) → times (lowest m 2) (whole_fraction n) ≡ lowest (m *ℤ n) 2
+half_times_whole m n = times_lowest m n 2 1 (omega arith) (omega arith)

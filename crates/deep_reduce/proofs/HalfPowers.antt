@@ -1,0 +1,302 @@
+-- Powers whose exponent is half of an odd whole number, from the root of the base and a power of it.
+use Rattle.std.proofs.Common.{◌≡◌, ℕ, suc, ◌+◌, ◌*◌, ◌≤◌, ◌⊎◌, inl, inr, zero, ℤ, pos, negsuc, Bool, true, false, ◌&&◌, ◌||◌, ◌==◌, not, if◌then◌else◌, [], ◌∷◌, length, Some, None, refl, sym, ap, ◌∙◌, subst, arith}
+use Rattle.std.specs.Prelude.{◌≤ℤ◌, nat_le}
+use Rattle.std.proofs.lemmas.Bool.{and_parts, eqb-true, false_from_ne_true}
+use Rattle.std.proofs.lemmas.Int.{ints}
+use Rattle.calc_algebra.proofs.HalfLaws.{half_is_odd}
+use Rattle.calc_algebra.proofs.InverseLaws.{Same-times_zero}
+use Rattle.calc_algebra.proofs.MeaningLaws.{Same-sym}
+use Rattle.calc_algebra.proofs.MeaningRewrites as rewrites
+use Rattle.calc_algebra.proofs.NumberClasses.{number_zero, number_short}
+use Rattle.calc_algebra.proofs.NumberLaws.{number_words, number_test}
+use Rattle.calc_algebra.proofs.NumberRewrites.{number_value}
+use Rattle.calc_algebra.proofs.PowerLaws.{root_squared, root_zero, surd_of_zero, zero_surd_of}
+use Rattle.calc_algebra.proofs.Rewritings.{keeps, kept, reduces_after}
+use Rattle.calc_algebra.proofs.SquareClassLaws.{Same-trans}
+use Rattle.calc_algebra.proofs.TermLaws.{Same-refl, Same-eq}
+use Rattle.calc_algebra.specs.Meanings.{IsRootOf, IsRoot}
+use Rattle.calc_algebra.specs.Numbers.{is_number, IsNumber, value, classes}
+use Rattle.calc_algebra.specs.Reduced.{is_half_num, is_reduced}
+use Rattle.calc_algebra.specs.Rewritings.{Rewrites}
+use Rattle.calc_algebra.specs.SquareClasses.{Same}
+use Rattle.calc_algebra.specs.Surds.{Surd, term, surd_of}
+use Rattle.calc_measures.specs.Loads.{nest, load, weight}
+use Rattle.calc_terms.proofs.FractionFacts.{zero_is, whole_numerator}
+use Rattle.calc_terms.specs.Fractions.{Fraction, lowest, whole_fraction, zero_fraction, is_zero_fraction}
+use Rattle.calc_terms.specs.Integers.{int_is_negative, int_is_zero, int_is_even}
+use Rattle.calc_terms.specs.Trees.{Tree, num, undef, power, root, names, is_undef, is_num, is_root}
+use Rattle.deep_reduce.specs.Answers.{has_no_half_power, lacks_power, is_number_power, IsReducedPower}
+use Rattle.coefficients.proofs.Forms.{parts_reduced}
+use Rattle.deep_reduce.specs.Halves.{IsRooted}
+use Rattle.deep_reduce.proofs.EasyNodes.{and_true, undef_words, whole_power_number, whole_power_defined, zero_power}
+use Rattle.deep_reduce.proofs.NodeRewrites.{both}
+use Rattle.deep_reduce.proofs.Nests.{to_number}
+use Rattle.deep_reduce.proofs.Opened.{rewritten_written}
+use Rattle.number_forms.specs.Readers.{is_zero, numerator}
+use Rattle.power_reduce.specs.PowerAnswers.{base_in, exponent_in, has_no_power, has_number_power, IsPowerAnswer}
+use Rattle.power_reduce.specs.PowerSteps.{power_of_root, rewritten}
+use Rattle.power_reduce.proofs.ByRule.{transparent_whole}
+use Rattle.power_reduce.proofs.Cases.{root_once, undef_base_kept}
+use Rattle.power_reduce.proofs.Exponents.{by_half, one_is_not_two}
+use Rattle.power_reduce.proofs.Weights.{number_weight}
+use Rattle.deep_reduce.proofs.Heavy.{some_weight}
+use Rattle.power_reduce.proofs.Whole.{whole_is}
+use Rattle.radical_forms.specs.RootAnswers.{argument_of, has_no_root, IsRootAnswer}
+
+-- ---- the root of a rational that is not negative
+
+root_value : (z : ℤ) (d : ℕ) → int_is_negative z ≡ false → (v : Surd) × IsRootOf z d v × (length v ≤ 2)
+root_value (pos zero) d h = ([], Same-refl [], omega arith)
+root_value (pos (suc p)) d h = (term (lowest (pos 1) d) (suc p * d) ∷ [], Same-refl (term (lowest (pos 1) d) (suc p * d) ∷ []), omega arith)
+root_value (negsuc p) d h = cc
+
+-- what is known of the Number that it is
+record IsOfRoot (p : Fraction) (r : Tree) : Type 0 where
+  few : classes r ≤ 2
+  zero_of_zero : is_zero_fraction p ≡ true → r ≡ num zero_fraction
+  zero_only : r ≡ num zero_fraction → is_zero_fraction p ≡ true
+
+zero_test : is_zero_fraction zero_fraction ≡ true
+unfolding zero_fraction
+zero_test = ap int_is_zero (whole_numerator (pos 0))
+
+zero_value : value (num zero_fraction) ≡ []
+zero_value = ap (λ (b : Bool). if b then [] else surd_of zero_fraction) zero_test
+
+of_root : (p : Fraction) (r : Tree) → int_is_negative p.num ≡ false → IsRootAnswer (num p) r → IsNumber r → IsOfRoot p r
+of_root p r n a h =
+    let (v, o, l) = root_value p.num p.den n in
+    let root_of : IsRoot (surd_of p) v = (p, Same-refl (surd_of p), o) in
+    let same : Same v (value r) = number_value [] tt r v h (a.reduces.meanings.means [] tt v (surd_of p, Same-refl (surd_of p), root_of)) in record {
+      few = number_short r v h (Same-sym same) l;
+      zero_of_zero = λ z. number_zero r h (Same-trans (Same-sym same) (root_zero (surd_of p) v root_of (zero_surd_of p (zero_is p z))));
+      zero_only = λ e.
+          let none : Same v [] = Same-trans same (Same-eq (ap value e ∙ zero_value)) in
+          ap is_zero_fraction (surd_of_zero p (Same-trans (Same-sym (root_squared (surd_of p) v root_of)) (Same-times_zero v v none))) ∙ zero_test;
+    }
+
+-- ---- the exponents
+
+module _ (q : Fraction) (h : (q.den == 2) ≡ true) where
+  half : q.den ≡ 2
+  half = eqb-true q.den 2 h
+
+  not_whole : (q.den == 1) ≡ false
+  not_whole = false_from_ne_true (q.den == 1) (λ k. one_is_not_two q.den (eqb-true q.den 1 k) half)
+
+  -- a numerator of at most 0 is below it
+  below_zero : q.num ≤ℤ pos 0 → int_is_negative q.num ≡ true
+  below_zero l = by q.num l (half_is_odd q half)
+    where
+      by : (z : ℤ) → z ≤ℤ pos 0 → int_is_even z ≡ false → int_is_negative z ≡ true
+      by (pos zero) l o = cc
+      by (pos (suc n)) l o = absurd (omega (arith, ints))
+      by (negsuc n) l o = refl
+
+  -- no whole power
+  no_at_most : (b : Tree) → is_undef b ≡ false → has_no_power b (num q) ≡ false
+  no_at_most b u = rw (u, not_whole) (none (is_zero b))
+    where
+      none : (x : Bool) → (x && false) ≡ false
+      none true = refl
+      none false = refl
+
+  no_number : (b : Tree) → has_number_power b (num q) ≡ false
+  no_number b = rw not_whole (none (is_number b) (not (int_is_negative q.num) || nat_le (classes b) 2))
+    where
+      none : (x y : Bool) → (x && false && y) ≡ false
+      none true y = refl
+      none false y = refl
+
+negative_low : (z : ℤ) → int_is_negative z ≡ true → z ≤ℤ pos 0
+negative_low (pos n) h = cc
+negative_low (negsuc n) h = omega (arith, ints)
+
+-- ---- the answer
+
+or_split : (a b : Bool) → (a || b) ≡ true → (a ≡ true) ⊎ (b ≡ true)
+or_split true b e = inl refl
+or_split false b e = inr e
+
+or_fails : (a b : Bool) → (a || b) ≡ false → (a ≡ false) × (b ≡ false)
+or_fails true b e = cc
+or_fails false b e = (refl, e)
+
+contrary : {A : Type 0} {b : Bool} → b ≡ true → b ≡ false → A
+contrary e f = absurd cc
+
+undef_root : (r e u : Tree) → is_undef r ≡ true → IsPowerAnswer r e u → u ≡ undef
+undef_root r e u h a = undef_words u (a.undefined ∙ rw h refl)
+
+zero_root : (r u : Tree) (z : ℤ) → r ≡ num zero_fraction → z ≤ℤ pos 0 → IsPowerAnswer r (num (whole_fraction z)) u → u ≡ undef
+zero_root r u z h l a = undef_words u (a.undefined ∙ zero_power z r l h)
+
+number_root : (a r : Tree) → IsRootAnswer a r → is_num a ≡ true → has_no_root a ≡ false → IsNumber r
+number_root a r h n k = number_words r (h.number n k)
+
+module _ (p q : Fraction) (r u : Tree) (h : (q.den == 2) ≡ true) (known : IsRootAnswer (num p) r) (a : IsPowerAnswer r (num (whole_fraction q.num)) u) where
+  undefined_sides : (int_is_negative p.num || is_zero_fraction p && int_is_negative q.num) ≡ true → u ≡ undef
+  undefined_sides e = by (int_is_negative p.num) refl (or_split (int_is_negative p.num) (is_zero_fraction p && int_is_negative q.num) e)
+    where
+      by : (n : Bool) → int_is_negative p.num ≡ n → (int_is_negative p.num ≡ true) ⊎ ((is_zero_fraction p && int_is_negative q.num) ≡ true) → u ≡ undef
+      by true n x = undef_root r (num (whole_fraction q.num)) u (known.undefined ∙ n) a
+      by false n (inl x) = contrary x n
+      by false n (inr x) =
+          let (z, l) = and_parts (is_zero_fraction p) (int_is_negative q.num) x in
+          let known_root = of_root p r n known (number_root (num p) r known refl n) in
+          zero_root r u q.num (known_root.zero_of_zero z) (negative_low q.num l) a
+
+  number_sides : (int_is_negative p.num || is_zero_fraction p && int_is_negative q.num) ≡ false → is_number u ≡ true
+  number_sides e =
+      let (n, z) = or_fails (int_is_negative p.num) (is_zero_fraction p && int_is_negative q.num) e in
+      let number = number_root (num p) r known refl n in
+      let known_root = of_root p r n known number in
+      let is : is_number r ≡ true = number_test r number in
+      a.number (whole_power_number r q.num is (λ k x. known_root.few))
+      (whole_power_defined r q.num is (λ l x. contrary (and_true (is_zero_fraction p) (int_is_negative q.num) (known_root.zero_only x) (below_zero q h l)) z))
+
+-- a power of a root is heavier by one at most
+root_weight : (b r : Tree) → IsRootAnswer b r → weight r ≤ 1 + weight b
+root_weight b r h = by (has_no_root b) (is_num b) refl refl
+  where
+    undefined : (t : Tree) → t ≡ undef → weight t ≤ 1 + weight b
+    undefined t e = omega (arith, ap weight e, some_weight b)
+
+    itself : (n : Bool) → (if n then 2 else suc (weight b)) ≤ 1 + weight b
+    itself true = omega (arith, some_weight b)
+    itself false = omega arith
+
+    by : (x n : Bool) → has_no_root b ≡ x → is_num b ≡ n → weight r ≤ 1 + weight b
+    by true n e f = undefined r (undef_words r (h.undefined ∙ e))
+    by false true e f = omega (arith, number_weight r (h.number f e), some_weight b)
+    by false false e f = subst (λ (t : Tree). weight t ≤ 1 + weight b) (sym (h.kept f e)) (itself (is_number (root b)))
+
+rooted : (b r e : Tree) → IsRootAnswer b r → Rewrites (power (root b) e) (power r e)
+rooted b r e h = record {
+  no_new_name = record { name = λ x k. both (names b) (names e) (names r) (names e) (λ y c. h.reduces.no_new_name.name y c) (λ y c. c) x k };
+  meanings = keeps (rewrites.KeepsMeanings-power (kept h.reduces.meanings) (rewrites.KeepsMeanings-refl e));
+}
+
+half_undefined : (b r u : Tree) (q : Fraction) → (q.den == 2) ≡ true → is_undef b ≡ false → IsRootAnswer b r → IsPowerAnswer r (num (whole_fraction q.num)) u → lacks_power b (num q) ≡ true → u ≡ undef
+half_undefined b r u q h d k a l = by b k (and_second_of (has_no_power b (num q)) (has_no_half_power b (num q)) l (no_at_most q h b d))
+  where
+    and_second_of : (x y : Bool) → (x || y) ≡ true → x ≡ false → y ≡ true
+    and_second_of true y e f = cc
+    and_second_of false y e f = e
+
+    by : (b : Tree) → IsRootAnswer b r → has_no_half_power b (num q) ≡ true → u ≡ undef
+    by (num p) k e = undefined_sides p q r u h k a (and_parts (q.den == 2) _ e).1
+    by b k e = cc
+
+half_number : (b r u : Tree) (q : Fraction) → (q.den == 2) ≡ true → IsRootAnswer b r → IsPowerAnswer r (num (whole_fraction q.num)) u → is_number_power b (num q) ≡ true → lacks_power b (num q) ≡ false → is_number u ≡ true
+half_number b r u q h k a n l = by b k (rational (has_number_power b (num q)) (is_num b) (q.den == 2) n (no_number q h b)) (or_fails (has_no_power b (num q)) (has_no_half_power b (num q)) l).1
+  where
+    rational : (x y z : Bool) → (x || y && z) ≡ true → x ≡ false → y ≡ true
+    rational true y z e f = cc
+    rational false true z e f = refl
+    rational false false z e f = cc
+
+    by : (b : Tree) → IsRootAnswer b r → is_num b ≡ true → has_no_half_power b (num q) ≡ false → is_number u ≡ true
+    by (num p) k m e = number_sides p q r u h k a (sides (q.den == 2) _ e h)
+      where
+        sides : (x y : Bool) → (x && y) ≡ false → x ≡ true → y ≡ false
+        sides true y e f = e
+        sides false y e f = cc
+    by b k m e = cc
+
+nest_to_number : (b : Tree) (q : Fraction) → nest (power b (num q)) ≡ nest b
+nest_to_number b q = to_number b (num q) (number_test (num q) tt)
+
+-- the power of the reduced root is that of the base
+pub half_finished : (b e r u : Tree) → is_half_num e ≡ true → is_undef b ≡ false → Rewrites (power b e) (power_of_root b e) → IsRootAnswer b r → IsPowerAnswer r (num (whole_fraction (numerator e))) u → IsReducedPower b e u
+half_finished b (num q) r u h d w k a = record {
+  reduces = reduces_after w (reduces_after (rooted b r (num (whole_fraction q.num)) k) a.reduces);
+  undefined = λ l. half_undefined b r u q h d k a l;
+  number = λ n l. half_number b r u q h k a n l;
+  written = λ l. rewritten_written b (num q) (power_of_root b (num q)) u (by_half b (num q) h d);
+  nest = omega (arith, a.nest_bound, nest_to_number r (whole_fraction q.num), k.nest, nest_to_number b q);
+  opaque_load = omega (arith, a.load_bound (transparent_whole (num (whole_fraction q.num)) (whole_is q.num)), root_weight b r k);
+  load = λ o. contrary (opaque (is_number (num q)) (q.den == 1) (number_test (num q) tt) (not_whole q h)) o;
+}
+  where
+    opaque : (x y : Bool) → x ≡ true → y ≡ false → (x && not y) ≡ true
+    opaque true true e f = cc
+    opaque true false e f = refl
+    opaque false y e f = cc
+half_finished b e r u h d w k a = absurd cc
+
+-- ---- step by step
+
+-- the first step is a rewriting where the base is not Undef
+pub record IsHalfStep (b e u : Tree) : Type 0 where
+  pub defined : is_undef b ≡ false
+  pub is : u ≡ power_of_root b e
+
+pub half_step : (b e u : Tree) → is_half_num e ≡ true → rewritten b e ≡ Some u → IsHalfStep b e u
+half_step b e u h r = by (is_undef b) refl
+  where
+    some : {t : Tree} → Some t ≡ Some u → t ≡ u
+    some k = cc
+
+    none : None ≡ Some u → ⊥
+    none k = cc
+
+    by : (x : Bool) → is_undef b ≡ x → IsHalfStep b e u
+    by true d = absurd (none (sym (undef_base_kept b e d) ∙ r))
+    by false d = record { defined = d; is = sym (some (sym (by_half b e h d) ∙ r)) }
+
+root_kinds : (b r : Tree) → IsRootAnswer b r → (is_undef r || is_number r || is_root r) ≡ true
+root_kinds b r h = by (has_no_root b) (is_num b) refl refl
+  where
+    first : (x y z : Bool) → x ≡ true → (x || y || z) ≡ true
+    first true y z e = refl
+    first false y z e = cc
+
+    second : (x y z : Bool) → y ≡ true → (x || y || z) ≡ true
+    second true y z e = refl
+    second false true z e = refl
+    second false false z e = cc
+
+    third : (x y : Bool) → (x || y || true) ≡ true
+    third true y = refl
+    third false true = refl
+    third false false = refl
+
+    by : (x n : Bool) → has_no_root b ≡ x → is_num b ≡ n → (is_undef r || is_number r || is_root r) ≡ true
+    by true n e f = first (is_undef r) (is_number r) (is_root r) (h.undefined ∙ e)
+    by false true e f = second (is_undef r) (is_number r) (is_root r) (h.number f e)
+    by false false e f = ap (λ (t : Tree). is_undef t || is_number t || is_root t) (h.kept f e) ∙ third (is_undef (root b)) (is_number (root b))
+
+-- the power of the root, before and after the root is reduced
+pub record IsHalfReady (u : Tree) : Type 0 where
+  pub words : u ≡ power (base_in u) (exponent_in u)
+  pub root : is_root (base_in u) ≡ true
+  pub reduced : is_reduced (argument_of (base_in u)) ≡ true
+
+pub half_ready : (b e u : Tree) → is_reduced b ≡ true → IsHalfStep b e u → IsHalfReady u
+half_ready b e u h s = subst IsHalfReady (sym s.is) (record { words = refl; root = refl; reduced = h })
+
+pub record IsHalfLast (v : Tree) : Type 0 where
+  pub words : v ≡ power (base_in v) (exponent_in v)
+  pub base : is_reduced (base_in v) ≡ true
+  pub exponent : is_reduced (exponent_in v) ≡ true
+  pub last : rewritten (base_in v) (exponent_in v) ≡ None
+
+-- the root of b, reduced, and what stands over it
+rooted_is : (b e u v : Tree) → IsHalfStep b e u → IsRooted u v → IsRooted (power_of_root b e) v
+rooted_is b e u v s k = subst (λ (t : Tree). IsRooted t v) s.is k
+
+pub half_last : (b e u v : Tree) → is_half_num e ≡ true → IsHalfStep b e u → IsRooted u v → IsHalfLast v
+half_last b e u v h s k =
+    let r = rooted_is b e u v s k in
+    subst IsHalfLast (sym r.is) (record {
+      words = refl;
+      base = r.answer.reduces.reduced;
+      exponent = parts_reduced (num (whole_fraction (numerator e))) (inl tt);
+      last = root_once r.root e h (root_kinds b r.root r.answer);
+    })
+
+pub half_after : (b e u v r : Tree) → is_half_num e ≡ true → IsHalfStep b e u → Rewrites (power b e) u → IsRooted u v → IsPowerAnswer (base_in v) (exponent_in v) r → IsReducedPower b e r
+half_after b e u v r h s w k a =
+    let t = rooted_is b e u v s k in
+    half_finished b e t.root r h s.defined (subst (Rewrites (power b e)) s.is w) t.answer (subst (λ (x : Tree). IsPowerAnswer (base_in x) (exponent_in x) r) t.is a)

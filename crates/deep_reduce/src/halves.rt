@@ -1,0 +1,106 @@
+//! Powers whose exponent is half of an odd whole number: powers of the root of the base.
+ghost use Rattle.std.specs.Prelude.{◌≡◌, None, IfOk, IfErr, OnOk, [], ◌∷◌, true};
+ghost use Rattle.calc_algebra.specs.Reduced.{is_half_num, is_reduced};
+ghost use Rattle.calc_terms.specs.Trees.{is_root, power as power_tree};
+ghost use Rattle.deep_reduce.specs.Answers.{IsReducedPower};
+ghost use Rattle.deep_reduce.specs.Halves.{IsRooted};
+ghost use Rattle.power_reduce.specs.PowerAnswers.{base_in, exponent_in, IsPowerAnswer};
+ghost use Rattle.power_reduce.specs.PowerSteps.{rewritten};
+ghost use Rattle.radical_forms.specs.RootAnswers.{argument_of};
+ghost use Rattle.tree_handles.specs.Causes.{IsCaused};
+ghost use Rattle.tree_handles.specs.Handed.{tree_of, IsHanded, Gives, KeepsFront};
+ghost use Rattle.tree_handles.specs.Faults.{Faults};
+ghost use Rattle.tree_handles.specs.Roots.{without_root};
+ghost use Rattle.tree_handles.specs.Standing.{Stands, forest, KeepsRefusals};
+
+use node_pool::Pool;
+use number_forms::half;
+use power_reduce::power_step;
+use radical_forms::reduce_root;
+use reduce_port::Step;
+use tree_handles::{Handle, NumberFault, add_child, child_id, move_last, take_child};
+
+/// Whether the exponent of a power is half of an odd whole number.
+pub(crate) fn has_half_exponent(pool: &Pool, power: &Handle) -> bool
+    requires stands { Stands pool.now }
+    requires handed { IsHanded power.now (forest pool.now) }
+    requires power { let t = tree_of power.now pool.now in t ≡ power_tree (base_in t) (exponent_in t) }
+    ensures { result ≡ is_half_num (exponent_in (tree_of power.now pool.now)) }
+{
+    let exponent = child_id(pool, power.id(), 1);
+    match half(pool, exponent) {
+        Some(_) => true,
+        None => false,
+    }
+}
+
+/// A power of reduced trees whose exponent is half of an odd whole number, as a reduced tree. After one step the root
+/// of its base is reduced, and the next step is the last.
+pub(crate) fn reduce_half_power(pool: &mut Pool, power: Handle) -> Result<Handle, NumberFault>
+    requires stands { Stands pool.old }
+    requires handed { IsHanded power (forest pool.old) }
+    requires power { let t = tree_of power pool.old in t ≡ power_tree (base_in t) (exponent_in t) }
+    requires base { is_reduced (base_in (tree_of power pool.old)) ≡ true }
+    requires exponent { is_reduced (exponent_in (tree_of power pool.old)) ≡ true }
+    requires half { is_half_num (exponent_in (tree_of power pool.old)) ≡ true }
+    ensures ok { let t = tree_of power pool.old in
+        IfOk result (λ h. Gives (without_root power (forest pool.old)) (forest pool.new) h
+        (IsReducedPower (base_in t) (exponent_in t))) }
+    ensures front { KeepsFront (power ∷ []) (forest pool.old) (forest pool.new) }
+    ensures kept { OnOk result (KeepsRefusals pool.old pool.new) }
+    ensures faults { IfErr result (Faults pool.old pool.new) }
+    ensures caused { IfErr result (IsCaused pool.new) }
+    ensures stands { Stands pool.new }
+{
+    match power_step(pool, power)? {
+        Step::Done(answer) => Ok(answer),
+        Step::Again(tree) => {
+            let rooted = reduce_base(pool, tree)?;
+            last_step(pool, rooted)
+        }
+    }
+}
+
+/// The root under a power, reduced in its place.
+fn reduce_base(pool: &mut Pool, power: Handle) -> Result<Handle, NumberFault>
+    requires stands { Stands pool.old }
+    requires handed { IsHanded power (forest pool.old) }
+    requires power { let t = tree_of power pool.old in t ≡ power_tree (base_in t) (exponent_in t) }
+    requires root { is_root (base_in (tree_of power pool.old)) ≡ true }
+    requires reduced { is_reduced (argument_of (base_in (tree_of power pool.old))) ≡ true }
+    ensures ok { IfOk result (λ h. Gives (without_root power (forest pool.old)) (forest pool.new) h (IsRooted (tree_of power pool.old))) }
+    ensures front { KeepsFront (power ∷ []) (forest pool.old) (forest pool.new) }
+    ensures kept { OnOk result (KeepsRefusals pool.old pool.new) }
+    ensures faults { IfErr result (Faults pool.old pool.new) }
+    ensures caused { IfErr result (IsCaused pool.new) }
+    ensures stands { Stands pool.new }
+{
+    let root = take_child(pool, &power, 0);
+    let reduced = reduce_root(pool, root)?;
+    add_child(pool, &power, 0, reduced);
+    move_last(pool, &power);
+    Ok(power)
+}
+
+/// A step on a power that no rule rewrites.
+fn last_step(pool: &mut Pool, power: Handle) -> Result<Handle, NumberFault>
+    requires stands { Stands pool.old }
+    requires handed { IsHanded power (forest pool.old) }
+    requires power { let t = tree_of power pool.old in t ≡ power_tree (base_in t) (exponent_in t) }
+    requires base { is_reduced (base_in (tree_of power pool.old)) ≡ true }
+    requires exponent { is_reduced (exponent_in (tree_of power pool.old)) ≡ true }
+    requires last { rewritten (base_in (tree_of power pool.old)) (exponent_in (tree_of power pool.old)) ≡ None }
+    ensures ok { let t = tree_of power pool.old in
+        IfOk result (λ h. Gives (without_root power (forest pool.old)) (forest pool.new) h
+        (IsPowerAnswer (base_in t) (exponent_in t))) }
+    ensures front { KeepsFront (power ∷ []) (forest pool.old) (forest pool.new) }
+    ensures kept { OnOk result (KeepsRefusals pool.old pool.new) }
+    ensures faults { IfErr result (Faults pool.old pool.new) }
+    ensures caused { IfErr result (IsCaused pool.new) }
+    ensures stands { Stands pool.new }
+{
+    match power_step(pool, power)? {
+        Step::Done(answer) => Ok(answer),
+        Step::Again(_) => unreachable!(),
+    }
+}

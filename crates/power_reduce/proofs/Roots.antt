@@ -1,0 +1,18 @@
+-- A power by half of an odd whole number, as the program writes it: a power of the root of its base.
+use Rattle.std.proofs.Common.{◌≡◌, Some, true, false, ℤ, sym, ap, ◌∙◌}
+use Rattle.calc_algebra.specs.Reduced.{is_half_num}
+use Rattle.calc_terms.specs.declared.rat.Rat.{Rat}
+use Rattle.calc_terms.specs.Fractions.{lowest, whole_fraction}
+use Rattle.calc_terms.specs.Rat.{ratio_of, value_of}
+use Rattle.calc_terms.specs.Ratio.{Ratio, whole}
+use Rattle.calc_terms.specs.Trees.{Tree, num, power, root, is_undef}
+use Rattle.number_forms.specs.Readers.{numerator}
+use Rattle.power_reduce.specs.PowerSteps.{rewritten}
+use Rattle.power_reduce.proofs.Exponents.{by_half}
+
+-- x is the root over y, which is b, and n the whole number that the program wrote
+pub rooted_as : (b e t x y n : Tree) (r : Rat) (z : ℤ) → is_half_num e ≡ true → is_undef b ≡ false → t ≡ power x n → x ≡ root y → y ≡ b → n ≡ num (value_of r) → ratio_of r ≡ whole z → whole_fraction z ≡ whole_fraction (numerator e)
+    → rewritten b e ≡ Some t
+rooted_as b e t x y n r z h u w k l m v f =
+    let number = m ∙ ap num (ap (λ (q : Ratio). lowest q.num q.den) v ∙ f) in
+    by_half b e h u ∙ ap Some (sym (w ∙ (λ i. power ((k ∙ ap root l) i) (number i))))

@@ -1,0 +1,68 @@
+use Rattle.std.proofs.Common.{inl, sym, ap, ◌∙◌, to_z, of_z}
+use Rattle.std.specs.Int.{w128}
+use Rattle.calc_terms.specs.Fractions.{whole_fraction}
+use Rattle.coefficients.proofs.Steps.{if_map}
+use Rattle.power_reduce.specs.PowerAnswers.{base_in, exponent_in}
+use Rattle.tree_handles.specs.Handed.{tree_of}
+use Rattle.power_reduce.proofs.PartsOf.{gives_at}
+use Rattle.power_reduce.proofs.Roots.{rooted_as}
+use Rattle.rational128.proofs.Signed.{told}
+use Rattle.tree_handles.specs.Expressions.{plain}
+use Rattle.tree_handles.proofs.Fronts.{behind_first, behind_new, front_same, front_at, front_end, front_without, front_after, front_after_one, front_after_two}
+use Rattle.tree_handles.proofs.Given.{gives_as, given_apart, given_handed, given_other, given_rest, given_root, given_same, given_told, given_without, owned}
+use Rattle.tree_handles.proofs.Outcomes.{eqb-sym}
+use Rattle.power_reduce.proofs.rewriting.root_base.Goals as goal
+
+pub release-requires-clause-releasable : goal.release-requires-clause-releasable
+release-requires-clause-releasable c = inl (given_root c.take_sides-base.ensures.gives.second-given)
+
+pub node_over-requires-clause-handed : goal.node_over-requires-clause-handed
+node_over-requires-clause-handed c =
+    let g = c.take_sides-base.ensures.gives in
+    given_handed (gives_at g.first-given (c.release.ensures.owned (owned (given_handed g.second-given)) ∙ given_rest g.second-given))
+
+pub returns-in_err-root-clause-front : goal.returns-in_err-root-clause-front
+returns-in_err-root-clause-front c =
+    let g = c.take_sides-base.ensures.gives in
+    let base = behind_new g.first-given.ends (front_without behind_first front_same) in
+    let exponent = behind_new g.second-given.ends (front_end g.first-given.ends (front_without behind_first front_same)) in
+    let taken = front_at (front_without exponent c.take_sides-base.ensures.front) (c.release.ensures.owned (owned (given_handed g.second-given))) in
+    front_after_one base taken c.node_over.ensures.front
+
+pub returns-in_err-whole-clause-front : goal.returns-in_err-whole-clause-front
+returns-in_err-whole-clause-front c =
+    let g = c.take_sides-base.ensures.gives in
+    let base = behind_new g.first-given.ends (front_without behind_first front_same) in
+    let exponent = behind_new g.second-given.ends (front_end g.first-given.ends (front_without behind_first front_same)) in
+    let taken = front_at (front_without exponent c.take_sides-base.ensures.front) (c.release.ensures.owned (owned (given_handed g.second-given))) in
+    front_after (front_after_one base taken c.node_over.ensures.front) c.number.ensures.front
+
+pub node_over_two-requires-clause-first : goal.node_over_two-requires-clause-first
+node_over_two-requires-clause-first c = given_other c.in_ok-whole.ensures.given (given_handed c.in_ok-root.ensures.ok)
+
+pub node_over_two-requires-clause-second : goal.node_over_two-requires-clause-second
+node_over_two-requires-clause-second c = given_handed c.in_ok-whole.ensures.given
+
+pub node_over_two-requires-clause-apart : goal.node_over_two-requires-clause-apart
+node_over_two-requires-clause-apart c = eqb-sym _ _ (given_apart c.in_ok-whole.ensures.given (given_handed c.in_ok-root.ensures.ok))
+
+pub returns-clause-ok : goal.returns-clause-ok
+returns-clause-ok c =
+    let g = c.take_sides-base.ensures.gives in
+    let first = gives_at g.first-given (c.release.ensures.owned (owned (given_handed g.second-given)) ∙ given_rest g.second-given) in
+    let root = c.in_ok-root.ensures.ok in
+    let whole = c.in_ok-whole.ensures.given in
+    let r = given_handed root in
+    let base = ap plain (given_same c.in_ok-root.root whole r.root) ∙ given_told root in
+    if_map c.node_over_two.result _ _ c.node_over_two.ensures.ok
+    (λ h k. gives_as k (given_without whole r ∙ given_rest root ∙ given_rest first)
+    (λ t w. rooted_as (base_in (tree_of c.args.power c.args.pool.now)) (exponent_in (tree_of c.args.power c.args.pool.now)) t _ _ _ c.whole.result (to_z w128 (of_z w128 c.args.n)) c.requires.half c.requires.sides.base_defined w base (given_told first) (given_told whole) c.whole.ensures (ap whole_fraction (told c.args.n c.requires.fits) ∙ ap whole_fraction (sym c.requires.numerator))))
+
+pub returns-clause-front : goal.returns-clause-front
+returns-clause-front c =
+    let g = c.take_sides-base.ensures.gives in
+    let base = behind_new g.first-given.ends (front_without behind_first front_same) in
+    let exponent = behind_new g.second-given.ends (front_end g.first-given.ends (front_without behind_first front_same)) in
+    let taken = front_at (front_without exponent c.take_sides-base.ensures.front) (c.release.ensures.owned (owned (given_handed g.second-given))) in
+    let over = front_after_one base taken c.node_over.ensures.front in
+    front_after_two (behind_new c.in_ok-root.ensures.ok.ends (front_without base taken)) (behind_new c.in_ok-whole.ensures.given.ends over) (front_after over c.number.ensures.front) c.node_over_two.ensures.front
