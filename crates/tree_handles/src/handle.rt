@@ -4,6 +4,7 @@ ghost use Rattle.calc_terms.specs.Leaf.{payload_of, name_of, IsUsable};
 ghost use Rattle.calc_terms.specs.Payload.{rational, named, bare, is_bare, size_of_payload};
 ghost use Rattle.calc_terms.specs.Rat.{ratio_of, value_of};
 ghost use Rattle.calc_terms.specs.Trees.{num, symbol as symbol_tree, none};
+ghost use Rattle.node_pool.specs.Nodes.{IsLeastFree};
 ghost use Rattle.node_pool.specs.State.{free_of};
 ghost use Rattle.tree_handles.specs.Expressions.{compound, takes_kind};
 ghost use Rattle.tree_handles.specs.Forest.{empty, one_tree};
@@ -50,6 +51,7 @@ pub fn number(pool: &mut Pool, value: Rat) -> Result<Handle, Full>
     ensures ok { IfOk result (λ h. Ends h (one_tree h (rational (ratio_of value)) empty) (forest pool.old) (forest pool.new)) }
     ensures given { IfOk result (λ h. Gives (forest pool.old) (forest pool.new) h (λ t. t ≡ num (value_of value))) }
     ensures fresh { IfOk result (λ h. holds h (forest pool.old) ≡ false) }
+    ensures least { IfOk result (λ h. IsLeastFree h pool.old.nodes) }
     ensures front { KeepsFront [] (forest pool.old) (forest pool.new) }
     ensures kept { OnOk result (KeepsRefusals pool.old pool.new) }
     ensures full { IfErr result (IsRefused (size_of_payload (rational (ratio_of value))) pool.old pool.new) }
@@ -65,6 +67,7 @@ pub fn symbol(pool: &mut Pool, name: Name) -> Result<Handle, Full>
     ensures ok { IfOk result (λ h. Ends h (one_tree h (named (name_of name)) empty) (forest pool.old) (forest pool.new)) }
     ensures given { IfOk result (λ h. Gives (forest pool.old) (forest pool.new) h (λ t. t ≡ symbol_tree (name_of name))) }
     ensures fresh { IfOk result (λ h. holds h (forest pool.old) ≡ false) }
+    ensures least { IfOk result (λ h. IsLeastFree h pool.old.nodes) }
     ensures front { KeepsFront [] (forest pool.old) (forest pool.new) }
     ensures kept { OnOk result (KeepsRefusals pool.old pool.new) }
     ensures full { IfErr result (IsRefused (size_of_payload (named (name_of name))) pool.old pool.new) }
@@ -81,6 +84,7 @@ pub fn node(pool: &mut Pool, kind: Kind) -> Result<Handle, Full>
     ensures ok { IfOk result (λ h. Ends h (one_tree h (bare kind) empty) (forest pool.old) (forest pool.new)) }
     ensures given { takes_kind kind 0 ≡ true → IfOk result (λ h. Gives (forest pool.old) (forest pool.new) h (λ t. t ≡ compound kind none)) }
     ensures fresh { IfOk result (λ h. holds h (forest pool.old) ≡ false) }
+    ensures least { IfOk result (λ h. IsLeastFree h pool.old.nodes) }
     ensures front { KeepsFront [] (forest pool.old) (forest pool.new) }
     ensures kept { OnOk result (KeepsRefusals pool.old pool.new) }
     ensures full { IfErr result (IsRefused (size_of_payload (bare kind)) pool.old pool.new) }
@@ -96,6 +100,7 @@ fn place(pool: &mut Pool, leaf: Leaf) -> Result<Handle, Full>
     requires stands { Stands pool.old }
     ensures ok { IfOk result (λ h. Ends h (one_tree h (payload_of leaf) empty) (forest pool.old) (forest pool.new)) }
     ensures fresh { IfOk result (λ h. holds h (forest pool.old) ≡ false) }
+    ensures least { IfOk result (λ h. IsLeastFree h pool.old.nodes) }
     ensures front { KeepsFront [] (forest pool.old) (forest pool.new) }
     ensures kept { OnOk result (KeepsRefusals pool.old pool.new) }
     ensures full { IfErr result (IsRefused (size_of_payload (payload_of leaf)) pool.old pool.new) }

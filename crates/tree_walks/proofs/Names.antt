@@ -1,0 +1,135 @@
+-- Names and replaced names, node by node.
+use Rattle.std.proofs.Common.{◌≡◌, ℕ, zero, suc, ◌+◌, List, cond, refl, ap, arith, Bool, true, false}
+use Rattle.std.specs.List.{count_by}
+use Rattle.std.specs.Str.{bytes_eq}
+use Rattle.std.proofs.lemmas.Bool.{eqb-true}
+use Rattle.std.proofs.lemmas.List.{append-nil}
+use Rattle.std.proofs.lemmas.List.Sums.{sum_by-append}
+use Rattle.calc_terms.specs.declared.kind.Kind.{Kind}
+use Rattle.calc_terms.specs.declared.kind.Kind.TheVariants as kind
+use Rattle.calc_terms.specs.Payload.{Payload, rational, named, bare}
+use Rattle.calc_terms.specs.Trees.{Tree, num, symbol, undef, add, mult, power, root, neg, sub, div, Trees, none, more, append, count, names, names_of}
+use Rattle.tree_handles.specs.Expressions.{nth, compound, grown, plains, takes, AllExpressions, children_of}
+use Rattle.tree_handles.specs.Forest.{Label, Forest, empty, tree, join, arity, first_trees, rest_trees}
+use Rattle.tree_handles.proofs.Plains.{grown_whole}
+use Rattle.tree_walks.specs.Replacing.{replaced, replaced_in, occurrences}
+use Rattle.tree_walks.specs.Walks.{has_name}
+
+-- ---- how often a name occurs
+
+-- in trees, and in the trees of a forest
+abbrev pub occurrences_in : List ℕ → Trees → ℕ
+occurrences_in x ts = count_by (λ y. bytes_eq y x) (names_of ts)
+
+abbrev pub named_in : List ℕ → Forest → ℕ
+named_in x f = occurrences_in x (plains f)
+
+-- at the root
+abbrev at_root : List ℕ → Tree → ℕ
+at_root x (symbol y) = cond (bytes_eq y x) 1 0
+at_root x t = 0
+
+count_node : (x : List ℕ) (t : Tree) → occurrences x t ≡ at_root x t + occurrences_in x (children_of t)
+count_node x (num q) = refl
+count_node x (symbol y) = omega arith
+count_node x undef = refl
+count_node x (add ts) = omega arith
+count_node x (mult ts) = omega arith
+count_node x (power b e) = rw (append-nil (names e)) (omega arith)
+count_node x (root a) = rw (append-nil (names a)) (omega arith)
+count_node x (neg a) = rw (append-nil (names a)) (omega arith)
+count_node x (sub a b) = rw (append-nil (names b)) (omega arith)
+count_node x (div a b) = rw (append-nil (names b)) (omega arith)
+
+no_name : (x : List ℕ) (k : Kind) (ts : Trees) → at_root x (compound k ts) ≡ 0
+no_name x kind.Add ts = refl
+no_name x kind.Mult ts = refl
+no_name x kind.Pow ts = refl
+no_name x kind.Root ts = refl
+no_name x kind.Neg ts = refl
+no_name x kind.Sub ts = refl
+no_name x kind.Div ts = refl
+no_name x k ts = refl
+
+at_grown : (x : List ℕ) (q : Payload) (ts : Trees) → at_root x (grown q ts) ≡ cond (has_name x q) 1 0
+at_grown x (rational r) ts = refl
+at_grown x (named y) ts = refl
+at_grown x (bare k) ts = no_name x k ts
+
+-- at a node of the language, below it and behind it
+pub named-tree : (x : List ℕ) (l : Label) (k r : Forest) → AllExpressions (tree l k r) → named_in x (tree l k r) ≡ cond (has_name x l.payload) 1 0 + (named_in x k + named_in x r)
+named-tree x l k r h =
+    let t = grown l.payload (plains k) in
+    let below : occurrences_in x (children_of t) ≡ named_in x k = ap (occurrences_in x) (grown_whole l k r h).children-are in
+    omega (arith, sum_by-append (λ y. cond (bytes_eq y x) 1 0) (names t) (names_of (plains r)), count_node x t, at_grown x l.payload (plains k), below)
+
+pub named-join : (x : List ℕ) (f g : Forest) → named_in x (join f g) ≡ named_in x f + named_in x g
+named-join x empty g = omega arith
+named-join x (tree l k r) g =
+    let t = grown l.payload (plains k) in
+    omega (arith, sum_by-append (λ y. cond (bytes_eq y x) 1 0) (names t) (names_of (plains r)), sum_by-append (λ y. cond (bytes_eq y x) 1 0) (names t) (names_of (plains (join r g))), named-join x r g)
+
+-- of one tree
+pub occurrences-alone : (x : List ℕ) (t : Tree) → occurrences_in x (more t none) ≡ occurrences x t
+occurrences-alone x t = ap (count_by (λ y. bytes_eq y x)) (append-nil (names t))
+
+-- ---- replaced trees
+
+nth-replaced : (x : List ℕ) (u : Tree) (n : ℕ) (ts : Trees) → nth n (replaced_in x u ts) ≡ replaced x u (nth n ts)
+nth-replaced x u n none = refl
+nth-replaced x u zero (more t ts) = refl
+nth-replaced x u (suc n) (more t ts) = nth-replaced x u n ts
+
+replaced-compound : (x : List ℕ) (u : Tree) (k : Kind) (ts : Trees) → replaced x u (compound k ts) ≡ compound k (replaced_in x u ts)
+replaced-compound x u kind.Add ts = refl
+replaced-compound x u kind.Mult ts = refl
+replaced-compound x u kind.Pow ts = cc (nth-replaced x u 0 ts, nth-replaced x u 1 ts)
+replaced-compound x u kind.Root ts = cc (nth-replaced x u 0 ts)
+replaced-compound x u kind.Neg ts = cc (nth-replaced x u 0 ts)
+replaced-compound x u kind.Sub ts = cc (nth-replaced x u 0 ts, nth-replaced x u 1 ts)
+replaced-compound x u kind.Div ts = cc (nth-replaced x u 0 ts, nth-replaced x u 1 ts)
+replaced-compound x u k ts = refl
+
+-- a node other than a leaf of the name stays, and such a leaf becomes the tree
+pub replaced-other : (x : List ℕ) (u : Tree) (q : Payload) (ts : Trees) → has_name x q ≡ false → replaced x u (grown q ts) ≡ grown q (replaced_in x u ts)
+replaced-other x u (rational r) ts h = refl
+replaced-other x u (named y) ts h = ap (λ (b : Bool). cond b u (symbol y)) h
+replaced-other x u (bare k) ts h = replaced-compound x u k ts
+
+pub replaced-named : (x : List ℕ) (u : Tree) (q : Payload) (ts : Trees) → has_name x q ≡ true → replaced x u (grown q ts) ≡ u
+replaced-named x u (rational r) ts h = absurd cc
+replaced-named x u (named y) ts h = ap (λ (b : Bool). cond b u (symbol y)) h
+replaced-named x u (bare k) ts h = absurd cc
+
+pub replaced-append : (x : List ℕ) (u : Tree) (ts us : Trees) → replaced_in x u (append ts us) ≡ append (replaced_in x u ts) (replaced_in x u us)
+replaced-append x u none us = refl
+replaced-append x u (more t ts) us = ap (more (replaced x u t)) (replaced-append x u ts us)
+
+pub count-replaced : (x : List ℕ) (u : Tree) (ts : Trees) → count (replaced_in x u ts) ≡ count ts
+count-replaced x u none = refl
+count-replaced x u (more t ts) = ap suc (count-replaced x u ts)
+
+-- a leaf of the name has no children
+leaf_takes : (x : List ℕ) (q : Payload) (n : ℕ) → has_name x q ≡ true → takes q n ≡ true → n ≡ 0
+leaf_takes x (rational r) n h e = absurd cc
+leaf_takes x (named y) n h e = eqb-true n 0 e
+leaf_takes x (bare k) n h e = absurd cc
+
+no_trees : (f : Forest) → arity f ≡ 0 → f ≡ empty
+no_trees empty h = refl
+no_trees (tree l k r) h = absurd (omega arith)
+
+pub leaf_alone : (x : List ℕ) (l : Label) (k r : Forest) → has_name x l.payload ≡ true → AllExpressions (tree l k r) → k ≡ empty
+leaf_alone x l k r h w = no_trees k (leaf_takes x l.payload (arity k) h w.0)
+
+-- the plain trees of the first trees, and of those behind them
+pub plains-split : (n : ℕ) (f : Forest) (ts us : Trees) → count ts ≡ n → plains f ≡ append ts us → (plains (first_trees n f) ≡ ts) × (plains (rest_trees n f) ≡ us)
+plains-split zero f none us c e = (refl, e)
+plains-split zero f (more t ts) us c e = absurd (omega arith)
+plains-split (suc n) f none us c e = absurd (omega arith)
+plains-split (suc n) empty (more t ts) us c e = absurd cc
+plains-split (suc n) (tree l k r) (more t ts) us c e =
+    let head : grown l.payload (plains k) ≡ t = cc in
+    let tail : plains r ≡ append ts us = cc in
+    let p = plains-split n r ts us (omega arith) tail in
+    (rw (head, p.0) refl, p.1)

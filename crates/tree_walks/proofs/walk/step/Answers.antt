@@ -1,0 +1,25 @@
+use Rattle.std.proofs.Common.{◌≡◌, ℕ, ◌+◌, ap}
+use Rattle.calc_terms.specs.Node.{size_of}
+use Rattle.node_pool.specs.Nodes.{first_of}
+use Rattle.node_pool.specs.Places.{since}
+use Rattle.node_pool.proofs.Cuts.{IsStep, step}
+use Rattle.tree_handles.proofs.Walks.{size_at}
+use Rattle.tree_walks.proofs.walk.step.Goals as goal
+
+next : (c : goal.After-size) → c.args.at + c.size.result ≡ c.args.at + size_of (first_of (since c.args.at c.args.pool.now.nodes))
+next c = ap (λ (n : ℕ). c.args.at + n) (size_at c.args.pool.now c.args.at c.size.result c.header-header.result c.header-header.ensures.value c.size.ensures)
+
+all : (c : goal.After-size) → IsStep c.args.at (c.args.at + c.size.result) c.args.pool.now.nodes
+all c = rw (next c) (step c.args.at c.args.pool.now.nodes c.requires.boundary c.requires.inside)
+
+pub returns-clause-next : goal.returns-clause-next
+returns-clause-next c = next c
+
+pub returns-clause-rest : goal.returns-clause-rest
+returns-clause-rest c = (all c).rest
+
+pub returns-clause-boundary : goal.returns-clause-boundary
+returns-clause-boundary c = (all c).boundary
+
+pub returns-clause-within : goal.returns-clause-within
+returns-clause-within c = (all c).within

@@ -1,0 +1,39 @@
+//! Whether a tree is deep, in a walk that stops at the first node that is.
+ghost use Rattle.std.specs.Prelude.{◌<◌, ◌↔◌, IsTrue};
+ghost use Rattle.calc_terms.specs.Trees.{depth};
+ghost use Rattle.tree_handles.specs.Expressions.{IsExpression, plain};
+ghost use Rattle.tree_handles.specs.Inside.{tree_at};
+ghost use Rattle.tree_handles.specs.Standing.{Stands, forest};
+
+use crate::walk::step;
+use node_pool::{Id, Pool};
+
+/// How deep the tree of a line may be: a leaf is 1 deep.
+pub const DEPTH_LIMIT: usize = 64;
+
+/// Whether a tree is deeper than `DEPTH_LIMIT`.
+pub fn is_deeper(pool: &Pool, id: Id) -> bool
+    requires stands { Stands pool.now }
+    requires expression { IsExpression id (forest pool.now) }
+    ensures { IsTrue result ↔ (64 < depth (plain (tree_at id (forest pool.now)))) }
+{
+    let mut at = pool.locate(id);
+    // How many nodes are still owed on each open level.
+    let mut owed = [0u16; DEPTH_LIMIT + 1];
+    owed[0] = 1;
+    let mut height = 1usize;
+    while height > 0 {
+        if owed[height - 1] == 0 {
+            height -= 1;
+        } else if height > DEPTH_LIMIT {
+            return true;
+        } else {
+            let (header, next) = step(pool, at);
+            owed[height - 1] -= 1;
+            owed[height] = header.children;
+            height += 1;
+            at = next;
+        }
+    }
+    false
+}
