@@ -1,0 +1,61 @@
+-- Names of filled trees, and what filling in the free bytes gives.
+use Rattle.std.proofs.Common.{◌≡◌, ℕ, ◌⊎◌, inl, inr, List, [], ◌∷◌, map, Bool, true, false, cond, ltb, Result, Ok, Err, refl, sym, ap, ◌∙◌, subst}
+use Rattle.std.specs.Prelude.{Contains}
+use Rattle.calc_terms.specs.Trees.{Tree, depth, root_size, size, symbol}
+use Rattle.node_pool.specs.declared.full.Full.{Full}
+use Rattle.tree_handles.specs.Forest.{Forest}
+use Rattle.tree_walks.specs.Replacing.{occurrences, replaced, replacing}
+use Rattle.tree_walks.proofs.Composing.{names_of_replaced}
+use Rattle.name_table.specs.Filling.{Filling, LacksNames, NamedTree, fills, filled, filling, filling_one, lacks, too_deep, value_in, values}
+use Rattle.name_table.specs.Held.{HoldLaterNames, IsHeld}
+use Rattle.name_table.specs.Tables.{Entry, Table, entries, table_names}
+use Rattle.name_table.proofs.Later.{behind, in_front, names_of_entries, none_in, where_in}
+
+-- the names of the new tree
+still_lacks : (passed : List (List ℕ)) (v : NamedTree) (t : Tree) → LacksNames passed t → LacksNames (v.name ∷ passed) v.tree → LacksNames (v.name ∷ passed) (replaced v.name v.tree t)
+still_lacks passed v t l m y c k =
+    elim (names_of_replaced v.name v.tree t y k) [
+      | inl p ↦ elim (where_in v.name y passed c) [ inl e ↦ p.1 (sym e) | inr d ↦ l y d p.0 ]
+      | inr q ↦ m y c q
+    ]
+
+-- the names that are passed
+covers_more : (x : List ℕ) (ns passed rest : List (List ℕ)) → ((y : List ℕ) → Contains ns y → Contains passed y ⊎ Contains (x ∷ rest) y) → (y : List ℕ) → Contains ns y → Contains (x ∷ passed) y ⊎ Contains rest y
+covers_more x ns passed rest s y c =
+    elim (s y c) [ inl p ↦ inl (behind x y passed p) | inr q ↦ elim (where_in x y rest q) [ inl e ↦ inl (subst (Contains (x ∷ passed)) e (in_front x passed)) | inr r ↦ inr r ] ]
+
+-- each name that was passed is gone, since a tree holds later names alone
+filled_later : (all passed : List (List ℕ)) (vs : List NamedTree) (t : Tree) → HoldLaterNames passed vs → LacksNames passed t → ((y : List ℕ) → Contains all y → Contains passed y ⊎ Contains (map (λ v. v.name) vs) y) → LacksNames all (filled vs t)
+filled_later all passed [] t h l s = λ y c. elim (s y c) [ inl p ↦ l y p | inr q ↦ absurd (none_in y q) ]
+filled_later all passed (v ∷ vs) t h l s =
+    filled_later all (v.name ∷ passed) vs (replaced v.name v.tree t) h.1 (still_lacks passed v t l h.0) (covers_more v.name all passed (map (λ w. w.name) vs) s)
+
+names-values : (f : Forest) (es : List Entry) → map (λ v. v.name) (map (value_in f) es) ≡ names_of_entries es
+names-values f [] = refl
+names-values f (e ∷ es) = ap (λ (xs : List (List ℕ)). e.name ∷ xs) (names-values f es)
+
+pub filled_lacks : (t : Table) (f : Forest) (u : Tree) → IsHeld t f → LacksNames (table_names t) (filled (values t f) u)
+filled_lacks t f u held =
+    filled_later (table_names t) [] (values t f) u held.later (λ x c. absurd (none_in x c)) (λ y c. inr (subst (λ (xs : List (List ℕ)). Contains xs y) (sym (names-values f (entries t))) c))
+
+-- ---- the tree that fills is the filled one
+
+one_fills_as : (free left : ℕ) (v : NamedTree) (t u : Tree) → filling_one free v t ≡ fills left u → u ≡ replaced v.name v.tree t
+one_fills_as free left v t u e = by_room (replacing free (occurrences v.name t) (size v.tree) (root_size (symbol v.name))) e
+  where
+    by_depth : (b : Bool) (n : ℕ) → cond b too_deep (fills n (replaced v.name v.tree t)) ≡ fills left u → u ≡ replaced v.name v.tree t
+    by_depth true n e = absurd cc
+    by_depth false n e = cc
+
+    by_room : (r : Result ℕ Full) → elim r [ Err full ↦ lacks full | Ok n ↦ cond (ltb 64 (depth (replaced v.name v.tree t))) too_deep (fills n (replaced v.name v.tree t)) ] ≡ fills left u → u ≡ replaced v.name v.tree t
+    by_room (Err full) e = absurd cc
+    by_room (Ok n) e = by_depth (ltb 64 (depth (replaced v.name v.tree t))) n e
+
+pub fills_as : (free left : ℕ) (vs : List NamedTree) (t u : Tree) → filling free vs t ≡ fills left u → u ≡ filled vs t
+fills_as free left [] t u e = cc
+fills_as free left (v ∷ vs) t u e = by_one (filling_one free v t) (λ n w. fills_as n left vs w u) refl e
+  where
+    by_one : (o : Filling) → ((n : ℕ) (w : Tree) → filling n vs w ≡ fills left u → u ≡ filled vs w) → filling_one free v t ≡ o → elim o [ lacks full ↦ lacks full | too_deep ↦ too_deep | fills n w ↦ filling n vs w ] ≡ fills left u → u ≡ filled vs (replaced v.name v.tree t)
+    by_one (lacks full) next q e = absurd cc
+    by_one too_deep next q e = absurd cc
+    by_one (fills n w) next q e = next n w e ∙ ap (filled vs) (one_fills_as free n v t w q)

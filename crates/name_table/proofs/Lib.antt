@@ -1,0 +1,10 @@
+pub mod Slots
+pub mod Counting
+pub mod Holders
+pub mod Later
+pub mod Ready
+pub mod Steps
+pub mod Fillings
+pub mod FilledNames
+pub mod Filled
+pub mod Tested

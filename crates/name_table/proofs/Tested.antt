@@ -1,0 +1,48 @@
+-- What tests know of numbers that they keep and of names that they use.
+use Rattle.std.proofs.Common.{◌≡◌, ℕ, List, [], refl, sym, ap, ◌∙◌, subst, None}
+use Rattle.std.specs.Prelude.{ℤ, pos, Option, ⊤}
+use Rattle.calc_terms.specs.declared.rat.Rat.{Rat}
+use Rattle.calc_terms.specs.Fractions.{lowest, whole_fraction}
+use Rattle.calc_terms.specs.Rat.{ratio_of, value_of}
+use Rattle.calc_terms.specs.Ratio.{Ratio, whole}
+use Rattle.calc_terms.specs.Trees.{Tree, num}
+use Rattle.node_pool.specs.State.{State}
+use Rattle.tree_handles.specs.Forest.{Forest, forest_of}
+use Rattle.tree_handles.specs.Handed.{Gives, IsOwned}
+use Rattle.tree_handles.specs.Roots.{without_root}
+use Rattle.tree_handles.specs.Standing.{forest}
+use Rattle.tree_handles.proofs.Given.{given_handed, given_rest, gives_as, owned}
+use Rattle.name_table.specs.Held.{IsHeld}
+use Rattle.name_table.specs.Storing.{IsKeepable}
+use Rattle.name_table.specs.Tables.{Table, first_table}
+use Rattle.name_table.proofs.Later.{none_in}
+use Rattle.name_table.proofs.Ready.{first_held}
+
+-- a whole number of at least 0 can be written and has no names
+keepable : (store : Option (List ℕ)) (t : Table) (r : Rat) (z : ℤ) (n : ℕ) → ratio_of r ≡ whole z → z ≡ pos n → IsKeepable store t (num (value_of r))
+keepable store t r z n e q = record {
+  writable = (n, ap (λ (x : Ratio). lowest x.num x.den) e ∙ ap whole_fraction q);
+  clear = λ x c k. none_in x k;
+}
+
+pub number_kept : {others f : Forest} {i : ℕ} (store : Option (List ℕ)) (t : Table) (r : Rat) (z : ℤ) (n : ℕ) → ratio_of r ≡ whole z → z ≡ pos n → Gives others f i (λ u. u ≡ num (value_of r)) → Gives (without_root i f) f i (IsKeepable store t)
+number_kept {f = f} {i = i} store t r z n e q g =
+    subst (λ (o : Forest). Gives o f i (IsKeepable store t)) (sym (given_rest g)) (gives_as g refl (λ u p. subst (IsKeepable store t) (sym p) (keepable store t r z n e q)))
+
+-- the table of the first answer
+pub begun : {f : Forest} {i : ℕ} (s : State) (t : Table) (r : Rat) (z : ℤ) (n : ℕ) → s.nodes ≡ [] → t ≡ first_table i → ratio_of r ≡ whole z → z ≡ pos n → Gives (forest s) f i (λ u. u ≡ num (value_of r)) → IsHeld t f
+unfolding forest_of
+begun {f = f} {i = i} s t r z n none begins e q g =
+    subst (λ (u : Table). IsHeld u f) (sym begins)
+    (first_held i f (subst (λ (o : Forest). Gives o f i (IsKeepable None (first_table i))) (ap forest_of none) (gives_as g refl (λ u p. subst (IsKeepable None (first_table i)) (sym p) (keepable None (first_table i) r z n e q)))))
+
+-- the others as they were before a new tree
+pub held_beside : {others f : Forest} {i : ℕ} {Told : Tree → Type 0} {t : Table} → Gives others f i Told → IsHeld t others → IsHeld t (without_root i f)
+held_beside {t = t} g h = subst (IsHeld t) (sym (given_rest g)) h
+
+pub given_alone : {others f : Forest} {i : ℕ} {Told : Tree → Type 0} → Gives others f i Told → Gives (without_root i f) f i (λ u. ⊤)
+given_alone {f = f} {i = i} g = subst (λ (o : Forest). Gives o f i (λ u. ⊤)) (sym (given_rest g)) (gives_as g refl (λ u p. tt))
+
+-- and once it was released
+pub held_again : {others f g : Forest} {i : ℕ} {Told : Tree → Type 0} {t : Table} → Gives others f i Told → IsHeld t others → (IsOwned i f → g ≡ without_root i f) → IsHeld t g
+held_again {t = t} given h e = subst (IsHeld t) (sym (e (owned (given_handed given)) ∙ given_rest given)) h

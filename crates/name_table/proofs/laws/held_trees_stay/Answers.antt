@@ -1,0 +1,6 @@
+use Rattle.name_table.specs.Held.{holders_in}
+use Rattle.name_table.proofs.Counting.{counted-same}
+use Rattle.name_table.proofs.laws.held_trees_stay.Goals as goal
+
+pub returns : goal.returns
+returns c = λ t f h. counted-same (holders_in t) f h.counts

@@ -1,0 +1,8 @@
+use Rattle.name_table.specs.Held.{holders_in}
+use Rattle.name_table.specs.Tables.{entries}
+use Rattle.name_table.proofs.Holders.{holders-told}
+use Rattle.name_table.proofs.Later.{values-counted}
+use Rattle.name_table.proofs.laws.values_stay.Goals as goal
+
+pub returns : goal.returns
+returns c = λ t f. values-counted (holders_in t) (entries t) f (holders-told (entries t))

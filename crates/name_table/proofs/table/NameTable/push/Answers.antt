@@ -1,0 +1,8 @@
+-- The new slot is used, as the others are.
+use Rattle.std.proofs.Common.{Some, refl, sym, subst}
+use Rattle.name_table.specs.Slots.{AreUsed}
+use Rattle.name_table.proofs.Slots.{used_push}
+use Rattle.name_table.proofs.table.NameTable.push.Goals as goal
+
+pub invariant_of-self : goal.invariant_of-self
+invariant_of-self c = subst AreUsed (sym c.push.ensures.items) (used_push c.self.inside.stored.items (record { name = c.args.name; tree = Some c.args.tree }) c.self.invariant refl)

@@ -1,0 +1,45 @@
+-- The tree of the table is put in, and then its depth is asked.
+use Rattle.std.proofs.Common.{◌≡◌, sym, subst, ◌<◌, Bool, true, false}
+use Rattle.std.proofs.lemmas.Result.{err_from_is_err_and}
+use Rattle.calc_terms.specs.Trees.{depth}
+use Rattle.tree_handles.specs.Inside.{tree_at}
+use Rattle.calc_terms.specs.Leaf.{name_of}
+use Rattle.node_pool.specs.State.{free_of}
+use Rattle.tree_handles.specs.Expressions.{IsExpression, plain}
+use Rattle.tree_handles.specs.Handed.{tree_of}
+use Rattle.tree_handles.specs.Roots.{without_root}
+use Rattle.tree_handles.specs.Standing.{forest}
+use Rattle.tree_handles.proofs.Roots.{root_held}
+use Rattle.name_table.proofs.Fillings.{beside_expression, filled_one, new_expression, put_in, refused_deep, refused_lacks}
+use Rattle.name_table.proofs.table.fill_name.Goals as goal
+
+pub replace_name-requires-clause-expression : goal.replace_name-requires-clause-expression
+replace_name-requires-clause-expression c = beside_expression c.args.source c.requires.stands c.requires.last c.requires.root c.requires.whole
+
+pub replace_name-requires-clause-elsewhere : goal.replace_name-requires-clause-elsewhere
+replace_name-requires-clause-elsewhere c = root_held c.args.source (without_root c.args.tree (forest c.args.pool.now)) c.requires.root
+
+pub is_deeper-requires-clause-expression : goal.is_deeper-requires-clause-expression
+is_deeper-requires-clause-expression c = subst (λ i. IsExpression i (forest c.replace_name.new.pool)) (sym c.id.ensures) (new_expression c.replace_name.ensures.stands c.in_ok-filled.ensures.ok)
+
+pub returns-clause-ok : goal.returns-clause-ok
+returns-clause-ok c = put_in (name_of c.args.name) c.args.source (tree_of c.args.tree c.args.pool.now) c.requires.stands c.requires.last c.requires.root c.in_ok-filled.ensures.ok
+
+pub returns-in_err-filled-clause-refused : goal.returns-in_err-filled-clause-refused
+returns-in_err-filled-clause-refused c =
+    let p = err_from_is_err_and c.from_residual.result c.from_residual.ensures.1 in
+    rw (p.1, p.2) (refused_lacks (name_of c.args.name) c.args.source (free_of c.args.pool.now) (tree_of c.args.tree c.args.pool.now) c.in_err-filled.field-0.0 c.requires.stands c.requires.last c.requires.root c.in_err-filled.ensures.full)
+
+pub returns-then-is_deeper-clause-refused : goal.returns-then-is_deeper-clause-refused
+returns-then-is_deeper-clause-refused c =
+    refused_deep (name_of c.args.name) c.args.source (free_of c.args.pool.now) (free_of c.replace_name.new.pool) (tree_of c.args.tree c.args.pool.now) c.requires.stands c.requires.last c.requires.root c.replace_name.ensures.stands
+    c.in_ok-filled.ensures.ok c.in_ok-filled.ensures.ok_room (subst (λ i. 64 < depth (plain (tree_at i (forest c.replace_name.new.pool)))) c.id.ensures (c.is_deeper.ensures.0 c.if-is_deeper.true))
+
+pub returns-clause-ok_room : goal.returns-clause-ok_room
+returns-clause-ok_room c =
+    filled_one (name_of c.args.name) c.args.source (free_of c.args.pool.now) (free_of c.replace_name.new.pool) (tree_of c.args.tree c.args.pool.now) c.requires.stands c.requires.last c.requires.root c.replace_name.ensures.stands
+    c.in_ok-filled.ensures.ok c.in_ok-filled.ensures.ok_room
+    (λ h. not_both c.is_deeper.result (c.is_deeper.ensures.1 (subst (λ i. 64 < depth (plain (tree_at i (forest c.replace_name.new.pool)))) (sym c.id.ensures) h)) c.if-is_deeper.false)
+  where
+    not_both : (t : Bool) → t ≡ true → t ≡ false → ⊥
+    not_both t p q = absurd cc

@@ -1,0 +1,25 @@
+use Rattle.std.proofs.Common.{ap, ◌∙◌, inl}
+use Rattle.tree_handles.specs.Inside.{holds}
+use Rattle.tree_handles.specs.Standing.{forest}
+use Rattle.tree_handles.proofs.Given.{given_root}
+use Rattle.tree_handles.proofs.Lasts.{last_held}
+use Rattle.name_table.proofs.Tested.{given_alone, held_again, held_beside}
+use Rattle.name_table.proofs.tests.number_of.Goals as goal
+
+pub fill-requires-clause-last : goal.fill-requires-clause-last
+fill-requires-clause-last c = given_alone c.in_ok-leaf.ensures.given
+
+pub fill-requires-clause-held : goal.fill-requires-clause-held
+fill-requires-clause-held c = held_beside c.in_ok-leaf.ensures.given c.requires.held
+
+pub kind-requires-clause-live : goal.kind-requires-clause-live
+kind-requires-clause-live c = ap (λ i. holds i (forest c.fill.new.pool)) c.id.ensures ∙ last_held c.in_ok-tree.ensures.ok.ends
+
+pub rational-requires-clause-live : goal.rational-requires-clause-live
+rational-requires-clause-live c = ap (λ i. holds i (forest c.fill.new.pool)) c.id-in-Num.ensures ∙ last_held c.in_ok-tree.ensures.ok.ends
+
+pub release-requires-clause-releasable : goal.release-requires-clause-releasable
+release-requires-clause-releasable c = inl (given_root c.in_ok-tree.ensures.ok)
+
+pub returns-clause-held : goal.returns-clause-held
+returns-clause-held c = held_again c.in_ok-tree.ensures.ok (held_beside c.in_ok-leaf.ensures.given c.requires.held) c.release.ensures.owned

@@ -1,0 +1,29 @@
+-- What tables keep, and what filling gives.
+use Rattle.std.specs.Prelude.{◌≡◌, ℕ, List, None}
+use Rattle.calc_terms.specs.Trees.{Tree}
+use Rattle.tree_handles.specs.Forest.{Forest, empty}
+use Rattle.tree_handles.specs.Handed.{Gives}
+use Rattle.name_table.specs.Filling.{LacksNames, NamedTree, filled, filling, fills, values}
+use Rattle.name_table.specs.Held.{IsHeld, held_by}
+use Rattle.name_table.specs.Storing.{IsKeepable}
+use Rattle.name_table.specs.Tables.{Table, first_table, table_names}
+
+-- one tree alone is what the table of a first answer holds
+abbrev pub BeginsHeld : Type 0
+BeginsHeld = (i : ℕ) (f : Forest) → Gives empty f i (IsKeepable None (first_table i)) → IsHeld (first_table i) f
+
+-- a forest that holds a table's trees has no other trees and no other counts
+abbrev pub HoldsNoMore : Type 0
+HoldsNoMore = (t : Table) (f : Forest) → IsHeld t f → held_by t f ≡ f
+
+-- each entry keeps its tree where others are released
+abbrev pub KeepsValues : Type 0
+KeepsValues = (t : Table) (f : Forest) → values t (held_by t f) ≡ values t f
+
+-- the tree that comes of filling is the filled one
+abbrev pub FillsWithFilled : Type 0
+FillsWithFilled = (free left : ℕ) (vs : List NamedTree) (t u : Tree) → filling free vs t ≡ fills left u → u ≡ filled vs t
+
+-- no name of the table is left
+abbrev pub FilledLacksNames : Type 0
+FilledLacksNames = (t : Table) (f : Forest) (u : Tree) → IsHeld t f → LacksNames (table_names t) (filled (values t f) u)

@@ -1,0 +1,27 @@
+//! Laws of tables. Each is the contract of a function that does nothing.
+ghost use Rattle.name_table.specs.Laws.{BeginsHeld, HoldsNoMore, KeepsValues, FillsWithFilled, FilledLacksNames};
+
+/// A tree alone is held by the table of which it is the first answer.
+pub fn a_first_answer_is_held()
+    ensures { BeginsHeld }
+{}
+
+/// A forest that holds exactly the trees of a table has no other trees and no other counts.
+pub fn held_trees_stay()
+    ensures { HoldsNoMore }
+{}
+
+/// Where trees that no entry holds are released, each entry keeps its tree.
+pub fn values_stay()
+    ensures { KeepsValues }
+{}
+
+/// Filling in the free bytes gives the filled tree.
+pub fn filling_gives_the_filled_tree()
+    ensures { FillsWithFilled }
+{}
+
+/// A filled tree holds neither a stored name nor that of the last answer.
+pub fn filled_trees_lack_names()
+    ensures { FilledLacksNames }
+{}

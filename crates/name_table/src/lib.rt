@@ -1,0 +1,16 @@
+//! The table of stored names: the last answer, and the trees that are stored under names.
+#![tactic(auto)]
+
+mod fault;
+mod laws;
+mod table;
+
+pub use fault::FillFault;
+pub use laws::{
+    a_first_answer_is_held, filled_trees_lack_names, filling_gives_the_filled_tree,
+    held_trees_stay, values_stay,
+};
+pub use table::NameTable;
+
+#[cfg(test)]
+mod tests;
