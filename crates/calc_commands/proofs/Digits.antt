@@ -1,0 +1,29 @@
+-- Lemmas on decimal digits.
+use Rattle.std.proofs.Common.{◌≡◌, ℕ, List, true, Some, None, MatchResult, Result, Ok, Err, subst, rules}
+use Rattle.std.proofs.lemmas.Str.{IsUtf8-from_ascii}
+use Rattle.std.proofs.lemmas.Fmt.{IsAscii-from_digits}
+use Rattle.std.proofs.lemmas.Str.Parse.{IsNumeralModel, numerals_by_value}
+use Rattle.std.specs.List.{list_all}
+use Rattle.std.specs.Char.{is_ascii_digit}
+use Rattle.std.specs.Result.{result_ok}
+use Rattle.std.specs.Str.{IsUtf8}
+use Rattle.std.specs.Str.Parse.{digits_value}
+
+abbrev pub AreDigits : List ℕ → Type 0
+AreDigits text = list_all is_ascii_digit text ≡ true
+
+-- this test tells the numerals of std
+pub digits_are_numerals : IsNumeralModel AreDigits (digits_value 10)
+digits_are_numerals = numerals_by_value _ (search rules)
+
+pub digits_are_utf8 : (text : List ℕ) → AreDigits text → IsUtf8 text
+digits_are_utf8 text h = IsUtf8-from_ascii text (IsAscii-from_digits text (digits_are_numerals.to text h))
+
+-- what stands in a result
+pub at_some : {X E : Type 0} (r : Result X E) (P : X → Type 0) (Q : E → Type 0) (x : X) → Some x ≡ result_ok r → MatchResult r P Q → P x
+at_some (Ok y) P Q x e h = let same : y ≡ x = cc in subst P same h
+at_some (Err d) P Q x e h = cc
+
+pub at_none : {X E : Type 0} (r : Result X E) (P : X → Type 0) (U : Type 0) (V : E → Type 0) → None ≡ result_ok r → MatchResult r P (λ e. (¬ U) × V e) → ¬ U
+at_none (Ok y) P U V e h = cc
+at_none (Err d) P U V e h = h.0

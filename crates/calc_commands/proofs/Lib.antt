@@ -1,0 +1,5 @@
+pub mod Digits
+pub mod Values
+pub mod Runs
+pub mod Lines
+pub mod Dumps

@@ -1,0 +1,48 @@
+-- Command lines.
+use Rattle.std.specs.Prelude.{ℕ, ◌≡◌, ◌<◌, ◌==◌, List, [], ◌∷◌, ◌++◌, length, Bool, true, false, if◌then◌else◌, Some, codes}
+use Rattle.std.specs.List.{list_all}
+use Rattle.calc_terms.specs.Leaf.{name_of}
+use Rattle.calc_terms.specs.Name.{is_name}
+use Rattle.calc_language.specs.Tokens.{is_blank}
+use Rattle.calc_commands.specs.declared.command.Command.{Command}
+use Rattle.calc_commands.specs.declared.command.Command.TheVariants as command
+use Rattle.calc_commands.specs.Numbers.{value_of}
+
+-- the first byte that is no blank is `:`
+abbrev pub is_command : List ℕ → Bool
+is_command [] = false
+is_command (b ∷ bytes) = if is_blank b then is_command bytes else (b == 58)
+
+-- what a command asks for: a name by its bytes, and after how many checks a breaker trips
+pub data Asked : Type 0 where
+  pool dump draw layout : Asked
+  forget : List ℕ → Asked
+  after : ℕ → Asked
+
+abbrev pub asked_of : Command → Asked
+asked_of command.Pool = pool
+asked_of command.Dump = dump
+asked_of (command.Forget name) = forget (name_of name)
+asked_of (command.After checks) = after checks
+asked_of command.Draw = draw
+asked_of command.Layout = layout
+
+-- a line is a colon and a word, with blanks around them, and an argument behind more blanks where there is one
+pub record Has (line word argument : List ℕ) : Type 0 where
+  pub before : List ℕ
+  pub gap : List ℕ
+  pub behind : List ℕ
+  pub whole : line ≡ before ++ (58 ∷ (word ++ (gap ++ (argument ++ behind))))
+  pub blank_before : list_all is_blank before ≡ true
+  pub blank_gap : list_all is_blank gap ≡ true
+  pub blank_behind : list_all is_blank behind ≡ true
+  pub apart : 0 < length argument → 0 < length gap
+
+-- the command lines, a rule for each word
+pub data IsCommandLine (line : List ℕ) : Asked → Type 0 where
+  asks_pool : Has line (codes "pool") [] → IsCommandLine line pool
+  asks_dump : Has line (codes "dump") [] → IsCommandLine line dump
+  asks_draw : Has line (codes "draw") [] → IsCommandLine line draw
+  asks_layout : Has line (codes "layout") [] → IsCommandLine line layout
+  asks_forget : {name : List ℕ} → Has line (codes "forget") name → is_name name ≡ true → IsCommandLine line (forget name)
+  asks_after : {digits : List ℕ} {checks : ℕ} → Has line (codes "after") digits → value_of digits ≡ Some checks → IsCommandLine line (after checks)

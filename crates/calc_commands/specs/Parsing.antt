@@ -1,0 +1,50 @@
+-- How a command line is cut.
+use Rattle.std.specs.Prelude.{ℕ, ◌==◌, List, [], ◌∷◌, length, Bool, ◌&&◌, ◌||◌, not, nat_le, nat_lt, if◌then◌else◌, Option, Some, None, codes}
+use Rattle.std.specs.List.{list_all}
+use Rattle.std.specs.Option.{option_map, option_and_then}
+use Rattle.std.specs.Str.{bytes_eq}
+use Rattle.calc_terms.specs.Name.{is_name}
+use Rattle.calc_language.specs.Tokens.{is_blank, leading_run}
+use Rattle.calc_commands.specs.declared.parts.Class.{Class}
+use Rattle.calc_commands.specs.declared.parts.Class.TheVariants as class
+use Rattle.calc_commands.specs.Commands.{Asked, pool, dump, draw, layout, forget, after}
+use Rattle.calc_commands.specs.Numbers.{value_of}
+
+-- a byte is of a class
+abbrev pub is_in : Class → ℕ → Bool
+is_in class.Blank b = is_blank b
+is_in class.SmallLetter b = nat_le 97 b && nat_le b 122
+is_in class.Dark b = not (is_blank b)
+
+abbrev pub are_blanks : List ℕ → Bool
+are_blanks bytes = list_all is_blank bytes
+
+abbrev pub behind_colon : List ℕ → Option (List ℕ)
+behind_colon [] = None
+behind_colon (b ∷ bytes) = if b == 58 then Some bytes else None
+
+-- the argument in what stands behind a word
+abbrev pub argument_of : List ℕ → Option (List ℕ)
+argument_of rest =
+    let gap = leading_run is_blank rest in
+    let text = leading_run (is_in class.Dark) gap.1 in
+    if ((length text.0 == 0) || nat_lt 0 (length gap.0)) && are_blanks text.1 then Some text.0 else None
+
+-- the word and its argument
+abbrev pub word_and_argument : List ℕ → Option (List ℕ × List ℕ)
+word_and_argument text = let word = leading_run (is_in class.SmallLetter) text in option_map (λ argument. (word.0, argument)) (argument_of word.1)
+
+abbrev pub parts_of : List ℕ → Option (List ℕ × List ℕ)
+parts_of line = option_and_then word_and_argument (behind_colon ((leading_run is_blank line).1))
+
+-- what a word asks for
+abbrev pub asked_alone : List ℕ → Option Asked
+asked_alone word =
+    if bytes_eq word (codes "pool") then Some pool else if bytes_eq word (codes "dump") then Some dump
+    else if bytes_eq word (codes "draw") then Some draw else if bytes_eq word (codes "layout") then Some layout else None
+
+abbrev pub asked_for : List ℕ → List ℕ → Option Asked
+asked_for word argument =
+    if bytes_eq word (codes "forget") then (if is_name argument then Some (forget argument) else None)
+    else if bytes_eq word (codes "after") then option_map after (value_of argument)
+    else if length argument == 0 then asked_alone word else None

@@ -1,0 +1,18 @@
+//! What a command line asks for, and the texts of the reports.
+#![tactic(auto)]
+
+mod command;
+mod dump;
+mod laws;
+mod numbers;
+mod parts;
+mod reports;
+
+pub use command::{Command, is_command, read_command};
+pub use dump::write_dump;
+pub use laws::{command_lines_ask_once, dumps_are_short};
+pub use numbers::{read_number, write_count};
+pub use reports::{write_after, write_forgot, write_no_breaker, write_pool_report, write_unknown};
+
+#[cfg(test)]
+mod tests;

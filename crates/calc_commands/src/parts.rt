@@ -1,0 +1,83 @@
+//! The word of a command line and its argument.
+ghost use Rattle.std.specs.Prelude.{◌≡◌, Some, None, MatchOption};
+ghost use Rattle.std.specs.List.{prefix_len};
+ghost use Rattle.calc_language.specs.Tokens.{is_blank as is_blank_of, leading_run};
+ghost use Rattle.calc_commands.specs.Parsing.{argument_of, behind_colon as behind_colon_of, is_in, are_blanks, parts_of};
+
+/// What stands side by side in a command line.
+#[derive(Clone, Copy, Debug)]
+enum Class {
+    Blank,
+    SmallLetter,
+    Dark,
+}
+
+impl Class {
+    fn holds(self, byte: u8) -> bool
+        ensures { result ≡ is_in self byte }
+    {
+        match self {
+            Class::Blank => is_blank(byte),
+            Class::SmallLetter => byte.is_ascii_lowercase(),
+            Class::Dark => !is_blank(byte),
+        }
+    }
+}
+
+/// The word behind the colon and its argument, which is empty where there is none.
+pub(crate) fn parts(line: &[u8]) -> Option<(&[u8], &[u8])>
+    ensures { MatchOption result (parts_of line.now ≡ None) (λ found. parts_of line.now ≡ Some (found.0.now, found.1.now)) }
+{
+    let (_, text) = split(line, Class::Blank);
+    let (word, rest) = split(behind_colon(text)?, Class::SmallLetter);
+    let argument = argument(rest)?;
+    Some((word, argument))
+}
+
+/// What stands behind a colon at the front.
+fn behind_colon(text: &[u8]) -> Option<&[u8]>
+    ensures { MatchOption result (behind_colon_of text.now ≡ None) (λ rest. behind_colon_of text.now ≡ Some rest.now) }
+{
+    text.strip_prefix(b":")
+}
+
+/// The argument in what stands behind a word: nothing between blanks, behind at least one of them, or nothing at all.
+fn argument(rest: &[u8]) -> Option<&[u8]>
+    ensures { MatchOption result (argument_of rest.now ≡ None) (λ argument. argument_of rest.now ≡ Some argument.now) }
+{
+    let (gap, text) = split(rest, Class::Blank);
+    let (argument, behind) = split(text, Class::Dark);
+    let apart = argument.is_empty() || !gap.is_empty();
+    if apart && blanks_alone(behind) {
+        Some(argument)
+    } else {
+        None
+    }
+}
+
+fn blanks_alone(bytes: &[u8]) -> bool
+    ensures { result ≡ are_blanks bytes.now }
+{
+    bytes.iter().all(|byte| is_blank(*byte))
+}
+
+/// The bytes of a class at the front, and what stands behind them.
+fn split(bytes: &[u8], class: Class) -> (&[u8], &[u8])
+    ensures front { result.0.now ≡ (leading_run (is_in class) bytes.now).0 }
+    ensures behind { result.1.now ≡ (leading_run (is_in class) bytes.now).1 }
+{
+    bytes.split_at(run_len(bytes, class))
+}
+
+fn run_len(bytes: &[u8], class: Class) -> usize
+    ensures { result ≡ prefix_len (is_in class) bytes.now }
+{
+    bytes.iter().take_while(|byte| class.holds(**byte)).count()
+}
+
+/// A space or a tab.
+pub(crate) fn is_blank(byte: u8) -> bool
+    ensures { result ≡ is_blank_of byte }
+{
+    byte == b' ' || byte == b'\t'
+}
