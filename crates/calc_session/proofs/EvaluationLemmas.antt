@@ -1,0 +1,368 @@
+-- Lemmas on what the tree of a line comes to.
+use Rattle.std.proofs.Common.{◌≡◌, ◌∙◌, ◌↔◌, ℕ, zero, suc, ◌+◌, ◌*◌, ◌≤◌, ◌<◌, List, [], ◌∷◌, true, false, Option, Some, None, Result, Ok, Err, ◌⊎◌, inl, inr, refl, sym, ap, subst, arith}
+use Rattle.std.specs.Prelude.{Contains}
+use Rattle.std.proofs.lemmas.List.Elements.{Contains-append_cases}
+use Rattle.breakers.specs.Breakers.{CalmChecks, TripsRose}
+use Rattle.breakers.specs.State.{State as Breaker}
+use Rattle.calc_algebra.specs.BadAndEasy.{IsEasy}
+use Rattle.calc_algebra.specs.Rewritings.{Reduces}
+use Rattle.calc_language.specs.Faces.{face}
+use Rattle.calc_language.specs.Texts.{HasNames}
+use Rattle.calc_language.specs.Tokens.{Token}
+use Rattle.calc_measures.specs.PlainOverflows.{is_overflow, nodes_to_overflow}
+use Rattle.calc_measures.specs.PlainTrees.{IsPlainAnswer, IsPlainOverflow}
+use Rattle.calc_measures.specs.PlainValues.{plain_value}
+use Rattle.calc_parser.specs.Building.{building}
+use Rattle.calc_parser.specs.Lines.{IsTreeOf}
+use Rattle.calc_parser.proofs.Checks.{one_line}
+use Rattle.calc_terms.specs.Leaf.{name_of}
+use Rattle.calc_terms.specs.Trees.{Tree, num, symbol, undef, add, mult, power, root, neg, sub, div, is_undef, names, nodes, root_kind, size}
+use Rattle.calc_terms.specs.declared.kind.Kind.TheVariants as kind
+use Rattle.name_table.specs.Filling.{NamedTree, values, LacksNames, lacks, fills, filling, refused_filling, FaultsFilling}
+use Rattle.name_table.specs.Storing.{IsKeepable, names_with}
+use Rattle.name_table.specs.Tables.{Table, table_names}
+use Rattle.name_table.specs.declared.fault.FillFault.{FillFault}
+use Rattle.name_table.specs.declared.fault.FillFault.TheVariants as fill
+use Rattle.node_pool.specs.declared.full.Full.{Full}
+use Rattle.node_pool.specs.Nodes.{AreNodes, used}
+use Rattle.node_pool.specs.State.{State, free_of}
+use Rattle.node_pool.proofs.Sizes.{AreNodes-right}
+use Rattle.reduce_port.specs.Bounds.{MayExceed, Covers}
+use Rattle.reduce_port.specs.Checks.{CalmUpTo, TripsWithin}
+use Rattle.reduce_port.specs.EasyTrees.{Evaluates, HasEasyBadPart}
+use Rattle.reduce_port.specs.Faults.{CountsRefusals, IfFull, IfInterrupted, IfOverflow}
+use Rattle.reduce_port.specs.declared.fault.ReduceFault.{ReduceFault}
+use Rattle.reduce_port.specs.declared.fault.ReduceFault.TheVariants as fault
+use Rattle.tree_handles.specs.Causes.{Overflows}
+use Rattle.tree_handles.specs.Expressions.{plain}
+use Rattle.tree_handles.specs.Forest.{Forest, flatten, bytes_in}
+use Rattle.tree_handles.specs.Handed.{tree_of, Gives, KeepsFront, Starts}
+use Rattle.tree_handles.specs.Roots.{without_root}
+use Rattle.tree_handles.specs.Standing.{LacksBytes, Stands, forest, KeepsRefusals}
+use Rattle.tree_handles.proofs.Forests.{bytes_in-join, flatten-join, refuses_after}
+use Rattle.tree_handles.proofs.Fronts.{behind_first, behind_new, front_after_one, front_at, front_end, front_same, front_without}
+use Rattle.tree_handles.proofs.Given.{given_rest, given_told, gives_as}
+use Rattle.tree_handles.proofs.Lasts.{last_tree}
+use Rattle.tree_handles.proofs.Places.{used_forest}
+use Rattle.tree_handles.proofs.Plains.{size-plain}
+use Rattle.calc_session.specs.declared.answers.Refusal.{Refusal}
+use Rattle.calc_session.specs.declared.answers.Refusal.TheVariants as refusal
+use Rattle.calc_session.specs.declared.evaluating.Evaluation.{Evaluation}
+use Rattle.calc_session.specs.declared.evaluating.Evaluation.TheVariants.{Face, Undefined, Refused}
+use Rattle.calc_session.specs.Answers.{ComesTo, CountsRefusal, IsDisplayOf, LacksName, refusal_of, refusal_to_fill, reply_of}
+use Rattle.calc_session.specs.Evaluations.{HasFittingRationals, IsAnswerTo, IsReplyWith, has_no_value, holds_its_name, is_shown, is_stored, OverflowsAt, IsReduction, is_interrupted, does_not_fit, lacks_bytes, is_answered, made, IsReplyTo, finds_no_room, becomes_too_deep, is_reduced}
+use Rattle.calc_session.specs.Faces.{Shows}
+use Rattle.calc_session.specs.Replies.{Reply, displayed, circular, refusal_in}
+use Rattle.calc_session.proofs.FaceNames.{face_names}
+use Rattle.calc_session.proofs.StoredTrees.{fitting_tree, named_tree}
+use Rattle.calc_session.proofs.WritableFaces.{face_written}
+
+-- ---- the last tree
+
+-- what a last tree takes of the bytes
+pub last_bytes : {s : State} {others : Forest} {i : ℕ} {Told : Tree → Type 0} → Stands s → Gives others (forest s) i Told → used s.nodes ≡ bytes_in others + size (tree_of i s)
+last_bytes {s} {others} {i} st g =
+    omega (arith, used_forest s st, ap bytes_in g.ends.whole, bytes_in-join others g.tree, size-plain g.tree g.ends.alone g.whole, ap (λ (x : Forest). size (plain x)) (last_tree g.ends))
+
+-- the bytes that are free without the last tree
+pub free_without : {s : State} {others : Forest} {i : ℕ} {Told : Tree → Type 0} → Stands s → Gives others (forest s) i Told → bytes_in others + (free_of s + size (tree_of i s)) ≡ s.size
+free_without {s} st g = omega (arith, last_bytes st g, st.pool.fits)
+
+-- as many are free without it as were free before it
+pub free_before : {s t : State} {i : ℕ} {Told : Tree → Type 0} → Stands s → Stands t → t.size ≡ s.size → Gives (forest s) (forest t) i Told → free_of t + size (tree_of i t) ≡ free_of s
+free_before {s} st st' e g = omega (arith, free_without st' g, used_forest s st, st.pool.fits, e)
+
+-- without the last tree, as many are free as without another that stands there
+pub free_same : {s t : State} {others : Forest} {i j : ℕ} {P Q : Tree → Type 0} → Stands s → Stands t → t.size ≡ s.size → Gives others (forest s) i P → Gives others (forest t) j Q → free_of t + size (tree_of j t) ≡ free_of s + size (tree_of i s)
+free_same {s} {t} st st' e g k = omega (arith, free_without st g, free_without st' k, e)
+
+-- where others stand first, no more is free than without the last tree
+pub free_there : {s t : State} {others : Forest} {i : ℕ} {P : Tree → Type 0} → Stands s → Stands t → t.size ≡ s.size → Gives others (forest s) i P → Starts others (forest t) → free_of t ≤ free_of s + size (tree_of i s)
+free_there {s} {t} {others} st st' e g k =
+    omega (arith, free_without st g, used_forest t st', ap bytes_in k.whole, bytes_in-join others k.behind, st'.pool.fits, e)
+
+-- the nodes of a last tree are nodes of the pool
+last_nodes : {s : State} {others : Forest} {i : ℕ} {Told : Tree → Type 0} → Stands s → (g : Gives others (forest s) i Told) → AreNodes (flatten g.tree)
+last_nodes {s} {others} st g =
+    AreNodes-right (flatten others) (flatten g.tree) (subst AreNodes (st.flat ∙ ap flatten g.ends.whole ∙ flatten-join others g.tree) st.pool.nodes)
+
+-- others stand first still
+pub first_still : {others f g : Forest} {i : ℕ} {Told : Tree → Type 0} → Gives others f i Told → KeepsFront (i ∷ []) f g → Starts others g
+first_still {others} g k = k.keeps others (record { behind = g.tree; whole = g.ends.whole }) (g.ends.clear, tt)
+
+-- a tree in place of one that was placed behind
+pub front_over : {f g h : Forest} {i : ℕ} {Told : Tree → Type 0} → Gives f g i Told → KeepsFront (i ∷ []) g h → KeepsFront [] f h
+front_over g k = front_after_one (behind_new g.ends front_same) (front_end g.ends front_same) k
+
+-- a tree was handed in, and then what it became
+pub front_in_place : {f g h others : Forest} {i j : ℕ} {P Q : Tree → Type 0} → Gives others f i P → Gives others g j Q → KeepsFront (i ∷ []) f g → KeepsFront (j ∷ []) g h → KeepsFront (i ∷ []) f h
+front_in_place p q k l = front_after_one (behind_new q.ends (front_at (front_without behind_first front_same) (sym (given_rest p)))) k l
+
+some_node : (t : Tree) → 1 ≤ nodes t
+some_node (num q) = omega arith
+some_node (symbol x) = omega arith
+some_node undef = omega arith
+some_node (add ts) = omega arith
+some_node (mult ts) = omega arith
+some_node (power b e) = omega arith
+some_node (root a) = omega arith
+some_node (neg a) = omega arith
+some_node (sub a b) = omega arith
+some_node (div a b) = omega arith
+
+-- ---- reduced trees
+
+-- what the reducer says of its answer
+pub record IsAnswered (room : Option (Tree → ℕ)) (before after : List Breaker) (t : Tree) (i : ℕ) (s : State) (others : Forest) : Type 0 where
+  pub gives : Gives others (forest s) i (Reduces t)
+  pub checks : CalmChecks (nodes t) before after
+  pub within : Covers room t (5 * size (tree_of i s))
+  pub easy : IsEasy t → Evaluates t (tree_of i s)
+  pub bad_part : HasEasyBadPart t → tree_of i s ≡ undef
+  pub plain : IsPlainAnswer (plain_value t) (tree_of i s)
+
+-- where four times an answer's bytes are not free, its tree's room is more than was free for both
+exceeds : (room : Option (Tree → ℕ)) (t : Tree) (free left bytes : ℕ) → left + bytes ≡ free → left < 4 * bytes → Covers room t (5 * bytes) → MayExceed room t free
+exceeds None t free left bytes e h c = tt
+exceeds (Some told) t free left bytes e h c = omega (arith, c)
+
+-- a name under which it may be stored
+kept_reply : (answer : Tree) (store : Option (List ℕ)) → is_undef answer ≡ false → LacksName store answer → IsReplyWith answer store (displayed store (face answer))
+kept_reply answer None d h = is_shown d
+kept_reply answer (Some x) d h = is_stored d h
+
+lacking_face : (store : Option (List ℕ)) (answer : Tree) → LacksName store answer → LacksName store (face answer)
+lacking_face None answer h = tt
+lacking_face (Some x) answer h = λ m. h ((face_names answer).name x m)
+
+module _ (room bits : Option (Tree → ℕ)) (before after : List Breaker) (store : Option (List ℕ)) where
+  answer_to : {s mid : State} {others : Forest} {i j : ℕ} {P : Tree → Type 0} → Stands s → Stands mid → mid.size ≡ s.size → Gives others (forest s) i P → IsAnswered room before after (tree_of i s) j mid others → IsAnswerTo (free_of s + size (tree_of i s)) (tree_of i s) (tree_of j mid)
+  answer_to {s} {mid} {j} st st' e g a = record {
+    reduces = given_told a.gives;
+    easy = a.easy;
+    bad_part = a.bad_part;
+    plain = a.plain;
+    room = omega (arith, free_same st st' e g a.gives);
+    fitting = subst (λ (x : Forest). HasFittingRationals (plain x)) (sym (last_tree a.gives.ends)) (fitting_tree a.gives.tree (last_nodes st' a.gives));
+  }
+
+  -- what is shown of an answer
+  pub shown_answer : {s mid new : State} {others : Forest} {i j : ℕ} {P : Tree → Type 0} (result : Evaluation) → Stands s → Stands mid → Stands new → mid.size ≡ s.size → new.size ≡ mid.size → Gives others (forest s) i P
+      → IsAnswered room before after (tree_of i s) j mid others → KeepsFront (j ∷ []) (forest mid) (forest new) → Shows store j mid new result
+      → ComesTo (IsReduction room bits (free_of s + size (tree_of i s)) (tree_of i s) before after store) (IsDisplayOf store (tree_of i s)) store others (forest new) result
+  shown_answer {s} {mid} {new} {others} {i} {j} (Face h) st st' st'' e e' g a k (defined, clear, f) = (
+    face (tree_of j mid),
+    is_answered a.checks (answer_to st st' e g a) (kept_reply (tree_of j mid) store defined clear),
+    record {
+      writable = face_written (tree_of j mid) (given_told a.gives).reduced (subst (λ (x : Forest). HasNames (plain x)) (sym (last_tree a.gives.ends)) (named_tree a.gives.tree (last_nodes st' a.gives)));
+      no_new_name = record { name = λ x m. (given_told a.gives).no_new_name.name x ((face_names (tree_of j mid)).name x m) };
+      clear = lacking_face store (tree_of j mid) clear;
+    },
+    gives_as f (given_rest a.gives) (λ t x. x),
+  )
+  shown_answer Undefined st st' st'' e e' g a k f = is_answered a.checks (answer_to st st' e g a) (has_no_value f)
+  shown_answer {mid = mid} {j = j} (Refused (refusal.Circular name)) st st' st'' e e' g a k (defined, is, holds) =
+      is_answered a.checks (answer_to st st' e g a) (subst (λ s. IsReplyWith (tree_of j mid) s (circular (name_of name))) (sym is) (holds_its_name defined holds))
+  shown_answer {s} {mid} {i = i} {j} (Refused (refusal.Full needed free)) st st' st'' e e' g a k (want, short) =
+      lacks_bytes (record {
+        lacking = want.lacking;
+        few = omega (arith, want.free, free_there st st'' (e' ∙ e) g (first_still a.gives k));
+        beyond_room = exceeds room (tree_of i s) (free_of s + size (tree_of i s)) (free_of mid) (size (tree_of j mid)) (free_same st st' e g a.gives) short a.within;
+        checks = record { checks = nodes (tree_of i s); some = some_node (tree_of i s); few = omega arith; calm = a.checks };
+      })
+  shown_answer (Refused _) st st' st'' e e' g a k f = absurd f
+
+  -- what a fault is answered with
+  pub refused_reply : (A : Type 0) {s new : State} {others : Forest} {i : ℕ} {P : Tree → Type 0} (f : ReduceFault) → Stands s → Stands new → CountsRefusals {A = A} s new (Err f) → Gives others (forest s) i P
+      → KeepsFront (i ∷ []) (forest s) (forest new)
+      → IfInterrupted {A = A} (Err f) (TripsWithin (nodes (tree_of i s)) before after)
+      → IfOverflow {A = A} (Err f) (OverflowsAt bits (tree_of i s) before after)
+      → IfFull {A = A} (Err f) (LacksBytes new)
+      → IfFull {A = A} (Err f) (λ _. MayExceed room (tree_of i s) (free_of s + size (tree_of i s)) × CalmUpTo (nodes (tree_of i s)) before after)
+      → IsReduction room bits (free_of s + size (tree_of i s)) (tree_of i s) before after store (reply_of (refusal_of f))
+  refused_reply A (fault.Full full) st st' r g k trips o want (beyond, checks) =
+      lacks_bytes (record { lacking = want.lacking; few = omega (arith, want.free, free_there st st' r.size g (first_still g k)); beyond_room = beyond; checks = checks })
+  refused_reply A (fault.Overflow a) st st' r g k trips o want more = does_not_fit a o
+  refused_reply A (fault.Interrupted a) st st' r g k trips o want more = is_interrupted trips
+
+pub refused_count : (A : Type 0) (s new : State) (f : ReduceFault) → CountsRefusals {A = A} s new (Err f) → CountsRefusal (refusal_in (reply_of (refusal_of f))) s new
+refused_count A s new (fault.Full full) r = r
+refused_count A s new (fault.Overflow a) r = r
+refused_count A s new (fault.Interrupted a) r = r
+
+-- the clauses of a reducer on an overflow, in one
+pub overflow_at : (A : Type 0) (bits : Option (Tree → ℕ)) (t : Tree) (before after : List Breaker) (r : Result A ReduceFault) → IfOverflow r Overflows → IfOverflow r (IsPlainOverflow (plain_value t))
+    → IfOverflow r (λ _. MayExceed bits t 124) → IfOverflow r (λ _. CalmUpTo (nodes t) before after)
+    → IfOverflow r (λ _. is_overflow (plain_value t) ≡ true → CalmChecks (nodes_to_overflow t) before after) → IfOverflow r (OverflowsAt bits t before after)
+overflow_at A bits t before after (Ok x) a b c d e = tt
+overflow_at A bits t before after (Err (fault.Full full)) a b c d e = tt
+overflow_at A bits t before after (Err (fault.Overflow o)) a b c d e = record { does_not_fit = a; plain = b; beyond_bits = c; checks = d; plain_checks = e }
+overflow_at A bits t before after (Err (fault.Interrupted i)) a b c d e = tt
+
+pub full_both : (A : Type 0) (r : Result A ReduceFault) (P Q : Type 0) → IfFull r (λ _. P) → IfFull r (λ _. Q) → IfFull r (λ _. P × Q)
+full_both A (Ok x) P Q p q = tt
+full_both A (Err (fault.Full full)) P Q p q = (p, q)
+full_both A (Err (fault.Overflow o)) P Q p q = tt
+full_both A (Err (fault.Interrupted i)) P Q p q = tt
+
+-- ---- interruptions
+
+-- nothing tripped where nothing was checked
+pub none_rose : (bs : List Breaker) (place : ℕ) → TripsRose bs bs place → ⊥
+none_rose [] place h = h
+none_rose (b ∷ bs) zero h = omega (arith, h)
+none_rose (b ∷ bs) (suc place) h = none_rose bs place h
+
+is_refused : (r s : Refusal) → Refused r ≡ Refused s → r ≡ s
+is_refused r s e = cc
+
+never_interrupted : (f : ReduceFault) (place : ℕ) → refusal_of f ≡ refusal.Interrupted place → f ≡ fault.Interrupted (record { by = place })
+never_interrupted (fault.Full full) place e = cc
+never_interrupted (fault.Overflow o) place e = cc
+never_interrupted (fault.Interrupted i) place e = ap (λ by. fault.Interrupted (record { by = by })) (let e' : i.by ≡ place = cc in e')
+
+err_is : (A : Type 0) (r : Result A ReduceFault) (a b : ReduceFault) → r ≡ Err a → r ≡ Err b → a ≡ b
+err_is A r a b e f = cc
+
+-- an interruption of the reducer is answered as one
+pub interruption : (A : Type 0) (r : Result A ReduceFault) (f : ReduceFault) (place : ℕ) (Rose : Type 0) → r ≡ Err f → ((r ≡ Err (fault.Interrupted (record { by = place }))) ↔ Rose)
+    → ((Refused (refusal_of f) ≡ Refused (refusal.Interrupted place)) ↔ Rose)
+interruption A r f place Rose is told = (
+  λ e. told.0 (is ∙ ap Err (never_interrupted f place (is_refused (refusal_of f) (refusal.Interrupted place) e))),
+  λ rose. ap (λ x. Refused (refusal_of x)) (err_is A r f (fault.Interrupted (record { by = place })) is (told.1 rose)),
+)
+
+two_results : (A : Type 0) (r : Result A ReduceFault) (x : A) (f : ReduceFault) → r ≡ Ok x → r ≡ Err f → ⊥
+two_results A r x f e g = cc
+
+shows_no_interruption : (store : Option (List ℕ)) (i : ℕ) (old new : State) (result : Evaluation) (place : ℕ) → Shows store i old new result → result ≡ Refused (refusal.Interrupted place) → ⊥
+shows_no_interruption store i old new result place s e = subst (Shows store i old new) e s
+
+pub no_interruption : (A : Type 0) (r : Result A ReduceFault) (x : A) (store : Option (List ℕ)) (i : ℕ) (old new : State) (result : Evaluation) (place : ℕ) (Rose : Type 0) → r ≡ Ok x → ((r ≡ Err (fault.Interrupted (record { by = place }))) ↔ Rose)
+    → Shows store i old new result → ((result ≡ Refused (refusal.Interrupted place)) ↔ Rose)
+no_interruption A r x store i old new result place Rose is told s = (
+  λ e. absurd (shows_no_interruption store i old new result place s e),
+  λ rose. absurd (two_results A r x (fault.Interrupted (record { by = place })) is (told.1 rose)),
+)
+
+-- ---- built and filled trees
+
+-- what is said of the replies and of what is displayed may be said otherwise, also of the trees before
+pub comes_as : {Is Now : Reply → Type 0} {Fits Will : Tree → Type 0} {f g : Forest} (store : Option (List ℕ)) (new : Forest) (result : Evaluation) → ((r : Reply) → Is r → Now r) → ((t : Tree) → Fits t → Will t) → f ≡ g → ComesTo Is Fits store f new result → ComesTo Now Will store g new result
+comes_as store new (Face h) to will same (t, is, w, g) = (t, to _ is, will t w, gives_as g same (λ u x. x))
+comes_as store new Undefined to will same is = to _ is
+comes_as store new (Refused r) to will same is = to _ is
+
+pub that_tree : (ts : List Token) (t u : Tree) → IsTreeOf ts t → IsTreeOf ts u → t ≡ u
+that_tree ts t u (x, d) (y, e) = (one_line ts x y t u d e).trees
+
+pub made_on : (free : ℕ) (values : List NamedTree) (t : Tree) (left : ℕ) → building free t ≡ Ok left → made free values t ≡ filling left values t
+made_on free values t left e = rw (e, made) refl
+
+pub made_none : (free : ℕ) (values : List NamedTree) (t : Tree) (full : Full) → building free t ≡ Err full → made free values t ≡ lacks full
+made_none free values t full e = rw (e, made) refl
+
+only : (x y : List ℕ) → Contains (x ∷ []) y → x ≡ y
+only x y (zero, l, e) = e
+only x y (suc k, l, e) = absurd (omega arith)
+
+-- what is displayed holds no name of the table
+pub keepable : (store : Option (List ℕ)) (table : Table) (t shown : Tree) → LacksNames (table_names table) t → IsDisplayOf store t shown → IsKeepable store table shown
+keepable store table t shown clear d = record { writable = d.writable; clear = by store d.clear }
+  where
+    old : LacksNames (table_names table) shown
+    old = λ x m h. clear x m (d.no_new_name.name x h)
+
+    by : (s : Option (List ℕ)) → LacksName s shown → LacksNames (names_with s table) shown
+    by None l = old
+    by (Some x) l = λ y m h. one y h (Contains-append_cases (x ∷ []) (table_names table) y m)
+      where
+        one : (y : List ℕ) → Contains (names shown) y → Contains (x ∷ []) y ⊎ Contains (table_names table) y → ⊥
+        one y h (inl m) = l (subst (λ (z : List ℕ). Contains (names shown) z) (sym (only x y m)) h)
+        one y h (inr m) = old y m h
+
+-- ---- refusals of the pool
+
+pub keeps_then : (refusal : Option Full) (s t u : State) → KeepsRefusals s t → CountsRefusal refusal t u → CountsRefusal refusal s u
+keeps_then None s t u k r = record { size = r.size ∙ k.size; refusals = r.refusals ∙ k.refusals; last_refused = r.last_refused ∙ k.last_refused }
+keeps_then (Some full) s t u k r = refuses_after s t u full k r
+
+pub size_kept : (refusal : Option Full) (s t : State) → CountsRefusal refusal s t → t.size ≡ s.size
+size_kept None s t r = r.size
+size_kept (Some full) s t r = r.size
+
+-- ---- kinds
+
+pub undef_by_kind : (t : Tree) → root_kind t ≡ kind.Undef → is_undef t ≡ true
+undef_by_kind undef e = refl
+undef_by_kind (num q) e = cc
+undef_by_kind (symbol x) e = cc
+undef_by_kind (add ts) e = cc
+undef_by_kind (mult ts) e = cc
+undef_by_kind (power b x) e = cc
+undef_by_kind (root a) e = cc
+undef_by_kind (neg a) e = cc
+undef_by_kind (sub a b) e = cc
+undef_by_kind (div a b) e = cc
+
+pub defined_by_kind : (t : Tree) → (root_kind t ≡ kind.Undef → ⊥) → is_undef t ≡ false
+defined_by_kind undef e = absurd (e refl)
+defined_by_kind _ e = refl
+
+-- ---- from the tree that was read to the one that is reduced
+
+module _ (room bits : Option (Tree → ℕ)) (before after : List Breaker) (store : Option (List ℕ)) (table : Table) where
+  made_filled : (old mid : State) {i : ℕ} (ts : List Token) (t : Tree) → Gives (forest old) (forest mid) i (IsTreeOf ts) → IsTreeOf ts t → building (free_of old) t ≡ Ok (free_of mid)
+      → made (free_of old) (values table (forest old)) t ≡ filling (free_of mid) (values table (without_root i (forest mid))) (tree_of i mid)
+  made_filled old mid {i} ts t g is built =
+      made_on (free_of old) (values table (forest old)) t (free_of mid) built
+      ∙ ap (λ (f : Forest). filling (free_of mid) (values table f) t) (sym (given_rest g))
+      ∙ ap (filling (free_of mid) (values table (without_root i (forest mid)))) (that_tree ts t (tree_of i mid) is (given_told g))
+
+  pub comes_filled : (old mid mid' : State) {i j : ℕ} {P : Tree → Type 0} (new : Forest) (ts : List Token) (t : Tree) (result : Evaluation) → Stands old → Stands mid' → mid'.size ≡ old.size → Gives (forest old) (forest mid) i (IsTreeOf ts) → IsTreeOf ts t
+      → building (free_of old) t ≡ Ok (free_of mid) → Gives (without_root i (forest mid)) (forest mid') j P
+      → filling (free_of mid) (values table (without_root i (forest mid))) (tree_of i mid) ≡ fills (free_of mid') (tree_of j mid') → LacksNames (table_names table) (tree_of j mid')
+      → ComesTo (IsReduction room bits (free_of mid' + size (tree_of j mid')) (tree_of j mid') before after store) (IsDisplayOf store (tree_of j mid')) store (without_root j (forest mid')) new result
+      → ComesTo (IsReplyTo room bits (free_of old) (values table (forest old)) t before after store) (IsKeepable store table) store (forest old) new result
+  comes_filled old mid mid' {i} {j} new ts t result st st' e g is built k filled clear h =
+      let free : free_of mid' + size (tree_of j mid') ≡ free_of old = free_before st st' e (gives_as k (given_rest g) (λ u x. x)) in
+      comes_as {Now = IsReplyTo room bits (free_of old) (values table (forest old)) t before after store} store new result
+      (λ r m. is_reduced (made_filled old mid ts t g is built ∙ filled) (subst (λ n. IsReduction room bits n (tree_of j mid') before after store r) free m))
+      (λ u d. keepable store table (tree_of j mid') u clear d) (given_rest k ∙ given_rest g) h
+
+  pub unfilled_reply : (old mid : State) {i : ℕ} (ts : List Token) (t : Tree) (f : FillFault) (r : Refusal) → Gives (forest old) (forest mid) i (IsTreeOf ts) → IsTreeOf ts t → building (free_of old) t ≡ Ok (free_of mid)
+      → filling (free_of mid) (values table (without_root i (forest mid))) (tree_of i mid) ≡ refused_filling f → after ≡ before → r ≡ refusal_to_fill f
+      → IsReplyTo room bits (free_of old) (values table (forest old)) t before after store (reply_of r)
+  unfilled_reply old mid ts t f r g is built filled same is' = subst (λ x. IsReplyTo room bits (free_of old) (values table (forest old)) t before after store (reply_of x)) (sym is') (by f (made_filled old mid ts t g is built ∙ filled))
+    where
+      by : (f : FillFault) → made (free_of old) (values table (forest old)) t ≡ refused_filling f → IsReplyTo room bits (free_of old) (values table (forest old)) t before after store (reply_of (refusal_to_fill f))
+      by (fill.Full full) m = finds_no_room m same
+      by fill.Deep m = becomes_too_deep m same
+
+  pub unbuilt_reply : (old : State) (t : Tree) (full : Full) (r : Refusal) → building (free_of old) t ≡ Err full → after ≡ before → r ≡ refusal.Full full.needed full.free
+      → IsReplyTo room bits (free_of old) (values table (forest old)) t before after store (reply_of r)
+  unbuilt_reply old t full r e same is = subst (λ x. IsReplyTo room bits (free_of old) (values table (forest old)) t before after store (reply_of x)) (sym is) (finds_no_room (made_none (free_of old) (values table (forest old)) t full e) same)
+
+pub unfilled_count : (s t : State) (f : FillFault) (r : Refusal) → r ≡ refusal_to_fill f → FaultsFilling s t f → CountsRefusal (refusal_in (reply_of r)) s t
+unfilled_count s t f r is h = subst (λ x. CountsRefusal (refusal_in (reply_of x)) s t) (sym is) (by f h)
+  where
+    by : (f : FillFault) → FaultsFilling s t f → CountsRefusal (refusal_in (reply_of (refusal_to_fill f))) s t
+    by (fill.Full full) h = h.0
+    by fill.Deep h = h
+
+-- a refusal before the first check
+calm_at : (r : Refusal) (bs : List Breaker) (place : ℕ) → (r ≡ refusal.Interrupted place → ⊥) → ((Refused r ≡ Refused (refusal.Interrupted place)) ↔ TripsRose bs bs place)
+calm_at r bs place h = (λ e. absurd (h (is_refused r (refusal.Interrupted place) e)), λ rose. absurd (none_rose bs place rose))
+
+pub calm_unbuilt : (r : Refusal) (needed free : ℕ) (bs : List Breaker) (place : ℕ) → r ≡ refusal.Full needed free → ((Refused r ≡ Refused (refusal.Interrupted place)) ↔ TripsRose bs bs place)
+calm_unbuilt r needed free bs place is = calm_at r bs place (λ e. clash (sym is ∙ e))
+  where
+    clash : refusal.Full needed free ≡ refusal.Interrupted place → ⊥
+    clash e = cc
+
+pub calm_unfilled : (r : Refusal) (f : FillFault) (bs : List Breaker) (place : ℕ) → r ≡ refusal_to_fill f → ((Refused r ≡ Refused (refusal.Interrupted place)) ↔ TripsRose bs bs place)
+calm_unfilled r f bs place is = calm_at r bs place (λ e. clash f (sym is ∙ e))
+  where
+    clash : (f : FillFault) → refusal_to_fill f ≡ refusal.Interrupted place → ⊥
+    clash (fill.Full full) e = cc
+    clash fill.Deep e = cc

@@ -1,0 +1,12 @@
+pub mod StoredTrees
+pub mod WritableFaces
+pub mod FaceNames
+pub mod PoolLemmas
+pub mod ReadLemmas
+pub mod EvaluationLemmas
+pub mod ReplyLemmas
+pub mod SessionLemmas
+pub mod OpeningLemmas
+pub mod CommandLemmas
+pub mod MeaningLemmas
+pub mod CompletenessLemmas

@@ -1,0 +1,196 @@
+-- What the answers to lines mean.
+use Rattle.std.proofs.Common.{◌≡◌, ◌∙◌, ℕ, List, [], Option, Some, None, true, false, refl, sym, ap, subst}
+use Rattle.breakers.specs.State.{State as Breaker}
+use Rattle.calc_algebra.specs.BadAndEasy.{HasValue, IsEasy}
+use Rattle.calc_algebra.specs.Numbers.{value}
+use Rattle.calc_algebra.specs.Rewritings.{KeepsMeanings, Reduces}
+use Rattle.calc_algebra.specs.SquareClasses.{Same}
+use Rattle.calc_algebra.specs.Surds.{Surd}
+use Rattle.calc_algebra.proofs.MeaningLaws.{one_meaning}
+use Rattle.calc_algebra.proofs.NumberLaws.{number_words}
+use Rattle.calc_algebra.proofs.NumberUniqueness.{one_number}
+use Rattle.calc_algebra.proofs.SquareClassLaws.{Same-trans}
+use Rattle.calc_algebra.proofs.SurdLaws.{Agree-Same}
+use Rattle.reduce_port.specs.EasyTrees.{Evaluates}
+use Rattle.calc_language.specs.Faces.{face}
+use Rattle.calc_terms.specs.Trees.{Tree, num, symbol, undef, add, mult, power, root, neg, sub, div, is_undef}
+use Rattle.calc_tokens.specs.Placed.{Placed}
+use Rattle.beautify.proofs.FaceLaws.{reduced_face_means}
+use Rattle.name_table.specs.Filling.{values}
+use Rattle.calc_session.specs.Commanding.{IsReplyToCommand, tells_the_pool, tells_the_bytes, keeps_ans, forgets, knows_no_name, arms_a_breaker, finds_no_breaker, has_no_picture, has_no_layout, is_no_command}
+use Rattle.calc_session.specs.Evaluations.{IsReplyWith, has_no_value, holds_its_name, is_shown, is_stored, IsReduction, is_interrupted, does_not_fit, lacks_bytes, is_answered, IsReplyTo, finds_no_room, becomes_too_deep, is_reduced}
+use Rattle.calc_session.specs.Meant.{Becomes, HasNoMeaning, HasSmallRadicands, MeanTheSame, MeansNothing, ShowsMeaning}
+use Rattle.name_table.specs.Tables.{Table}
+use Rattle.node_pool.specs.declared.full.Full.{Full}
+use Rattle.calc_session.specs.Reading.{IsReplyUnread, is_long, is_nothing, has_no_token, has_a_wide_number, is_no_line, is_too_deep, stores_to_ans, finds_names_full, ReadsTree}
+use Rattle.calc_session.specs.Replies.{Reply, shown, stored, undefined, deep, full}
+use Rattle.calc_session.specs.States.{State, free_bytes, trees}
+use Rattle.calc_session.specs.Steps.{IsReply, is_unread, is_commanded, is_evaluated}
+
+pub nothing_meant : (t : Tree) → Reduces t undef → MeansNothing t
+nothing_meant t r f a v m = r.meanings.means f a v m
+
+undef_is : (t : Tree) → is_undef t ≡ true → t ≡ undef
+undef_is undef e = refl
+undef_is (num q) e = cc
+undef_is (symbol x) e = cc
+undef_is (add ts) e = cc
+undef_is (mult ts) e = cc
+undef_is (power b x) e = cc
+undef_is (root a) e = cc
+undef_is (neg a) e = cc
+undef_is (sub a b) e = cc
+undef_is (div a b) e = cc
+
+full_undefined : (refusal : Full) → full refusal ≡ undefined → ⊥
+full_undefined refusal e = cc
+
+deep_undefined : deep ≡ undefined → ⊥
+deep_undefined e = cc
+
+-- ---- what is displayed
+
+-- the tree that a reply displays
+abbrev displayed_in : Reply → Option Tree
+displayed_in (shown t) = Some t
+displayed_in (stored t x) = Some t
+displayed_in reply = None
+
+none_some : (u : Tree) → None ≡ Some u → ⊥
+none_some u e = cc
+
+some_is : (t u : Tree) → Some t ≡ Some u → u ≡ t
+some_is t u e = cc
+
+-- a tree is the face of what another reduces to
+record Displays (t u : Tree) : Type 0 where
+  answer : Tree
+  reduces : Reduces t answer
+  easy : IsEasy t → Evaluates t answer
+  defined : is_undef answer ≡ false
+  face_is : u ≡ face answer
+
+displayed_face : (answer : Tree) (store : Option (List ℕ)) (reply : Reply) (u : Tree) → IsReplyWith answer store reply → displayed_in reply ≡ Some u → (is_undef answer ≡ false) × (u ≡ face answer)
+displayed_face answer store reply u (has_no_value d) e = absurd (none_some u e)
+displayed_face answer store reply u (holds_its_name d m) e = absurd (none_some u e)
+displayed_face answer store reply u (is_shown d) e = (d, some_is (face answer) u e)
+displayed_face answer store reply u (is_stored d m) e = (d, some_is (face answer) u e)
+
+unread_not_displayed : {table : Table} {line : List ℕ} {reply : Reply} (u : Tree) → IsReplyUnread table line reply → displayed_in reply ≡ Some u → ⊥
+unread_not_displayed u (is_long a) e = cc
+unread_not_displayed u (is_nothing a b) e = cc
+unread_not_displayed u (has_no_token a b) e = cc
+unread_not_displayed u (has_a_wide_number a b) e = cc
+unread_not_displayed u (is_no_line a b d) e = cc
+unread_not_displayed u (is_too_deep a b d) e = cc
+unread_not_displayed u (stores_to_ans a b) e = cc
+unread_not_displayed u (finds_names_full a b d) e = cc
+
+unread_not_undefined : {table : Table} {line : List ℕ} {reply : Reply} → IsReplyUnread table line reply → reply ≡ undefined → ⊥
+unread_not_undefined (is_long a) e = cc
+unread_not_undefined (is_nothing a b) e = cc
+unread_not_undefined (has_no_token a b) e = cc
+unread_not_undefined (has_a_wide_number a b) e = cc
+unread_not_undefined (is_no_line a b d) e = cc
+unread_not_undefined (is_too_deep a b d) e = cc
+unread_not_undefined (stores_to_ans a b) e = cc
+unread_not_undefined (finds_names_full a b d) e = cc
+
+command_not_displayed : {s : State} {before after : List Breaker} {line : List ℕ} {reply : Reply} (u : Tree) → IsReplyToCommand s before after line reply → displayed_in reply ≡ Some u → ⊥
+command_not_displayed u (tells_the_pool a b) e = cc
+command_not_displayed u (tells_the_bytes a b) e = cc
+command_not_displayed u (keeps_ans a b d) e = cc
+command_not_displayed u (forgets a b d f) e = cc
+command_not_displayed u (knows_no_name a b d f) e = cc
+command_not_displayed u (arms_a_breaker a b d) e = cc
+command_not_displayed u (finds_no_breaker a b d) e = cc
+command_not_displayed u (has_no_picture a b) e = cc
+command_not_displayed u (has_no_layout a b) e = cc
+command_not_displayed u (is_no_command a b) e = cc
+
+command_not_undefined : {s : State} {before after : List Breaker} {line : List ℕ} {reply : Reply} → IsReplyToCommand s before after line reply → reply ≡ undefined → ⊥
+command_not_undefined (tells_the_pool a b) e = cc
+command_not_undefined (tells_the_bytes a b) e = cc
+command_not_undefined (keeps_ans a b d) e = cc
+command_not_undefined (forgets a b d f) e = cc
+command_not_undefined (knows_no_name a b d f) e = cc
+command_not_undefined (arms_a_breaker a b d) e = cc
+command_not_undefined (finds_no_breaker a b d) e = cc
+command_not_undefined (has_no_picture a b) e = cc
+command_not_undefined (has_no_layout a b) e = cc
+command_not_undefined (is_no_command a b) e = cc
+
+module _ (room bits : Option (Tree → ℕ)) (before after : List Breaker) where
+  displayed_reduced : (free : ℕ) (t : Tree) (store : Option (List ℕ)) (reply : Reply) (u : Tree) → IsReduction room bits free t before after store reply → displayed_in reply ≡ Some u → Displays t u
+  displayed_reduced free t store reply u (is_interrupted h) e = cc
+  displayed_reduced free t store reply u (does_not_fit o h) e = cc
+  displayed_reduced free t store reply u (lacks_bytes h) e = cc
+  displayed_reduced free t store reply u (is_answered {answer = r} c a w) e = record { answer = r; reduces = a.reduces; easy = a.easy; defined = (displayed_face r store reply u w e).0; face_is = (displayed_face r store reply u w e).1 }
+
+  displayed_tree : (old : State) (line : List ℕ) (tokens : List Placed) (store : Option (List ℕ)) (t : Tree) (reply : Reply) (u : Tree) → ReadsTree old.table line tokens store t
+      → IsReplyTo room bits (free_bytes old) (values old.table (trees old)) t before after store reply → displayed_in reply ≡ Some u → (v : Tree) × Becomes old line v × Displays v u
+  displayed_tree old line tokens store t reply u reads (finds_no_room m same) e = absurd (none_some u e)
+  displayed_tree old line tokens store t reply u reads (becomes_too_deep m same) e = absurd (none_some u e)
+  displayed_tree old line tokens store t reply u reads (is_reduced {left = left} {made_of = v} m r) e =
+      (v, record { tokens = tokens; store = store; tree = t; reads = reads; left = left; is_made = m }, displayed_reduced (free_bytes old) v store reply u r e)
+
+  -- what a line became, and what is displayed for that
+  displayed_line : (old : State) (line : List ℕ) (reply : Reply) (u : Tree) → IsReply room bits old before after line reply → displayed_in reply ≡ Some u → (t : Tree) × Becomes old line t × Displays t u
+  displayed_line old line reply u (is_unread h same) e = absurd (unread_not_displayed u h e)
+  displayed_line old line reply u (is_commanded a b h) e = absurd (command_not_displayed u h e)
+  displayed_line old line reply u (is_evaluated {tokens = tokens} {store = store} {t = t} reads h) e = displayed_tree old line tokens store t reply u reads h e
+
+  pub shows_meaning : (old : State) (line : List ℕ) (reply : Reply) (u : Tree) → IsReply room bits old before after line reply → displayed_in reply ≡ Some u → ShowsMeaning old line u
+  shows_meaning old line reply u h e = meant (displayed_line old line reply u h e)
+    where
+      meant : (t : Tree) × Becomes old line t × Displays t u → ShowsMeaning old line u
+      meant (t, b, d) = record {
+        tree = t;
+        becomes = b;
+        answer = d.answer;
+        reduced = d.reduces.reduced;
+        meanings = d.reduces.meanings;
+        defined = d.defined;
+        easy = d.easy;
+        shown_is = d.face_is;
+        shown_meanings = subst (KeepsMeanings t) (sym d.face_is) (record { means = λ f a v m. reduced_face_means d.answer d.reduces.reduced f v (d.reduces.meanings.means f a v m) });
+      }
+
+  -- ---- what is undefined
+
+  undefined_with : (answer : Tree) (store : Option (List ℕ)) (reply : Reply) → IsReplyWith answer store reply → reply ≡ undefined → answer ≡ undef
+  undefined_with answer store reply (has_no_value d) e = undef_is answer d
+  undefined_with answer store reply (holds_its_name d m) e = cc
+  undefined_with answer store reply (is_shown d) e = cc
+  undefined_with answer store reply (is_stored d m) e = cc
+
+  undefined_reduced : (free : ℕ) (t : Tree) (store : Option (List ℕ)) (reply : Reply) → IsReduction room bits free t before after store reply → reply ≡ undefined → MeansNothing t
+  undefined_reduced free t store reply (is_interrupted h) e = cc
+  undefined_reduced free t store reply (does_not_fit o h) e = cc
+  undefined_reduced free t store reply (lacks_bytes h) e = cc
+  undefined_reduced free t store reply (is_answered {answer = r} c a w) e = nothing_meant t (subst (Reduces t) (undefined_with r store reply w e) a.reduces)
+
+  undefined_tree : (old : State) (line : List ℕ) (tokens : List Placed) (store : Option (List ℕ)) (t : Tree) (reply : Reply) → ReadsTree old.table line tokens store t
+      → IsReplyTo room bits (free_bytes old) (values old.table (trees old)) t before after store reply → reply ≡ undefined → HasNoMeaning old line
+  undefined_tree old line tokens store t reply reads (finds_no_room m same) e = absurd (full_undefined _ e)
+  undefined_tree old line tokens store t reply reads (becomes_too_deep m same) e = absurd (deep_undefined e)
+  undefined_tree old line tokens store t reply reads (is_reduced {left = left} {made_of = v} m r) e =
+      record { tree = v; becomes = record { tokens = tokens; store = store; tree = t; reads = reads; left = left; is_made = m }; none = undefined_reduced (free_bytes old) v store reply r e }
+
+  pub has_no_meaning : (old : State) (line : List ℕ) (reply : Reply) → IsReply room bits old before after line reply → reply ≡ undefined → HasNoMeaning old line
+  has_no_meaning old line reply (is_unread h same) e = absurd (unread_not_undefined h e)
+  has_no_meaning old line reply (is_commanded a b h) e = absurd (command_not_undefined h e)
+  has_no_meaning old line reply (is_evaluated {tokens = tokens} {store = store} {t = t} reads h) e = undefined_tree old line tokens store t reply reads h e
+
+-- ---- two lines with one value
+
+one_value : (t : Tree) (v w : Surd) → HasValue t v → HasValue t w → Same v w
+one_value t v w h k = Agree-Same (one_meaning [] tt t v w h k)
+
+pub shown_alike : (a b : State) (line other : List ℕ) (t u : Tree) (p : ShowsMeaning a line t) (q : ShowsMeaning b other u) → IsEasy p.tree → IsEasy q.tree → MeanTheSame p.tree q.tree → HasSmallRadicands p.answer → HasSmallRadicands q.answer → t ≡ u
+shown_alike a b line other t u p q easy easy' (v, m, n) small small' =
+    let e = p.easy easy in
+    let f = q.easy easy' in
+    let same : Same (value p.answer) (value q.answer)
+    = Same-trans (one_value p.tree (value p.answer) v (e.value p.defined) m) (one_value q.tree v (value q.answer) n (f.value q.defined)) in
+    p.shown_is ∙ ap face (one_number p.answer q.answer (number_words p.answer (e.number p.defined)) (number_words q.answer (f.number q.defined)) small small' same) ∙ sym q.shown_is

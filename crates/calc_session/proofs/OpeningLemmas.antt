@@ -1,0 +1,71 @@
+-- Lemmas on a new session.
+use Rattle.std.proofs.Common.{◌≡◌, ◌∙◌, ℕ, zero, suc, List, [], ◌∷◌, true, false, Result, Ok, IfOk, OnOk, None, refl, sym, ap, subst, arith}
+use Rattle.std.specs.Prelude.{pos}
+use Rattle.calc_terms.specs.Node.{Node, fresh}
+use Rattle.calc_terms.specs.Payload.{rational}
+use Rattle.calc_terms.specs.Ratio.{Ratio, whole}
+use Rattle.calc_terms.specs.Trees.{whole_num}
+use Rattle.name_table.specs.Held.{IsHeld}
+use Rattle.name_table.specs.Storing.{IsKeepable}
+use Rattle.name_table.specs.Tables.{Table, first_table}
+use Rattle.name_table.proofs.Ready.{first_held}
+use Rattle.node_pool.specs.declared.full.Full.{Full}
+use Rattle.node_pool.specs.Nodes.{IsLeastFree, has}
+use Rattle.node_pool.specs.State.{State as PoolState}
+use Rattle.tree_handles.specs.Forest.{Forest, empty, flatten, forest_of, one_tree}
+use Rattle.tree_handles.specs.Handed.{Ends}
+use Rattle.tree_handles.specs.Standing.{Stands, forest, KeepsRefusals}
+use Rattle.tree_handles.proofs.Forests.{forest_of_whole}
+use Rattle.tree_handles.proofs.Given.{gives, represents_node, represents_none}
+use Rattle.tree_handles.proofs.Lasts.{ends_as}
+use Rattle.calc_session.specs.Seen.{Seen}
+use Rattle.calc_session.specs.States.{State, first_state, state_of}
+
+abbrev zero_tree : ℕ → Forest
+zero_tree i = one_tree i (rational (whole (pos 0))) empty
+
+keepable_zero : (i : ℕ) → IsKeepable None (first_table i) (whole_num 0)
+keepable_zero i = record { writable = (0, refl); clear = λ x m (k, l, e). absurd (omega arith) }
+
+clash : true ≡ false → ⊥
+clash e = cc
+
+-- the first identifier is 0
+first_id : (i : ℕ) (nodes : List Node) → nodes ≡ [] → IsLeastFree i nodes → i ≡ 0
+first_id zero nodes e h = refl
+first_id (suc i) nodes e h = absurd (clash (sym (h.least 0 (omega arith)) ∙ ap (has 0) e))
+
+-- what a new session holds
+pub record IsOpened (p q : PoolState) (i : ℕ) : Type 0 where
+  pub first : i ≡ 0
+  pub held : IsHeld (first_table i) (forest q)
+  pub nodes : q.nodes ≡ fresh i (rational (whole (pos 0))) ∷ []
+  pub kept : KeepsRefusals p q
+
+-- the answer 0 is placed in a pool without nodes
+pub opened : (p q : PoolState) (r : Result ℕ Full) (i : ℕ) (x : Ratio) → IfOk r (λ h. Ends h (one_tree h (rational x) empty) (forest p) (forest q)) → IfOk r (λ h. IsLeastFree h p.nodes) → OnOk r (KeepsRefusals p q) → r ≡ Ok i
+    → p.nodes ≡ [] → x ≡ whole (pos 0) → Stands q → IsOpened p q i
+opened p q r i x ok least kept is none payload st =
+    let none_before : forest p ≡ empty = ap forest_of none ∙ forest_of_whole empty in
+    let ends = ends_as (subst (λ r. IfOk r (λ h. Ends h (one_tree h (rational x) empty) (forest p) (forest q))) is ok) (ap (λ (y : Ratio). one_tree i (rational y) empty) payload) none_before in
+    record {
+      first = first_id i p.nodes none (subst (λ r. IfOk r (λ h. IsLeastFree h p.nodes)) is least);
+      held = first_held i (forest q) (gives ends (represents_node i (rational (whole (pos 0))) represents_none refl) (keepable_zero i));
+      nodes = st.flat ∙ ap flatten ends.whole;
+      kept = subst (λ r. OnOk r (KeepsRefusals p q)) is kept;
+    }
+
+-- its state
+pub first_state_is : (q : PoolState) (t : Table) (i n : ℕ) → t ≡ first_table i → i ≡ 0 → q.nodes ≡ fresh i (rational (whole (pos 0))) ∷ [] → q.size ≡ n → state_of q t ≡ first_state n
+first_state_is q t i n table first nodes size =
+    ap (λ (m : ℕ). record { size = m; nodes = q.nodes; table = t }) size
+    ∙ ap (λ (ns : List Node). record { size = n; nodes = ns; table = t }) (nodes ∙ ap (λ (j : ℕ). fresh j (rational (whole (pos 0))) ∷ []) first)
+    ∙ ap (λ (u : Table). record { size = n; nodes = fresh 0 (rational (whole (pos 0))) ∷ []; table = u }) (table ∙ ap first_table first)
+
+pub seen_is : (s t : State) (m n : ℕ) (f g : Full) (a b : List ℕ) → s ≡ t → m ≡ n → f ≡ g → a ≡ b
+    → (let x : Seen = record { state = s; refusals = m; last_refused = f; text = a } in x) ≡ record { state = t; refusals = n; last_refused = g; text = b }
+seen_is s t m n f g a b p q r e =
+    ap (λ (x : State). record { state = x; refusals = m; last_refused = f; text = a }) p
+    ∙ ap (λ (x : ℕ). record { state = t; refusals = x; last_refused = f; text = a }) q
+    ∙ ap (λ (x : Full). record { state = t; refusals = n; last_refused = x; text = a }) r
+    ∙ ap (λ (x : List ℕ). record { state = t; refusals = n; last_refused = g; text = x }) e

@@ -1,0 +1,19 @@
+-- Lemmas on replies and what the code answers for them.
+use Rattle.std.proofs.Common.{◌≡◌, ◌∙◌, ℕ, ℤ, nat_abs, List, ◌++◌, append_assoc, ap}
+use Rattle.std.specs.Fmt.{signed_decimal}
+use Rattle.calc_terms.specs.Rat.{ratio_of, value_of}
+use Rattle.calc_terms.specs.declared.rat.Rat.{Rat}
+use Rattle.line_text.specs.Content.{Content, extended}
+use Rattle.rational128.proofs.LowestTerms.{parts_themselves}
+use Rattle.calc_session.specs.Replies.{denominator_text, operand_text}
+
+-- ---- the text of a rational
+
+pub text_of_operand : (a : Rat) → operand_text (value_of a) ≡ signed_decimal (ratio_of a).num ++ denominator_text (ratio_of a).den
+text_of_operand a =
+    let p = parts_themselves a.num (nat_abs a.den) a.in_lowest_terms in
+    ap (λ (z : ℤ). signed_decimal z ++ denominator_text (value_of a).den) p.num ∙ ap (λ (d : ℕ). signed_decimal a.num ++ denominator_text d) p.den
+
+-- one piece and then another
+pub extended_twice : (c : Content) (a b : List ℕ) → extended (extended c a) b ≡ extended c (a ++ b)
+extended_twice c a b = ap (λ (bytes : List ℕ). record c { bytes = bytes }) (append_assoc c.bytes a b)

@@ -1,0 +1,31 @@
+use Rattle.std.proofs.Common.{◌∙◌, refl, sym, subst, arith}
+use Rattle.breakers.specs.Watch.{states}
+use Rattle.calc_session.specs.Answers.{AnswersUntold}
+use Rattle.calc_session.specs.Reading.{is_long, is_nothing}
+use Rattle.calc_session.specs.Seen.{Seen}
+use Rattle.calc_session.specs.States.{state_of}
+use Rattle.calc_session.specs.declared.answers.Refusal.TheVariants as refusal
+use Rattle.calc_session.proofs.SessionLemmas.{answers_blank, answers_command, answers_unread, calm_blank, calm_long}
+use Rattle.calc_session.proofs.session.Session.answer.Goals as goal
+
+pub returns-then-line-gt-LINE_LIMIT-clause-answers : goal.returns-then-line-gt-LINE_LIMIT-clause-answers
+returns-then-line-gt-LINE_LIMIT-clause-answers g c =
+    answers_unread g.R.Reducer.room g.R.Reducer.bits (states g.B.Breaker.state c.args.watch.now) (states g.B.Breaker.state c.args.watch.now) c.args.line.now c.args.self.now.state c.args.self.now.state refusal.Long c.args.self.now.text
+    (is_long c.if-line-gt-LINE_LIMIT.true) refl refl c.requires.clear
+
+pub returns-then-line-gt-LINE_LIMIT-clause-interrupted : goal.returns-then-line-gt-LINE_LIMIT-clause-interrupted
+returns-then-line-gt-LINE_LIMIT-clause-interrupted g c = calm_long (states g.B.Breaker.state c.args.watch.now)
+
+pub returns-then-is_blank_line-clause-answers : goal.returns-then-is_blank_line-clause-answers
+returns-then-is_blank_line-clause-answers g c =
+    answers_blank g.R.Reducer.room g.R.Reducer.bits (states g.B.Breaker.state c.args.watch.now) (states g.B.Breaker.state c.args.watch.now) c.args.line.now c.args.self.now.state c.args.self.now.state c.args.self.now.text
+    (is_nothing (omega (arith, c.if-line-gt-LINE_LIMIT.false)) (sym c.is_blank_line.ensures ∙ c.if-is_blank_line.true)) refl refl c.requires.clear
+
+pub returns-then-is_blank_line-clause-interrupted : goal.returns-then-is_blank_line-clause-interrupted
+returns-then-is_blank_line-clause-interrupted g c = calm_blank (states g.B.Breaker.state c.args.watch.now)
+
+pub returns-then-is_command-clause-answers : goal.returns-then-is_command-clause-answers
+returns-then-is_command-clause-answers g c =
+    subst (λ (o : Seen). AnswersUntold g.R.Reducer.room g.R.Reducer.bits o.state (states g.B.Breaker.state c.args.watch.now) c.args.line.now c.answer_command.result c.answer_command.new.text.bytes (state_of c.answer_command.new.pool c.answer_command.new.table) (states g.B.Breaker.state c.answer_command.new.watch)) c.self.view_is
+    (answers_command g.R.Reducer.room g.R.Reducer.bits (states g.B.Breaker.state c.args.watch.now) (states g.B.Breaker.state c.answer_command.new.watch) c.args.line.now (state_of c.self.inside.pool c.self.inside.table) (state_of c.answer_command.new.pool c.answer_command.new.table) c.answer_command.result c.answer_command.new.text.bytes
+    (omega (arith, c.if-line-gt-LINE_LIMIT.false)) (sym c.is_command.ensures ∙ c.if-is_command.true) c.answer_command.ensures.answers)

@@ -1,0 +1,33 @@
+use Rattle.std.proofs.Common.{◌∙◌, ◌*◌, ◌+◌, ap, sym, subst}
+use Rattle.calc_terms.specs.Rat.{ratio_of}
+use Rattle.line_text.specs.Content.{Content}
+use Rattle.name_table.specs.Held.{IsHeld}
+use Rattle.node_pool.specs.State.{State}
+use Rattle.tree_handles.specs.Standing.{forest}
+use Rattle.tree_handles.proofs.Opened.{stands_open}
+use Rattle.calc_session.proofs.OpeningLemmas.{IsOpened, first_state_is, opened, seen_is}
+use Rattle.calc_session.proofs.session.Session.open.Goals as goal
+use Rattle.calc_session.proofs.session.Session.open.Goals.{After-unwrap-answer}
+
+pub number-requires : goal.number-requires
+number-requires c = stands_open c.in_ok-pool.pool (ap (λ (s : State). s.nodes) c.in_ok-pool.ensures) (rw (ap (λ (s : State). s.size) c.in_ok-pool.ensures) c.requires)
+
+here : (c : After-unwrap-answer) → IsOpened c.in_ok-pool.pool c.number.new.pool c.unwrap-answer.result
+here c =
+    opened c.in_ok-pool.pool c.number.new.pool c.number.result c.unwrap-answer.result (ratio_of c.whole.result) c.number.ensures.ok c.number.ensures.least c.number.ensures.kept c.unwrap-answer.ensures
+    (ap (λ (s : State). s.nodes) c.in_ok-pool.ensures) c.whole.ensures c.number.ensures.stands
+
+pub invariant_of-result : goal.invariant_of-result
+invariant_of-result c =
+    let o = here (goal.at.invariant_of-result c).After-unwrap-answer in
+    record {
+      stands = c.number.ensures.stands;
+      held = subst (λ t. IsHeld t (forest c.number.new.pool)) (sym c.new.ensures) o.held;
+      room = ap (λ (t : Content). t.capacity) c.in_ok-text.ensures ∙ ap (λ n. 3 * n + 256) (sym (o.kept.size ∙ ap (λ (s : State). s.size) c.in_ok-pool.ensures));
+    }
+
+pub returns : goal.returns
+returns c =
+    let o = here (goal.at.returns c).After-unwrap-answer in
+    seen_is _ _ _ _ _ _ _ _ (first_state_is c.number.new.pool c.new.result c.unwrap-answer.result c.args.size c.new.ensures o.first o.nodes (o.kept.size ∙ ap (λ (s : State). s.size) c.in_ok-pool.ensures))
+    (o.kept.refusals ∙ ap (λ (s : State). s.refusals) c.in_ok-pool.ensures) (o.kept.last_refused ∙ ap (λ (s : State). s.last_refused) c.in_ok-pool.ensures) (ap (λ (t : Content). t.bytes) c.in_ok-text.ensures)

@@ -1,0 +1,12 @@
+use Rattle.std.proofs.Common.{◌∙◌, ap, sym}
+use Rattle.std.specs.Fmt.{signed_decimal}
+use Rattle.calc_terms.specs.Rat.{ratio_of}
+use Rattle.line_text.specs.Content.{Content, extended}
+use Rattle.calc_session.specs.Replies.{denominator_text}
+use Rattle.calc_session.proofs.ReplyLemmas.{extended_twice, text_of_operand}
+use Rattle.calc_session.proofs.text.push_operand.Goals as goal
+
+pub returns-clause-value : goal.returns-clause-value
+returns-clause-value c =
+    c.push_denominator.ensures.value ∙ ap (λ (t : Content). extended t (denominator_text (ratio_of c.args.value).den)) c.push_numerator.ensures.value
+    ∙ extended_twice c.args.text.now (signed_decimal (ratio_of c.args.value).num) (denominator_text (ratio_of c.args.value).den) ∙ ap (extended c.args.text.now) (sym (text_of_operand c.args.value))

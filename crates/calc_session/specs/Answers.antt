@@ -1,0 +1,161 @@
+-- What the code answers, and the replies that its answers stand for.
+use Rattle.std.specs.Prelude.{◌≡◌, ℕ, List, [], Option, Some, None, Contains, ⊤}
+use Rattle.breakers.specs.State.{State as Breaker}
+use Rattle.calc_algebra.specs.Rewritings.{HasNoNewName}
+use Rattle.calc_commands.specs.Reports.{forgot_report}
+use Rattle.calc_language.specs.Texts.{IsWritable}
+use Rattle.calc_terms.specs.Leaf.{name_of}
+use Rattle.calc_terms.specs.Rat.{value_of}
+use Rattle.calc_terms.specs.Trees.{Tree, names}
+use Rattle.name_table.specs.declared.fault.FillFault.{FillFault}
+use Rattle.name_table.specs.declared.fault.FillFault.TheVariants as fill
+use Rattle.node_pool.specs.declared.full.Full.{Full as PoolFull}
+use Rattle.node_pool.specs.State.{State as PoolState}
+use Rattle.rational128.specs.Refusals.{operation_of}
+use Rattle.reduce_port.specs.declared.fault.ReduceFault.{ReduceFault}
+use Rattle.reduce_port.specs.declared.fault.ReduceFault.TheVariants as fault
+use Rattle.tree_handles.specs.Forest.{Forest}
+use Rattle.tree_handles.specs.Handed.{Gives}
+use Rattle.tree_handles.specs.Standing.{KeepsRefusals, Refuses}
+use Rattle.calc_session.specs.declared.answers.Refusal.{Refusal}
+use Rattle.calc_session.specs.declared.answers.Refusal.TheVariants.{Long, Character, Number, Syntax, Deep, Reserved, NamesFull, Full, Overflow, Interrupted, Circular, Command}
+use Rattle.calc_session.specs.declared.answers.LineAnswer.{LineAnswer}
+use Rattle.calc_session.specs.declared.answers.LineAnswer.TheVariants.{Blank, Shown, Stored, Undef, Report, Draw, Refused}
+use Rattle.calc_session.specs.declared.evaluating.Evaluation.{Evaluation}
+use Rattle.calc_session.specs.declared.evaluating.Evaluation.TheVariants as evaluation
+use Rattle.calc_session.specs.Commanding.{IsReplyToCommand}
+use Rattle.calc_session.specs.Replies.{Reply, blank, shown, stored, undefined, report, forgot, long, character_at, number_at, syntax, deep, reserved, names_full, full, overflow, interrupted, circular, command, displayed, text_of, refusal_in}
+use Rattle.calc_session.specs.States.{State}
+use Rattle.calc_session.specs.Steps.{Leaves, Step}
+
+abbrev pub reply_of : Refusal → Reply
+reply_of Long = long
+reply_of (Character at) = character_at at
+reply_of (Number at) = number_at at
+reply_of Syntax = syntax
+reply_of Deep = deep
+reply_of Reserved = reserved
+reply_of NamesFull = names_full
+reply_of (Full needed free) = full (record { needed = needed; free = free })
+reply_of (Overflow op a b) = overflow (operation_of op) (value_of a) (value_of b)
+reply_of (Interrupted by) = interrupted by
+reply_of (Circular name) = circular (name_of name)
+reply_of Command = command
+
+abbrev pub number_of : Refusal → ℕ
+number_of Long = 1
+number_of (Character at) = 2
+number_of (Number at) = 3
+number_of Syntax = 4
+number_of Deep = 5
+number_of Reserved = 6
+number_of NamesFull = 7
+number_of (Full needed free) = 8
+number_of (Overflow op a b) = 9
+number_of (Interrupted by) = 10
+number_of (Circular name) = 11
+number_of Command = 12
+
+-- a command tells this
+abbrev pub IsReport : List ℕ → Reply → Type 0
+IsReport told (report text) = told ≡ text
+IsReport told (forgot x) = told ≡ forgot_report x
+IsReport told reply = ⊥
+
+-- no line is answered by a picture yet
+abbrev pub IsAnswer : LineAnswer → Reply → Type 0
+IsAnswer Blank reply = reply ≡ blank
+IsAnswer Shown reply = (t : Tree) × (reply ≡ shown t)
+IsAnswer Stored reply = (t : Tree) × (x : List ℕ) × (reply ≡ stored t x)
+IsAnswer Undef reply = reply ≡ undefined
+IsAnswer Report reply = (told : List ℕ) × IsReport told reply
+IsAnswer Draw reply = ⊥
+IsAnswer (Refused refusal) reply = reply ≡ reply_of refusal
+
+-- the answer where a tree is displayed, and stored where there is a name
+abbrev pub answer_to : Option (List ℕ) → LineAnswer
+answer_to None = Shown
+answer_to (Some x) = Stored
+
+-- the refusal of the pool that an answer passes on
+abbrev pub refusal_of_pool : LineAnswer → Option PoolFull
+refusal_of_pool (Refused refusal) = refusal_in (reply_of refusal)
+refusal_of_pool answer = None
+
+-- what is printed of an answer and its text
+abbrev pub printed : LineAnswer → List ℕ → Option (List ℕ)
+printed Blank text = None
+printed answer text = Some text
+
+-- From a state a line is answered so, with this text, and leaves a state.
+pub record Answers (room bits : Option (Tree → ℕ)) (old : State) (before : List Breaker) (line : List ℕ) (answer : LineAnswer) (text : List ℕ) (new : State) (after : List Breaker) : Type 0 where
+  pub reply : Reply
+  pub step : Step room bits old before line reply new after
+  pub answer_is : IsAnswer answer reply
+  pub text_is : printed answer text ≡ text_of reply
+
+-- the text, where that of a refusal is still to be written
+abbrev pub IsTextOf : LineAnswer → List ℕ → Reply → Type 0
+IsTextOf Blank text reply = text ≡ []
+IsTextOf (Refused refusal) text reply = text ≡ []
+IsTextOf answer text reply = Some text ≡ text_of reply
+
+-- the same, but that the text of a refusal is still to be written
+pub record AnswersUntold (room bits : Option (Tree → ℕ)) (old : State) (before : List Breaker) (line : List ℕ) (answer : LineAnswer) (text : List ℕ) (new : State) (after : List Breaker) : Type 0 where
+  pub reply : Reply
+  pub step : Step room bits old before line reply new after
+  pub answer_is : IsAnswer answer reply
+  pub text_is : IsTextOf answer text reply
+
+-- the same of a command line
+pub record AnswersCommand (old : State) (before : List Breaker) (line : List ℕ) (answer : LineAnswer) (text : List ℕ) (new : State) (after : List Breaker) : Type 0 where
+  pub reply : Reply
+  pub reply_is : IsReplyToCommand old before after line reply
+  pub state_is : Leaves reply old new
+  pub answer_is : IsAnswer answer reply
+  pub text_is : IsTextOf answer text reply
+
+-- ---- evaluations
+
+-- a tree is not to hold the name under which it is stored
+abbrev pub LacksName : Option (List ℕ) → Tree → Type 0
+LacksName None t = ⊤
+LacksName (Some x) t = ¬ (Contains (names t) x)
+
+-- a tree that is displayed for another: it can be written, has no new name, and does not hold that under which it is stored
+pub record IsDisplayOf (store : Option (List ℕ)) (t shown : Tree) : Type 0 where
+  pub writable : IsWritable shown
+  pub no_new_name : HasNoNewName t shown
+  pub clear : LacksName store shown
+
+-- the evaluation came to a reply that is among these; what is displayed is such a tree, and stands behind the other trees
+abbrev pub ComesTo : (Reply → Type 0) → (Tree → Type 0) → Option (List ℕ) → Forest → Forest → Evaluation → Type 0
+ComesTo Is Fits store others new (evaluation.Face h) = (t : Tree) × Is (displayed store t) × Fits t × Gives others new h (λ u. u ≡ t)
+ComesTo Is Fits store others new evaluation.Undefined = Is undefined
+ComesTo Is Fits store others new (evaluation.Refused refusal) = Is (reply_of refusal)
+
+-- the refusal of the pool that it passes on
+abbrev pub refusal_of_evaluation : Evaluation → Option PoolFull
+refusal_of_evaluation (evaluation.Refused refusal) = refusal_in (reply_of refusal)
+refusal_of_evaluation e = None
+
+-- a fact of an evaluation that shows nothing
+abbrev pub IfNotShown : Evaluation → Type 0 → Type 0
+IfNotShown (evaluation.Face h) P = ⊤
+IfNotShown e P = P
+
+-- but for the nodes the pool is as before, or one refusal was counted
+abbrev pub CountsRefusal : Option PoolFull → PoolState → PoolState → Type 0
+CountsRefusal None old new = KeepsRefusals old new
+CountsRefusal (Some refusal) old new = Refuses old new refusal
+
+-- the refusal that passes on the fault of a reduction
+abbrev pub refusal_of : ReduceFault → Refusal
+refusal_of (fault.Full lack) = Full lack.needed lack.free
+refusal_of (fault.Overflow o) = Overflow o.op o.a o.b
+refusal_of (fault.Interrupted i) = Interrupted i.by
+
+-- the refusal that passes on why names could not be replaced
+abbrev pub refusal_to_fill : FillFault → Refusal
+refusal_to_fill (fill.Full lack) = Full lack.needed lack.free
+refusal_to_fill fill.Deep = Deep

@@ -1,0 +1,12 @@
+pub mod Replies
+pub mod States
+pub mod Reading
+pub mod Evaluations
+pub mod Commanding
+pub mod Steps
+pub mod Seen
+pub mod Kept
+pub mod Answers
+pub mod Faces
+pub mod Pools
+pub mod Meant

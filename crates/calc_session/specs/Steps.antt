@@ -1,0 +1,53 @@
+-- One line as one step of a session.
+use Rattle.std.specs.Prelude.{◌≡◌, ◌≤◌, ℕ, List, length, true, false, Option, Some, None}
+use Rattle.breakers.specs.State.{State as Breaker}
+use Rattle.calc_commands.specs.Commands.{is_command}
+use Rattle.calc_terms.specs.Trees.{Tree, none, more}
+use Rattle.calc_tokens.specs.Placed.{Placed}
+use Rattle.name_table.specs.Filling.{values}
+use Rattle.name_table.specs.Held.{held_by}
+use Rattle.name_table.specs.Tables.{with_answer, without_name}
+use Rattle.node_pool.specs.Nodes.{AreDistinct, has}
+use Rattle.tree_handles.specs.Forest.{Forest, flatten, join, root_id}
+use Rattle.tree_handles.specs.Handed.{Represents}
+use Rattle.tree_handles.specs.Inside.{holds}
+use Rattle.calc_session.specs.Commanding.{IsReplyToCommand}
+use Rattle.calc_session.specs.Evaluations.{IsReplyTo}
+use Rattle.calc_session.specs.Reading.{IsReplyUnread, ReadsTree}
+use Rattle.calc_session.specs.Replies.{Reply, shown, stored, forgot}
+use Rattle.calc_session.specs.States.{State, free_bytes, trees}
+
+-- the replies to a line in a state, by the room and bits that the reducer tells, and the breakers before and after
+pub data IsReply (room bits : Option (Tree → ℕ)) (old : State) (before after : List Breaker) (line : List ℕ) : Reply → Type 0 where
+  is_unread : {reply : Reply} → IsReplyUnread old.table line reply → after ≡ before → IsReply room bits old before after line reply
+  is_commanded : {reply : Reply} → length line ≤ 1024 → is_command line ≡ true → IsReplyToCommand old before after line reply → IsReply room bits old before after line reply
+  is_evaluated : {tokens : List Placed} {store : Option (List ℕ)} {t : Tree} {reply : Reply} → ReadsTree old.table line tokens store t
+      → IsReplyTo room bits (free_bytes old) (values old.table (trees old)) t before after store reply → IsReply room bits old before after line reply
+
+-- a tree of new nodes is the last answer now, and stands behind those of the old trees that the new table holds
+pub record LeavesAnswer (store : Option (List ℕ)) (answer : Tree) (old new : State) : Type 0 where
+  pub tree : Forest
+  pub tree_is : Represents tree (more answer none)
+  pub distinct : AreDistinct (flatten tree)
+  pub new_nodes : (id : ℕ) → holds id tree ≡ true → has id old.nodes ≡ false
+  pub size : new.size ≡ old.size
+  pub table : new.table ≡ with_answer store (root_id tree) old.table
+  pub nodes : new.nodes ≡ flatten (held_by new.table (join (trees old) tree))
+
+-- the name is forgotten, and so are the trees that the new table does not hold
+pub record LeavesOthers (x : List ℕ) (old new : State) : Type 0 where
+  pub size : new.size ≡ old.size
+  pub table : new.table ≡ without_name x old.table
+  pub nodes : new.nodes ≡ flatten (held_by new.table (trees old))
+
+-- What a reply leaves. A tree that is shown or stored is kept, a name may be forgotten, and any other reply leaves all as it was.
+abbrev pub Leaves : Reply → State → State → Type 0
+Leaves (shown t) old new = LeavesAnswer None t old new
+Leaves (stored t x) old new = LeavesAnswer (Some x) t old new
+Leaves (forgot x) old new = LeavesOthers x old new
+Leaves reply old new = new ≡ old
+
+-- From a state a line is answered by a reply and leaves a state; the breakers may be checked or armed on the way.
+pub record Step (room bits : Option (Tree → ℕ)) (old : State) (before : List Breaker) (line : List ℕ) (reply : Reply) (new : State) (after : List Breaker) : Type 0 where
+  pub reply_is : IsReply room bits old before after line reply
+  pub state_is : Leaves reply old new

@@ -1,0 +1,106 @@
+//! Commands.
+ghost use Rattle.std.specs.Prelude.{◌≡◌, ◌≤◌, ◌+◌, ◌*◌, ◌↔◌, ℕ, List, []};
+ghost use Rattle.breakers.specs.Breakers.{TripsRose};
+ghost use Rattle.breakers.specs.State.{State as Breaker};
+ghost use Rattle.breakers.specs.Watch.{states};
+ghost use Rattle.calc_commands.specs.Commands.{IsCommandLine, forget as asks_to_forget, after as asks_to_arm};
+ghost use Rattle.calc_terms.specs.Leaf.{name_of};
+ghost use Rattle.name_table.specs.Held.{IsHeld};
+ghost use Rattle.tree_handles.specs.Standing.{Stands, forest, KeepsRefusals};
+ghost use Rattle.calc_session.specs.Answers.{AnswersCommand};
+ghost use Rattle.calc_session.specs.States.{State, state_of};
+
+use crate::reading::is_ans;
+use crate::{LineAnswer, Refusal};
+use breakers::{Breaker, Watch};
+use calc_commands::{
+    Command, read_command, write_after, write_dump, write_forgot, write_no_breaker,
+    write_pool_report, write_unknown,
+};
+use calc_terms::Name;
+use line_text::Text;
+use name_table::NameTable;
+use node_pool::Pool;
+
+/// Answers a command line. The text of a refusal is still to be written.
+pub fn answer_command<B: Breaker>(
+    pool: &mut Pool,
+    table: &mut NameTable,
+    text: &mut Text,
+    watch: &mut Watch<B>,
+    line: &[u8],
+) -> LineAnswer
+    requires stands { Stands pool.old }
+    requires held { IsHeld table.old (forest pool.old) }
+    requires empty { text.old.bytes ≡ [] }
+    requires room { text.old.capacity ≡ 3 * pool.old.size + 256 }
+    ensures answers { AnswersCommand (state_of pool.old table.old) (states B.state watch.old) line.now result text.new.bytes (state_of pool.new table.new) (states B.state watch.new) }
+    ensures no_check { (place : ℕ) → TripsRose (states B.state watch.old) (states B.state watch.new) place → ⊥ }
+    ensures no_interruption { (place : ℕ) → result ≡ LineAnswer.Refused (Refusal.Interrupted place) → ⊥ }
+    ensures refusals { KeepsRefusals pool.old pool.new }
+    ensures held { IsHeld table.new (forest pool.new) }
+    ensures capacity { text.new.capacity ≡ text.old.capacity }
+    ensures stands { Stands pool.new }
+{
+    let Some(command) = read_command(line) else {
+        return LineAnswer::Refused(Refusal::Command);
+    };
+    match command {
+        Command::Pool => {
+            write_pool_report(pool, text);
+            LineAnswer::Report
+        }
+        Command::Dump => {
+            write_dump(pool, text);
+            LineAnswer::Report
+        }
+        Command::Forget(name) => forget(pool, table, text, name),
+        Command::After(checks) => {
+            arm(watch, checks, text);
+            LineAnswer::Report
+        }
+        Command::Draw => LineAnswer::Refused(Refusal::Command),
+        Command::Layout => LineAnswer::Refused(Refusal::Command),
+    }
+}
+
+/// Forgets a name, unless it is that of the last answer.
+fn forget(pool: &mut Pool, table: &mut NameTable, text: &mut Text, name: Name) -> LineAnswer
+    requires stands { Stands pool.old }
+    requires held { IsHeld table.old (forest pool.old) }
+    requires empty { text.old.bytes ≡ [] }
+    requires room { 256 ≤ text.old.capacity }
+    ensures answers { (line : List ℕ) (breakers : List Breaker) → IsCommandLine line (asks_to_forget (name_of name))
+        → AnswersCommand (state_of pool.old table.old) breakers line result text.new.bytes (state_of pool.new table.new) breakers }
+    ensures no_interruption { (place : ℕ) → result ≡ LineAnswer.Refused (Refusal.Interrupted place) → ⊥ }
+    ensures refusals { KeepsRefusals pool.old pool.new }
+    ensures held { IsHeld table.new (forest pool.new) }
+    ensures capacity { text.new.capacity ≡ text.old.capacity }
+    ensures stands { Stands pool.new }
+{
+    if is_ans(name) {
+        return LineAnswer::Refused(Refusal::Reserved);
+    }
+    if table.forget(pool, name) {
+        write_forgot(name, text);
+    } else {
+        write_unknown(name, text);
+    }
+    LineAnswer::Report
+}
+
+/// Arms the first breaker that can be armed.
+fn arm<B: Breaker>(watch: &mut Watch<B>, checks: u64, text: &mut Text)
+    requires empty { text.old.bytes ≡ [] }
+    requires room { 256 ≤ text.old.capacity }
+    ensures answers { (line : List ℕ) (state : State) → IsCommandLine line (asks_to_arm checks)
+        → AnswersCommand state (states B.state watch.old) line LineAnswer.Report text.new.bytes state (states B.state watch.new) }
+    ensures no_check { (place : ℕ) → TripsRose (states B.state watch.old) (states B.state watch.new) place → ⊥ }
+    ensures capacity { text.new.capacity ≡ text.old.capacity }
+{
+    if watch.arm_first(checks) {
+        write_after(checks, text);
+    } else {
+        write_no_breaker(text);
+    }
+}

@@ -1,0 +1,231 @@
+//! Trees of lines, evaluated in the pool.
+ghost use Rattle.std.specs.Prelude.{◌≡◌, ◌+◌, ⊤, ℕ, [], ◌∷◌, true, false, ◌↔◌, Some, MatchOption, Contains};
+ghost use Rattle.breakers.specs.Breakers.{TripsRose};
+ghost use Rattle.breakers.specs.Watch.{states};
+ghost use Rattle.calc_algebra.specs.Reduced.{is_reduced};
+ghost use Rattle.calc_parser.specs.Lines.{IsTreeOf};
+ghost use Rattle.calc_terms.specs.Leaf.{name_of};
+ghost use Rattle.calc_terms.specs.Trees.{Tree, is_undef, names, size};
+ghost use Rattle.calc_tokens.specs.Placed.{bare};
+ghost use Rattle.calc_tokens.specs.Tokens.{tokens_of};
+ghost use Rattle.name_table.specs.Filling.{values};
+ghost use Rattle.name_table.specs.Held.{IsHeld};
+ghost use Rattle.name_table.specs.Storing.{IsKeepable, name_in};
+ghost use Rattle.node_pool.specs.State.{free_of};
+ghost use Rattle.tree_handles.specs.Expressions.{IsExpression, plain};
+ghost use Rattle.tree_handles.specs.Handed.{tree_of, Gives, IsHanded, KeepsFront};
+ghost use Rattle.tree_handles.specs.Inside.{tree_at};
+ghost use Rattle.tree_handles.specs.Roots.{without_root};
+ghost use Rattle.tree_handles.specs.Standing.{Stands, forest};
+ghost use Rattle.calc_session.specs.Answers.{ComesTo, CountsRefusal, IfNotShown, IsDisplayOf, refusal_of as refusal_for, refusal_of_evaluation, refusal_to_fill, LacksName};
+ghost use Rattle.calc_session.specs.Evaluations.{IsReduction, IsReplyTo};
+ghost use Rattle.calc_session.specs.Faces.{Shows};
+ghost use Rattle.calc_session.specs.Pools.{after};
+
+use crate::Refusal;
+use beautify::face_of;
+use breakers::{Breaker, Watch};
+use calc_parser::build;
+use calc_terms::{Kind, Name};
+use calc_tokens::Tokens;
+use name_table::{FillFault, NameTable};
+use node_pool::{Full, Id, Pool};
+use pool_checkpoints::{commit, open_mark, roll_back};
+use reduce_port::{ReduceFault, Reducer};
+use tree_handles::{Handle, kind};
+use tree_walks::holds_name;
+
+/// What a line comes to.
+#[derive(Drop)]
+pub enum Evaluation {
+    /// This tree is displayed, and stored where the line says so.
+    Face(Handle),
+    /// The line is `undef`.
+    Undefined,
+    Refused(Refusal),
+}
+
+/// What the tree of a line comes to. Where a tree is displayed, it stands behind all others, and
+/// else the nodes are as before.
+pub fn evaluate<R: Reducer, B: Breaker>(
+    pool: &mut Pool,
+    table: &NameTable,
+    tokens: &Tokens,
+    store: Option<Name>,
+    reducer: &R,
+    watch: &mut Watch<B>,
+) -> Evaluation
+    requires stands { Stands pool.old }
+    requires held { IsHeld table.now (forest pool.old) }
+    requires line { (t : Tree) × IsTreeOf (bare (tokens_of tokens.now)) t }
+    ensures reply { (t : Tree) → IsTreeOf (bare (tokens_of tokens.now)) t
+        → ComesTo (IsReplyTo R.room R.bits (free_of pool.old) (values table.now (forest pool.old)) t (states B.state watch.old) (states B.state watch.new) (name_in store))
+        (IsKeepable (name_in store) table.now) (name_in store) (forest pool.old) (forest pool.new) result }
+    ensures interrupted { (place : ℕ) → (result ≡ Evaluation.Refused (Refusal.Interrupted place))
+        ↔ TripsRose (states B.state watch.old) (states B.state watch.new) place }
+    ensures counted { CountsRefusal (refusal_of_evaluation result) pool.old pool.new }
+    ensures as_before { IfNotShown result (pool.new ≡ after (refusal_of_evaluation result) pool.old.nodes pool.old) }
+    ensures front { KeepsFront [] (forest pool.old) (forest pool.new) }
+    ensures stands { Stands pool.new }
+{
+    let mark = open_mark(pool);
+    match build_and_reduce(pool, table, tokens, store, reducer, watch) {
+        Evaluation::Face(face) => {
+            commit(pool, mark);
+            Evaluation::Face(face)
+        }
+        Evaluation::Undefined => {
+            roll_back(pool, mark);
+            Evaluation::Undefined
+        }
+        Evaluation::Refused(refusal) => {
+            roll_back(pool, mark);
+            Evaluation::Refused(refusal)
+        }
+    }
+}
+
+/// What the tree of a line comes to. It is built behind all others, the stored trees take the places
+/// of their names, and what it was made into stands there.
+fn build_and_reduce<R: Reducer, B: Breaker>(
+    pool: &mut Pool,
+    table: &NameTable,
+    tokens: &Tokens,
+    store: Option<Name>,
+    reducer: &R,
+    watch: &mut Watch<B>,
+) -> Evaluation
+    requires stands { Stands pool.old }
+    requires held { IsHeld table.now (forest pool.old) }
+    requires line { (t : Tree) × IsTreeOf (bare (tokens_of tokens.now)) t }
+    ensures reply { (t : Tree) → IsTreeOf (bare (tokens_of tokens.now)) t
+        → ComesTo (IsReplyTo R.room R.bits (free_of pool.old) (values table.now (forest pool.old)) t (states B.state watch.old) (states B.state watch.new) (name_in store))
+        (IsKeepable (name_in store) table.now) (name_in store) (forest pool.old) (forest pool.new) result }
+    ensures interrupted { (place : ℕ) → (result ≡ Evaluation.Refused (Refusal.Interrupted place))
+        ↔ TripsRose (states B.state watch.old) (states B.state watch.new) place }
+    ensures counted { CountsRefusal (refusal_of_evaluation result) pool.old pool.new }
+    ensures front { KeepsFront [] (forest pool.old) (forest pool.new) }
+    ensures stands { Stands pool.new }
+{
+    let tree = match build(pool, tokens) {
+        Ok(tree) => tree,
+        Err(full) => return Evaluation::Refused(refused(full)),
+    };
+    match table.fill(pool, tree) {
+        Ok(filled) => reduce_tree(pool, filled, store, reducer, watch),
+        Err(fault) => Evaluation::Refused(unfilled(fault)),
+    }
+}
+
+/// What the last tree comes to; it is handed in.
+fn reduce_tree<R: Reducer, B: Breaker>(
+    pool: &mut Pool,
+    tree: Handle,
+    store: Option<Name>,
+    reducer: &R,
+    watch: &mut Watch<B>,
+) -> Evaluation
+    requires stands { Stands pool.old }
+    requires last { Gives (without_root tree (forest pool.old)) (forest pool.old) tree (λ t. ⊤) }
+    ensures reply { let t = tree_of tree pool.old in
+        ComesTo (IsReduction R.room R.bits (free_of pool.old + size t) t (states B.state watch.old) (states B.state watch.new) (name_in store))
+        (IsDisplayOf (name_in store) t) (name_in store) (without_root tree (forest pool.old)) (forest pool.new) result }
+    ensures interrupted { (place : ℕ) → (result ≡ Evaluation.Refused (Refusal.Interrupted place))
+        ↔ TripsRose (states B.state watch.old) (states B.state watch.new) place }
+    ensures counted { CountsRefusal (refusal_of_evaluation result) pool.old pool.new }
+    ensures front { KeepsFront (tree ∷ []) (forest pool.old) (forest pool.new) }
+    ensures stands { Stands pool.new }
+{
+    match reducer.reduce(pool, tree, watch) {
+        Ok(answer) => show(pool, answer, store),
+        Err(fault) => Evaluation::Refused(refusal_of(fault)),
+    }
+}
+
+/// The face of a reduced tree takes its place, unless that is Undef or holds the name under which it
+/// is to be stored.
+fn show(pool: &mut Pool, answer: Handle, store: Option<Name>) -> Evaluation
+    requires stands { Stands pool.old }
+    requires handed { IsHanded answer (forest pool.old) }
+    requires reduced { is_reduced (tree_of answer pool.old) ≡ true }
+    ensures shows { Shows (name_in store) answer pool.old pool.new result }
+    ensures counted { CountsRefusal (refusal_of_evaluation result) pool.old pool.new }
+    ensures front { KeepsFront (answer ∷ []) (forest pool.old) (forest pool.new) }
+    ensures stands { Stands pool.new }
+{
+    match kind(pool, answer.id()) {
+        Kind::Undef => Evaluation::Undefined,
+        _ => show_defined(pool, answer, store),
+    }
+}
+
+/// The same, where it is not Undef.
+fn show_defined(pool: &mut Pool, answer: Handle, store: Option<Name>) -> Evaluation
+    requires stands { Stands pool.old }
+    requires handed { IsHanded answer (forest pool.old) }
+    requires reduced { is_reduced (tree_of answer pool.old) ≡ true }
+    requires defined { is_undef (tree_of answer pool.old) ≡ false }
+    ensures shows { Shows (name_in store) answer pool.old pool.new result }
+    ensures counted { CountsRefusal (refusal_of_evaluation result) pool.old pool.new }
+    ensures front { KeepsFront (answer ∷ []) (forest pool.old) (forest pool.new) }
+    ensures stands { Stands pool.new }
+{
+    match name_within(pool, answer.id(), store) {
+        Some(name) => Evaluation::Refused(Refusal::Circular { name }),
+        None => match face_of(pool, answer) {
+            Ok(face) => Evaluation::Face(face),
+            Err(full) => Evaluation::Refused(refused(full)),
+        },
+    }
+}
+
+/// The name under which a tree is to be stored, where the tree holds it.
+fn name_within(pool: &Pool, id: Id, store: Option<Name>) -> Option<Name>
+    requires stands { Stands pool.now }
+    requires expression { IsExpression id (forest pool.now) }
+    ensures { let t = plain (tree_at id (forest pool.now)) in
+        MatchOption result (LacksName (name_in store) t) (λ name. (name_in store ≡ Some (name_of name)) × Contains (names t) (name_of name)) }
+{
+    match store {
+        Some(name) => {
+            if holds_name(pool, id, name) {
+                Some(name)
+            } else {
+                None
+            }
+        }
+        None => None,
+    }
+}
+
+fn refusal_of(fault: ReduceFault) -> Refusal
+    ensures { result ≡ refusal_for fault }
+{
+    match fault {
+        ReduceFault::Full(full) => refused(full),
+        ReduceFault::Overflow(overflow) => Refusal::Overflow {
+            op: overflow.op,
+            a: overflow.a,
+            b: overflow.b,
+        },
+        ReduceFault::Interrupted(interrupted) => Refusal::Interrupted { by: interrupted.by },
+    }
+}
+
+fn unfilled(fault: FillFault) -> Refusal
+    ensures { result ≡ refusal_to_fill fault }
+{
+    match fault {
+        FillFault::Full(full) => refused(full),
+        FillFault::Deep => Refusal::Deep,
+    }
+}
+
+fn refused(full: Full) -> Refusal
+    ensures { result ≡ Refusal.Full full.needed full.free }
+{
+    Refusal::Full {
+        needed: full.needed,
+        free: full.free,
+    }
+}

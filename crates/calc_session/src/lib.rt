@@ -1,0 +1,17 @@
+//! A session with stored names: one line is one step of its model.
+#![tactic(auto)]
+
+mod answers;
+mod commanding;
+mod evaluating;
+mod laws;
+mod reading;
+mod session;
+mod text;
+
+pub use answers::{LineAnswer, Refusal};
+pub use laws::{
+    answers_mean_their_lines, lines_that_read_are_evaluated, one_value_has_one_text,
+    undef_has_no_meaning,
+};
+pub use session::Session;

@@ -1,0 +1,112 @@
+//! Lines, read by the grammar.
+ghost use Rattle.std.specs.Prelude.{◌≡◌, ℕ, List, None, IfOk, IfErr, codes};
+ghost use Rattle.std.specs.Str.{bytes_eq};
+ghost use Rattle.calc_language.specs.Tokens.{is_blank as is_blank_of};
+ghost use Rattle.calc_terms.specs.Leaf.{name_of};
+ghost use Rattle.calc_terms.specs.Trees.{Tree};
+ghost use Rattle.calc_parser.specs.Outcomes.{IsFaultOf as IsLineFault};
+ghost use Rattle.calc_tokens.specs.Faults.{IsFaultOf};
+ghost use Rattle.calc_tokens.specs.Placed.{Placed, bare};
+ghost use Rattle.calc_tokens.specs.Scanned.{AreTokensOf};
+ghost use Rattle.calc_tokens.specs.Tokens.{tokens_of};
+ghost use Rattle.name_table.specs.Storing.{IsStorable, name_in};
+ghost use Rattle.name_table.specs.Tables.{Table};
+ghost use Rattle.calc_session.specs.Answers.{reply_of};
+ghost use Rattle.calc_session.specs.Reading.{is_blank_line as is_blank_line_of, IsReplyUnread, IsText, ReadsAs, ReadsTree};
+ghost use Rattle.calc_session.specs.Replies.{refusal_in};
+
+use crate::Refusal;
+use calc_parser::{ParseFault, check};
+use calc_terms::Name;
+use calc_tokens::{TokenFault, Tokens, scan_into};
+use name_table::NameTable;
+
+/// The most bytes of a line.
+pub const LINE_LIMIT: usize = 1024;
+
+/// Puts the tokens of a line that is read by the grammar in place of those of the list. The name is that
+/// under which the line's answer is to be stored.
+pub fn read_line(
+    line: &[u8],
+    table: &NameTable,
+    tokens: &mut Tokens,
+) -> Result<Option<Name>, Refusal>
+    requires { IsText line.now }
+    ensures tree { IfOk result (λ store. (t : Tree) × ReadsTree table.now line.now (tokens_of tokens.new) (name_in store) t) }
+    ensures refused { IfErr result (λ refusal. IsReplyUnread table.now line.now (reply_of refusal)) }
+    ensures no_pool { IfErr result (λ refusal. refusal_in (reply_of refusal) ≡ None) }
+    ensures no_breaker { IfErr result (λ refusal. (place : ℕ) → refusal ≡ Refusal.Interrupted place → ⊥) }
+{
+    match scan_into(tokens, line) {
+        Ok(()) => {}
+        Err(fault) => return Err(token_refusal(fault)),
+    }
+    let shape = match check(tokens) {
+        Ok(shape) => shape,
+        Err(fault) => return Err(line_refusal(fault)),
+    };
+    check_store(shape.store, table)
+}
+
+/// Whether an answer can be stored under the name, where there is one.
+fn check_store(store: Option<Name>, table: &NameTable) -> Result<Option<Name>, Refusal>
+    ensures ok { IfOk result (λ name. (name ≡ store) × IsStorable (name_in store) table.now) }
+    ensures refused { (line : List ℕ) (tokens : List Placed) (t : Tree) → ReadsAs line tokens (name_in store) t
+        → IfErr result (λ refusal. IsReplyUnread table.now line (reply_of refusal)) }
+    ensures no_pool { IfErr result (λ refusal. refusal_in (reply_of refusal) ≡ None) }
+    ensures no_breaker { IfErr result (λ refusal. (place : ℕ) → refusal ≡ Refusal.Interrupted place → ⊥) }
+{
+    let Some(name) = store else {
+        return Ok(None);
+    };
+    if is_ans(name) {
+        return Err(Refusal::Reserved);
+    }
+    if !table.has_room_for(name) {
+        return Err(Refusal::NamesFull);
+    }
+    Ok(store)
+}
+
+fn token_refusal(fault: TokenFault) -> Refusal
+    ensures refused { (table : Table) (line : List ℕ) → IsText line → IsFaultOf line fault → IsReplyUnread table line (reply_of result) }
+    ensures no_pool { refusal_in (reply_of result) ≡ None }
+    ensures no_breaker { (place : ℕ) → result ≡ Refusal.Interrupted place → ⊥ }
+{
+    match fault {
+        TokenFault::Character { at } => Refusal::Character { at },
+        TokenFault::Number { at } => Refusal::Number { at },
+    }
+}
+
+fn line_refusal(fault: ParseFault) -> Refusal
+    ensures refused { (table : Table) (line : List ℕ) (tokens : List Placed) → IsText line → AreTokensOf tokens line → IsLineFault (bare tokens) fault → IsReplyUnread table line (reply_of result) }
+    ensures no_pool { refusal_in (reply_of result) ≡ None }
+    ensures no_breaker { (place : ℕ) → result ≡ Refusal.Interrupted place → ⊥ }
+{
+    match fault {
+        ParseFault::Syntax => Refusal::Syntax,
+        ParseFault::Deep => Refusal::Deep,
+    }
+}
+
+/// Whether a name is that of the last answer.
+pub fn is_ans(name: Name) -> bool
+    ensures { result ≡ bytes_eq (name_of name) (codes "ans") }
+{
+    name.bytes() == b"ans".as_slice()
+}
+
+/// Whether a line is of blanks alone, or of nothing.
+pub fn is_blank_line(line: &[u8]) -> bool
+    ensures { result ≡ is_blank_line_of line.now }
+{
+    line.iter().all(|byte| is_blank(*byte))
+}
+
+/// A space or a tab.
+fn is_blank(byte: u8) -> bool
+    ensures { result ≡ is_blank_of byte }
+{
+    byte == b' ' || byte == b'\t'
+}

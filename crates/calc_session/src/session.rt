@@ -1,0 +1,210 @@
+//! A session, which answers line by line.
+ghost use Rattle.std.specs.Prelude.{◌≡◌, ◌<◌, ◌≤◌, ◌+◌, ◌↔◌, ℕ, [], length, slice_get, IfOk, Some};
+ghost use Rattle.breakers.specs.Breakers.{TripsRose};
+ghost use Rattle.breakers.specs.Watch.{states};
+ghost use Rattle.calc_terms.specs.Leaf.{name_of};
+ghost use Rattle.name_table.specs.Held.{IsHeld};
+ghost use Rattle.name_table.specs.Storing.{name_in};
+ghost use Rattle.node_pool.specs.State.{IsPoolSize};
+ghost use Rattle.tree_handles.specs.Standing.{Stands};
+ghost use Rattle.calc_session.specs.Answers.{answer_to};
+ghost use Rattle.calc_session.specs.Reading.{IsText};
+
+use crate::commanding::answer_command;
+use crate::evaluating::{Evaluation, evaluate};
+use crate::reading::{LINE_LIMIT, is_blank_line, read_line};
+use crate::text::{write_refusal, write_undef};
+use crate::{LineAnswer, Refusal};
+use breakers::{Breaker, Watch};
+use calc_commands::is_command;
+use calc_terms::{Name, Rat};
+use calc_tokens::Tokens;
+use line_text::{Text, write_text};
+use name_table::NameTable;
+use node_pool::{Id, Pool};
+use reduce_port::Reducer;
+use std::alloc::{AllocError, Global};
+use std::marker::Model;
+use tree_handles::number;
+
+/// A pool, and the table of the trees that stand in it: the last answer and the stored ones. The list
+/// of a line's tokens is taken once, and each line is cut into it.
+#[derive(Drop)]
+pub struct Session {
+    pool: Pool,
+    table: NameTable,
+    text: Text,
+    tokens: Tokens,
+}
+
+impl Model for Session {
+    ghost use Rattle.calc_session.specs.Seen.{Seen};
+
+    ghost Value = { Seen };
+
+    ghost use Rattle.calc_session.specs.Kept.{seen_of, IsKept};
+
+    ghost view = { seen_of };
+
+    ghost invariant = { IsKept };
+}
+
+impl Session {
+    ghost use Rattle.calc_session.specs.States.{first_state, trees};
+    ghost use Rattle.calc_session.specs.Seen.{pool_of, Counts};
+    ghost use Rattle.calc_session.specs.Answers.{Answers, AnswersUntold, refusal_of_pool};
+
+    /// A session with a pool of that many bytes, in which the last answer is 0 and no name is stored.
+    /// All memory is taken here.
+    pub fn open(alloc: Global, size: u32) -> Result<Session, AllocError>
+        requires { IsPoolSize size }
+        ensures { IfOk result (λ session. session ≡ record { state = first_state size; refusals = 0; last_refused = record { needed = 0; free = 0 }; text = [] }) }
+    {
+        let mut pool = Pool::open(alloc, size)?;
+        let text = Text::open(alloc, 3 * size + 256)?;
+        let answer = number(&mut pool, Rat::whole(0)).unwrap();
+        Ok(Session {
+            pool,
+            table: NameTable::new(answer),
+            text,
+            tokens: Tokens::none(),
+        })
+    }
+
+    /// Answers a line, which comes without its newline and the carriage return before that. Its tree is
+    /// reduced by the reducer, which checks the watch.
+    pub fn line<R: Reducer, B: Breaker>(
+        &mut self,
+        reducer: &R,
+        watch: &mut Watch<B>,
+        line: &[u8],
+    ) -> LineAnswer
+        ensures step { Answers R.room R.bits self.old.state (states B.state watch.old) line.now result self.new.text self.new.state (states B.state watch.new) }
+        ensures blank { result ≡ LineAnswer.Blank → self.new.text ≡ [] }
+        ensures interrupted { (place : ℕ) → (result ≡ LineAnswer.Refused (Refusal.Interrupted place))
+            ↔ TripsRose (states B.state watch.old) (states B.state watch.new) place }
+
+        // What the pool refused is answered, and nothing else that it may have refused before.
+        ensures counted { Counts (refusal_of_pool result) self.old self.new }
+        ensures held { IsHeld self.new.state.table (trees self.new.state) }
+    {
+        self.text.clear();
+        let answer = self.answer(reducer, watch, line);
+        if let LineAnswer::Refused(refusal) = answer {
+            write_refusal(&mut self.text, refusal);
+        }
+        answer
+    }
+
+    /// Answers a line. The text of a refusal is still to be written.
+    fn answer<R: Reducer, B: Breaker>(
+        &mut self,
+        reducer: &R,
+        watch: &mut Watch<B>,
+        line: &[u8],
+    ) -> LineAnswer
+        requires clear { self.old.text ≡ [] }
+        ensures answers { AnswersUntold R.room R.bits self.old.state (states B.state watch.old) line.now result self.new.text self.new.state (states B.state watch.new) }
+        ensures interrupted { (place : ℕ) → (result ≡ LineAnswer.Refused (Refusal.Interrupted place))
+            ↔ TripsRose (states B.state watch.old) (states B.state watch.new) place }
+        ensures counted { Counts (refusal_of_pool result) self.old self.new }
+    {
+        if line.len() > LINE_LIMIT {
+            return LineAnswer::Refused(Refusal::Long);
+        }
+        if is_blank_line(line) {
+            return LineAnswer::Blank;
+        }
+        if is_command(line) {
+            return answer_command(&mut self.pool, &mut self.table, &mut self.text, watch, line);
+        }
+        self.answer_text(reducer, watch, line)
+    }
+
+    /// Answers a line that is read by the grammar. The text of a refusal is still to be written.
+    fn answer_text<R: Reducer, B: Breaker>(
+        &mut self,
+        reducer: &R,
+        watch: &mut Watch<B>,
+        line: &[u8],
+    ) -> LineAnswer
+        requires clear { self.old.text ≡ [] }
+        requires text { IsText line.now }
+        ensures answers { AnswersUntold R.room R.bits self.old.state (states B.state watch.old) line.now result self.new.text self.new.state (states B.state watch.new) }
+        ensures interrupted { (place : ℕ) → (result ≡ LineAnswer.Refused (Refusal.Interrupted place))
+            ↔ TripsRose (states B.state watch.old) (states B.state watch.new) place }
+        ensures counted { Counts (refusal_of_pool result) self.old self.new }
+    {
+        let store = match read_line(line, &self.table, &mut self.tokens) {
+            Ok(store) => store,
+            Err(refusal) => return LineAnswer::Refused(refusal),
+        };
+        match evaluate(
+            &mut self.pool,
+            &self.table,
+            &self.tokens,
+            store,
+            reducer,
+            watch,
+        ) {
+            Evaluation::Face(face) => {
+                write_text(&self.pool, face.id(), &mut self.text);
+                self.table.keep(&mut self.pool, store, face);
+                answer_with(store)
+            }
+            Evaluation::Undefined => {
+                write_undef(&mut self.text);
+                LineAnswer::Undef
+            }
+            Evaluation::Refused(refusal) => LineAnswer::Refused(refusal),
+        }
+    }
+
+    /// What is to be printed of the last line, without a newline.
+    pub fn text(&self) -> &[u8]
+        ensures { result.now ≡ self.now.text }
+    {
+        self.text.bytes()
+    }
+
+    /// The pool, which stands for exactly the trees of the table.
+    pub fn pool(&self) -> &Pool
+        ensures value { result.now ≡ pool_of self.now }
+        ensures stands { Stands result.now }
+        ensures held { IsHeld self.now.state.table (trees self.now.state) }
+    {
+        &self.pool
+    }
+
+    /// How many names are stored besides that of the last answer.
+    pub fn names(&self) -> u16
+        ensures { result ≡ length self.now.state.table.stored }
+    {
+        self.table.names()
+    }
+
+    /// A stored name and the root of its tree, the oldest store having place 0.
+    pub fn entry(&self, at: u16) -> (Name, Id)
+        requires { at < length self.now.state.table.stored }
+        ensures { slice_get self.now.state.table.stored at ≡ Some (record { name = name_of result.0; tree = result.1 }) }
+    {
+        self.table.entry(at)
+    }
+
+    /// The root of the last answer.
+    pub fn ans(&self) -> Id
+        ensures { result ≡ self.now.state.table.ans }
+    {
+        self.table.ans()
+    }
+}
+
+/// The answer to a line whose tree is displayed.
+fn answer_with(store: Option<Name>) -> LineAnswer
+    ensures { result ≡ answer_to (name_in store) }
+{
+    match store {
+        Some(_) => LineAnswer::Stored,
+        None => LineAnswer::Shown,
+    }
+}
