@@ -1,34 +1,33 @@
 -- Lemmas on the loop over the input, and how it ends.
 use Rattle.std.proofs.Common.{◌≡◌, ◌∙◌, ℕ, ◌-◌, ◌≤◌, ◌<◌, List, [], ◌++◌, length, Option, refl, ap, subst, arith, append_assoc, append-nil, length-append}
 use Rattle.std.specs.Io.KnownBytes.{Appends, Consumes, IsAtEnd, Keeps}
-use Rattle.poincare_run.specs.declared.dialog.Dialog.{Dialog}
 use Rattle.poincare_run.specs.Lines.{lines_of, line_of_rest, whole_lines, rest_of}
-use Rattle.poincare_run.specs.States.{State}
+use Rattle.poincare_run.specs.Steps.{Moment}
 use Rattle.poincare_run.specs.Buffer.{Holds}
 use Rattle.poincare_run.specs.Endings.{session_limit, Writes, WritesPart, ReadsAll, ReadsPart, ReadsLimit, WriteStops}
-use Rattle.poincare_run.specs.Progress.{Answered, Continues, Breaks, Goes, IsUnderWay}
+use Rattle.poincare_run.specs.Progress.{Answered, Continues, Breaks, Goes, IsUnderWay, Place}
 use Rattle.poincare_run.proofs.ByteLemmas.{Appends-nil, Appends-trans, AppendsPart-after, Consumes-nil, Consumes-trans, Consumes-kept}
 
-pub begins : (dialog : Dialog) (t k : Option (List ℕ)) → Holds dialog.line [] → IsUnderWay dialog.session.state t t k k session_limit dialog
+pub begins : (dialog : Place) (t k : Option (List ℕ)) → Holds dialog.line [] → IsUnderWay dialog.now t t k k session_limit dialog
 unfolding whole_lines rest_of
 begins dialog t k h = record {
   input = [];
   out = [];
   read = Consumes-nil t;
   limit = refl;
-  answered = record { steps = (refl, refl); rest = h };
+  answered = record { steps = record { replies = []; chain = (refl, refl); out_is = refl }; rest = h };
   appended = Appends-nil k;
 }
 
 -- what was answered before and now
-continued : (start : State) (lines : List (List ℕ)) (out : List ℕ) (a b c : Option (List ℕ)) → Appends a b out → Continues start lines out b c → Writes start lines a c
+continued : (start : Moment) (lines : List (List ℕ)) (out : List ℕ) (a b c : Option (List ℕ)) → Appends a b out → Continues start lines out b c → Writes start lines a c
 continued start lines out a b c h more = record {
   out = out ++ more.out;
   transcript = more.transcript;
   appended = Appends-trans a b c out more.out h more.appended;
 }
 
-broken : (start : State) (lines others : List (List ℕ)) (out : List ℕ) (a b c : Option (List ℕ)) → Appends a b out → Breaks start lines out b c → WritesPart start (lines ++ others) a c
+broken : (start : Moment) (lines others : List (List ℕ)) (out : List ℕ) (a b c : Option (List ℕ)) → Appends a b out → Breaks start lines out b c → WritesPart start (lines ++ others) a c
 broken start lines others out a b c h more = record {
   answered = more.answered;
   others = more.others ++ others;
@@ -38,17 +37,17 @@ broken start lines others out a b c h more = record {
   appended = AppendsPart-after a b c out more.out h more.appended;
 }
 
-module _ (start : State) (t t' k k' : Option (List ℕ)) (left : ℕ) (dialog : Dialog) (h : IsUnderWay start t t' k k' left dialog) where
+module _ (start : Moment) (t t' k k' : Option (List ℕ)) (left : ℕ) (dialog : Place) (h : IsUnderWay start t t' k k' left dialog) where
   pub read_fails : (u : Option (List ℕ)) → 0 < left → Keeps t' u → ReadsPart start t u k k'
   read_fails u more kept = record {
     input = h.input;
     read = Consumes-kept t t' u h.input h.read kept;
     within = omega (arith, h.limit);
-    written = record { out = h.out; transcript = (dialog.session.state, h.answered.steps); appended = h.appended };
+    written = record { out = h.out; transcript = (dialog.now, h.answered.steps); appended = h.appended };
   }
 
-  pub reads_on : (u j : Option (List ℕ)) (bytes : List ℕ) (n : ℕ) (new : Dialog) → n ≤ left → length bytes ≡ n → Consumes t' u bytes
-      → ((start : State) (before out : List ℕ) → Answered start before out dialog → Goes start before bytes out new k' j) → IsUnderWay start t u k j (left - n) new
+  pub reads_on : (u j : Option (List ℕ)) (bytes : List ℕ) (n : ℕ) (new : Place) → n ≤ left → length bytes ≡ n → Consumes t' u bytes
+      → ((start : Moment) (before out : List ℕ) → Answered start before out dialog → Goes start before bytes out new k' j) → IsUnderWay start t u k j (left - n) new
   reads_on u j bytes n new fits many read next =
       let goes = next start h.input h.out h.answered in
       record {
@@ -61,7 +60,7 @@ module _ (start : State) (t t' k k' : Option (List ℕ)) (left : ℕ) (dialog : 
       }
 
   pub write_fails : (u j : Option (List ℕ)) (bytes : List ℕ) → length bytes ≤ left → Consumes t' u bytes
-      → ((start : State) (before out : List ℕ) → Answered start before out dialog → Breaks start (whole_lines (before ++ bytes)) out k' j) → WriteStops start t u k j
+      → ((start : Moment) (before out : List ℕ) → Answered start before out dialog → Breaks start (whole_lines (before ++ bytes)) out k' j) → WriteStops start t u k j
   write_fails u j bytes fits read next = record {
     input = h.input ++ bytes;
     read = Consumes-trans t t' u h.input bytes h.read read;
@@ -70,7 +69,7 @@ module _ (start : State) (t t' k k' : Option (List ℕ)) (left : ℕ) (dialog : 
   }
 
   pub ends : (u j : Option (List ℕ)) → 0 < left → Consumes t' u [] → IsAtEnd u
-      → ((start : State) (input out : List ℕ) → Answered start input out dialog → Continues start (lines_of input) out k' j) → ReadsAll start t u k j
+      → ((start : Moment) (input out : List ℕ) → Answered start input out dialog → Continues start (lines_of input) out k' j) → ReadsAll start t u k j
   ends u j more read end next = record {
     input = h.input;
     read = subst (Consumes t u) (append-nil h.input) (Consumes-trans t t' u h.input [] h.read read);
@@ -80,7 +79,7 @@ module _ (start : State) (t t' k k' : Option (List ℕ)) (left : ℕ) (dialog : 
   }
 
   pub end_fails : (u j : Option (List ℕ)) → Consumes t' u []
-      → ((start : State) (input out : List ℕ) → Answered start input out dialog → Breaks start (lines_of input) out k' j) → WriteStops start t u k j
+      → ((start : Moment) (input out : List ℕ) → Answered start input out dialog → Breaks start (lines_of input) out k' j) → WriteStops start t u k j
   end_fails u j read next = record {
     input = h.input;
     read = subst (Consumes t u) (append-nil h.input) (Consumes-trans t t' u h.input [] h.read read);
@@ -93,5 +92,5 @@ module _ (start : State) (t t' k k' : Option (List ℕ)) (left : ℕ) (dialog : 
     input = h.input;
     read = h.read;
     all = omega (arith, h.limit);
-    written = record { out = h.out; transcript = (dialog.session.state, h.answered.steps); appended = h.appended };
+    written = record { out = h.out; transcript = (dialog.now, h.answered.steps); appended = h.appended };
   }

@@ -4,10 +4,13 @@ use Rattle.std.proofs.lemmas.List.{append_cancel_right}
 use Rattle.std.specs.Io.KnownBytes.{Consumes}
 use Rattle.calc_edges.specs.Faults.{Rose, StopsAtFailure}
 use Rattle.poincare_run.specs.declared.dialog.Ending.{Ending}
-use Rattle.poincare_run.specs.declared.dialog.Ending.TheVariants.{ReadToEnd, ReadFailed, WriteFailed, LimitReached}
-use Rattle.poincare_run.specs.States.{State}
-use Rattle.poincare_run.specs.Endings.{session_limit, ReadsAll, ReadsPart, ReadsLimit, WriteStops}
-use Rattle.poincare_run.specs.Progress.{EndsAs, StopsReading, StopsWriting, status}
+use Rattle.poincare_run.specs.declared.dialog.Ending.TheVariants.{ReadToEnd, ReadFailed, WriteFailed, LimitReached, NoMemory}
+use Rattle.breakers.specs.State.{State as Breaker}
+use Rattle.calc_session.specs.States.{State}
+use Rattle.poincare_run.specs.Beginnings.{Beginning, reads, generates, IfReads, IfGenerates}
+use Rattle.poincare_run.specs.Steps.{Moment}
+use Rattle.poincare_run.specs.Endings.{session_limit, ReadsAll, ReadsPart, ReadsLimit, WriteStops, SumsUp, SumsUpInPart}
+use Rattle.poincare_run.specs.Progress.{EndsAs, EndsFrom, IfNoMemory, IsSummed, StopsReading, StopsWriting, SumsUpAs, status}
 
 -- what was consumed is known where the source tells its bytes
 consumed : (t u : Option (List ℕ)) (bytes input rest : List ℕ) → Consumes t u bytes → t ≡ Some (input ++ rest) → u ≡ Some rest → length input ≡ length bytes
@@ -41,44 +44,52 @@ is_status ReadToEnd = (0, omega arith, refl)
 is_status ReadFailed = (2, omega arith, refl)
 is_status WriteFailed = (3, omega arith, refl)
 is_status LimitReached = (5, omega arith, refl)
+is_status NoMemory = (4, omega arith, refl)
 
 pub no_usage : (ending : Ending) → status ending ≡ 2 → ⊥
 no_usage ReadToEnd e = omega arith
 no_usage ReadFailed e = omega arith
 no_usage WriteFailed e = omega arith
 no_usage LimitReached e = omega arith
+no_usage NoMemory e = omega arith
 
-pub not_early : (ending : Ending) → (status ending ≡ 2) ⊎ (status ending ≡ 5) → ⊥
-not_early ending (inl e) = no_usage ending e
-not_early ReadToEnd (inr e) = omega arith
-not_early ReadFailed (inr e) = omega arith
-not_early WriteFailed (inr e) = omega arith
-not_early LimitReached (inr e) = omega arith
+-- what holds where there was no memory
+pub early : (ending : Ending) (P : Type 0) → (status ending ≡ 2) ⊎ (status ending ≡ 5) → IfNoMemory ending P → P
+early ending P (inl e) h = absurd (no_usage ending e)
+early ReadToEnd P (inr e) h = absurd (omega arith)
+early ReadFailed P (inr e) h = absurd (omega arith)
+early WriteFailed P (inr e) h = absurd (omega arith)
+early LimitReached P (inr e) h = absurd (omega arith)
+early NoMemory P (inr e) h = h
 
-module _ (start : State) (t t' k k' : Option (List ℕ)) where
+module _ (start : Moment) (t t' k k' : Option (List ℕ)) where
   pub all_read : (ending : Ending) → EndsAs ending start t t' k k' → status ending ≡ 0 → ReadsAll start t t' k k'
   all_read ReadToEnd h e = h
   all_read ReadFailed h e = absurd (omega arith)
   all_read WriteFailed h e = absurd (omega arith)
   all_read LimitReached h e = absurd (omega arith)
+  all_read NoMemory h e = absurd (omega arith)
 
   pub read_in_part : (ending : Ending) → EndsAs ending start t t' k k' → status ending ≡ 3 → ReadsPart start t t' k k'
   read_in_part ReadToEnd h e = absurd (omega arith)
   read_in_part ReadFailed h e = h
   read_in_part WriteFailed h e = absurd (omega arith)
   read_in_part LimitReached h e = absurd (omega arith)
+  read_in_part NoMemory h e = absurd (omega arith)
 
   pub written_in_part : (ending : Ending) → EndsAs ending start t t' k k' → status ending ≡ 4 → WriteStops start t t' k k'
   written_in_part ReadToEnd h e = absurd (omega arith)
   written_in_part ReadFailed h e = absurd (omega arith)
   written_in_part WriteFailed h e = h
   written_in_part LimitReached h e = absurd (omega arith)
+  written_in_part NoMemory h e = absurd (omega arith)
 
   pub limit_reached : (ending : Ending) → EndsAs ending start t t' k k' → status ending ≡ 6 → ReadsLimit start t t' k k'
   limit_reached ReadToEnd h e = absurd (omega arith)
   limit_reached ReadFailed h e = absurd (omega arith)
   limit_reached WriteFailed h e = absurd (omega arith)
   limit_reached LimitReached h e = h
+  limit_reached NoMemory h e = absurd (omega arith)
 
   pub within_limit : (ending : Ending) → EndsAs ending start t t' k k' → (input rest : List ℕ) → t ≡ Some (input ++ rest) → t' ≡ Some rest
       → (length input ≤ session_limit) × (length input ≡ session_limit → (status ending ≡ 6) ⊎ (status ending ≡ 4))
@@ -94,6 +105,7 @@ module _ (start : State) (t t' k k' : Option (List ℕ)) where
   within_limit LimitReached h input rest before after =
       let same = consumed t t' h.input input rest h.read before after in
       (omega (arith, h.all), λ all. inl refl)
+  within_limit NoMemory h input rest before after = nothing_read t input rest 5 before (sym h.0 ∙ after)
 
 -- ---- what failed, and what did not
 
@@ -103,24 +115,127 @@ module _ {X : Type 0} (bytes : X → Option (List ℕ)) (faults : X → ℕ) (ol
   read_stops ReadFailed h e = h
   read_stops WriteFailed h e = absurd (omega arith)
   read_stops LimitReached h e = absurd (omega arith)
+  read_stops NoMemory h e = absurd (omega arith)
 
   pub reads_calm : (ending : Ending) → StopsReading ending bytes faults old new → status ending ≢ 3 → faults new ≡ faults old
   reads_calm ReadToEnd h e = h
   reads_calm ReadFailed h e = absurd (e refl)
   reads_calm WriteFailed h e = h
   reads_calm LimitReached h e = h
+  reads_calm NoMemory h e = h
 
   pub write_stops : (ending : Ending) → StopsWriting ending bytes faults old new → status ending ≡ 4 → StopsAtFailure bytes faults old new
   write_stops ReadToEnd h e = absurd (omega arith)
   write_stops ReadFailed h e = absurd (omega arith)
   write_stops WriteFailed h e = h
   write_stops LimitReached h e = absurd (omega arith)
+  write_stops NoMemory h e = absurd (omega arith)
 
   pub writes_calm : (ending : Ending) → StopsWriting ending bytes faults old new → status ending ≢ 4 → faults new ≡ faults old
   writes_calm ReadToEnd h e = h
   writes_calm ReadFailed h e = h
   writes_calm WriteFailed h e = absurd (e refl)
   writes_calm LimitReached h e = h
+  writes_calm NoMemory h e = h
 
   pub stopped_rose : StopsAtFailure bytes faults old new → Rose (faults old) (faults new)
   stopped_rose h = subst (λ n. Rose n (faults new)) h.calm h.failed
+
+-- ---- generated sessions
+
+module _ (start : Moment) (number : ℕ) (k k' : Option (List ℕ)) where
+  pub summed_up : (ending : Ending) → SumsUpAs ending start number k k' → status ending ≡ 0 → SumsUp start number k k'
+  summed_up ReadToEnd h e = h
+  summed_up ReadFailed h e = absurd (omega arith)
+  summed_up WriteFailed h e = absurd (omega arith)
+  summed_up LimitReached h e = absurd (omega arith)
+  summed_up NoMemory h e = absurd (omega arith)
+
+  pub summed_up_in_part : (ending : Ending) → SumsUpAs ending start number k k' → status ending ≡ 4 → SumsUpInPart start number k k'
+  summed_up_in_part ReadToEnd h e = absurd (omega arith)
+  summed_up_in_part ReadFailed h e = absurd (omega arith)
+  summed_up_in_part WriteFailed h e = h
+  summed_up_in_part LimitReached h e = absurd (omega arith)
+  summed_up_in_part NoMemory h e = absurd (omega arith)
+
+-- a generated session ends in none of the ways of reading
+not_read : (ending : Ending) → IsSummed ending → (status ending ≢ 3) × (status ending ≢ 6)
+not_read ReadToEnd h = (λ e. omega arith, λ e. omega arith)
+not_read ReadFailed h = absurd h
+not_read WriteFailed h = (λ e. omega arith, λ e. omega arith)
+not_read LimitReached h = absurd h
+not_read NoMemory h = (λ e. omega arith, λ e. omega arith)
+
+module _ (o : Option Beginning) (b : Beginning) (is : o ≡ Some b) (ending : Ending) (t t' k k' : Option (List ℕ)) (h : EndsFrom ending b t t' k k') where
+  if_reads : (P : Moment → Type 0) → ((start : Moment) → EndsAs ending start t t' k k' → P start) → IfReads o P
+  if_reads P f = subst (λ p. IfReads p P) (sym is) (by b h)
+    where
+      by : (c : Beginning) → EndsFrom ending c t t' k k' → IfReads (Some c) P
+      by (reads start) e = f start e
+      by (generates start n) e = tt
+
+  if_generates : (P : Moment → ℕ → Type 0) → ((start : Moment) (n : ℕ) → SumsUpAs ending start n k k' → IsSummed ending → P start n) → IfGenerates o P
+  if_generates P f = subst (λ p. IfGenerates p P) (sym is) (by b h)
+    where
+      by : (c : Beginning) → EndsFrom ending c t t' k k' → IfGenerates (Some c) P
+      by (reads start) e = tt
+      by (generates start n) e = f start n e.0 e.2
+
+  pub all_read_if : status ending ≡ 0 → IfReads o (λ start. ReadsAll start t t' k k')
+  all_read_if s = if_reads (λ start. ReadsAll start t t' k k') (λ start e. all_read start t t' k k' ending e s)
+
+  pub read_in_part_if : status ending ≡ 3 → IfReads o (λ start. ReadsPart start t t' k k')
+  read_in_part_if s = if_reads (λ start. ReadsPart start t t' k k') (λ start e. read_in_part start t t' k k' ending e s)
+
+  pub written_in_part_if : status ending ≡ 4 → IfReads o (λ start. WriteStops start t t' k k')
+  written_in_part_if s = if_reads (λ start. WriteStops start t t' k k') (λ start e. written_in_part start t t' k k' ending e s)
+
+  pub limit_reached_if : status ending ≡ 6 → IfReads o (λ start. ReadsLimit start t t' k k')
+  limit_reached_if s = if_reads (λ start. ReadsLimit start t t' k k') (λ start e. limit_reached start t t' k k' ending e s)
+
+  pub summed_up_if : status ending ≡ 0 → IfGenerates o (λ start n. SumsUp start n k k')
+  summed_up_if s = if_generates (λ start n. SumsUp start n k k') (λ start n e _. summed_up start n k k' ending e s)
+
+  pub summed_up_in_part_if : status ending ≡ 4 → IfGenerates o (λ start n. SumsUpInPart start n k k')
+  summed_up_in_part_if s = if_generates (λ start n. SumsUpInPart start n k k') (λ start n e _. summed_up_in_part start n k k' ending e s)
+
+  pub unread_if : (P : Type 0) → IfGenerates (Some b) (λ start n. P) → IfGenerates o (λ start n. P × (status ending ≢ 3) × (status ending ≢ 6))
+  unread_if P p = subst (λ q. IfGenerates q (λ start n. P × (status ending ≢ 3) × (status ending ≢ 6))) (sym is) (by b h p)
+    where
+      by : (c : Beginning) → EndsFrom ending c t t' k k' → IfGenerates (Some c) (λ start n. P) → IfGenerates (Some c) (λ start n. P × (status ending ≢ 3) × (status ending ≢ 6))
+      by (reads start) e p = tt
+      by (generates start n) e p = let other = not_read ending e.2 in (p, other.0, other.1)
+
+  pub within_limit_if : (input rest : List ℕ) → t ≡ Some (input ++ rest) → t' ≡ Some rest → (length input ≤ session_limit) × (length input ≡ session_limit → (status ending ≡ 6) ⊎ (status ending ≡ 4))
+  within_limit_if input rest before after = by b h
+    where
+      by : (c : Beginning) → EndsFrom ending c t t' k k' → (length input ≤ session_limit) × (length input ≡ session_limit → (status ending ≡ 6) ⊎ (status ending ≡ 4))
+      by (reads start) e = within_limit start t t' k k' ending e input rest before after
+      by (generates start n) e = nothing_read t input rest (status ending) before (sym e.1 ∙ after)
+
+pub begins_at : (m : Moment) (s : State) (bs : List Breaker) → m.state ≡ s → m.breakers ≡ bs → record { state = s; breakers = bs } ≡ m
+begins_at m s bs e f = ap (λ (x : State). record { state = x; breakers = bs }) (sym e) ∙ ap (λ (ys : List Breaker). record { state = m.state; breakers = ys }) (sym f)
+
+pub never_early : (ending : Ending) (P : Type 0) → IfNoMemory ending ⊥ → IfNoMemory ending P
+never_early ReadToEnd P h = tt
+never_early ReadFailed P h = tt
+never_early WriteFailed P h = tt
+never_early LimitReached P h = tt
+never_early NoMemory P h = absurd h
+
+pub early_too : (ending : Ending) (P Q : Type 0) → P → IfNoMemory ending Q → IfNoMemory ending (P × Q)
+early_too ReadToEnd P Q p h = tt
+early_too ReadFailed P Q p h = tt
+early_too WriteFailed P Q p h = tt
+early_too LimitReached P Q p h = tt
+early_too NoMemory P Q p h = (p, h)
+
+pub nothing_stops : {X : Type 0} (bytes : X → Option (List ℕ)) (faults : X → ℕ) (x : X) (ending : Ending) → IsSummed ending → StopsReading ending bytes faults x x
+nothing_stops bytes faults x ReadToEnd h = refl
+nothing_stops bytes faults x ReadFailed h = absurd h
+nothing_stops bytes faults x WriteFailed h = refl
+nothing_stops bytes faults x LimitReached h = absurd h
+nothing_stops bytes faults x NoMemory h = refl
+
+pub summed_ends : (start : Moment) (number : ℕ) (t : Option (List ℕ)) (ending : Ending) (k k' : Option (List ℕ)) → SumsUpAs ending start number k k' → IsSummed ending → EndsFrom ending (generates start number) t t k k'
+summed_ends start number t ending k k' sums summed = (sums, refl, summed)

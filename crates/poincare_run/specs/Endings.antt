@@ -1,24 +1,26 @@
 -- How a session ends: what was read of the source, and what was written to the sink.
 -- Of the source and the sink: the bytes that are left and the bytes that were taken, at the beginning and at the end, where they tell them.
-use Rattle.std.specs.Prelude.{◌≡◌, ℕ, ◌<◌, ◌≤◌, List, ◌++◌, length, Option}
+use Rattle.std.specs.Prelude.{◌≡◌, ℕ, ◌<◌, ◌≤◌, List, [], ◌∷◌, ◌++◌, length, Option}
 use Rattle.std.specs.Io.KnownBytes.{Appends, Consumes, IsAtEnd}
 use Rattle.calc_edges.specs.Taken.{AppendsPart}
 use Rattle.poincare_run.specs.Lines.{lines_of, whole_lines}
-use Rattle.poincare_run.specs.States.{State}
-use Rattle.poincare_run.specs.Steps.{Transcript}
+use Rattle.calc_session.specs.Replies.{Reply}
+use Rattle.poincare_run.specs.Generated.{session_text}
+use Rattle.poincare_run.specs.Summaries.{summary_text, tally_of}
+use Rattle.poincare_run.specs.Steps.{Chain, Moment, Transcript}
 
 -- the most bytes that are read
 abbrev pub session_limit : ℕ
 session_limit = 16777215
 
 -- the answers to these lines were written
-pub record Writes (start : State) (lines : List (List ℕ)) (taken taken' : Option (List ℕ)) : Type 0 where
+pub record Writes (start : Moment) (lines : List (List ℕ)) (taken taken' : Option (List ℕ)) : Type 0 where
   pub out : List ℕ
   pub transcript : Transcript start lines out
   pub appended : Appends taken taken' out
 
 -- the answers to some of the lines, from the first on, were to be written, and a front of them was
-pub record WritesPart (start : State) (lines : List (List ℕ)) (taken taken' : Option (List ℕ)) : Type 0 where
+pub record WritesPart (start : Moment) (lines : List (List ℕ)) (taken taken' : Option (List ℕ)) : Type 0 where
   pub answered : List (List ℕ)
   pub others : List (List ℕ)
   pub lines_are : lines ≡ answered ++ others
@@ -27,7 +29,7 @@ pub record WritesPart (start : State) (lines : List (List ℕ)) (taken taken' : 
   pub appended : AppendsPart taken taken' out
 
 -- the input was read to its end, and all its lines were answered
-pub record ReadsAll (start : State) (told told' taken taken' : Option (List ℕ)) : Type 0 where
+pub record ReadsAll (start : Moment) (told told' taken taken' : Option (List ℕ)) : Type 0 where
   pub input : List ℕ
   pub read : Consumes told told' input
   pub nothing_left : IsAtEnd told'
@@ -35,22 +37,36 @@ pub record ReadsAll (start : State) (told told' taken taken' : Option (List ℕ)
   pub written : Writes start (lines_of input) taken taken'
 
 -- the input was read up to some place before the limit, and the lines that were whole were answered
-pub record ReadsPart (start : State) (told told' taken taken' : Option (List ℕ)) : Type 0 where
+pub record ReadsPart (start : Moment) (told told' taken taken' : Option (List ℕ)) : Type 0 where
   pub input : List ℕ
   pub read : Consumes told told' input
   pub within : length input < session_limit
   pub written : Writes start (whole_lines input) taken taken'
 
 -- the input was read up to the limit, and the lines that were whole were answered
-pub record ReadsLimit (start : State) (told told' taken taken' : Option (List ℕ)) : Type 0 where
+pub record ReadsLimit (start : Moment) (told told' taken taken' : Option (List ℕ)) : Type 0 where
   pub input : List ℕ
   pub read : Consumes told told' input
   pub all : length input ≡ session_limit
   pub written : Writes start (whole_lines input) taken taken'
 
 -- a part of the answers to what was read was written
-pub record WriteStops (start : State) (told told' taken taken' : Option (List ℕ)) : Type 0 where
+pub record WriteStops (start : Moment) (told told' taken taken' : Option (List ℕ)) : Type 0 where
   pub input : List ℕ
   pub read : Consumes told told' input
   pub within : length input ≤ session_limit
   pub written : WritesPart start (lines_of input) taken taken'
+
+-- the lines of the session of a number are answered from this moment on, and the summary is what is written
+pub record SumsUp (start : Moment) (number : ℕ) (taken taken' : Option (List ℕ)) : Type 0 where
+  pub replies : List Reply
+  pub end : Moment
+  pub chain : Chain start (whole_lines (session_text number)) replies end
+  pub appended : Appends taken taken' (summary_text (tally_of replies) ++ 10 ∷ [])
+
+-- the same, and a front of the summary is written
+pub record SumsUpInPart (start : Moment) (number : ℕ) (taken taken' : Option (List ℕ)) : Type 0 where
+  pub replies : List Reply
+  pub end : Moment
+  pub chain : Chain start (whole_lines (session_text number)) replies end
+  pub appended : AppendsPart taken taken' (summary_text (tally_of replies) ++ 10 ∷ [])

@@ -1,8 +1,7 @@
 -- The lines of an input.
 use Rattle.std.specs.Prelude.{ℕ, List, [], ◌∷◌, ◌++◌, map, Bool, ◌==◌}
-use Rattle.std.specs.List.{slice_split, list_all}
+use Rattle.std.specs.List.{slice_split}
 use Rattle.std.specs.Str.Lines.{strip_carriage_return}
-use Rattle.calc_language.specs.Tokens.{is_blank}
 
 abbrev pub is_newline : ℕ → Bool
 is_newline b = b == 10
@@ -37,7 +36,3 @@ line_of_rest (b ∷ bytes) = strip_carriage_return (b ∷ bytes) ∷ []
 -- all lines
 abbrev pub lines_of : List ℕ → List (List ℕ)
 lines_of bytes = whole_lines bytes ++ line_of_rest (rest_of bytes)
-
--- a line of spaces and tabs, or of nothing
-abbrev pub is_blank_line : List ℕ → Bool
-is_blank_line line = list_all is_blank line

@@ -1,10 +1,14 @@
--- The words of the command line: none, `--pool N`, or `--pool=N`.
-use Rattle.std.specs.Prelude.{ℕ, ◌^◌, ◌%◌, List, [], ◌∷◌, length, drop, Bool, ◌&&◌, ◌==◌, eqb, nat_le, nat_lt, bytes_eq, if◌then◌else◌, Option, Some, None, codes}
+-- The words of the command line: `--pool N`, `--interrupt K` and `--gen N`, each at most once and in any order.
+use Rattle.std.specs.Prelude.{ℕ, ◌^◌, ◌%◌, List, [], ◌∷◌, length, drop, Bool, ◌&&◌, ◌==◌, eqb, nat_le, nat_lt, bytes_eq, is_some, true, if◌then◌else◌, Option, Some, None, codes}
 use Rattle.std.specs.List.{starts_with, list_all}
 use Rattle.std.specs.Option.{option_and_then, option_map}
 use Rattle.std.specs.Str.Parse.{digits_value}
 use Rattle.std.specs.Char.{is_ascii_digit}
-use Rattle.poincare_run.specs.States.{State, first_state}
+use Rattle.poincare_run.specs.declared.words.Key.{Key}
+use Rattle.poincare_run.specs.declared.words.Key.TheVariants.{Pool, Interrupt, Generated}
+use Rattle.poincare_run.specs.declared.words.Values.{Values}
+use Rattle.poincare_run.specs.declared.words.Reading.{Reading}
+use Rattle.poincare_run.specs.declared.words.Options.{Options}
 
 -- one or more decimal digits
 abbrev pub is_digits : List ℕ → Bool
@@ -14,21 +18,69 @@ is_digits text = nat_lt 0 (length text) && list_all is_ascii_digit text
 unfoldable pub value_of : List ℕ → Option ℕ
 value_of text = if is_digits text && nat_le (length text) 20 && nat_lt (digits_value 10 text) (2 ^ 64) then Some (digits_value 10 text) else None
 
+-- ---- what the words name
+
+-- no option is named
+abbrev pub no_values : Values
+no_values = record { pool = None; interrupt = None; generated = None }
+
+-- an option has this value, where it had none
+abbrev pub with_number : Key → ℕ → Values → Option Values
+with_number Pool n v = if is_some v.pool then None else Some (record v { pool = Some n })
+with_number Interrupt n v = if is_some v.interrupt then None else Some (record v { interrupt = Some n })
+with_number Generated n v = if is_some v.generated then None else Some (record v { generated = Some n })
+
+abbrev pub with_value : Key → List ℕ → Values → Option Values
+with_value key text v = option_and_then (λ n. with_number key n v) (value_of text)
+
+-- the option whose name the word is; its value is the next word
+abbrev pub key_of : List ℕ → Option Key
+key_of word = if bytes_eq word (codes "--pool") then Some Pool else if bytes_eq word (codes "--interrupt") then Some Interrupt else if bytes_eq word (codes "--gen") then Some Generated else None
+
+-- the option whose name stands in the word, with its value behind `=`
+abbrev pub with_generated : List ℕ → Values → Option Values
+with_generated word v = if starts_with eqb word (codes "--gen=") then with_value Generated (drop 6 word) v else None
+
+abbrev pub with_interrupt : List ℕ → Values → Option Values
+with_interrupt word v = if starts_with eqb word (codes "--interrupt=") then with_value Interrupt (drop 12 word) v else with_generated word v
+
+abbrev pub with_word : List ℕ → Values → Option Values
+with_word word v = if starts_with eqb word (codes "--pool=") then with_value Pool (drop 7 word) v else with_interrupt word v
+
+-- what is read, and no option waits for its value
+abbrev pub settled : Values → Reading
+settled v = record { values = v; waiting = None }
+
+-- One more word: the value of the option that waits for it, or the name of an option, or an option with its value.
+abbrev pub with_next : List ℕ → Reading → Option Reading
+with_next word r = elim r.waiting [ Some key ↦ option_map settled (with_value key word r.values) | None ↦ elim (key_of word) [ Some key ↦ Some (record { values = r.values; waiting = Some key }) | None ↦ option_map settled (with_word word r.values) ] ]
+
+-- the words are read one after another
+abbrev pub read : Reading → List (List ℕ) → Option Reading
+read r [] = Some r
+read r (word ∷ words) = option_and_then (λ more. read more words) (with_next word r)
+
+-- what is named, where no option is without its value
+abbrev pub named_in : Reading → Option Values
+named_in r = elim r.waiting [ Some key ↦ None | None ↦ Some r.values ]
+
+-- ---- what they are good for
+
+-- the size that is named, or else 32,768
+abbrev pub size_in : Values → ℕ
+size_in v = elim v.pool [ None ↦ 32768 | Some size ↦ size ]
+
 -- a multiple of 8 from 64 to 524,280
 abbrev pub is_pool_size : ℕ → Bool
 is_pool_size size = nat_le 64 size && nat_le size 524280 && (size % 8 == 0)
 
--- the size that a text names
-abbrev pub size_of : List ℕ → Option ℕ
-size_of text = option_and_then (λ value. if is_pool_size value then Some value else None) (value_of text)
+-- the number of a generated session is at most 4,294,967,295
+abbrev pub is_session_number : Option ℕ → Bool
+is_session_number number = elim number [ None ↦ true | Some n ↦ nat_lt n (2 ^ 32) ]
 
--- the size that the words name, or else 32,768
-abbrev pub pool_size : List (List ℕ) → Option ℕ
-pool_size [] = Some 32768
-pool_size (word ∷ []) = if starts_with eqb word (codes "--pool=") then size_of (drop 7 word) else None
-pool_size (word ∷ size ∷ []) = if bytes_eq word (codes "--pool") then size_of size else None
-pool_size (word ∷ size ∷ another ∷ words) = None
+abbrev pub options_with : Values → Option Options
+options_with v = if is_pool_size (size_in v) && is_session_number v.generated then Some (record { size = size_in v; interrupt = v.interrupt; generated = v.generated }) else None
 
--- the state in which a session begins, by the words; there is none where the words are no form of the command line
-abbrev pub opening : List (List ℕ) → Option State
-opening words = option_map first_state (pool_size words)
+-- there are none where the words are no form of the command line
+unfoldable pub options_of : List (List ℕ) → Option Options
+options_of words = option_and_then options_with (option_and_then named_in (read (settled no_values) words))

@@ -1,44 +1,68 @@
 -- How far a session has come in the middle of its input.
-use Rattle.std.specs.Prelude.{◌≡◌, ℕ, ◌+◌, List, ◌++◌, length, Option}
+use Rattle.std.specs.Prelude.{◌≡◌, ℕ, ◌+◌, List, ◌++◌, length, Option, ⊤}
 use Rattle.std.specs.Str.Lines.{strip_carriage_return}
 use Rattle.std.specs.Io.KnownBytes.{Appends, Consumes}
+use Rattle.breakers.specs.State.{State as Breaker}
+use Rattle.breakers.specs.Watch.{states}
 use Rattle.calc_edges.specs.Faults.{StopsAtFailure}
 use Rattle.calc_edges.specs.Taken.{AppendsPart}
+use Rattle.calc_session.specs.Answers.{IsAnswer, printed}
+use Rattle.calc_session.specs.Replies.{Reply, text_of}
+use Rattle.calc_session.specs.declared.answers.LineAnswer.{LineAnswer}
+use Rattle.poincare_run.specs.declared.buffer.LineBuffer.{LineBuffer}
 use Rattle.poincare_run.specs.declared.dialog.Dialog.{Dialog}
 use Rattle.poincare_run.specs.declared.dialog.Ending.{Ending}
-use Rattle.poincare_run.specs.declared.dialog.Ending.TheVariants.{ReadToEnd, ReadFailed, WriteFailed, LimitReached}
+use Rattle.poincare_run.specs.declared.dialog.Ending.TheVariants.{ReadToEnd, ReadFailed, WriteFailed, LimitReached, NoMemory}
 use Rattle.poincare_run.specs.Lines.{whole_lines, rest_of}
-use Rattle.poincare_run.specs.States.{State}
-use Rattle.poincare_run.specs.Steps.{Step, Steps, Transcript, written}
+use Rattle.poincare_run.specs.Steps.{Chain, LineStep, Moment, Steps, Transcript, written}
+use Rattle.poincare_run.specs.Beginnings.{Beginning, reads, generates}
 use Rattle.poincare_run.specs.Buffer.{Holds}
-use Rattle.poincare_run.specs.Endings.{session_limit, ReadsAll, ReadsPart, ReadsLimit, WriteStops}
+use Rattle.poincare_run.specs.Summaries.{tally_of}
+use Rattle.poincare_run.specs.declared.tally.Tally.{Tally}
+use Rattle.poincare_run.specs.Endings.{session_limit, ReadsAll, ReadsPart, ReadsLimit, WriteStops, SumsUp, SumsUpInPart}
+
+-- a place between two bytes of the input: what is kept from line to line, and what has come of the next line
+pub record Place : Type 0 where
+  pub now : Moment
+  pub line : LineBuffer
+
+-- the place where a dialog stands
+abbrev pub place_of : {B : Type 0} → (B → Breaker) → Dialog B → Place
+place_of breaker dialog = record { now = record { state = dialog.session.state; breakers = states breaker dialog.watch }; line = dialog.line }
 
 -- the whole lines of the bytes are answered by out, and the buffer holds the rest
-pub record Answered (start : State) (bytes out : List ℕ) (dialog : Dialog) : Type 0 where
-  pub steps : Steps start (whole_lines bytes) out dialog.session.state
-  pub rest : Holds dialog.line (rest_of bytes)
+pub record Answered (start : Moment) (bytes out : List ℕ) (place : Place) : Type 0 where
+  pub steps : Steps start (whole_lines bytes) out place.now
+  pub rest : Holds place.line (rest_of bytes)
 
--- the line that came with these bytes is answered
-pub record AnswersLine (old new : Dialog) (bytes : List ℕ) (taken taken' : Option (List ℕ)) : Type 0 where
-  pub text : Option (List ℕ)
-  pub step : Step old.session.state (strip_carriage_return bytes) text new.session.state
-  pub appended : Appends taken taken' (written text)
+-- the line that came with these bytes is answered so, by a reply with this text
+pub record TakesLine (old new : Place) (bytes : List ℕ) (answer : LineAnswer) (text : List ℕ) : Type 0 where
+  pub reply : Reply
+  pub step : LineStep old.now (strip_carriage_return bytes) reply new.now
+  pub answer_is : IsAnswer answer reply
+  pub text_is : printed answer text ≡ text_of reply
+
+-- the line that came with these bytes is answered, and the answer is written
+pub record AnswersLine (old new : Place) (bytes : List ℕ) (taken taken' : Option (List ℕ)) : Type 0 where
+  pub reply : Reply
+  pub step : LineStep old.now (strip_carriage_return bytes) reply new.now
+  pub appended : Appends taken taken' (written reply)
 
 -- a front of its answer is written
-pub record FailsAtLine (old : Dialog) (bytes : List ℕ) (taken taken' : Option (List ℕ)) : Type 0 where
-  pub text : Option (List ℕ)
-  pub next : State
-  pub step : Step old.session.state (strip_carriage_return bytes) text next
-  pub appended : AppendsPart taken taken' (written text)
+pub record FailsAtLine (old : Place) (bytes : List ℕ) (taken taken' : Option (List ℕ)) : Type 0 where
+  pub reply : Reply
+  pub next : Moment
+  pub step : LineStep old.now (strip_carriage_return bytes) reply next
+  pub appended : AppendsPart taken taken' (written reply)
 
 -- these lines are answered by what was written before and now
-pub record Continues (start : State) (lines : List (List ℕ)) (before : List ℕ) (taken taken' : Option (List ℕ)) : Type 0 where
+pub record Continues (start : Moment) (lines : List (List ℕ)) (before : List ℕ) (taken taken' : Option (List ℕ)) : Type 0 where
   pub out : List ℕ
   pub transcript : Transcript start lines (before ++ out)
   pub appended : Appends taken taken' out
 
 -- the answer to one of these lines is cut off
-pub record Breaks (start : State) (lines : List (List ℕ)) (before : List ℕ) (taken taken' : Option (List ℕ)) : Type 0 where
+pub record Breaks (start : Moment) (lines : List (List ℕ)) (before : List ℕ) (taken taken' : Option (List ℕ)) : Type 0 where
   pub answered : List (List ℕ)
   pub others : List (List ℕ)
   pub lines_are : lines ≡ answered ++ others
@@ -47,26 +71,57 @@ pub record Breaks (start : State) (lines : List (List ℕ)) (before : List ℕ) 
   pub appended : AppendsPart taken taken' out
 
 -- the bytes came behind those before
-pub record Goes (start : State) (before bytes out : List ℕ) (new : Dialog) (taken taken' : Option (List ℕ)) : Type 0 where
+pub record Goes (start : Moment) (before bytes out : List ℕ) (new : Place) (taken taken' : Option (List ℕ)) : Type 0 where
   pub more : List ℕ
   pub answered : Answered start (before ++ bytes) (out ++ more) new
   pub appended : Appends taken taken' more
 
 -- the loop over the input: left more bytes may be read
-pub record IsUnderWay (start : State) (told told' taken taken' : Option (List ℕ)) (left : ℕ) (dialog : Dialog) : Type 0 where
+pub record IsUnderWay (start : Moment) (told told' taken taken' : Option (List ℕ)) (left : ℕ) (place : Place) : Type 0 where
   pub input : List ℕ
   pub out : List ℕ
   pub read : Consumes told told' input
   pub limit : length input + left ≡ session_limit
-  pub answered : Answered start input out dialog
+  pub answered : Answered start input out place
   pub appended : Appends taken taken' out
 
+-- the whole lines of the bytes are answered by replies of this tally, and the buffer holds the rest
+pub record Tallied (start : Moment) (bytes : List ℕ) (tally : Tally) (place : Place) : Type 0 where
+  pub replies : List Reply
+  pub chain : Chain start (whole_lines bytes) replies place.now
+  pub tally_is : tally ≡ tally_of replies
+  pub rest : Holds place.line (rest_of bytes)
+
 -- how it ended, by the bytes that the source and the sink tell
-abbrev pub EndsAs : Ending → State → Option (List ℕ) → Option (List ℕ) → Option (List ℕ) → Option (List ℕ) → Type 0
+abbrev pub EndsAs : Ending → Moment → Option (List ℕ) → Option (List ℕ) → Option (List ℕ) → Option (List ℕ) → Type 0
 EndsAs ReadToEnd = ReadsAll
 EndsAs ReadFailed = ReadsPart
 EndsAs WriteFailed = WriteStops
 EndsAs LimitReached = ReadsLimit
+EndsAs NoMemory = λ start told told' taken taken'. (told' ≡ told) × (taken' ≡ taken)
+
+-- how a generated session ended, by the bytes that the sink tells
+abbrev pub SumsUpAs : Ending → Moment → ℕ → Option (List ℕ) → Option (List ℕ) → Type 0
+SumsUpAs ReadToEnd = SumsUp
+SumsUpAs WriteFailed = SumsUpInPart
+SumsUpAs _ = λ start number taken taken'. taken' ≡ taken
+
+-- a generated session is summed up, or the sink failed, or there was no memory
+abbrev pub IsSummed : Ending → Type 0
+IsSummed ReadToEnd = ⊤
+IsSummed WriteFailed = ⊤
+IsSummed NoMemory = ⊤
+IsSummed _ = ⊥
+
+-- the same from either beginning; a generated session reads nothing
+abbrev pub EndsFrom : Ending → Beginning → Option (List ℕ) → Option (List ℕ) → Option (List ℕ) → Option (List ℕ) → Type 0
+EndsFrom ending (reads start) told told' taken taken' = EndsAs ending start told told' taken taken'
+EndsFrom ending (generates start n) told told' taken taken' = SumsUpAs ending start n taken taken' × (told' ≡ told) × IsSummed ending
+
+-- a fact where there was no memory to begin with
+abbrev pub IfNoMemory : Ending → Type 0 → Type 0
+IfNoMemory NoMemory P = P
+IfNoMemory _ P = ⊤
 
 -- the reading stopped at a read that failed, or no read failed
 abbrev pub StopsReading : {X : Type 0} → Ending → (X → Option (List ℕ)) → (X → ℕ) → X → X → Type 0
@@ -83,4 +138,5 @@ abbrev pub status : Ending → ℕ
 status ReadToEnd = 0
 status ReadFailed = 3
 status WriteFailed = 4
+status NoMemory = 5
 status LimitReached = 6

@@ -1,41 +1,56 @@
 -- A session as a chain of steps, one for each line.
-use Rattle.std.specs.Prelude.{◌≡◌, ℕ, List, [], ◌∷◌, ◌++◌, true, false, Option, Some, None}
+use Rattle.std.specs.Prelude.{◌≡◌, ℕ, List, [], ◌∷◌, ◌++◌, Option, Some, None}
+use Rattle.breakers.specs.Breakers.{kept}
+use Rattle.breakers.specs.State.{State as Breaker}
+use Rattle.calc_session.specs.Replies.{Reply, text_of}
+use Rattle.calc_session.specs.States.{State}
+use Rattle.calc_session.specs.Steps.{Step}
 use Rattle.calc_terms.specs.Trees.{Tree}
-use Rattle.node_pool.specs.Nodes.{has}
-use Rattle.poincare_run.specs.Reading.{IsReply}
-use Rattle.poincare_run.specs.Replies.{Reply, shown, text_of}
-use Rattle.poincare_run.specs.States.{State, free_bytes, HoldsTree}
 
--- the last answer is this tree now, of new nodes, and nothing else is there
-pub record LeavesTree (t : Tree) (old new : State) : Type 0 where
-  pub holds : HoldsTree new t
-  pub size : new.size ≡ old.size
-  pub new_nodes : (id : ℕ) → has id new.nodes ≡ true → has id old.nodes ≡ false
+-- between two lines: what the session keeps, and the breakers that are watched
+pub record Moment : Type 0 where
+  pub state : State
+  pub breakers : List Breaker
 
--- What a reply leaves. A tree that is shown is the one tree there is. Any other reply leaves all as it was.
-abbrev pub Leaves : Reply → State → State → Type 0
-Leaves (shown t) old new = LeavesTree t old new
-Leaves reply old new = new ≡ old
+-- the room and the bits of trees, which the program's reducer does not tell
+abbrev pub room : Option (Tree → ℕ)
+room = None
 
--- From a state a line is answered by a text, or by none, and leaves a state.
-pub record Step (old : State) (line : List ℕ) (text : Option (List ℕ)) (new : State) : Type 0 where
-  pub reply : Reply
-  pub reply_is : IsReply (free_bytes old) line reply
-  pub text_is : text ≡ text_of reply
-  pub state_is : Leaves reply old new
+abbrev pub bits : Option (Tree → ℕ)
+bits = None
+
+-- At a moment a line is answered by a reply. At the next one the breakers that have tripped are gone.
+pub record LineStep (old : Moment) (line : List ℕ) (reply : Reply) (new : Moment) : Type 0 where
+  pub checked : List Breaker
+  pub step : Step room bits old.state old.breakers line reply new.state checked
+  pub swept : new.breakers ≡ kept checked
+
+-- the lines are answered by these replies, one after the other from the old moment to the new one
+abbrev pub Chain : Moment → List (List ℕ) → List Reply → Moment → Type 0
+Chain old [] replies new = (replies ≡ []) × (new ≡ old)
+Chain old (line ∷ lines) replies new =
+    (reply : Reply) × (middle : Moment) × (rest : List Reply)
+    × LineStep old line reply middle × (replies ≡ reply ∷ rest) × Chain middle lines rest new
 
 -- a text with a newline behind it
-abbrev pub written : Option (List ℕ) → List ℕ
-written None = []
-written (Some text) = text ++ 10 ∷ []
+abbrev pub with_newline : Option (List ℕ) → List ℕ
+with_newline None = []
+with_newline (Some text) = text ++ 10 ∷ []
 
--- the lines are answered one after the other from the old state to the new one, and out is what is written
-abbrev pub Steps : State → List (List ℕ) → List ℕ → State → Type 0
-Steps old [] out new = (out ≡ []) × (new ≡ old)
-Steps old (line ∷ lines) out new =
-    (text : Option (List ℕ)) × (middle : State) × (rest : List ℕ)
-    × Step old line text middle × (out ≡ written text ++ rest) × Steps middle lines rest new
+-- what is written for a reply
+abbrev pub written : Reply → List ℕ
+written reply = with_newline (text_of reply)
 
--- what is written for the lines of a session that begins in this state
-abbrev pub Transcript : State → List (List ℕ) → List ℕ → Type 0
-Transcript start lines out = (end : State) × Steps start lines out end
+abbrev pub all_written : List Reply → List ℕ
+all_written [] = []
+all_written (reply ∷ replies) = written reply ++ all_written replies
+
+-- the lines are answered from the old moment to the new one, and out is what is written
+pub record Steps (old : Moment) (lines : List (List ℕ)) (out : List ℕ) (new : Moment) : Type 0 where
+  pub replies : List Reply
+  pub chain : Chain old lines replies new
+  pub out_is : out ≡ all_written replies
+
+-- what is written for the lines of a session that begins at this moment
+abbrev pub Transcript : Moment → List (List ℕ) → List ℕ → Type 0
+Transcript start lines out = (end : Moment) × Steps start lines out end

@@ -1,17 +1,20 @@
 //! The dialog between a source and a sink: each line that comes is answered.
-ghost use Rattle.std.specs.Prelude.{◌≡◌, ℕ, ◌<◌, ◌≤◌, List, [], ◌∷◌, ◌++◌, length, take, OnOk, OnErr, IfOk};
+ghost use Rattle.std.specs.Prelude.{◌≡◌, ℕ, ◌+◌, ◌^◌, ◌<◌, ◌≤◌, List, [], ◌∷◌, ◌++◌, length, take, OnOk, OnErr, IfOk};
 ghost use Rattle.std.specs.Io.KnownBytes.{Appends, Consumes, IsAtEnd, Keeps};
 ghost use Rattle.calc_edges.specs.Faults.{HasCause, StopsAtFailure};
 ghost use Rattle.calc_edges.specs.Taken.{AppendsPart};
 ghost use Rattle.poincare_run.specs.Lines.{lines_of, whole_lines};
-ghost use Rattle.poincare_run.specs.States.{State};
-ghost use Rattle.poincare_run.specs.Steps.{Step};
+ghost use Rattle.poincare_run.specs.Steps.{Moment};
+ghost use Rattle.poincare_run.specs.Summaries.{IsWithin};
 ghost use Rattle.poincare_run.specs.Buffer.{Holds};
-ghost use Rattle.poincare_run.specs.Progress.{Answered, AnswersLine, FailsAtLine, Continues, Breaks, Goes, EndsAs, StopsReading, StopsWriting};
+ghost use Rattle.poincare_run.specs.Progress.{Answered, AnswersLine, FailsAtLine, Continues, Breaks, Goes, EndsAs, IfNoMemory, StopsReading, StopsWriting, TakesLine, Tallied, place_of};
 
 use crate::buffer::LineBuffer;
-use crate::{LineAnswer, Session};
+use crate::tally::Tally;
+use breakers::{Breaker, Watch};
 use calc_edges::{Failed, Sink, Source, write_all};
+use calc_session::{LineAnswer, Session};
+use deep_reduce::DeepReducer;
 
 /// The most bytes that are read in a session.
 const SESSION_LIMIT: usize = 16_777_215;
@@ -23,22 +26,26 @@ pub enum Ending {
     ReadFailed,
     WriteFailed,
     LimitReached,
+    NoMemory,
 }
 
-/// A session, and what has come of its next line.
+/// A session, the breakers that are watched, and what has come of the next line.
 #[derive(Drop)]
-pub struct Dialog {
+pub struct Dialog<B> {
     pub session: Session,
+    pub watch: Watch<B>,
     pub line: LineBuffer,
 }
 
-impl Dialog {
-    pub fn new(session: Session) -> Dialog
+impl<B: Breaker> Dialog<B> {
+    pub fn new(session: Session, watch: Watch<B>) -> Self
         ensures session { result.session ≡ session }
+        ensures watch { result.watch ≡ watch }
         ensures line { Holds result.line [] }
     {
         Dialog {
             session,
+            watch,
             line: LineBuffer::new(),
         }
     }
@@ -52,10 +59,11 @@ impl Dialog {
     ) -> Ending
         requires piece { 0 < length piece.old }
         requires fresh { Holds self.old.line [] }
-        ensures ends { EndsAs result self.old.session.state (S.told source.old) (S.told source.new)
+        ensures ends { EndsAs result (place_of B.state self.old).now (S.told source.old) (S.told source.new)
             (K.taken sink.old) (K.taken sink.new) }
         ensures reads { StopsReading result S.told S.faults source.old source.new }
         ensures writes { StopsWriting result K.taken K.faults sink.old sink.new }
+        ensures memory { IfNoMemory result ⊥ }
     {
         let mut left = SESSION_LIMIT;
         while left > 0 {
@@ -78,9 +86,9 @@ impl Dialog {
 
     /// Answers each line that ends in these bytes.
     fn answer<K: Sink>(&mut self, bytes: &[u8], sink: &mut K) -> Result<(), Failed>
-        ensures ok { OnOk result ((start : State) (before out : List ℕ) → Answered start before out self.old
-            → Goes start before bytes.now out self.new (K.taken sink.old) (K.taken sink.new)) }
-        ensures err { OnErr result ((start : State) (before out : List ℕ) → Answered start before out self.old
+        ensures ok { OnOk result ((start : Moment) (before out : List ℕ) → Answered start before out (place_of B.state self.old)
+            → Goes start before bytes.now out (place_of B.state self.new) (K.taken sink.old) (K.taken sink.new)) }
+        ensures err { OnErr result ((start : Moment) (before out : List ℕ) → Answered start before out (place_of B.state self.old)
             → Breaks start (whole_lines (before ++ bytes.now)) out (K.taken sink.old) (K.taken sink.new)) }
         ensures stops { OnErr result (StopsAtFailure K.taken K.faults sink.old sink.new) }
         ensures cause { HasCause (K.faults sink.old) (K.faults sink.new) result }
@@ -92,9 +100,9 @@ impl Dialog {
     }
 
     fn answer_byte<K: Sink>(&mut self, byte: u8, sink: &mut K) -> Result<(), Failed>
-        ensures ok { OnOk result ((start : State) (before out : List ℕ) → Answered start before out self.old
-            → Goes start before (byte ∷ []) out self.new (K.taken sink.old) (K.taken sink.new)) }
-        ensures err { OnErr result ((start : State) (before out : List ℕ) → Answered start before out self.old
+        ensures ok { OnOk result ((start : Moment) (before out : List ℕ) → Answered start before out (place_of B.state self.old)
+            → Goes start before (byte ∷ []) out (place_of B.state self.new) (K.taken sink.old) (K.taken sink.new)) }
+        ensures err { OnErr result ((start : Moment) (before out : List ℕ) → Answered start before out (place_of B.state self.old)
             → Breaks start (whole_lines (before ++ byte ∷ [])) out (K.taken sink.old) (K.taken sink.new)) }
         ensures stops { OnErr result (StopsAtFailure K.taken K.faults sink.old sink.new) }
         ensures cause { HasCause (K.faults sink.old) (K.faults sink.new) result }
@@ -108,9 +116,9 @@ impl Dialog {
 
     /// Answers what is left at the end of the input.
     fn finish<K: Sink>(&mut self, sink: &mut K) -> Result<(), Failed>
-        ensures ok { OnOk result ((start : State) (input out : List ℕ) → Answered start input out self.old
+        ensures ok { OnOk result ((start : Moment) (input out : List ℕ) → Answered start input out (place_of B.state self.old)
             → Continues start (lines_of input) out (K.taken sink.old) (K.taken sink.new)) }
-        ensures err { OnErr result ((start : State) (input out : List ℕ) → Answered start input out self.old
+        ensures err { OnErr result ((start : Moment) (input out : List ℕ) → Answered start input out (place_of B.state self.old)
             → Breaks start (lines_of input) out (K.taken sink.old) (K.taken sink.new)) }
         ensures stops { OnErr result (StopsAtFailure K.taken K.faults sink.old sink.new) }
         ensures cause { HasCause (K.faults sink.old) (K.faults sink.new) result }
@@ -121,22 +129,62 @@ impl Dialog {
         self.answer_line(sink)
     }
 
-    /// Answers the line that is kept, and begins the next one.
+    /// Answers the line that is kept, writes the answer, and begins the next line.
     fn answer_line<K: Sink>(&mut self, sink: &mut K) -> Result<(), Failed>
         ensures ok { OnOk result ((bytes : List ℕ) → Holds self.old.line bytes
-            → AnswersLine self.old self.new bytes (K.taken sink.old) (K.taken sink.new)) }
+            → AnswersLine (place_of B.state self.old) (place_of B.state self.new) bytes (K.taken sink.old) (K.taken sink.new)) }
         ensures err { OnErr result ((bytes : List ℕ) → Holds self.old.line bytes
-            → FailsAtLine self.old bytes (K.taken sink.old) (K.taken sink.new)) }
+            → FailsAtLine (place_of B.state self.old) bytes (K.taken sink.old) (K.taken sink.new)) }
         ensures stops { OnErr result (StopsAtFailure K.taken K.faults sink.old sink.new) }
         ensures cleared { Holds self.new.line [] }
         ensures cause { HasCause (K.faults sink.old) (K.faults sink.new) result }
     {
-        let answer = self.session.line(self.line.kept.as_slice());
-        self.line.clear();
-        if let LineAnswer::Blank = answer {
+        if let LineAnswer::Blank = self.take_line() {
             return Ok(());
         }
         write_line(sink, self.session.text())
+    }
+
+    /// Answers the line that is kept, and begins the next one. Breakers that have tripped are dropped.
+    fn take_line(&mut self) -> LineAnswer
+        ensures takes { (bytes : List ℕ) → Holds self.old.line bytes
+            → TakesLine (place_of B.state self.old) (place_of B.state self.new) bytes result self.new.session.text }
+        ensures cleared { Holds self.new.line [] }
+    {
+        let answer = self
+            .session
+            .line(&DeepReducer, &mut self.watch, self.line.kept.as_slice());
+        self.watch.sweep();
+        self.line.clear();
+        answer
+    }
+
+    /// Answers each line that ends in these bytes, and counts the answers.
+    pub fn tally(&mut self, bytes: &[u8]) -> Tally
+        requires fresh { Holds self.old.line [] }
+        ensures { Tallied (place_of B.state self.old).now bytes.now result (place_of B.state self.new) }
+    {
+        let mut tally = Tally::new();
+        for byte in bytes {
+            tally = self.tally_byte(*byte, tally);
+        }
+        tally
+    }
+
+    fn tally_byte(&mut self, byte: u8, tally: Tally) -> Tally
+        requires room { tally.lines + 1 < 2 ^ 64 }
+        requires within { IsWithin tally }
+        ensures tallied { (start : Moment) (before : List ℕ) → Tallied start before tally (place_of B.state self.old)
+            → Tallied start (before ++ byte ∷ []) result (place_of B.state self.new) }
+        ensures lines { result.lines ≤ tally.lines + 1 }
+        ensures within { IsWithin result }
+    {
+        if byte != b'\n' {
+            self.line.push(byte);
+            return tally;
+        }
+        let answer = self.take_line();
+        tally.count(answer, self.session.text())
     }
 }
 
@@ -155,7 +203,7 @@ fn read_piece<S: Source>(source: &mut S, piece: &mut [u8], left: usize) -> Resul
 }
 
 /// Writes a text and a newline.
-fn write_line<K: Sink>(sink: &mut K, text: &[u8]) -> Result<(), Failed>
+pub fn write_line<K: Sink>(sink: &mut K, text: &[u8]) -> Result<(), Failed>
     ensures appended { OnOk result (Appends (K.taken sink.old) (K.taken sink.new) (text.now ++ 10 ∷ [])) }
     ensures part { OnErr result (AppendsPart (K.taken sink.old) (K.taken sink.new) (text.now ++ 10 ∷ [])) }
     ensures stops { OnErr result (StopsAtFailure K.taken K.faults sink.old sink.new) }

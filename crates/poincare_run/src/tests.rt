@@ -1,6 +1,7 @@
-ghost use Rattle.std.specs.Prelude.{◌≤◌};
+ghost use Rattle.std.specs.Prelude.{◌≡◌, ◌≤◌, vec_len, IfOk};
 
 use super::*;
+use breakers::CountBreaker;
 use calc_edges::{CalmSource, Failed, MemSink, MemSource, Source};
 use std::alloc::{AllocError, Global};
 use std::test::Fail;
@@ -10,6 +11,16 @@ use std::test::Fail;
 struct Outcome {
     status: u8,
     taken: Vec<u8>,
+}
+
+/// The breakers of the program.
+fn two_breakers(alloc: Global) -> Result<Vec<CountBreaker>, AllocError>
+    ensures { IfOk result (λ breakers. vec_len breakers ≡ 2) }
+{
+    let mut breakers = Vec::new(alloc);
+    breakers.push(CountBreaker::new())?;
+    breakers.push(CountBreaker::new())?;
+    Ok(breakers)
 }
 
 /// Runs over these bytes, which come and go in pieces of at most `piece` bytes.
@@ -29,7 +40,13 @@ fn converse(
     }
     let mut source = MemSource::new(input.to_vec(alloc)?, piece, failing.to_vec(alloc)?);
     let mut sink = MemSink::new(alloc, room, piece, Vec::new(alloc))?;
-    let status = run(alloc, texts.as_slice(), &mut source, &mut sink);
+    let status = run(
+        alloc,
+        texts.as_slice(),
+        &mut source,
+        &mut sink,
+        two_breakers(alloc)?,
+    );
     let taken = sink.bytes().to_vec(alloc)?;
     Ok(Outcome { status, taken })
 }
@@ -70,8 +87,8 @@ fn lines_are_answered_in_any_pieces(rt: HostRuntime) -> Result<(), Fail> {
             "6\n! syntax\n! syntax\n! syntax\na\n-1\nundef\n",
         ),
         (
-            ":pool\n\t :\n1→x\n1.\n2$3\n2+\nabcdefgh\n: $\n",
-            "! form\n! form\n! form\n! character 2\n! character 2\n! syntax\n! character 1\n! form\n",
+            ":nothing\n\t :\n1→x\n1.\n2$3\n2+\nabcdefgh\n5→ans\n",
+            "! command\n! command\n1\n! character 2\n! character 2\n! syntax\n! character 1\n! reserved\n",
         ),
         (
             "170141183460469231731687303715884105727",
@@ -126,7 +143,7 @@ fn algebra_is_answered(rt: HostRuntime) -> Result<(), Fail> {
             "(x+1)-(x+1)\n(x×y)^2/x\n1/2x\n√(x)×√(x)\n2x(x+1)-2x^2",
             "0\nx×y^2\n1/(2×x)\nx\n2×x×(1+x)-2×x^2\n",
         ),
-        ("0.1+0.2\n2^(1/2)\n√(1+√(2))", "3/10\n2^(1/2)\n√(1+√(2))\n"),
+        ("0.1+0.2\n2^(1/2)\n√(1+√(2))", "3/10\n√(2)\n√(1+√(2))\n"),
     ];
     for (input, output) in rows {
         let got = converse(rt.alloc(), &[], input.as_bytes(), 4096, 1000, &[])?;
@@ -186,6 +203,49 @@ fn words_and_failures_have_their_status(rt: HostRuntime) -> Result<(), Fail> {
             "! full needed 40 free 24\n! f",
         ),
         (&["x"], "1", 100, &[1], 2, ""),
+        // The first breaker is armed once, and the second one trips at no poll.
+        (
+            &["--interrupt", "0"],
+            "1\n1",
+            100,
+            &[],
+            0,
+            "! interrupted\n1\n",
+        ),
+        (
+            &["--interrupt=3"],
+            "1\n1\n1\n1\n1",
+            100,
+            &[],
+            0,
+            "1\n1\n1\n! interrupted\n1\n",
+        ),
+        (
+            &["--interrupt=4"],
+            "1+2+3\n7\n7",
+            100,
+            &[],
+            0,
+            "6\n! interrupted\n7\n",
+        ),
+        (
+            &["--interrupt=3"],
+            "1+2+3\n1+2+3",
+            100,
+            &[],
+            0,
+            "! interrupted\n6\n",
+        ),
+        // A generated session reads nothing.
+        (
+            &["--pool", "64", "--gen", "1"],
+            "1",
+            100,
+            &[1],
+            0,
+            "lines 2000 shown 0 stored 0 undef 0 refused 2000 bytes 47500\n",
+        ),
+        (&["--gen=1", "--pool=64"], "1", 10, &[1], 4, "lines 2000"),
     ];
     for (words, input, room, failing, status, output) in rows {
         let got = converse(rt.alloc(), words, input.as_bytes(), 4096, room, failing)?;
@@ -251,6 +311,13 @@ fn other_words_are_refused(rt: HostRuntime) -> Result<(), Fail> {
         &["--pool", "64", "x"],
         &["x", "--pool=64"],
         &["64", "--pool"],
+        &["--interrupt"],
+        &["--interrupt=18446744073709551616"],
+        &["--interrupt", "--pool", "64"],
+        &["--interrupt=1", "--pool=64", "--interrupt=1"],
+        &["--gen=4294967296"],
+        &["--gen", "1", "--gen=2"],
+        &["--gen=1", "--pool=65"],
     ];
     for words in rows {
         let got = converse(rt.alloc(), words, b"1", 4096, 100, &[1])?;
@@ -271,7 +338,7 @@ fn pieces_of_4096_bytes_are_asked_for(rt: HostRuntime) -> Result<(), Fail> {
             reads: 0,
         };
         let mut sink = MemSink::new(alloc, 0, 1, Vec::new(alloc))?;
-        let status = run(alloc, &[], &mut source, &mut sink);
+        let status = run(alloc, &[], &mut source, &mut sink, two_breakers(alloc)?);
         assert_eq!(rt; status, 0, "{count} newlines");
         assert_eq!(rt; source.greatest, 4096, "{count} newlines");
         assert_eq!(rt; source.reads, reads, "{count} newlines");
@@ -287,5 +354,21 @@ fn a_session_ends_at_its_limit(rt: HostRuntime) -> Result<(), Fail> {
         assert_eq!(rt; got.status, status, "{count} newlines");
         assert!(rt; got.taken.is_empty());
     }
+    Ok(())
+}
+
+#[test]
+fn a_generated_session_is_made_of_its_seeds(rt: HostRuntime) -> Result<(), Fail> {
+    let lines = session_from(rt.alloc(), 1)?;
+    let first = "53/2+2/53\n√(95)+√(27)\n1/(√(76)+√(57))\n".as_bytes();
+    assert!(rt; lines.as_slice().starts_with(first));
+    assert_eq!(rt;
+        lines
+            .as_slice()
+            .iter()
+            .filter(|byte| **byte == b'\n')
+            .count(),
+        2000
+    );
     Ok(())
 }

@@ -3,12 +3,14 @@ mod tables;
 mod trials;
 
 use std::test::Fail;
-use tables::{CANCELLED, FACES, POWERS, PRODUCTS, SUMS, SURDS, UNDEFINED, WIDE};
+use tables::{CANCELLED, FACES, HALVES, POWERS, PRODUCTS, ROOTED, SUMS, SURDS, UNDEFINED, WIDE};
 use trials::{Outcome, first_other, first_other_node, first_uninterrupted};
 
 #[test]
 fn each_line_has_its_answer(rt: HostRuntime) -> Result<(), Fail> {
-    for table in [SURDS, CANCELLED, UNDEFINED, POWERS, PRODUCTS, SUMS, FACES] {
+    for table in [
+        SURDS, CANCELLED, UNDEFINED, POWERS, HALVES, ROOTED, PRODUCTS, SUMS, FACES,
+    ] {
         let other = first_other(rt.alloc(), table, Outcome::Wanted)?;
         assert_eq!(rt; other, None, "{table}");
     }

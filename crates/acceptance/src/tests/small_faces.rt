@@ -1,5 +1,5 @@
 //! Faces of a name, of its multiples and powers, and of sums, worked by hand: 16 bytes for the name, 8 for a sign, a
-//! line, a sum, a product or a power, and 40 for each whole number.
+//! line, a sum, a product, a power or a root, and 40 for each whole number.
 ghost use Rattle.tree_handles.specs.Standing.{Stands};
 
 use super::fixtures::{SIZE, answer, armed, opened, read};
@@ -23,8 +23,10 @@ x/2 = 64\n\
 x^2 = 64\n\
 x^-1 = 64\n\
 x^-2 = 112\n\
-x^(1/2) = 112\n\
-x^(-1/2) = 120\n\
+x^(1/2) = 24\n\
+x^(-1/2) = 72\n\
+x^(1/3) = 112\n\
+x^(-1/3) = 120\n\
 -x^-1 = 72\n\
 1/2×x^-1 = 112\n\
 2×x^-1 = 64\n\

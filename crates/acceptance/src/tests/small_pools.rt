@@ -4,7 +4,9 @@ mod tables;
 ghost use Rattle.std.specs.Prelude.{◌≤◌};
 ghost use Rattle.node_pool.specs.State.{IsPoolSize};
 
-use poincare_run::{LineAnswer, Refusal, Session};
+use breakers::{NeverBreaker, Watch};
+use calc_session::{LineAnswer, Refusal, Session};
+use deep_reduce::DeepReducer;
 use std::alloc::{AllocError, Global};
 use std::test::Fail;
 use tables::{REDUCED, SHOWN};
@@ -24,8 +26,9 @@ fn outcome_of(alloc: Global, line: &str, text: &str, size: u32) -> Result<Outcom
     requires { IsPoolSize size }
 {
     let mut session = Session::open(alloc, size)?;
+    let mut watch = Watch::<NeverBreaker>::new(Vec::new(alloc));
     let before = session.pool().bytes().to_vec(alloc)?;
-    let answer = session.line(line.as_bytes());
+    let answer = session.line(&DeepReducer, &mut watch, line.as_bytes());
     let found = match answer {
         LineAnswer::Refused(Refusal::Full { needed, free }) => {
             if needed > free && session.pool().bytes() == before.as_slice() {

@@ -1,14 +1,14 @@
 use Rattle.std.proofs.Common.{◌≡◌, ◌∙◌, ◌⊎◌, [], ◌∷◌, Contains, Some, map, string_bytes, sym, ap, subst}
-use Rattle.poincare_run.specs.Options.{opening}
-use Rattle.poincare_run.specs.Seen.{Seen}
-use Rattle.poincare_run.proofs.StatusLemmas.{nothing_read, if_known, not_there, is_status, is_no_memory, all_read, read_in_part, written_in_part, limit_reached, within_limit, read_stops, reads_calm, write_stops, writes_calm, stopped_rose, no_usage, not_early}
+use Rattle.std.specs.Option.{option_map}
+use Rattle.breakers.specs.Watch.{states}
+use Rattle.calc_session.specs.Seen.{Seen}
+use Rattle.poincare_run.specs.Beginnings.{beginning, beginning_with, begun}
+use Rattle.poincare_run.specs.Progress.{place_of}
+use Rattle.poincare_run.proofs.StatusLemmas.{nothing_read, not_there, begins_at, is_status, is_no_memory, no_usage, early, all_read_if, read_in_part_if, written_in_part_if, limit_reached_if, summed_up_if, summed_up_in_part_if, unread_if, within_limit_if, read_stops, reads_calm, write_stops, writes_calm, stopped_rose}
 use Rattle.poincare_run.proofs.top.run.Goals as goal
 
 pub returns-in_default-clause-limit : goal.returns-in_default-clause-limit
 returns-in_default-clause-limit g c = λ input rest before after. nothing_read _ input rest 2 before after
-
-pub returns-in_default-vec-clause-limit : goal.returns-in_default-vec-clause-limit
-returns-in_default-vec-clause-limit g c = λ input rest before after. nothing_read _ input rest 5 before after
 
 pub returns-in_default-open-clause-status : goal.returns-in_default-open-clause-status
 returns-in_default-open-clause-status g c = is_no_memory
@@ -16,48 +16,61 @@ returns-in_default-open-clause-status g c = is_no_memory
 pub returns-in_default-open-clause-limit : goal.returns-in_default-open-clause-limit
 returns-in_default-open-clause-limit g c = λ input rest before after. nothing_read _ input rest 5 before after
 
--- the session begins as the words say
-start_is : (g : _) (c : goal.After-drop-piece-2 g) → opening (map string_bytes c.args.words.now) ≡ Some c.new-dialog.result.session.state
-start_is g c = c.in-Some.ensures.size ∙ ap (λ s. Some s) (sym (ap (λ (s : Seen). s.state) (c.new-dialog.ensures.session ∙ c.in-Ok-open.ensures)))
+-- the program begins as the words say
+start_is : (g : _) (c : goal.After-status_of g) → beginning (map string_bytes c.args.words.now) (map g.B.Breaker.state c.args.breakers.items) ≡ Some (begun (place_of g.B.Breaker.state c.new-dialog.result).now c.in-Some.options.generated)
+start_is g c =
+    ap (option_map (beginning_with (map g.B.Breaker.state c.args.breakers.items))) (sym c.in-Some.ensures.value)
+    ∙ ap (λ m. Some (begun m c.in-Some.options.generated))
+    (begins_at (place_of g.B.Breaker.state c.new-dialog.result).now _ _ (ap (λ (s : Seen). s.state) (c.new-dialog.ensures.session ∙ c.in-Ok.ensures))
+    (ap (states g.B.Breaker.state) c.new-dialog.ensures.watch ∙ c.armed-watch.ensures))
 
 pub returns-clause-status : goal.returns-clause-status
-returns-clause-status g c = subst (Contains (0 ∷ 2 ∷ 3 ∷ 4 ∷ 5 ∷ 6 ∷ [])) (sym c.status_of.ensures) (is_status c.serve.result)
+returns-clause-status g c = subst (Contains (0 ∷ 2 ∷ 3 ∷ 4 ∷ 5 ∷ 6 ∷ [])) (sym c.status_of.ensures) (is_status c.answer.result)
 
 pub returns-clause-usage : goal.returns-clause-usage
-returns-clause-usage g c = (λ e. absurd (no_usage c.serve.result (sym c.status_of.ensures ∙ e)), λ none. absurd (not_there _ _ c.in-Some.ensures.size none))
+returns-clause-usage g c = (λ e. absurd (no_usage c.answer.result (sym c.status_of.ensures ∙ e)), λ none. absurd (not_there _ _ (start_is g c) none))
 
 pub returns-clause-untouched : goal.returns-clause-untouched
-returns-clause-untouched g c = λ e. absurd (not_early c.serve.result (subst (λ s. (s ≡ 2) ⊎ (s ≡ 5)) c.status_of.ensures e))
+returns-clause-untouched g c = λ e. early c.answer.result _ (subst (λ s. (s ≡ 2) ⊎ (s ≡ 5)) c.status_of.ensures e) c.answer.ensures.untouched
 
 pub returns-clause-answered : goal.returns-clause-answered
-returns-clause-answered g c = λ e. if_known _ _ _ (start_is g c) (all_read _ _ _ _ _ c.serve.result c.serve.ensures.ends (sym c.status_of.ensures ∙ e))
+returns-clause-answered g c = λ e. all_read_if _ _ (start_is g c) c.answer.result _ _ _ _ c.answer.ensures.ends (sym c.status_of.ensures ∙ e)
 
 pub returns-clause-read_failed : goal.returns-clause-read_failed
-returns-clause-read_failed g c = λ e. stopped_rose _ _ _ _ (read_stops _ _ _ _ c.serve.result c.serve.ensures.reads (sym c.status_of.ensures ∙ e))
+returns-clause-read_failed g c = λ e. stopped_rose _ _ _ _ (read_stops _ _ _ _ c.answer.result c.answer.ensures.reads (sym c.status_of.ensures ∙ e))
 
 pub returns-clause-read_stops : goal.returns-clause-read_stops
-returns-clause-read_stops g c = λ e. read_stops _ _ _ _ c.serve.result c.serve.ensures.reads (sym c.status_of.ensures ∙ e)
+returns-clause-read_stops g c = λ e. read_stops _ _ _ _ c.answer.result c.answer.ensures.reads (sym c.status_of.ensures ∙ e)
 
 pub returns-clause-reads_calm : goal.returns-clause-reads_calm
-returns-clause-reads_calm g c = λ e. reads_calm _ _ _ _ c.serve.result c.serve.ensures.reads (λ s. e (c.status_of.ensures ∙ s))
+returns-clause-reads_calm g c = λ e. reads_calm _ _ _ _ c.answer.result c.answer.ensures.reads (λ s. e (c.status_of.ensures ∙ s))
 
 pub returns-clause-read_in_part : goal.returns-clause-read_in_part
-returns-clause-read_in_part g c = λ e. if_known _ _ _ (start_is g c) (read_in_part _ _ _ _ _ c.serve.result c.serve.ensures.ends (sym c.status_of.ensures ∙ e))
+returns-clause-read_in_part g c = λ e. read_in_part_if _ _ (start_is g c) c.answer.result _ _ _ _ c.answer.ensures.ends (sym c.status_of.ensures ∙ e)
 
 pub returns-clause-write_failed : goal.returns-clause-write_failed
-returns-clause-write_failed g c = λ e. stopped_rose _ _ _ _ (write_stops _ _ _ _ c.serve.result c.serve.ensures.writes (sym c.status_of.ensures ∙ e))
+returns-clause-write_failed g c = λ e. stopped_rose _ _ _ _ (write_stops _ _ _ _ c.answer.result c.answer.ensures.writes (sym c.status_of.ensures ∙ e))
 
 pub returns-clause-write_stops : goal.returns-clause-write_stops
-returns-clause-write_stops g c = λ e. write_stops _ _ _ _ c.serve.result c.serve.ensures.writes (sym c.status_of.ensures ∙ e)
+returns-clause-write_stops g c = λ e. write_stops _ _ _ _ c.answer.result c.answer.ensures.writes (sym c.status_of.ensures ∙ e)
 
 pub returns-clause-writes_calm : goal.returns-clause-writes_calm
-returns-clause-writes_calm g c = λ e. writes_calm _ _ _ _ c.serve.result c.serve.ensures.writes (λ s. e (c.status_of.ensures ∙ s))
+returns-clause-writes_calm g c = λ e. writes_calm _ _ _ _ c.answer.result c.answer.ensures.writes (λ s. e (c.status_of.ensures ∙ s))
 
 pub returns-clause-written_in_part : goal.returns-clause-written_in_part
-returns-clause-written_in_part g c = λ e. if_known _ _ _ (start_is g c) (written_in_part _ _ _ _ _ c.serve.result c.serve.ensures.ends (sym c.status_of.ensures ∙ e))
+returns-clause-written_in_part g c = λ e. written_in_part_if _ _ (start_is g c) c.answer.result _ _ _ _ c.answer.ensures.ends (sym c.status_of.ensures ∙ e)
 
 pub returns-clause-limit_reached : goal.returns-clause-limit_reached
-returns-clause-limit_reached g c = λ e. if_known _ _ _ (start_is g c) (limit_reached _ _ _ _ _ c.serve.result c.serve.ensures.ends (sym c.status_of.ensures ∙ e))
+returns-clause-limit_reached g c = λ e. limit_reached_if _ _ (start_is g c) c.answer.result _ _ _ _ c.answer.ensures.ends (sym c.status_of.ensures ∙ e)
 
 pub returns-clause-limit : goal.returns-clause-limit
-returns-clause-limit g c = λ input rest before after. rw c.status_of.ensures (within_limit _ _ _ _ _ c.serve.result c.serve.ensures.ends input rest before after)
+returns-clause-limit g c = λ input rest before after. rw c.status_of.ensures (within_limit_if _ _ (start_is g c) c.answer.result _ _ _ _ c.answer.ensures.ends input rest before after)
+
+pub returns-clause-unread : goal.returns-clause-unread
+returns-clause-unread g c = rw c.status_of.ensures (unread_if _ _ (start_is g c) c.answer.result _ _ _ _ c.answer.ensures.ends _ c.answer.ensures.unread)
+
+pub returns-clause-summed_up : goal.returns-clause-summed_up
+returns-clause-summed_up g c = λ e. summed_up_if _ _ (start_is g c) c.answer.result _ _ _ _ c.answer.ensures.ends (sym c.status_of.ensures ∙ e)
+
+pub returns-clause-summed_up_in_part : goal.returns-clause-summed_up_in_part
+returns-clause-summed_up_in_part g c = λ e. summed_up_in_part_if _ _ (start_is g c) c.answer.result _ _ _ _ c.answer.ensures.ends (sym c.status_of.ensures ∙ e)

@@ -1,7 +1,8 @@
-use Rattle.std.proofs.Common.{◌≡◌, ◌∙◌, ◌+◌, ◌<◌, ◌++◌, ◌∷◌, [], length, take, drop, get_or, arith, refl, sym, ap}
-use Rattle.std.proofs.lemmas.List.{take_more, drop_more, take-append-drop}
+use Rattle.std.proofs.Common.{◌≡◌, ◌∙◌, ◌+◌, ◌<◌, ◌++◌, ◌∷◌, [], length, take, drop, get_or, arith, refl, sym, ap, subst}
+use Rattle.std.proofs.lemmas.List.{take_all, take_more, drop_more, take-append-drop}
 use Rattle.std.proofs.lemmas.Result.{err_from_is_err_and}
 use Rattle.calc_edges.proofs.Stops.{stops_later}
+use Rattle.poincare_run.specs.Progress.{Goes, place_of}
 use Rattle.poincare_run.proofs.StepLemmas.{goes_nowhere, goes_on, breaks_after}
 use Rattle.poincare_run.proofs.dialog.Dialog.answer.Goals as goal
 
@@ -32,3 +33,9 @@ pub returns-in_err-answer_byte-clause-stops : goal.returns-in_err-answer_byte-cl
 returns-in_err-answer_byte-clause-stops g c =
     let p = err_from_is_err_and c.from_residual.result c.from_residual.ensures.1 in
     rw (p.1) (stops_later _ _ _ _ _ c.loop-byte.invariant.calm c.in_err-answer_byte.ensures.stops)
+
+pub returns-clause-ok : goal.returns-clause-ok
+returns-clause-ok g c = λ start before out h.
+    let bytes = c.args.bytes.now in
+    let all : take c.loop-byte.byte-index bytes ≡ bytes = take_all c.loop-byte.byte-index bytes (omega arith) in
+    subst (λ b. Goes start before b out (place_of g.B.Breaker.state c.loop-byte.self) (g.K.Sink.taken c.args.sink.now) (g.K.Sink.taken c.loop-byte.sink)) all (c.loop-byte.invariant.goes start before out h)

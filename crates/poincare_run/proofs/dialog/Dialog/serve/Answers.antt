@@ -1,11 +1,11 @@
 use Rattle.std.proofs.Common.{◌≡◌, ◌∙◌, take, length, refl, arith}
 use Rattle.std.proofs.lemmas.List.{length-take-le}
-use Rattle.calc_edges.proofs.Stops.{stops_at_once, stops_later}
+use Rattle.calc_edges.proofs.Stops.{stops_later}
 use Rattle.poincare_run.proofs.EndLemmas.{begins, reads_on, write_fails, ends, end_fails}
 use Rattle.poincare_run.proofs.dialog.Dialog.serve.Goals as goal
 
 pub loop-left-init : goal.loop-left-init
-loop-left-init g c = record { under_way = begins c.args.self.now _ _ c.requires.fresh; reads_calm = refl; writes_calm = refl }
+loop-left-init g c = record { under_way = begins _ _ _ c.requires.fresh; reads_calm = refl; writes_calm = refl }
 
 pub returns-in-Ok-finish-clause-ends : goal.returns-in-Ok-finish-clause-ends
 returns-in-Ok-finish-clause-ends g c =

@@ -1,11 +1,11 @@
 use Rattle.std.proofs.Common.{◌≡◌}
-use Rattle.poincare_run.specs.Progress.{IsUnderWay}
+use Rattle.poincare_run.specs.Progress.{IsUnderWay, place_of}
 use Rattle.poincare_run.proofs.dialog.Dialog.serve.Given as goal
 
 -- what was read so far is answered, up to the rest behind its last newline, and nothing failed
 abbrev pub invariant-loop-left : goal.invariant-loop-left
 invariant-loop-left g l = record {
-  under_way : IsUnderWay l.fn.self.session.state (g.S.Source.told l.fn.source) (g.S.Source.told l.source) (g.K.Sink.taken l.fn.sink) (g.K.Sink.taken l.sink) l.left l.self;
+  under_way : IsUnderWay (place_of g.B.Breaker.state l.fn.self).now (g.S.Source.told l.fn.source) (g.S.Source.told l.source) (g.K.Sink.taken l.fn.sink) (g.K.Sink.taken l.sink) l.left (place_of g.B.Breaker.state l.self);
   reads_calm : g.S.Source.faults l.source ≡ g.S.Source.faults l.fn.source;
   writes_calm : g.K.Sink.faults l.sink ≡ g.K.Sink.faults l.fn.sink;
 }

@@ -1,0 +1,126 @@
+-- Lemmas on counts of answers.
+use Rattle.std.proofs.Common.{◌≡◌, ◌∙◌, ◌⊎◌, inl, inr, ℕ, ◌+◌, ◌≤◌, List, [], ◌∷◌, ◌++◌, length, false, refl, sym, ap, subst, arith, length-append}
+use Rattle.std.proofs.lemmas.List.Sums.{sum_by_push}
+use Rattle.calc_session.specs.declared.answers.LineAnswer.{LineAnswer}
+use Rattle.calc_session.specs.declared.answers.LineAnswer.TheVariants.{Blank, Shown, Stored, Undef, Report, Draw, Refused}
+use Rattle.calc_session.specs.declared.answers.Refusal.{Refusal}
+use Rattle.calc_session.specs.declared.answers.Refusal.TheVariants as refusal
+use Rattle.calc_session.specs.Answers.{IsAnswer, IsReport, reply_of}
+use Rattle.calc_session.specs.Replies.{Reply, report, forgot}
+use Rattle.poincare_run.specs.Buffer.{Holds}
+use Rattle.poincare_run.specs.Lines.{is_newline, rest_of, whole_lines}
+use Rattle.poincare_run.specs.Progress.{Place, TakesLine, Tallied}
+use Rattle.poincare_run.specs.Steps.{Chain, Moment}
+use Rattle.poincare_run.specs.Summaries.{Sort, as_shown, as_stored, as_undefined, as_refusal, as_other, sort_of, one_shown, one_stored, one_undefined, one_refusal, how_many, text_length, tally_of}
+use Rattle.poincare_run.specs.declared.tally.Tally.{Tally}
+use Rattle.poincare_run.proofs.LineLemmas.{whole_lines-newline, rest_of-newline, whole_lines-other, rest_of-other}
+use Rattle.poincare_run.proofs.StepLemmas.{chain_more}
+
+-- the sort that an answer tells
+abbrev pub sort_told : LineAnswer → Sort
+sort_told Blank = as_other
+sort_told Shown = as_shown
+sort_told Stored = as_stored
+sort_told Undef = as_undefined
+sort_told Report = as_other
+sort_told Draw = as_other
+sort_told (Refused refusal) = as_refusal
+
+refusal_sort : (r : Refusal) → sort_of (reply_of r) ≡ as_refusal
+refusal_sort refusal.Long = refl
+refusal_sort (refusal.Character at) = refl
+refusal_sort (refusal.Number at) = refl
+refusal_sort refusal.Syntax = refl
+refusal_sort refusal.Deep = refl
+refusal_sort refusal.Reserved = refl
+refusal_sort refusal.NamesFull = refl
+refusal_sort (refusal.Full needed free) = refl
+refusal_sort (refusal.Overflow op a b) = refl
+refusal_sort (refusal.Interrupted by) = refl
+refusal_sort (refusal.Circular name) = refl
+refusal_sort refusal.Command = refl
+
+report_sort : (told : List ℕ) (reply : Reply) → IsReport told reply → sort_of reply ≡ as_other
+report_sort told (report text) h = refl
+report_sort told (forgot x) h = refl
+report_sort told reply h = absurd h
+
+pub sort_is : (answer : LineAnswer) (reply : Reply) → IsAnswer answer reply → sort_of reply ≡ sort_told answer
+sort_is Blank reply h = ap sort_of h
+sort_is Shown reply h = ap sort_of h.1
+sort_is Stored reply h = ap sort_of h.2
+sort_is Undef reply h = ap sort_of h
+sort_is Report reply h = report_sort h.0 reply h.1
+sort_is Draw reply h = absurd h
+sort_is (Refused r) reply h = ap sort_of h ∙ refusal_sort r
+
+pub other_told : (answer : LineAnswer) → (answer ≡ Blank) ⊎ ((answer ≡ Report) ⊎ (answer ≡ Draw)) → sort_told answer ≡ as_other
+other_told answer (inl e) = ap sort_told e
+other_told answer (inr (inl e)) = ap sort_told e
+other_told answer (inr (inr e)) = ap sort_told e
+
+tally_with : (l s o u r b : ℕ) → Tally
+tally_with l s o u r b = record { lines = l; shown = s; stored = o; undefined = u; refused = r; bytes = b }
+
+same_tally : (a b : Tally) → a.lines ≡ b.lines → a.shown ≡ b.shown → a.stored ≡ b.stored → a.undefined ≡ b.undefined → a.refused ≡ b.refused → a.bytes ≡ b.bytes → a ≡ b
+unfolding tally_with
+same_tally a b l s o u r n =
+    ap (λ x. tally_with x a.shown a.stored a.undefined a.refused a.bytes) l
+    ∙ ap (λ x. tally_with b.lines x a.stored a.undefined a.refused a.bytes) s
+    ∙ ap (λ x. tally_with b.lines b.shown x a.undefined a.refused a.bytes) o
+    ∙ ap (λ x. tally_with b.lines b.shown b.stored x a.refused a.bytes) u
+    ∙ ap (λ x. tally_with b.lines b.shown b.stored b.undefined x a.bytes) r
+    ∙ ap (λ x. tally_with b.lines b.shown b.stored b.undefined b.refused x) n
+
+-- one reply more
+pub record Counts (old new : Tally) (sort : Sort) (size : ℕ) : Type 0 where
+  pub lines : new.lines ≡ old.lines + 1
+  pub shown : new.shown ≡ old.shown + one_shown sort
+  pub stored : new.stored ≡ old.stored + one_stored sort
+  pub undefined : new.undefined ≡ old.undefined + one_undefined sort
+  pub refused : new.refused ≡ old.refused + one_refusal sort
+  pub bytes : new.bytes ≡ old.bytes + size
+
+one_more : (one : Sort → ℕ) (replies : List Reply) (reply : Reply) (sort : Sort) (old new : ℕ) → sort_of reply ≡ sort → old ≡ how_many one replies → new ≡ old + one sort → new ≡ how_many one (replies ++ reply ∷ [])
+one_more one replies reply sort old new is before e =
+    e ∙ ap (λ n. n + one sort) before ∙ ap (λ s. how_many one replies + one s) (sym is) ∙ sym (sum_by_push (λ r. one (sort_of r)) replies reply)
+
+pub counted : (old new : Tally) (replies : List Reply) (reply : Reply) (sort : Sort) (bytes : ℕ) → old ≡ tally_of replies → sort_of reply ≡ sort → bytes ≡ text_length reply → Counts old new sort bytes → new ≡ tally_of (replies ++ reply ∷ [])
+unfolding tally_of
+counted old new replies reply sort bytes e is many c =
+    same_tally new (tally_of (replies ++ reply ∷ []))
+    (let l : old.lines ≡ length replies = ap (λ (t : Tally). t.lines) e in let more = c.lines in omega (arith, length-append replies (reply ∷ [])))
+    (one_more one_shown replies reply sort old.shown new.shown is (ap (λ (t : Tally). t.shown) e) c.shown)
+    (one_more one_stored replies reply sort old.stored new.stored is (ap (λ (t : Tally). t.stored) e) c.stored)
+    (one_more one_undefined replies reply sort old.undefined new.undefined is (ap (λ (t : Tally). t.undefined) e) c.undefined)
+    (one_more one_refusal replies reply sort old.refused new.refused is (ap (λ (t : Tally). t.refused) e) c.refused)
+    (c.bytes ∙ ap (λ n. n + bytes) (ap (λ (t : Tally). t.bytes) e) ∙ ap (λ n. (tally_of replies).bytes + n) many ∙ sym (sum_by_push text_length replies reply))
+
+-- ---- bytes of lines
+
+module _ (start : Moment) (before : List ℕ) (old new : Place) (tally : Tally) (h : Tallied start before tally old) where
+  pub tallied_by_byte : (b : ℕ) → is_newline b ≡ false → new.now ≡ old.now → Holds new.line (rest_of before ++ b ∷ []) → Tallied start (before ++ b ∷ []) tally new
+  tallied_by_byte b other same rest = record {
+    replies = h.replies;
+    chain = rw (same, whole_lines-other before b other) h.chain;
+    tally_is = h.tally_is;
+    rest = subst (Holds new.line) (sym (rest_of-other before b other)) rest;
+  }
+
+  pub tallied_by_line : (more : Tally) (answer : LineAnswer) (text : List ℕ) → (t : TakesLine old new (rest_of before) answer text) → Holds new.line []
+      → more ≡ tally_of (h.replies ++ t.reply ∷ []) → Tallied start (before ++ 10 ∷ []) more new
+  tallied_by_line more answer text t empty is = record {
+    replies = h.replies ++ t.reply ∷ [];
+    chain = subst (λ ls. Chain start ls (h.replies ++ t.reply ∷ []) new.now) (sym (whole_lines-newline before))
+        (chain_more start old.now new.now (whole_lines before) h.replies _ t.reply h.chain t.step);
+    tally_is = is;
+    rest = subst (Holds new.line) (sym (rest_of-newline before)) empty;
+  }
+
+pub no_tally : (place : Place) (tally : Tally) → tally ≡ tally_of [] → Holds place.line [] → Tallied place.now [] tally place
+unfolding whole_lines rest_of
+no_tally place tally e h = record { replies = []; chain = (refl, refl); tally_is = e; rest = h }
+
+pub no_lines : (tally : Tally) → tally ≡ tally_of [] → tally.lines ≤ 0
+unfolding tally_of
+no_lines tally e = let none : tally.lines ≡ 0 = ap (λ (t : Tally). t.lines) e in omega arith
