@@ -1,0 +1,129 @@
+-- The characters of ink, and their bytes.
+use Rattle.std.proofs.Common.{◌≡◌, ◌≢◌, ◌∙◌, ℕ, zero, suc, ◌+◌, ◌<◌, List, [], ◌∷◌, ◌++◌, replicate, codes, nat_abs, Bool, true, encode_utf8_all, refl, sym, ap, arith, append_assoc, append-nil}
+use Rattle.std.specs.List.{list_all}
+use Rattle.std.proofs.lemmas.Bool.{and_parts}
+use Rattle.std.proofs.lemmas.Bool.Decides.{nat_tests}
+use Rattle.std.proofs.lemmas.List.{replicate-append-replicate}
+use Rattle.std.proofs.lemmas.Str.{encodes-append}
+use Rattle.calc_terms.specs.declared.kind.Kind.TheVariants as kind
+use Rattle.calc_terms.specs.Name.{is_digit, is_name_byte}
+use Rattle.calc_terms.specs.Payload.{Payload, rational, named, bare, IsPayload}
+use Rattle.calc_terms.proofs.Names.{spelled}
+use Rattle.calc_language.specs.Texts.{decimal}
+use Rattle.calc_language.proofs.Spelled.{decimal_is}
+use Rattle.line_text.specs.Content.{Content, extended}
+use Rattle.tree_handles.specs.Forest.{Forest}
+use Rattle.tree_handles.specs.Inside.{payload_in}
+use Rattle.pool_layouts.specs.declared.ink.Ink.{Ink}
+use Rattle.pool_layouts.specs.declared.ink.Ink.TheVariants.{Nothing, Leaf, Bar, Roof, Root, Open, Close}
+use Rattle.pool_layouts.specs.Painting.{IsBlack, IsInk, leaf_characters, ink_characters, inked, blanks_left}
+use Rattle.pool_layouts.specs.Pending.{leaf_serial}
+use Rattle.pool_layouts.specs.Pictures.{blanks}
+use Rattle.pool_layouts.proofs.Lines.{AreSmall, small_bytes, replicate_small, times_encoded}
+
+-- ---- characters of leaves
+
+digit_small : (b : ℕ) → is_digit b ≡ true → b < 128
+digit_small b h = grind (arith, nat_tests)
+
+digit_black : (b : ℕ) → is_digit b ≡ true → b ≢ 32
+digit_black b h = grind (arith, nat_tests)
+
+name_small : (b : ℕ) → is_name_byte b ≡ true → b < 128
+name_small b h = grind (arith, nat_tests)
+
+name_black : (b : ℕ) → is_name_byte b ≡ true → b ≢ 32
+name_black b h = grind (arith, nat_tests)
+
+all_small : (p : ℕ → Bool) → ((b : ℕ) → p b ≡ true → b < 128) → (cs : List ℕ) → list_all p cs ≡ true → AreSmall cs
+all_small p f [] h = tt
+all_small p f (c ∷ cs) h = let (a, b) = and_parts (p c) (list_all p cs) h in (f c a, all_small p f cs b)
+
+all_black : (p : ℕ → Bool) → ((b : ℕ) → p b ≡ true → b ≢ 32) → (cs : List ℕ) → list_all p cs ≡ true → IsBlack cs
+all_black p f [] h = tt
+all_black p f (c ∷ cs) h = let (a, b) = and_parts (p c) (list_all p cs) h in (f c a, all_black p f cs b)
+
+pub decimal_small : (n : ℕ) → AreSmall (decimal n)
+decimal_small n = all_small is_digit digit_small (decimal n) (decimal_is n).all
+
+pub names_small : (x : List ℕ) → IsPayload (named x) → AreSmall x
+names_small x h = all_small is_name_byte name_small x (spelled x h).spelled
+
+leaf_encoded : (x : Payload) → IsPayload x → encode_utf8_all (leaf_characters x) ≡ leaf_serial x
+leaf_encoded (rational r) h = small_bytes (decimal (nat_abs r.num)) (decimal_small (nat_abs r.num))
+leaf_encoded (named x) h = small_bytes x (names_small x h)
+leaf_encoded (bare kind.Plus) h = small_bytes (codes "+") (omega arith, tt)
+leaf_encoded (bare kind.Minus) h = small_bytes (codes "-") (omega arith, tt)
+leaf_encoded (bare kind.Times) h = times_encoded
+leaf_encoded (bare k) h = refl
+
+leaf_black : (x : Payload) → IsPayload x → IsBlack (leaf_characters x)
+leaf_black (rational r) h = all_black is_digit digit_black (decimal (nat_abs r.num)) (decimal_is (nat_abs r.num)).all
+leaf_black (named x) h = all_black is_name_byte name_black x (spelled x h).spelled
+leaf_black (bare kind.Plus) h = (omega arith, tt)
+leaf_black (bare kind.Minus) h = (omega arith, tt)
+leaf_black (bare kind.Times) h = (omega arith, tt)
+leaf_black (bare k) h = tt
+
+replicate_black : (n c : ℕ) → c ≢ 32 → IsBlack (replicate n c)
+replicate_black zero c h = tt
+replicate_black (suc n) c h = (h, replicate_black n c h)
+
+pub ink_black : (f : Forest) (ink : Ink) → IsInk f ink → IsBlack (ink_characters f ink)
+ink_black f Nothing h = tt
+ink_black f (Leaf i) h = leaf_black (payload_in i f) h.1
+ink_black f (Bar n) h = replicate_black n 45 (omega arith)
+ink_black f (Roof n) h = replicate_black n 95 (omega arith)
+ink_black f Root h = (omega arith, tt)
+ink_black f Open h = (omega arith, tt)
+ink_black f Close h = (omega arith, tt)
+
+-- ---- what is written
+
+pub blanks_encoded : (n : ℕ) → encode_utf8_all (blanks n) ≡ replicate n 32
+blanks_encoded n = small_bytes (blanks n) (replicate_small n 32 (omega arith))
+
+pub inked_some : (n : ℕ) (cs : List ℕ) → cs ≢ [] → inked n cs ≡ blanks n ++ cs
+inked_some n [] h = absurd (h refl)
+inked_some n (c ∷ cs) h = refl
+
+pub none_owed : (n : ℕ) (cs : List ℕ) → cs ≢ [] → blanks_left n cs ≡ 0
+none_owed n [] h = absurd (h refl)
+none_owed n (c ∷ cs) h = refl
+
+-- a leaf behind blanks
+pub leaf_inked : (f : Forest) (i n : ℕ) → IsInk f (Leaf i) → encode_utf8_all (inked n (leaf_characters (payload_in i f))) ≡ replicate n 32 ++ leaf_serial (payload_in i f)
+leaf_inked f i n h =
+    ap encode_utf8_all (inked_some n (leaf_characters (payload_in i f)) h.2) ∙ encodes-append (blanks n) (leaf_characters (payload_in i f)) ∙ ap (λ (x : List ℕ). x ++ encode_utf8_all (leaf_characters (payload_in i f))) (blanks_encoded n)
+    ∙ ap (λ (x : List ℕ). replicate n 32 ++ x) (leaf_encoded (payload_in i f) h.1)
+
+-- one character behind blanks
+pub character_inked : (c n : ℕ) (bytes : List ℕ) → encode_utf8_all (c ∷ []) ≡ bytes → encode_utf8_all (inked n (c ∷ [])) ≡ replicate n 32 ++ bytes
+character_inked c n bytes e = encodes-append (blanks n) (c ∷ []) ∙ ap (λ (x : List ℕ). x ++ encode_utf8_all (c ∷ [])) (blanks_encoded n) ∙ ap (λ (x : List ℕ). replicate n 32 ++ x) e
+
+-- a bar behind blanks
+inked_small : (n : ℕ) (cs : List ℕ) → AreSmall cs → AreSmall (inked n cs)
+inked_small n [] h = tt
+inked_small n (c ∷ cs) h = both (blanks n) (c ∷ cs) (replicate_small n 32 (omega arith)) h
+  where
+    both : (a b : List ℕ) → AreSmall a → AreSmall b → AreSmall (a ++ b)
+    both [] b g h = h
+    both (x ∷ a) b g h = (g.0, both a b g.1 h)
+
+pub bar_inked : (c n k : ℕ) → c < 128 → encode_utf8_all (inked n (replicate k c)) ≡ inked n (replicate k c)
+bar_inked c n k h = small_bytes (inked n (replicate k c)) (inked_small n (replicate k c) (replicate_small k c h))
+
+pub replicate_some : (k c : ℕ) → 0 < k → replicate k c ≢ []
+replicate_some zero c h = absurd (omega (arith, h))
+replicate_some (suc k) c h = λ e. cc
+
+-- ---- contents
+
+pub extended_twice : (t : Content) (a b : List ℕ) → extended (extended t a) b ≡ extended t (a ++ b)
+extended_twice t a b = ap (λ (x : List ℕ). let r : Content = record { bytes = x; capacity = t.capacity } in r) (append_assoc t.bytes a b)
+
+pub extended_none : (t : Content) → extended t [] ≡ t
+extended_none t = ap (λ (x : List ℕ). let r : Content = record { bytes = x; capacity = t.capacity } in r) (append-nil t.bytes)
+
+pub replicate_more : (n c : ℕ) → replicate (n + 1) c ≡ replicate n c ++ c ∷ []
+replicate_more n c = sym (replicate-append-replicate n 1 c)

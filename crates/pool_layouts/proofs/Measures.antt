@@ -1,0 +1,305 @@
+-- The extents of layouts: what they are for each kind of node, and that they are small.
+use Rattle.std.proofs.Common.{◌≡◌, ◌∙◌, ℕ, suc, ◌+◌, ◌*◌, ◌<◌, ◌≤◌, ◌≢◌, max, ℤ, List, [], ◌∷◌, ◌++◌, length, drop, drop-cons, add-one, get_or, nat_abs, nat_eq, true, refl, sym, ap, subst, arith, append_assoc}
+use Rattle.std.proofs.lemmas.Bool.{eqb-true}
+use Rattle.std.proofs.lemmas.List.{length-append, length-drop, drop-drop, drop_at}
+use Rattle.calc_terms.specs.declared.kind.Kind.{Kind}
+use Rattle.calc_terms.specs.declared.kind.Kind.TheVariants as kind
+use Rattle.calc_terms.specs.Payload.{Payload, rational, named, bare, is_bare, kind_of_payload, size_of_payload, IsPayload}
+use Rattle.calc_terms.specs.Name.{begins_with_letter}
+use Rattle.calc_terms.proofs.Names.{spelled}
+use Rattle.calc_language.proofs.Spelled.{decimal_is}
+use Rattle.calc_language.specs.Texts.{decimal}
+use Rattle.line_text.proofs.Decimals.{decimal_short}
+use Rattle.line_text.proofs.Leaves.{numerator_is}
+use Rattle.node_pool.proofs.Sizes.{size_from}
+use Rattle.tree_handles.specs.Forest.{Label, Forest, empty, tree, join, arity, node_of, bytes_in, nodes_in}
+use Rattle.pool_layouts.specs.declared.extents.Extent.{Extent}
+use Rattle.pool_layouts.specs.Drawings.{composed, drawn, drawings, composes, composes_kind, AllComposed}
+use Rattle.pool_layouts.specs.Extents.{extent_from, extent_of, extents_of, HasSmall, HasPair, IsOver, IsSmall, AllValid, leaf_width}
+use Rattle.pool_layouts.specs.Layouts.{Layout, Layouts, nothing, beside}
+use Rattle.pool_layouts.specs.Painting.{leaf_characters}
+use Rattle.pool_layouts.specs.Pictures.{Block, height, picture, pictures, widths, most_above, most_below, side_by_side}
+
+-- ---- blocks of the parts of a forest
+
+abbrev pub blocks_of : Forest → List Block
+blocks_of f = pictures (drawings f)
+
+abbrev pub block_of : Payload → Forest → Block
+block_of x k = picture (drawn x (drawings k))
+
+-- the rows of all blocks
+abbrev pub heights : List Block → ℕ
+heights [] = 0
+heights (b ∷ bs) = height b + heights bs
+
+pub most_heights : (bs : List Block) → most_above bs + most_below bs ≤ heights bs
+most_heights [] = omega arith
+most_heights (b ∷ bs) = omega (arith, most_heights bs)
+
+pub bytes_nodes : (f : Forest) → 8 * nodes_in f ≤ bytes_in f
+bytes_nodes empty = omega arith
+bytes_nodes (tree l k r) = omega (arith, bytes_nodes k, bytes_nodes r, size_from (node_of l k))
+
+-- ---- how large a picture is
+
+pub record IsBounded (b : Block) (nodes bytes : ℕ) : Type 0 where
+  pub width : b.width ≤ bytes
+  pub rows : b.above + 1 + b.below ≤ suc nodes
+
+fraction_bounded : (k : Forest) (ls : Layouts) → drawings k ≡ ls → nat_eq (arity k) 2 ≡ true → widths (blocks_of k) ≤ bytes_in k → heights (blocks_of k) ≤ nodes_in k → IsBounded (picture (composed kind.Fraction (drawings k))) (nodes_in k) (size_of_payload (bare kind.Fraction) + bytes_in k)
+fraction_bounded empty ls e h w n = absurd cc
+fraction_bounded (tree l a empty) ls e h w n = absurd cc
+fraction_bounded (tree l a (tree m b empty)) ls e h w n = record { width = omega (arith, w); rows = omega (arith, n) }
+fraction_bounded (tree l a (tree m b (tree o d r))) ls e h w n = absurd (omega (arith, eqb-true (arity (tree l a (tree m b (tree o d r)))) 2 h))
+
+one_bounded : (j : Kind) (k : Forest) (size : ℕ) → nat_eq (arity k) 1 ≡ true → widths (blocks_of k) ≤ bytes_in k → heights (blocks_of k) ≤ nodes_in k
+    → ((l : Layout) → (picture l).width + 0 ≤ bytes_in k → height (picture l) + 0 ≤ nodes_in k → IsBounded (picture (composed j (beside l nothing))) (nodes_in k) (size + bytes_in k)) → IsBounded (picture (composed j (drawings k))) (nodes_in k) (size + bytes_in k)
+one_bounded j empty size h w n e = absurd cc
+one_bounded j (tree l a empty) size h w n e = e (drawn l.payload (drawings a)) w n
+one_bounded j (tree l a (tree m b r)) size h w n e = absurd (omega (arith, eqb-true (arity (tree l a (tree m b r))) 1 h))
+
+composed_bounded : (j : Kind) (k : Forest) → composes_kind j (arity k) ≡ true → widths (blocks_of k) ≤ bytes_in k → heights (blocks_of k) ≤ nodes_in k → IsBounded (picture (composed j (drawings k))) (nodes_in k) (size_of_payload (bare j) + bytes_in k)
+composed_bounded kind.Plus k h w n = record { width = omega arith; rows = omega arith }
+composed_bounded kind.Minus k h w n = record { width = omega arith; rows = omega arith }
+composed_bounded kind.Times k h w n = record { width = omega arith; rows = omega arith }
+composed_bounded kind.Row k h w n = record { width = omega (arith, w); rows = omega (arith, n, most_heights (blocks_of k)) }
+composed_bounded kind.Fraction k h w n = fraction_bounded k (drawings k) refl h w n
+composed_bounded kind.Raised k h w n = one_bounded kind.Raised k _ h w n (λ l a b. record { width = omega (arith, a); rows = omega (arith, b) })
+composed_bounded kind.Radical k h w n = one_bounded kind.Radical k _ h w n (λ l a b. record { width = omega (arith, a); rows = omega (arith, b) })
+composed_bounded kind.Paren k h w n = one_bounded kind.Paren k _ h w n (λ l a b. record { width = omega (arith, a); rows = omega (arith, b) })
+composed_bounded j k h w n = absurd cc
+
+pub drawn_bounded : (x : Payload) (k : Forest) → composes x (arity k) ≡ true → IsPayload x → widths (blocks_of k) ≤ bytes_in k → heights (blocks_of k) ≤ nodes_in k → IsBounded (block_of x k) (nodes_in k) (size_of_payload x + bytes_in k)
+drawn_bounded (rational r) k h p w n = record { width = omega (arith, ap (λ (z : ℤ). length (decimal (nat_abs z))) (numerator_is r p), decimal_short (nat_abs r.num) p.num_fits); rows = omega arith }
+drawn_bounded (named y) k h p w n = record { width = omega (arith, (spelled y p).short); rows = omega arith }
+drawn_bounded (bare j) k h p w n = composed_bounded j k h w n
+
+pub record AreBounded (f : Forest) : Type 0 where
+  pub widths_are : widths (blocks_of f) ≤ bytes_in f
+  pub heights_are : heights (blocks_of f) ≤ nodes_in f
+
+pub bounded : (f : Forest) → AllComposed f → AllValid f → AreBounded f
+bounded empty c v = record { widths_are = omega arith; heights_are = omega arith }
+bounded (tree l k r) c v =
+    let a = bounded k c.1 v.1 in
+    let b = drawn_bounded l.payload k c.0 v.0 a.widths_are a.heights_are in
+    let d = bounded r c.2 v.2 in
+    record { widths_are = omega (arith, b.width, d.widths_are); heights_are = omega (arith, b.rows, d.heights_are) }
+
+-- the first of small extents is small
+pub small_first : (l : Label) (k r : Forest) → AllComposed (tree l k r) → AllValid (tree l k r) → bytes_in (tree l k r) ≤ 524280 → IsSmall (extent_of l.payload k)
+small_first l k r c v few =
+    let a = bounded k c.1 v.1 in
+    let b = drawn_bounded l.payload k c.0 v.0 a.widths_are a.heights_are in
+    record {
+      nodes = omega (arith, few, bytes_nodes k, size_from (node_of l k));
+      width = omega (arith, few, b.width);
+      above = omega (arith, few, b.rows, bytes_nodes k, size_from (node_of l k));
+      below = omega (arith, few, b.rows, bytes_nodes k, size_from (node_of l k));
+    }
+
+-- ---- reading the list
+
+pub inside_extents : (es rest : List Extent) (n : ℕ) (e : Extent) → drop n es ≡ e ∷ rest → n < length es
+inside_extents es rest n e h = omega (arith, ap length h, length-drop n es)
+
+pub extent_read : (es rest : List Extent) (n : ℕ) (e d : Extent) → drop n es ≡ e ∷ rest → get_or es n d ≡ e
+extent_read es rest n e d h = by (drop-cons es n d (inside_extents es rest n e h))
+  where
+    by : drop n es ≡ get_or es n d ∷ drop (suc n) es → get_or es n d ≡ e
+    by g = cc
+
+pub others_read : (es rest : List Extent) (n : ℕ) (e : Extent) → drop n es ≡ e ∷ rest → drop (n + 1) es ≡ rest
+others_read es rest n e h = ap (λ (k : ℕ). drop k es) (add-one n) ∙ by (drop-cons es n e (inside_extents es rest n e h))
+  where
+    by : drop n es ≡ get_or es n e ∷ drop (suc n) es → drop (suc n) es ≡ rest
+    by g = cc
+
+pub extents_length : (f : Forest) → length (extents_of f) ≡ nodes_in f
+extents_length empty = refl
+extents_length (tree l k r) = omega (arith, length-append (extents_of k) (extents_of r), extents_length k, extents_length r)
+
+pub extents-join : (f g : Forest) → extents_of (join f g) ≡ extents_of f ++ extents_of g
+extents-join empty g = refl
+extents-join (tree l k r) g = ap (λ (x : List Extent). extent_of l.payload k ∷ x) (ap (λ (x : List Extent). extents_of k ++ x) (extents-join r g) ∙ sym (append_assoc (extents_of k) (extents_of r) (extents_of g)))
+
+-- behind the first tree stand the others
+pub behind_first : (l : Label) (k r : Forest) (first : ℕ) (es : List Extent) → HasSmall (tree l k r) first es → HasSmall r (first + suc (nodes_in k)) es
+behind_first l k r first es h = record {
+  behind = h.behind;
+  extents_are = sym (drop-drop (suc (nodes_in k)) first es) ∙ ap (drop (suc (nodes_in k))) (h.extents_are ∙ ap (λ (x : List Extent). extent_of l.payload k ∷ x) (append_assoc (extents_of k) (extents_of r) h.behind))
+      ∙ drop_at (extent_of l.payload k ∷ extents_of k) (extents_of r ++ h.behind) (suc (nodes_in k)) (ap suc (extents_length k));
+  composed_parts = h.composed_parts.2;
+  valid_parts = h.valid_parts.2;
+  few = omega (arith, h.few);
+}
+
+-- ---- what the first extents are
+
+pub first_read : (l : Label) (k r : Forest) (first : ℕ) (es : List Extent) (d : Extent) → HasSmall (tree l k r) first es → get_or es first d ≡ extent_of l.payload k
+first_read l k r first es d h = extent_read es ((extents_of k ++ extents_of r) ++ h.behind) first (extent_of l.payload k) d h.extents_are
+
+pub first_within : (l : Label) (k r : Forest) (first : ℕ) (es : List Extent) → HasSmall (tree l k r) first es → first < length es
+first_within l k r first es h = inside_extents es ((extents_of k ++ extents_of r) ++ h.behind) first (extent_of l.payload k) h.extents_are
+
+pub first_small : (l : Label) (k r : Forest) (first : ℕ) (es : List Extent) → HasSmall (tree l k r) first es → IsSmall (extent_of l.payload k)
+first_small l k r first es h = small_first l k r h.composed_parts h.valid_parts h.few
+
+-- ---- a node by its kind
+
+pub extent_same : (n m w v a b d e : ℕ) → n ≡ m → w ≡ v → a ≡ b → d ≡ e → (let r : Extent = record { nodes = n; width = w; above = a; below = d } in r) ≡ (let s : Extent = record { nodes = m; width = v; above = b; below = e } in s)
+extent_same n m w v a b d e p q r s =
+    ap (λ (x : ℕ). let t : Extent = record { nodes = x; width = w; above = a; below = d } in t) p ∙ ap (λ (x : ℕ). let t : Extent = record { nodes = m; width = x; above = a; below = d } in t) q
+    ∙ ap (λ (x : ℕ). let t : Extent = record { nodes = m; width = v; above = x; below = d } in t) r ∙ ap (λ (x : ℕ). let t : Extent = record { nodes = m; width = v; above = b; below = x } in t) s
+
+-- one part
+pub record HasOne (j : Kind) (x : Payload) (k : Forest) : Type 0 where
+  pub label : Label
+  pub below : Forest
+  pub part_is : k ≡ tree label below empty
+  pub payload_is : x ≡ bare j
+
+pub one_part_of : (j : Kind) (x : Payload) (k : Forest) → x ≡ bare j → nat_eq (arity k) 1 ≡ true → HasOne j x k
+one_part_of j x empty e h = absurd cc
+one_part_of j x (tree l k empty) e h = record { label = l; below = k; part_is = refl; payload_is = e }
+one_part_of j x (tree l k (tree m i r)) e h = absurd (omega (arith, eqb-true (arity (tree l k (tree m i r))) 1 h))
+
+pub record HasTwo (x : Payload) (k : Forest) : Type 0 where
+  pub upper : Label
+  pub above : Forest
+  pub lower : Label
+  pub below : Forest
+  pub parts_are : k ≡ tree upper above (tree lower below empty)
+  pub payload_is : x ≡ bare kind.Fraction
+
+pub two_parts_of : (x : Payload) (k : Forest) → x ≡ bare kind.Fraction → nat_eq (arity k) 2 ≡ true → HasTwo x k
+two_parts_of x empty e h = absurd cc
+two_parts_of x (tree l k empty) e h = absurd cc
+two_parts_of x (tree l a (tree m b empty)) e h = record { upper = l; above = a; lower = m; below = b; parts_are = refl; payload_is = e }
+two_parts_of x (tree l a (tree m b (tree o d r))) e h = absurd (omega (arith, eqb-true (arity (tree l a (tree m b (tree o d r)))) 2 h))
+
+pub bare_of : (x : Payload) (j : Kind) → IsPayload x → is_bare j ≡ true → kind_of_payload x ≡ j → x ≡ bare j
+bare_of (rational r) j p b e = absurd (cc (ap is_bare e ∙ b))
+bare_of (named y) j p b e = absurd (cc (ap is_bare e ∙ b))
+bare_of (bare i) j p b e = ap bare e
+
+-- a leaf
+pub leaf_extent : (x : Payload) (k : Forest) → IsPayload x → composes x (arity k) ≡ true → (kind_of_payload x ≡ kind.Row → ⊥) → (kind_of_payload x ≡ kind.Fraction → ⊥) → (kind_of_payload x ≡ kind.Raised → ⊥) → (kind_of_payload x ≡ kind.Radical → ⊥) → (kind_of_payload x ≡ kind.Paren → ⊥)
+    → (let r : Extent = record { nodes = 1; width = leaf_width x; above = 0; below = 0 } in r) ≡ extent_of x k
+leaf_extent (rational r) empty p c a b d e f = extent_same 1 1 _ _ 0 0 0 0 refl (ap (λ (z : ℤ). length (decimal (nat_abs z))) (sym (numerator_is r p))) refl refl
+leaf_extent (rational r) (tree l k s) p c a b d e f = absurd (omega (arith, eqb-true (arity (tree l k s)) 0 c))
+leaf_extent (named y) empty p c a b d e f = refl
+leaf_extent (named y) (tree l k s) p c a b d e f = absurd (omega (arith, eqb-true (arity (tree l k s)) 0 c))
+leaf_extent (bare kind.Plus) empty p c a b d e f = refl
+leaf_extent (bare kind.Plus) (tree l k s) p c a b d e f = absurd (omega (arith, eqb-true (arity (tree l k s)) 0 c))
+leaf_extent (bare kind.Minus) empty p c a b d e f = refl
+leaf_extent (bare kind.Minus) (tree l k s) p c a b d e f = absurd (omega (arith, eqb-true (arity (tree l k s)) 0 c))
+leaf_extent (bare kind.Times) empty p c a b d e f = refl
+leaf_extent (bare kind.Times) (tree l k s) p c a b d e f = absurd (omega (arith, eqb-true (arity (tree l k s)) 0 c))
+leaf_extent (bare kind.Row) k p c a b d e f = absurd (a refl)
+leaf_extent (bare kind.Fraction) k p c a b d e f = absurd (b refl)
+leaf_extent (bare kind.Raised) k p c a b d e f = absurd (d refl)
+leaf_extent (bare kind.Radical) k p c a b d e f = absurd (e refl)
+leaf_extent (bare kind.Paren) k p c a b d e f = absurd (f refl)
+leaf_extent (bare j) k p c a b d e f = absurd cc
+
+-- ---- a node over one part, and over two
+
+pub record IsOneOver (j : Kind) (x : Payload) (k : Forest) (first : ℕ) (es : List Extent) : Type 0 where
+  pub label : Label
+  pub below : Forest
+  pub part_is : k ≡ tree label below empty
+  pub payload_is : x ≡ bare j
+  pub small : HasSmall (tree label below empty) first es
+
+pub over_one : {x : Payload} {k : Forest} {first : ℕ} {es : List Extent} (j : Kind) → ((n : ℕ) → composes_kind j n ≡ nat_eq n 1) → is_bare j ≡ true → IsOver x k first es → kind_of_payload x ≡ j → IsOneOver j x k first es
+over_one {x = x} {k = k} {first = first} {es = es} j n b o e =
+    let is : x ≡ bare j = bare_of x j o.payload b e in
+    let one = one_part_of j x k is (sym (n (arity k)) ∙ ap (λ (y : Payload). composes y (arity k)) (sym is) ∙ o.composed_node) in
+    record { label = one.label; below = one.below; part_is = one.part_is; payload_is = is; small = subst (λ (f : Forest). HasSmall f first es) one.part_is o.small }
+
+pub record IsTwoOver (x : Payload) (k : Forest) (first : ℕ) (es : List Extent) : Type 0 where
+  pub upper : Label
+  pub above : Forest
+  pub lower : Label
+  pub below : Forest
+  pub parts_are : k ≡ tree upper above (tree lower below empty)
+  pub payload_is : x ≡ bare kind.Fraction
+  pub small : HasSmall (tree upper above (tree lower below empty)) first es
+
+pub over_two : {x : Payload} {k : Forest} {first : ℕ} {es : List Extent} → IsOver x k first es → kind_of_payload x ≡ kind.Fraction → IsTwoOver x k first es
+over_two {x = x} {k = k} {first = first} {es = es} o e =
+    let is : x ≡ bare kind.Fraction = bare_of x kind.Fraction o.payload refl e in
+    let two = two_parts_of x k is (ap (λ (y : Payload). composes y (arity k)) (sym is) ∙ o.composed_node) in
+    record { upper = two.upper; above = two.above; lower = two.lower; below = two.below; parts_are = two.parts_are; payload_is = is; small = subst (λ (f : Forest). HasSmall f first es) two.parts_are o.small }
+
+pub pair_over : {x : Payload} {k : Forest} {first : ℕ} {es : List Extent} (t : IsTwoOver x k first es) → HasPair t.lower t.below first es
+pair_over t = record { upper = t.upper; above = t.above; others = empty; small = t.small }
+
+-- the extents of nodes over their parts
+pub one_extent : {j : Kind} {x : Payload} {k : Forest} {first : ℕ} {es : List Extent} (o : IsOneOver j x k first es) → extent_of (bare j) (tree o.label o.below empty) ≡ extent_of x k
+one_extent {x = x} o = ap (λ (y : Payload). extent_of y (tree o.label o.below empty)) (sym o.payload_is) ∙ ap (extent_of x) (sym o.part_is)
+
+pub two_extent : {x : Payload} {k : Forest} {first : ℕ} {es : List Extent} (t : IsTwoOver x k first es) → extent_of (bare kind.Fraction) (tree t.upper t.above (tree t.lower t.below empty)) ≡ extent_of x k
+two_extent {x = x} t = ap (λ (y : Payload). extent_of y (tree t.upper t.above (tree t.lower t.below empty))) (sym t.payload_is) ∙ ap (extent_of x) (sym t.parts_are)
+
+pub raised_is : (l : Label) (b : Forest) (e new : Extent) → e ≡ extent_of l.payload b → new ≡ (record { nodes = 1 + e.nodes; width = e.width; above = e.above + 1 + e.below; below = 0 }) → new ≡ extent_of (bare kind.Raised) (tree l b empty)
+raised_is l b e new h g =
+    g ∙ extent_same _ _ _ _ _ _ _ _ (omega (arith, ap (λ (x : Extent). x.nodes) h)) (ap (λ (x : Extent). x.width) h) (omega (arith, ap (λ (x : Extent). x.above) h, ap (λ (x : Extent). x.below) h)) refl
+
+pub radical_is : (l : Label) (b : Forest) (e new : Extent) → e ≡ extent_of l.payload b → new ≡ (record { nodes = 1 + e.nodes; width = 1 + e.width; above = e.above + 1; below = e.below }) → new ≡ extent_of (bare kind.Radical) (tree l b empty)
+radical_is l b e new h g =
+    g ∙ extent_same _ _ _ _ _ _ _ _ (omega (arith, ap (λ (x : Extent). x.nodes) h)) (omega (arith, ap (λ (x : Extent). x.width) h)) (omega (arith, ap (λ (x : Extent). x.above) h)) (ap (λ (x : Extent). x.below) h)
+
+pub paren_is : (l : Label) (b : Forest) (e new : Extent) → e ≡ extent_of l.payload b → new ≡ (record { nodes = 1 + e.nodes; width = e.width + 2; above = e.above; below = e.below }) → new ≡ extent_of (bare kind.Paren) (tree l b empty)
+paren_is l b e new h g =
+    g ∙ extent_same _ _ _ _ _ _ _ _ (omega (arith, ap (λ (x : Extent). x.nodes) h)) (omega (arith, ap (λ (x : Extent). x.width) h)) (ap (λ (x : Extent). x.above) h) (ap (λ (x : Extent). x.below) h)
+
+pub fraction_is : (l : Label) (a : Forest) (m : Label) (b : Forest) (d e new : Extent) → d ≡ extent_of l.payload a → e ≡ extent_of m.payload b
+    → new ≡ (record { nodes = 1 + d.nodes + e.nodes; width = max d.width e.width; above = d.above + 1 + d.below; below = e.above + 1 + e.below }) → new ≡ extent_of (bare kind.Fraction) (tree l a (tree m b empty))
+fraction_is l a m b d e new h i g =
+    g ∙ extent_same _ _ _ _ _ _ _ _ (omega (arith, ap (λ (x : Extent). x.nodes) h, ap (λ (x : Extent). x.nodes) i))
+    (ap (λ (x : ℕ). max x e.width) (ap (λ (x : Extent). x.width) h) ∙ ap (max (block_of l.payload a).width) (ap (λ (x : Extent). x.width) i))
+    (omega (arith, ap (λ (x : Extent). x.above) h, ap (λ (x : Extent). x.below) h)) (omega (arith, ap (λ (x : Extent). x.above) i, ap (λ (x : Extent). x.below) i))
+
+pub row_is : (x : Payload) (k : Forest) → IsPayload x → kind_of_payload x ≡ kind.Row → extent_from (1 + nodes_in k) (side_by_side (pictures (drawings k))) ≡ extent_of x k
+row_is x k p e = extent_same _ _ _ _ _ _ _ _ (omega arith) refl refl refl ∙ ap (λ (y : Payload). extent_of y k) (sym (bare_of x kind.Row p refl e))
+
+-- ---- the line of a leaf
+
+pub leaf_line : (x : Payload) (k : Forest) (y : ℕ) → IsPayload x → composes x (arity k) ≡ true → (kind_of_payload x ≡ kind.Row → ⊥) → (kind_of_payload x ≡ kind.Fraction → ⊥) → (kind_of_payload x ≡ kind.Raised → ⊥) → (kind_of_payload x ≡ kind.Radical → ⊥) → (kind_of_payload x ≡ kind.Paren → ⊥)
+    → (block_of x k).line y ≡ leaf_characters x
+leaf_line (rational r) k y p c a b d e f = ap (λ (z : ℤ). decimal (nat_abs z)) (numerator_is r p)
+leaf_line (named x) k y p c a b d e f = refl
+leaf_line (bare kind.Plus) k y p c a b d e f = refl
+leaf_line (bare kind.Minus) k y p c a b d e f = refl
+leaf_line (bare kind.Times) k y p c a b d e f = refl
+leaf_line (bare kind.Row) k y p c a b d e f = absurd (a refl)
+leaf_line (bare kind.Fraction) k y p c a b d e f = absurd (b refl)
+leaf_line (bare kind.Raised) k y p c a b d e f = absurd (d refl)
+leaf_line (bare kind.Radical) k y p c a b d e f = absurd (e refl)
+leaf_line (bare kind.Paren) k y p c a b d e f = absurd (f refl)
+leaf_line (bare j) k y p c a b d e f = absurd cc
+
+some_list : (xs : List ℕ) → 0 < length xs → xs ≢ []
+some_list [] h e = absurd (omega (arith, h))
+some_list (x ∷ xs) h e = cc
+
+name_some : (x : List ℕ) → begins_with_letter x ≡ true → x ≢ []
+name_some [] h e = absurd (cc h)
+name_some (c ∷ cs) h e = cc
+
+pub leaf_some : (x : Payload) (k : Forest) → IsPayload x → composes x (arity k) ≡ true → (kind_of_payload x ≡ kind.Row → ⊥) → (kind_of_payload x ≡ kind.Fraction → ⊥) → (kind_of_payload x ≡ kind.Raised → ⊥) → (kind_of_payload x ≡ kind.Radical → ⊥) → (kind_of_payload x ≡ kind.Paren → ⊥)
+    → leaf_characters x ≢ []
+leaf_some (rational r) k p c a b d e f = some_list (decimal (nat_abs r.num)) (decimal_is (nat_abs r.num)).some
+leaf_some (named x) k p c a b d e f = name_some x (spelled x p).begins
+leaf_some (bare kind.Plus) k p c a b d e f = λ q. cc
+leaf_some (bare kind.Minus) k p c a b d e f = λ q. cc
+leaf_some (bare kind.Times) k p c a b d e f = λ q. cc
+leaf_some (bare kind.Row) k p c a b d e f = absurd (a refl)
+leaf_some (bare kind.Fraction) k p c a b d e f = absurd (b refl)
+leaf_some (bare kind.Raised) k p c a b d e f = absurd (d refl)
+leaf_some (bare kind.Radical) k p c a b d e f = absurd (e refl)
+leaf_some (bare kind.Paren) k p c a b d e f = absurd (f refl)
+leaf_some (bare j) k p c a b d e f = absurd cc

@@ -1,0 +1,144 @@
+-- The layout of a face, by its root and its children.
+use Rattle.std.proofs.Common.{◌≡◌, ◌∙◌, if◌then◌else◌, Bool, true, false, ◌||◌, nat_le, nat_eq, None, refl, sym, ap, arith}
+use Rattle.std.proofs.lemmas.Bool.{eqb-true}
+use Rattle.calc_terms.specs.declared.kind.Kind.{Kind}
+use Rattle.calc_terms.specs.declared.kind.Kind.TheVariants as kind
+use Rattle.calc_terms.specs.Payload.{Payload, rational, named, bare, kind_of_payload}
+use Rattle.calc_terms.specs.Trees.{Tree, num, symbol, undef, add, mult, power, root, neg, sub, div, Trees, none, more, count, root_kind, is_div}
+use Rattle.calc_language.specs.Texts.{first_of_sum, left_of_difference, later_of_sum, first_of_product, later_of_product, level, admits}
+use Rattle.line_text.specs.Places.{level_of, is_div_kind}
+use Rattle.line_text.specs.declared.place.Place.TheVariants as lines
+use Rattle.line_text.proofs.Parts.{admits_is}
+use Rattle.tree_handles.specs.Expressions.{grown, compound, takes, takes_kind}
+use Rattle.pool_layouts.specs.declared.places.Place.TheVariants.{FirstOfSum, LaterOfSum, LeftOfDifference, RightOfDifference, UnderSign, FirstOfProduct, LaterOfProduct, Base}
+use Rattle.pool_layouts.specs.Layouts.{Layout, plus, minus, times, row, raised, Layouts, beside, one_part, unless, boxed, layout, layout_of_sum, layout_of_terms, layout_of_product, layout_of_factors}
+use Rattle.pool_layouts.specs.Drawings.{drawn}
+use Rattle.pool_layouts.specs.Places.{first_place, paren_kind_unless, around_of, within, parts_from, laid}
+
+-- ---- what a tree stands in
+
+level_is : (t : Tree) → level t ≡ level_of (root_kind t)
+level_is (num q) = refl
+level_is (symbol x) = refl
+level_is undef = refl
+level_is (add ts) = refl
+level_is (mult ts) = refl
+level_is (power b e) = refl
+level_is (root a) = refl
+level_is (neg a) = refl
+level_is (sub a b) = refl
+level_is (div a b) = refl
+
+is_div_is : (t : Tree) → is_div t ≡ is_div_kind (root_kind t)
+is_div_is (num q) = refl
+is_div_is (symbol x) = refl
+is_div_is undef = refl
+is_div_is (add ts) = refl
+is_div_is (mult ts) = refl
+is_div_is (power b e) = refl
+is_div_is (root a) = refl
+is_div_is (neg a) = refl
+is_div_is (sub a b) = refl
+is_div_is (div a b) = refl
+
+paren_is : (a : Bool) (l : Layout) → within (paren_kind_unless a) l ≡ unless a l
+paren_is true l = refl
+paren_is false l = refl
+
+box_is : (d e a b : Bool) (l : Layout) → e ≡ d → b ≡ a → within (if d then None else paren_kind_unless a) l ≡ unless (e || b) l
+box_is true e a b l h i = ap (λ x. unless (x || b) l) (sym h)
+box_is false e a b l h i = paren_is a l ∙ ap (λ x. unless x l) (sym i) ∙ ap (λ x. unless (x || b) l) (sym h)
+
+-- the first factor is not judged as a fraction again
+box_first : (d e a b : Bool) (l : Layout) → e ≡ d → b ≡ (a || d) → within (if d then None else paren_kind_unless a) l ≡ unless (e || b) l
+box_first true e a b l h i = ap (λ x. unless (x || b) l) (sym h)
+box_first false e true b l h i = ap (λ x. unless x l) (sym i) ∙ ap (λ x. unless (x || b) l) (sym h)
+box_first false e false b l h i = ap (λ x. unless x l) (sym i) ∙ ap (λ x. unless (x || b) l) (sym h)
+
+box_first_of_sum : (t : Tree) (l : Layout) → within (around_of FirstOfSum t) l ≡ boxed first_of_sum t l
+box_first_of_sum t l = box_is (is_div_kind (root_kind t)) (is_div t) _ (admits first_of_sum t) l (is_div_is t) (admits_is lines.FirstOfSum t)
+
+box_later_of_sum : (t : Tree) (l : Layout) → within (around_of LaterOfSum t) l ≡ boxed later_of_sum t l
+box_later_of_sum t l = box_is (is_div_kind (root_kind t)) (is_div t) _ (admits later_of_sum t) l (is_div_is t) (admits_is lines.LaterOfSum t)
+
+box_left : (t : Tree) (l : Layout) → within (around_of LeftOfDifference t) l ≡ boxed left_of_difference t l
+box_left t l = box_is (is_div_kind (root_kind t)) (is_div t) _ (admits left_of_difference t) l (is_div_is t) (admits_is lines.LeftOfDifference t)
+
+box_right : (t : Tree) (l : Layout) → within (around_of RightOfDifference t) l ≡ boxed later_of_sum t l
+box_right t l = box_is (is_div_kind (root_kind t)) (is_div t) _ (admits later_of_sum t) l (is_div_is t) (admits_is lines.LaterOfSum t)
+
+box_sign : (t : Tree) (l : Layout) → within (around_of UnderSign t) l ≡ boxed later_of_sum t l
+box_sign t l = box_is (is_div_kind (root_kind t)) (is_div t) _ (admits later_of_sum t) l (is_div_is t) (admits_is lines.LaterOfSum t)
+
+box_first_of_product : (t : Tree) (l : Layout) → within (around_of FirstOfProduct t) l ≡ boxed first_of_product t l
+box_first_of_product t l = box_first (is_div_kind (root_kind t)) (is_div t) _ (admits first_of_product t) l (is_div_is t) (admits_is lines.FirstOfProduct t)
+
+box_later_of_product : (t : Tree) (l : Layout) → within (around_of LaterOfProduct t) l ≡ boxed later_of_product t l
+box_later_of_product t l = box_is (is_div_kind (root_kind t)) (is_div t) _ (admits later_of_product t) l (is_div_is t) (admits_is lines.LaterOfProduct t)
+
+box_base : (t : Tree) (l : Layout) → within (around_of Base t) l ≡ unless (nat_le 4 (level t)) l
+box_base t l = paren_is (nat_le 4 (level_of (root_kind t))) l ∙ ap (λ n. unless (nat_le 4 n) l) (sym (level_is t))
+
+-- ---- the parts of sums and products
+
+both : {a b : Layout} {ls ms : Layouts} → a ≡ b → ls ≡ ms → beside a ls ≡ beside b ms
+both {a = a} {b = b} {ls = ls} {ms = ms} e h = ap (λ x. beside x ls) e ∙ ap (beside b) h
+
+terms_are : (ts : Trees) → parts_from LaterOfSum ts ≡ layout_of_terms ts
+terms_are none = refl
+terms_are (more t ts) = ap (beside plus) (both (box_later_of_sum t (layout t)) (terms_are ts))
+
+sum_is : (ts : Trees) → parts_from FirstOfSum ts ≡ layout_of_sum ts
+sum_is none = refl
+sum_is (more t ts) = both (box_first_of_sum t (layout t)) (terms_are ts)
+
+factors_are : (ts : Trees) → parts_from LaterOfProduct ts ≡ layout_of_factors ts
+factors_are none = refl
+factors_are (more t ts) = ap (beside times) (both (box_later_of_product t (layout t)) (factors_are ts))
+
+product_is : (ts : Trees) → parts_from FirstOfProduct ts ≡ layout_of_product ts
+product_is none = refl
+product_is (more t ts) = both (box_first_of_product t (layout t)) (factors_are ts)
+
+-- ---- a node
+
+too_many : (t u v : Tree) (ts : Trees) {A : Type 0} → nat_eq (count (more t (more u (more v ts)))) 2 ≡ true → A
+too_many t u v ts h = absurd (omega (arith, eqb-true (count (more t (more u (more v ts)))) 2 h))
+
+too_many_for_one : (t u : Tree) (ts : Trees) {A : Type 0} → nat_eq (count (more t (more u ts))) 1 ≡ true → A
+too_many_for_one t u ts h = absurd (omega (arith, eqb-true (count (more t (more u ts))) 1 h))
+
+some_for_none : (t : Tree) (ts : Trees) {A : Type 0} → nat_eq (count (more t ts)) 0 ≡ true → A
+some_for_none t ts h = absurd (omega (arith, eqb-true (count (more t ts)) 0 h))
+
+compound_is : (k : Kind) (ts : Trees) → takes_kind k (count ts) ≡ true → layout (compound k ts) ≡ drawn (laid (bare k)) (parts_from (first_place k) ts)
+compound_is kind.Add ts h = ap row (sym (sum_is ts))
+compound_is kind.Mult ts h = ap row (sym (product_is ts))
+compound_is kind.Pow (more b (more e none)) h = ap (λ x. row (beside x (one_part (raised (layout e))))) (sym (box_base b (layout b)))
+compound_is kind.Pow none h = absurd cc
+compound_is kind.Pow (more b none) h = absurd cc
+compound_is kind.Pow (more b (more e (more f ts))) h = too_many b e f ts h
+compound_is kind.Root (more a none) h = refl
+compound_is kind.Root none h = absurd cc
+compound_is kind.Root (more a (more b ts)) h = too_many_for_one a b ts h
+compound_is kind.Neg (more a none) h = ap (λ x. row (beside minus (one_part x))) (sym (box_sign a (layout a)))
+compound_is kind.Neg none h = absurd cc
+compound_is kind.Neg (more a (more b ts)) h = too_many_for_one a b ts h
+compound_is kind.Sub (more a (more b none)) h =
+    ap (λ x. row (beside x (beside minus (one_part (boxed later_of_sum b (layout b)))))) (sym (box_left a (layout a)))
+    ∙ ap (λ x. row (beside (within (around_of LeftOfDifference a) (layout a)) (beside minus (one_part x)))) (sym (box_right b (layout b)))
+compound_is kind.Sub none h = absurd cc
+compound_is kind.Sub (more b none) h = absurd cc
+compound_is kind.Sub (more b (more e (more f ts))) h = too_many b e f ts h
+compound_is kind.Div (more a (more b none)) h = refl
+compound_is kind.Div none h = absurd cc
+compound_is kind.Div (more b none) h = absurd cc
+compound_is kind.Div (more b (more e (more f ts))) h = too_many b e f ts h
+compound_is kind.Undef none h = refl
+compound_is kind.Undef (more t ts) h = some_for_none t ts h
+compound_is k ts h = absurd cc
+
+pub layout_is : (x : Payload) (ts : Trees) → takes x (count ts) ≡ true → layout (grown x ts) ≡ drawn (laid x) (parts_from (first_place (kind_of_payload x)) ts)
+layout_is (rational r) ts h = refl
+layout_is (named y) ts h = refl
+layout_is (bare k) ts h = compound_is k ts h

@@ -1,0 +1,138 @@
+-- A row of the picture of a layout tree.
+use Rattle.std.proofs.Common.{◌≡◌, ◌∙◌, nat_eq, nat_abs, ℤ, ℕ, zero, suc, ◌+◌, ◌*◌, ◌<◌, ◌≤◌, List, [], ◌∷◌, length, encode_utf8_all, true, sym, ap, subst, arith, append-nil}
+use Rattle.std.proofs.lemmas.Bool.{eqb-true}
+use Rattle.calc_terms.specs.declared.kind.Kind.{Kind}
+use Rattle.calc_terms.specs.declared.kind.Kind.TheVariants as kind
+use Rattle.calc_terms.specs.Payload.{Payload, rational, named, bare, size_of_payload, IsPayload}
+use Rattle.calc_terms.proofs.Names.{spelled}
+use Rattle.calc_language.specs.Texts.{decimal}
+use Rattle.line_text.specs.Content.{Content, spare_of}
+use Rattle.line_text.proofs.Decimals.{decimal_short}
+use Rattle.line_text.proofs.Leaves.{numerator_is}
+use Rattle.node_pool.specs.State.{State}
+use Rattle.tree_handles.specs.Forest.{Forest, empty, tree, arity, nodes_in, bytes_in, AllNodes}
+use Rattle.tree_handles.specs.Inside.{tree_at}
+use Rattle.tree_handles.specs.Standing.{Stands, forest}
+use Rattle.tree_handles.proofs.Measures.{one_at}
+use Rattle.pool_layouts.specs.declared.cells.Cell.{Cell}
+use Rattle.pool_layouts.specs.declared.extents.Extent.{Extent}
+use Rattle.pool_layouts.specs.declared.steps.Step.{Step}
+use Rattle.pool_layouts.specs.declared.steps.Step.TheVariants as step
+use Rattle.pool_layouts.specs.Cells.{cells_of}
+use Rattle.pool_layouts.specs.Drawings.{drawn, drawing, drawings, composed, composes, composes_kind, part, AllComposed, IsLayout}
+use Rattle.pool_layouts.specs.Layouts.{Layout, Layouts, nothing, beside}
+use Rattle.pool_layouts.specs.Extents.{AllValid}
+use Rattle.pool_layouts.specs.Painting.{IsFound, IsLine, span_of}
+use Rattle.pool_layouts.specs.Pictures.{picture, height, widths}
+use Rattle.pool_layouts.proofs.Listing.{cells_length}
+use Rattle.pool_layouts.proofs.Measures.{blocks_of, block_of, drawn_bounded, bounded, first_small}
+use Rattle.pool_layouts.proofs.Measuring.{IsMeasured, alone}
+use Rattle.pool_layouts.proofs.Inks.{decimal_small, names_small}
+use Rattle.pool_layouts.proofs.Lines.{lines_long, lines_bytes, signs, all_signs, HasSmallLeaves, HaveSmallLeaves}
+use Rattle.pool_layouts.proofs.UnderWay.{known}
+use Rattle.pool_layouts.proofs.Valid.{valid}
+
+pub row_line : (s : State) (i : ℕ) (cells : List Cell) (es : List Extent) (steps : List Step) (end y : ℕ) → Stands s → IsLayout i (forest s) → cells ≡ cells_of (tree_at i (forest s)) → (m : IsMeasured s i es) → end ≡ suc (nodes_in m.below) → y < height (picture (drawing (tree_at i (forest s))))
+    → steps ≡ step.Part (span_of 0 end) y ∷ [] → IsLine (forest s) cells es steps ((picture (drawing (tree_at i (forest s)))).line y)
+row_line s i cells es steps end y st x e m q h f =
+    let t = tree m.label m.below empty in
+    let is = m.tree_is in
+    let all : cells ≡ cells_of t = e ∙ ap cells_of is in
+    let a = bounded m.below m.small.composed_parts.1 m.small.valid_parts.1 in
+    let b = drawn_bounded m.label.payload m.below m.small.composed_parts.0 m.small.valid_parts.0 a.widths_are a.heights_are in
+    let small = first_small m.label m.below empty 0 es m.small in
+    record {
+      only = step.Part (span_of 0 end) y;
+      steps_are = f;
+      shown = record {
+        label = m.label;
+        below = m.below;
+        listed = record {
+          small = m.small;
+          cells_behind = [];
+          cells_are = all ∙ sym (append-nil (cells_of t));
+          found = subst (AllNodes (IsFound (forest s))) is (known s i st);
+          end_is = omega (arith, q);
+        };
+        row_small = omega (arith, h, ap (λ (g : Forest). height (picture (drawing g))) is, small.above, small.below);
+        line_is = ap (λ (g : Forest). (picture (drawing g)).line y) is;
+      };
+      fits = omega (arith, q, ap length all, cells_length t);
+      short = omega (arith, lines_long (drawing (tree_at i (forest s))) y, ap (λ (g : Forest). (picture (drawing g)).width) is, b.width, m.small.few);
+    }
+
+-- ---- its bytes
+
+fraction_fits : (k : Forest) → nat_eq (arity k) 2 ≡ true → widths (blocks_of k) + 2 * all_signs (drawings k) ≤ bytes_in k
+    → (picture (composed kind.Fraction (drawings k))).width + 2 * signs (composed kind.Fraction (drawings k)) ≤ size_of_payload (bare kind.Fraction) + bytes_in k
+fraction_fits empty h w = absurd cc
+fraction_fits (tree l a empty) h w = absurd cc
+fraction_fits (tree l a (tree m b empty)) h w = omega (arith, w)
+fraction_fits (tree l a (tree m b (tree o d r))) h w = absurd (omega (arith, eqb-true (arity (tree l a (tree m b (tree o d r)))) 2 h))
+
+one_fits : (j : Kind) (k : Forest) (size : ℕ) → nat_eq (arity k) 1 ≡ true → widths (blocks_of k) + 2 * all_signs (drawings k) ≤ bytes_in k
+    → ((l : Layout) → (picture l).width + 0 + 2 * (signs l + 0) ≤ bytes_in k → (picture (composed j (beside l nothing))).width + 2 * signs (composed j (beside l nothing)) ≤ size + bytes_in k)
+    → (picture (composed j (drawings k))).width + 2 * signs (composed j (drawings k)) ≤ size + bytes_in k
+one_fits j empty size h w e = absurd cc
+one_fits j (tree l a empty) size h w e = e (drawn l.payload (drawings a)) w
+one_fits j (tree l a (tree m b r)) size h w e = absurd (omega (arith, eqb-true (arity (tree l a (tree m b r))) 1 h))
+
+composed_fits : (j : Kind) (k : Forest) → composes_kind j (arity k) ≡ true → widths (blocks_of k) + 2 * all_signs (drawings k) ≤ bytes_in k → (picture (composed j (drawings k))).width + 2 * signs (composed j (drawings k)) ≤ size_of_payload (bare j) + bytes_in k
+composed_fits kind.Plus k h w = omega arith
+composed_fits kind.Minus k h w = omega arith
+composed_fits kind.Times k h w = omega arith
+composed_fits kind.Row k h w = omega (arith, w)
+composed_fits kind.Fraction k h w = fraction_fits k h w
+composed_fits kind.Raised k h w = one_fits kind.Raised k _ h w (λ l a. omega (arith, a))
+composed_fits kind.Radical k h w = one_fits kind.Radical k _ h w (λ l a. omega (arith, a))
+composed_fits kind.Paren k h w = one_fits kind.Paren k _ h w (λ l a. omega (arith, a))
+composed_fits j k h w = absurd cc
+
+drawn_fits : (x : Payload) (k : Forest) → composes x (arity k) ≡ true → IsPayload x → widths (blocks_of k) + 2 * all_signs (drawings k) ≤ bytes_in k → (block_of x k).width + 2 * signs (drawn x (drawings k)) ≤ size_of_payload x + bytes_in k
+drawn_fits (rational r) k h p w = omega (arith, ap (λ (z : ℤ). length (decimal (nat_abs z))) (numerator_is r p), decimal_short (nat_abs r.num) p.num_fits)
+drawn_fits (named y) k h p w = omega (arith, (spelled y p).short)
+drawn_fits (bare j) k h p w = composed_fits j k h w
+
+signs_fit : (f : Forest) → AllComposed f → AllValid f → widths (blocks_of f) + 2 * all_signs (drawings f) ≤ bytes_in f
+signs_fit empty c v = omega arith
+signs_fit (tree l k r) c v = omega (arith, drawn_fits l.payload k c.0 v.0 (signs_fit k c.1 v.1), signs_fit r c.2 v.2)
+
+part_leaves : (n : ℕ) (ls : Layouts) → HaveSmallLeaves ls → HasSmallLeaves (part n ls)
+part_leaves n nothing h = tt
+part_leaves zero (beside l ls) h = h.0
+part_leaves (suc n) (beside l ls) h = part_leaves n ls h.1
+
+composed_leaves : (j : Kind) (ls : Layouts) → HaveSmallLeaves ls → HasSmallLeaves (composed j ls)
+composed_leaves kind.Plus ls h = tt
+composed_leaves kind.Minus ls h = tt
+composed_leaves kind.Times ls h = tt
+composed_leaves kind.Row ls h = h
+composed_leaves kind.Fraction ls h = (part_leaves 0 ls h, part_leaves 1 ls h)
+composed_leaves kind.Raised ls h = part_leaves 0 ls h
+composed_leaves kind.Radical ls h = part_leaves 0 ls h
+composed_leaves kind.Paren ls h = part_leaves 0 ls h
+composed_leaves j ls h = tt
+
+drawn_leaves : (x : Payload) (ls : Layouts) → IsPayload x → HaveSmallLeaves ls → HasSmallLeaves (drawn x ls)
+drawn_leaves (rational r) ls p h = decimal_small _
+drawn_leaves (named y) ls p h = names_small y p
+drawn_leaves (bare j) ls p h = composed_leaves j ls h
+
+small_leaves : (f : Forest) → AllValid f → HaveSmallLeaves (drawings f)
+small_leaves empty v = tt
+small_leaves (tree l k r) v = (drawn_leaves l.payload (drawings k) v.0 (small_leaves k v.1), small_leaves r v.2)
+
+pub row_room : (s : State) (i y : ℕ) (text : Content) → Stands s → IsLayout i (forest s) → bytes_in (tree_at i (forest s)) ≤ spare_of text → length (encode_utf8_all ((picture (drawing (tree_at i (forest s)))).line y)) ≤ spare_of text
+row_room s i y text st x room =
+    let t = tree_at i (forest s) in
+    let v = valid s i st x.live in
+    let fit = signs_fit t x.composed_whole v in
+    let (l, k, is) = alone t (one_at i (forest s) x.live) in
+    omega (
+      arith,
+      room,
+      fit,
+      ap (λ (f : Forest). widths (blocks_of f) + 2 * all_signs (drawings f)) is,
+      ap (λ (f : Forest). (picture (drawing f)).width + 2 * signs (drawing f)) is,
+      lines_bytes (drawing t) (part_leaves 0 (drawings t) (small_leaves t v)) y,
+    )

@@ -1,0 +1,116 @@
+-- What a place of the list shows of the tree that begins there.
+use Rattle.std.proofs.Common.{◌≡◌, ◌∙◌, ℕ, suc, ◌+◌, ◌<◌, List, ◌∷◌, ◌++◌, length, map, drop, get_or, refl, sym, ap, arith, append-nil, drop-cons, add-one}
+use Rattle.std.proofs.lemmas.Bool.{eqb-true}
+use Rattle.std.proofs.lemmas.List.{length-drop}
+use Rattle.calc_terms.specs.declared.kind.Kind.TheVariants as kind
+use Rattle.calc_terms.specs.Node.{Node}
+use Rattle.calc_terms.specs.Payload.{Payload, rational, named, bare, kind_of_payload}
+use Rattle.calc_terms.specs.Trees.{Tree, neg, root_kind}
+use Rattle.line_text.specs.Places.{kind_behind_opposites}
+use Rattle.line_text.proofs.Parts.{not_opposite}
+use Rattle.tree_handles.specs.Expressions.{plain, plains, grown, takes, AllExpressions}
+use Rattle.tree_handles.specs.Forest.{Label, Forest, empty, tree, arity, flatten, node_of}
+use Rattle.tree_handles.proofs.Plains.{root_kind-plain}
+use Rattle.pool_layouts.specs.declared.cells.Cell.{Cell}
+use Rattle.pool_layouts.specs.declared.places.Place.{Place}
+use Rattle.pool_layouts.specs.declared.places.Place.TheVariants.{Alone, FirstOfSum, LaterOfSum, LeftOfDifference, RightOfDifference, UnderSign, FirstOfProduct, LaterOfProduct, Base, Exponent}
+use Rattle.pool_layouts.specs.Cells.{cell_of, cells_of, ShowsTree}
+use Rattle.pool_layouts.specs.Places.{deciding_kind}
+
+-- ---- the first of what is left
+
+pub inside_list : (xs ys : List Cell) (n : ℕ) (x : Cell) → drop n xs ≡ x ∷ ys → n < length xs
+inside_list xs ys n x e = omega (arith, ap length e, length-drop n xs)
+
+pub first_is : (xs ys : List Cell) (n : ℕ) (x d : Cell) → drop n xs ≡ x ∷ ys → get_or xs n d ≡ x
+first_is xs ys n x d e = by (drop-cons xs n d (inside_list xs ys n x e))
+  where
+    by : drop n xs ≡ get_or xs n d ∷ drop (suc n) xs → get_or xs n d ≡ x
+    by h = cc
+
+pub others_are : (xs ys : List Cell) (n : ℕ) (x : Cell) → drop n xs ≡ x ∷ ys → drop (n + 1) xs ≡ ys
+others_are xs ys n x e = ap (λ (k : ℕ). drop k xs) (add-one n) ∙ by (drop-cons xs n x (inside_list xs ys n x e))
+  where
+    by : drop n xs ≡ get_or xs n x ∷ drop (suc n) xs → drop (suc n) xs ≡ ys
+    by h = cc
+
+-- ---- a tree, by its root
+
+pub record IsShown (at : ℕ) (t : Forest) (cells : List Cell) : Type 0 where
+  pub label : Label
+  pub below : Forest
+  pub rest : List Cell
+  pub tree_is : t ≡ tree label below empty
+  pub cells_are : drop at cells ≡ cell_of (node_of label below) ∷ (cells_of below ++ rest)
+  pub whole : AllExpressions (tree label below empty)
+
+shown_as : (at : ℕ) (t : Forest) (cells rest : List Cell) → arity t ≡ 1 → AllExpressions t → drop at cells ≡ cells_of t ++ rest → IsShown at t cells
+shown_as at empty cells rest one w e = absurd (omega (arith, one))
+shown_as at (tree l k (tree m j r)) cells rest one w e = absurd (omega (arith, one))
+shown_as at (tree l k empty) cells rest one w e = record {
+  label = l;
+  below = k;
+  rest = rest;
+  tree_is = refl;
+  cells_are = e ∙ ap (λ (ns : List Node). cell_of (node_of l k) ∷ (map cell_of ns ++ rest)) (append-nil (flatten k));
+  whole = w;
+}
+
+pub shown : {at : ℕ} {t : Forest} {cells : List Cell} → ShowsTree at t cells → IsShown at t cells
+shown {at = at} {t = t} {cells = cells} s = shown_as at t cells s.behind s.alone s.whole s.cells_are
+
+pub shown_inside : {at : ℕ} {t : Forest} {cells : List Cell} → ShowsTree at t cells → at < length cells
+shown_inside {at = at} {cells = cells} s = let x = shown s in inside_list cells (cells_of x.below ++ x.rest) at (cell_of (node_of x.label x.below)) x.cells_are
+
+pub shown_kind : {at : ℕ} {t : Forest} {cells : List Cell} (d : Cell) → ShowsTree at t cells → (get_or cells at d).kind ≡ root_kind (plain t)
+shown_kind {at = at} {t = t} {cells = cells} d s =
+    let x = shown s in
+    ap (λ (y : Cell). y.kind) (first_is cells (cells_of x.below ++ x.rest) at (cell_of (node_of x.label x.below)) d x.cells_are) ∙ sym (root_kind-plain (tree x.label x.below empty) refl x.whole) ∙ ap (λ (u : Forest). root_kind (plain u)) (sym x.tree_is)
+
+-- ---- opposites
+
+neg_payload : (x : Payload) → kind_of_payload x ≡ kind.Neg → x ≡ bare kind.Neg
+neg_payload (rational r) h = absurd cc
+neg_payload (named y) h = absurd cc
+neg_payload (bare j) h = ap bare h
+
+-- what an opposite is of stands behind its node
+pub record IsOpposite (at : ℕ) (t : Forest) (cells : List Cell) : Type 0 where
+  pub inner : Forest
+  pub shows : ShowsTree (at + 1) inner cells
+  pub plain_is : plain t ≡ neg (plain inner)
+
+opposite_of : (at : ℕ) (t : Forest) (cells rest : List Cell) (l : Label) (k : Forest) → t ≡ tree l k empty → drop at cells ≡ cell_of (node_of l k) ∷ (cells_of k ++ rest) → l.payload ≡ bare kind.Neg → AllExpressions (tree l k empty) → IsOpposite at t cells
+opposite_of at t cells rest l empty q e n w = absurd (cc (ap (λ (y : Payload). takes y 0) n, w.0))
+opposite_of at t cells rest l (tree m j (tree o i r)) q e n w = absurd (omega (arith, eqb-true (arity (tree m j (tree o i r))) 1 (ap (λ (y : Payload). takes y (arity (tree m j (tree o i r)))) (sym n) ∙ w.0)))
+opposite_of at t cells rest l (tree m j empty) q e n w = record {
+  inner = tree m j empty;
+  shows = record {
+    alone = refl;
+    whole = w.1;
+    behind = rest;
+    cells_are = others_are cells (cells_of (tree m j empty) ++ rest) at (cell_of (node_of l (tree m j empty))) e;
+  };
+  plain_is = ap plain q ∙ ap (λ (y : Payload). grown y (plains (tree m j empty))) n;
+}
+
+pub opposite : {at : ℕ} {t : Forest} {cells : List Cell} (d : Cell) → ShowsTree at t cells → (get_or cells at d).kind ≡ kind.Neg → IsOpposite at t cells
+opposite {at = at} {t = t} {cells = cells} d s e =
+    let x = shown s in
+    let is : (get_or cells at d).kind ≡ kind_of_payload x.label.payload = ap (λ (y : Cell). y.kind) (first_is cells (cells_of x.below ++ x.rest) at (cell_of (node_of x.label x.below)) d x.cells_are) in
+    opposite_of at t cells x.rest x.label x.below x.tree_is x.cells_are (neg_payload x.label.payload (sym is ∙ e)) x.whole
+
+pub behind_none : {at : ℕ} {t : Forest} {cells : List Cell} (d e : Cell) → ShowsTree at t cells → ((get_or cells at e).kind ≡ kind.Neg → ⊥) → (get_or cells at d).kind ≡ kind_behind_opposites (plain t)
+behind_none {t = t} d e s h = shown_kind d s ∙ sym (not_opposite (plain t) (λ q. h (shown_kind e s ∙ q)))
+
+pub decided_by_root : (p : Place) (t : Tree) → (p ≡ LaterOfProduct → ⊥) → root_kind t ≡ deciding_kind p t
+decided_by_root LaterOfProduct t h = absurd (h refl)
+decided_by_root Alone t h = refl
+decided_by_root FirstOfSum t h = refl
+decided_by_root LaterOfSum t h = refl
+decided_by_root LeftOfDifference t h = refl
+decided_by_root RightOfDifference t h = refl
+decided_by_root UnderSign t h = refl
+decided_by_root FirstOfProduct t h = refl
+decided_by_root Base t h = refl
+decided_by_root Exponent t h = refl

@@ -1,0 +1,670 @@
+-- The layout of a face under way: what was placed of it, and what is left.
+use Rattle.std.proofs.Common.{◌≡◌, ◌∙◌, if◌then◌else◌, nat_le, nat_eq, get_or, ℕ, ◌+◌, ◌<◌, ◌≤◌, List, [], ◌∷◌, ◌++◌, length, map, drop, Option, Some, None, Ok, Err, true, false, Bool, refl, sym, ap, subst, arith, append_assoc, append-nil}
+use Rattle.std.proofs.lemmas.Bool.{eqb-true, eq-eqb}
+use Rattle.std.proofs.lemmas.List.{map-append, length-append}
+use Rattle.calc_terms.specs.declared.kind.Kind.{Kind}
+use Rattle.calc_terms.specs.declared.kind.Kind.TheVariants as kind
+use Rattle.calc_terms.specs.Node.{Node}
+use Rattle.calc_terms.specs.Payload.{Payload, rational, named, bare, kind_of_payload, size_of_payload}
+use Rattle.calc_terms.specs.Trees.{Tree, Trees, none, more, count, root_kind}
+use Rattle.line_text.specs.Places.{level_of, is_div_kind}
+use Rattle.node_pool.specs.Nodes.{used}
+use Rattle.node_pool.specs.declared.full.Full.{Full}
+use Rattle.node_pool.specs.State.{State, free_of}
+use Rattle.tree_handles.specs.Building.{taking}
+use Rattle.tree_handles.specs.Expressions.{plain, plains, takes, AllExpressions, IsExpression}
+use Rattle.tree_handles.specs.Forest.{Label, Forest, empty, tree, join, arity, bytes_in, flatten, node_of, one_tree, last_trees, before_last, root_payload, AllNodes}
+use Rattle.tree_handles.specs.Handed.{Ends, Starts, KeepsFront, AllOnce, IsOnce}
+use Rattle.tree_handles.specs.Inside.{holds, tree_at, payload_in}
+use Rattle.tree_handles.specs.Standing.{Stands, forest, KeepsRefusals, Refuses, LacksBytes}
+use Rattle.tree_handles.proofs.Distinct.{Distinct, distinct, distinct_parts, distinct-tree_at, holds-tree_at, tree_at-inside, other_id}
+use Rattle.tree_handles.proofs.Forests.{join-empty, join_assoc, arity-join, all-join, keeps_after, keeps_none, refuses_after}
+use Rattle.tree_handles.proofs.Gathering.{before_last-join, last_trees-join}
+use Rattle.tree_handles.proofs.Joins.{holds-left, tree_at-join_left}
+use Rattle.tree_handles.proofs.Lasts.{ends_as}
+use Rattle.tree_handles.proofs.Measures.{one_at}
+use Rattle.tree_handles.proofs.Places.{used_forest}
+use Rattle.tree_handles.proofs.Plains.{count-plains}
+use Rattle.pool_layouts.specs.declared.cells.Cell.{Cell}
+use Rattle.pool_layouts.specs.declared.frames.Frame.{Frame}
+use Rattle.pool_layouts.specs.declared.places.Place.{Place}
+use Rattle.pool_layouts.specs.declared.places.Place.TheVariants.{Alone, FirstOfSum, LaterOfSum, LeftOfDifference, RightOfDifference, UnderSign, FirstOfProduct, LaterOfProduct, Base, Exponent}
+use Rattle.pool_layouts.specs.Building.{part_sizes, parts_sizes}
+use Rattle.pool_layouts.specs.Cells.{cell_of, cells_of, ShowsTree}
+use Rattle.pool_layouts.specs.Drawings.{drawn, drawings, composes, AllComposed, IsComposed, GivesLayout}
+use Rattle.pool_layouts.specs.Frames.{frame_of, frame_behind}
+use Rattle.pool_layouts.specs.Layouts.{Layout, Layouts, beside, one_part, join_parts, layout}
+use Rattle.pool_layouts.specs.Laying.{Closes, IsAround, IsStopped, PlacesMark, is_leaf, root_sizes, around_sizes, held_in}
+use Rattle.pool_layouts.specs.Places.{first_place, next_place, mark_before, marks, paren_kind_unless, admitted, around_kind, deciding_kind, within, around_of, parts_from, laid}
+use Rattle.pool_layouts.proofs.Parts.{layout_is}
+use Rattle.pool_layouts.proofs.Placing.{few_trees}
+use Rattle.pool_layouts.proofs.Shown.{first_is, others_are, shown, shown_inside}
+use Rattle.pool_layouts.proofs.Sizes.{join_parts-nothing, join_parts-assoc, drawings-join, count_parts, count-drawings, count-join, sizes-join, sizes-marks, drawn_sizes, within_sizes, taken_first, refused_first}
+
+-- ---- what is owed
+
+-- a node whose layout is under way: what it holds, the parts that are placed, and the children that are left
+pub record Owed : Type 0 where
+  pub frame : Frame
+  pub source : Payload
+  pub parts : Forest
+  pub rest : Forest
+
+abbrev pub frames_of : List Owed → List Frame
+frames_of [] = []
+frames_of (o ∷ os) = frames_of os ++ o.frame ∷ []
+
+-- all that is placed, and all that is left of the face
+abbrev pub made_of : List Owed → Forest
+made_of [] = empty
+made_of (o ∷ os) = join (made_of os) o.parts
+
+abbrev pub nodes_left : List Owed → List Node
+nodes_left [] = []
+nodes_left (o ∷ os) = flatten o.rest ++ nodes_left os
+
+-- the parts of what is left
+abbrev pub parts_left : Owed → Layouts
+parts_left o = parts_from o.frame.place (plains o.rest)
+
+-- the layout of a node from its parts
+abbrev pub finished : Owed → Layouts → Layout
+finished o ls = within o.frame.around (drawn (laid o.source) ls)
+
+-- the whole layout, when the layout of the child that is under way is known
+abbrev pub plugged : List Owed → Layout → Layout
+plugged [] l = l
+plugged (o ∷ os) l = plugged os (finished o (join_parts (drawings o.parts) (beside l (parts_left o))))
+
+abbrev pub sizes_left : List Owed → List ℕ
+sizes_left [] = []
+sizes_left (o ∷ os) = parts_sizes (parts_left o) ++ (root_sizes o.source o.frame.around ++ sizes_left os)
+
+-- each node of the face is found in the pool, with what it holds
+abbrev pub IsKnown : Forest → Label → ℕ → Type 0
+IsKnown base l n = (holds l.id base ≡ true) × (payload_in l.id base ≡ l.payload)
+
+-- what holds of a node whose layout is under way, with so many parts in the making
+pub record IsOwed (base outer : Forest) (making : ℕ) (o : Owed) : Type 0 where
+  pub left : o.frame.left ≡ arity o.rest
+  pub begin : o.frame.begin ≡ bytes_in (join base outer)
+  pub number : o.frame.parts ≡ arity o.parts + making
+  pub once : AllOnce o.parts
+  pub composed_parts : AllComposed o.parts
+  pub expressions : AllExpressions o.rest
+  pub known : AllNodes (IsKnown base) o.rest
+  pub live : holds o.frame.id base ≡ true
+  pub source_is : payload_in o.frame.id base ≡ o.source
+  pub composed_whole : composes (laid o.source) (arity o.parts + making + count_parts (parts_left o)) ≡ true
+  pub around : IsAround o.frame.around
+
+abbrev pub AreOwed : Forest → ℕ → List Owed → Type 0
+AreOwed base making [] = Unit {0}
+AreOwed base making (o ∷ os) = IsOwed base (made_of os) making o × AreOwed base 1 os
+
+-- the innermost node, and those around it
+pub record IsUnderWay (l : Layout) (old now : State) (at : ℕ) (cells : List Cell) (frames : List Frame) : Type 0 where
+  pub inner : Owed
+  pub outer : List Owed
+  pub frames_are : frames ≡ frames_of (inner ∷ outer)
+  pub whole : forest now ≡ join (forest old) (made_of (inner ∷ outer))
+  pub cells_are : drop at cells ≡ map cell_of (nodes_left (inner ∷ outer))
+  pub innermost : IsOwed (forest old) (made_of outer) 0 inner
+  pub others : AreOwed (forest old) 1 outer
+  pub layout_is : plugged outer (finished inner (join_parts (drawings inner.parts) (parts_left inner))) ≡ l
+  pub budget : taking (free_of old) (part_sizes l) ≡ taking (free_of now) (sizes_left (inner ∷ outer))
+  pub keeps : KeepsRefusals old now
+  pub stands : Stands now
+  pub short : length frames ≤ at
+
+-- ---- the nodes of the face are known
+
+known_below : (base : Forest) (l : Label) (k r : Forest) → Distinct (tree l k r) → ((i : ℕ) → holds i (tree l k r) ≡ true → (holds i base ≡ true) × (tree_at i base ≡ tree_at i (tree l k r))) → (i : ℕ) → holds i k ≡ true → (holds i base ≡ true) × (tree_at i base ≡ tree_at i k)
+known_below base l k r d h i e =
+    let p = distinct_parts l k r d in
+    let apart = other_id l.id i k p.not_below e in
+    let here : holds i (tree l k r) ≡ true = rw (apart, e) refl in
+    let same : tree_at i (tree l k r) ≡ tree_at i k = rw (apart, e) refl in
+    ((h i here).0, (h i here).1 ∙ same)
+
+known_behind : (base : Forest) (l : Label) (k r : Forest) → Distinct (tree l k r) → ((i : ℕ) → holds i (tree l k r) ≡ true → (holds i base ≡ true) × (tree_at i base ≡ tree_at i (tree l k r))) → (i : ℕ) → holds i r ≡ true → (holds i base ≡ true) × (tree_at i base ≡ tree_at i r)
+known_behind base l k r d h i e =
+    let p = distinct_parts l k r d in
+    let apart = other_id l.id i r p.not_behind e in
+    let not_below = p.apart i e in
+    let here : holds i (tree l k r) ≡ true = rw (apart, not_below, e) refl in
+    let same : tree_at i (tree l k r) ≡ tree_at i r = rw (apart, not_below) refl in
+    ((h i here).0, (h i here).1 ∙ same)
+
+first_payload : (l : Label) (k r : Forest) → root_payload (tree_at l.id (tree l k r)) ≡ l.payload
+first_payload l k r = rw (eq-eqb l.id) refl
+
+root_known : (base : Forest) (l : Label) (k r : Forest) → (holds l.id base ≡ true) × (tree_at l.id base ≡ tree_at l.id (tree l k r)) → IsKnown base l (arity k)
+root_known base l k r h = (h.0, ap root_payload h.1 ∙ first_payload l k r)
+
+known_all : (base t : Forest) → Distinct t → ((i : ℕ) → holds i t ≡ true → (holds i base ≡ true) × (tree_at i base ≡ tree_at i t)) → AllNodes (IsKnown base) t
+known_all base empty d h = tt
+known_all base (tree l k r) d h =
+    let p = distinct_parts l k r d in
+    let root : holds l.id (tree l k r) ≡ true = rw (eq-eqb l.id) refl in
+    (root_known base l k r (h l.id root), known_all base k p.below (known_below base l k r d h), known_all base r p.behind (known_behind base l k r d h))
+
+pub known : (s : State) (i : ℕ) → Stands s → AllNodes (IsKnown (forest s)) (tree_at i (forest s))
+known s i st =
+    let d = distinct s st in
+    known_all (forest s) (tree_at i (forest s)) (distinct-tree_at i (forest s) d) (λ j h. (holds-tree_at i j (forest s) h, tree_at-inside i j (forest s) d h))
+
+-- ---- a node before its children
+
+-- it has the parts that its kind takes
+composes_before : (x : Payload) (ts : Trees) → takes x (count ts) ≡ true → composes (laid x) (count_parts (parts_from (first_place (kind_of_payload x)) ts)) ≡ true
+composes_before (rational r) none h = refl
+composes_before (rational r) (more t ts) h = absurd (omega (arith, eqb-true (count (more t ts)) 0 h))
+composes_before (named y) none h = refl
+composes_before (named y) (more t ts) h = absurd (omega (arith, eqb-true (count (more t ts)) 0 h))
+composes_before (bare kind.Div) (more a (more b none)) h = refl
+composes_before (bare kind.Div) none h = absurd cc
+composes_before (bare kind.Div) (more a none) h = absurd cc
+composes_before (bare kind.Div) (more a (more b (more d ts))) h = absurd (omega (arith, eqb-true (count (more a (more b (more d ts)))) 2 h))
+composes_before (bare kind.Root) (more a none) h = refl
+composes_before (bare kind.Root) none h = absurd cc
+composes_before (bare kind.Root) (more a (more b ts)) h = absurd (omega (arith, eqb-true (count (more a (more b ts))) 1 h))
+composes_before (bare k) ts h = refl
+
+paren_stands : (b : Bool) → IsAround (paren_kind_unless b)
+paren_stands true = tt
+paren_stands false = (refl, refl)
+
+box_stands : (d a : Bool) → IsAround (if d then None else paren_kind_unless a)
+box_stands true a = tt
+box_stands false a = paren_stands a
+
+stands_around : (p : Place) (k deciding : Kind) → IsAround (around_kind p k deciding)
+stands_around Alone k d = tt
+stands_around Exponent k d = (refl, refl)
+stands_around Base k d = paren_stands (nat_le 4 (level_of k))
+stands_around FirstOfSum k d = box_stands (is_div_kind k) (admitted FirstOfSum d)
+stands_around LaterOfSum k d = box_stands (is_div_kind k) (admitted LaterOfSum d)
+stands_around LeftOfDifference k d = box_stands (is_div_kind k) (admitted LeftOfDifference d)
+stands_around RightOfDifference k d = box_stands (is_div_kind k) (admitted RightOfDifference d)
+stands_around UnderSign k d = box_stands (is_div_kind k) (admitted UnderSign d)
+stands_around FirstOfProduct k d = box_stands (is_div_kind k) (admitted FirstOfProduct d)
+stands_around LaterOfProduct k d = box_stands (is_div_kind k) (admitted LaterOfProduct d)
+
+-- the bytes of a node over its parts
+whole_sizes : (x : Payload) (around : Option Kind) (ls : Layouts) → composes (laid x) (count_parts ls) ≡ true → IsAround around → part_sizes (within around (drawn (laid x) ls)) ≡ parts_sizes ls ++ root_sizes x around
+whole_sizes x around ls h a =
+    within_sizes around (drawn (laid x) ls) a ∙ ap (λ (y : List ℕ). y ++ around_sizes around) (drawn_sizes (laid x) ls h) ∙ append_assoc (parts_sizes ls) (size_of_payload (laid x) ∷ []) (around_sizes around)
+
+-- a node is entered, and nothing is placed of it
+abbrev pub fresh_owed : Label → Forest → Option Kind → ℕ → Owed
+fresh_owed l k around begin = record { frame = frame_of (cell_of (node_of l k)) around begin; source = l.payload; parts = empty; rest = k }
+
+record IsFresh (base outer : Forest) (l : Label) (k : Forest) (around : Option Kind) (begin : ℕ) : Type 0 where
+  owed : IsOwed base outer 0 (fresh_owed l k around begin)
+  drawing : finished (fresh_owed l k around begin) (parts_left (fresh_owed l k around begin)) ≡ within around (layout (plain (tree l k empty)))
+  sizes : part_sizes (within around (layout (plain (tree l k empty)))) ≡ parts_sizes (parts_left (fresh_owed l k around begin)) ++ root_sizes l.payload around
+
+fresh : (base outer : Forest) (l : Label) (k : Forest) (around : Option Kind) (begin : ℕ) → begin ≡ bytes_in (join base outer) → AllExpressions (tree l k empty) → AllNodes (IsKnown base) (tree l k empty) → IsAround around → IsFresh base outer l k around begin
+fresh base outer l k around begin b w n a =
+    let takes_them : takes l.payload (count (plains k)) ≡ true = ap (takes l.payload) (count-plains k) ∙ w.0 in
+    let ls = parts_from (first_place (kind_of_payload l.payload)) (plains k) in
+    let composed : composes (laid l.payload) (count_parts ls) ≡ true = composes_before l.payload (plains k) takes_them in
+    let laid_is : layout (plain (tree l k empty)) ≡ drawn (laid l.payload) ls = layout_is l.payload (plains k) takes_them in
+    record {
+      owed = record {
+        left = refl;
+        begin = b;
+        number = refl;
+        once = tt;
+        composed_parts = tt;
+        expressions = w.1;
+        known = n.1;
+        live = n.0.0;
+        source_is = n.0.1;
+        composed_whole = ap (composes (laid l.payload)) (let same : 0 + 0 + count_parts ls ≡ count_parts ls = omega arith in same) ∙ composed;
+        around = a;
+      };
+      drawing = ap (within around) (sym laid_is);
+      sizes = ap (λ (x : Layout). part_sizes (within around x)) laid_is ∙ whole_sizes l.payload around ls composed a;
+    }
+
+-- ---- the start
+
+shows_face : (face : ℕ) (s : State) (cells : List Cell) → IsExpression face (forest s) → cells ≡ cells_of (tree_at face (forest s)) → ShowsTree 0 (tree_at face (forest s)) cells
+shows_face face s cells x e = record { alone = one_at face (forest s) x.live; whole = x.whole; behind = []; cells_are = e ∙ sym (append-nil (cells_of (tree_at face (forest s)))) }
+
+pub first_inside : (face : ℕ) (s : State) (cells : List Cell) → IsExpression face (forest s) → cells ≡ cells_of (tree_at face (forest s)) → 0 < length cells
+first_inside face s cells x e = shown_inside (shows_face face s cells x e)
+
+pub started : (s : State) (face : ℕ) (cells : List Cell) (frames : List Frame) (d : Cell) (begin : ℕ) → Stands s → IsExpression face (forest s) → cells ≡ cells_of (tree_at face (forest s)) → begin ≡ used s.nodes → frames ≡ frame_of (get_or cells 0 d) None begin ∷ []
+    → IsUnderWay (layout (plain (tree_at face (forest s)))) s s 1 cells frames
+started s face cells frames d begin st x e b f =
+    let x = shown (shows_face face s cells x e) in
+    let base = forest s in
+    let c = cell_of (node_of x.label x.below) in
+    let known_ones = subst (AllNodes (IsKnown base)) x.tree_is (known s face st) in
+    let n = fresh base empty x.label x.below None begin (b ∙ used_forest s st ∙ ap bytes_in (sym (join-empty base))) x.whole known_ones tt in
+    let plain_is : plain (tree_at face base) ≡ plain (tree x.label x.below empty) = ap plain x.tree_is in
+    let first : get_or cells 0 d ≡ c = first_is cells (cells_of x.below ++ x.rest) 0 c d x.cells_are in
+    let all : cells ≡ cells_of (tree x.label x.below empty) = e ∙ ap cells_of x.tree_is in
+    record {
+      inner = fresh_owed x.label x.below None begin;
+      outer = [];
+      frames_are = f ∙ ap (λ (y : Cell). frame_of y None begin ∷ []) first;
+      whole = sym (join-empty base);
+      cells_are = ap (drop 1) all;
+      innermost = n.owed;
+      others = tt;
+      layout_is = n.drawing ∙ ap layout (sym plain_is);
+      budget = ap (λ (t : Tree). taking (free_of s) (part_sizes (layout t))) plain_is ∙ ap (taking (free_of s)) (n.sizes ∙ ap (λ (y : List ℕ). parts_sizes (parts_left (fresh_owed x.label x.below None begin)) ++ y) (sym (append-nil (root_sizes x.label.payload None))));
+      keeps = keeps_none s;
+      stands = st;
+      short = omega (arith, ap length f);
+    }
+
+-- ---- the innermost node
+
+pub record IsTop (l : Layout) (old now : State) (at : ℕ) (cells : List Cell) (popped : List Frame) (frame : Frame) : Type 0 where
+  pub source : Payload
+  pub parts : Forest
+  pub rest : Forest
+  pub outer : List Owed
+  pub popped_is : popped ≡ frames_of outer
+  pub whole : forest now ≡ join (forest old) (join (made_of outer) parts)
+  pub cells_are : drop at cells ≡ map cell_of (flatten rest ++ nodes_left outer)
+  pub innermost : IsOwed (forest old) (made_of outer) 0 (record { frame = frame; source = source; parts = parts; rest = rest })
+  pub others : AreOwed (forest old) 1 outer
+  pub layout_is : plugged outer (within frame.around (drawn (laid source) (join_parts (drawings parts) (parts_from frame.place (plains rest))))) ≡ l
+  pub budget : taking (free_of old) (part_sizes l) ≡ taking (free_of now) (parts_sizes (parts_from frame.place (plains rest)) ++ (root_sizes source frame.around ++ sizes_left outer))
+  pub keeps : KeepsRefusals old now
+  pub stands : Stands now
+  pub short : length popped + 1 ≤ at
+
+-- the last of two equal lists
+snoc_same : (xs ys : List Frame) (x y : Frame) → xs ++ x ∷ [] ≡ ys ++ y ∷ [] → (xs ≡ ys) × (x ≡ y)
+snoc_same [] [] x y e = (refl, cc)
+snoc_same [] (b ∷ ys) x y e = absurd (omega (arith, ap length e, length-append ys (y ∷ [])))
+snoc_same (a ∷ xs) [] x y e = absurd (omega (arith, ap length e, length-append xs (x ∷ [])))
+snoc_same (a ∷ xs) (b ∷ ys) x y e =
+    let tails : xs ++ x ∷ [] ≡ ys ++ y ∷ [] = cc in
+    let heads : a ≡ b = cc in
+    let same = snoc_same xs ys x y tails in
+    (ap (λ (z : Frame). z ∷ xs) heads ∙ ap (λ (zs : List Frame). b ∷ zs) same.0, same.1)
+
+top_itself : (l : Layout) (old now : State) (at : ℕ) (cells : List Cell) (frames : List Frame) (u : IsUnderWay l old now at cells frames) → IsTop l old now at cells (frames_of u.outer) u.inner.frame
+top_itself l old now at cells frames u = record {
+  source = u.inner.source;
+  parts = u.inner.parts;
+  rest = u.inner.rest;
+  outer = u.outer;
+  popped_is = refl;
+  whole = u.whole;
+  cells_are = u.cells_are;
+  innermost = u.innermost;
+  others = u.others;
+  layout_is = u.layout_is;
+  budget = u.budget;
+  keeps = u.keeps;
+  stands = u.stands;
+  short = omega (arith, u.short, ap length u.frames_are, length-append (frames_of u.outer) (u.inner.frame ∷ []));
+}
+
+pub top : {l : Layout} {old now : State} {at : ℕ} {cells : List Cell} {frames : List Frame} (popped : List Frame) (frame : Frame) → IsUnderWay l old now at cells frames → frames ≡ popped ++ frame ∷ [] → IsTop l old now at cells popped frame
+top {l = l} {old = old} {now = now} {at = at} {cells = cells} {frames = frames} popped frame u e =
+    let same = snoc_same popped (frames_of u.outer) frame u.inner.frame (sym e ∙ u.frames_are) in
+    subst (λ (f : Frame). IsTop l old now at cells popped f) (sym same.1) (subst (λ (p : List Frame). IsTop l old now at cells p u.inner.frame) (sym same.0) (top_itself l old now at cells frames u))
+
+-- ---- the next child is entered
+
+pub record IsNext (l : Layout) (old now : State) (at : ℕ) (cells : List Cell) (popped : List Frame) (frame : Frame) : Type 0 where
+  pub source : Payload
+  pub parts : Forest
+  pub label : Label
+  pub below : Forest
+  pub rest : Forest
+  pub outer : List Owed
+  pub popped_is : popped ≡ frames_of outer
+  pub whole : forest now ≡ join (forest old) (join (made_of outer) parts)
+  pub cells_are : drop at cells ≡ cell_of (node_of label below) ∷ map cell_of (flatten below ++ (flatten rest ++ nodes_left outer))
+  pub innermost : IsOwed (forest old) (made_of outer) 0 (record { frame = frame; source = source; parts = parts; rest = tree label below rest })
+  pub others : AreOwed (forest old) 1 outer
+  pub layout_is : plugged outer (within frame.around (drawn (laid source) (join_parts (drawings parts) (parts_from frame.place (plains (tree label below rest)))))) ≡ l
+  pub budget : taking (free_of old) (part_sizes l) ≡ taking (free_of now) (parts_sizes (parts_from frame.place (plains (tree label below rest))) ++ (root_sizes source frame.around ++ sizes_left outer))
+  pub keeps : KeepsRefusals old now
+  pub stands : Stands now
+  pub short : length popped + 1 ≤ at
+
+pub next : {l : Layout} {old now : State} {at : ℕ} {cells : List Cell} {popped : List Frame} {frame : Frame} → IsTop l old now at cells popped frame → 0 < frame.left → IsNext l old now at cells popped frame
+next {l = l} {old = old} {now = now} {at = at} {cells = cells} {popped = popped} {frame = frame} t some = by t.rest t.cells_are t.innermost t.layout_is t.budget
+  where
+    by : (rest : Forest) → drop at cells ≡ map cell_of (flatten rest ++ nodes_left t.outer) → IsOwed (forest old) (made_of t.outer) 0 (record { frame = frame; source = t.source; parts = t.parts; rest = rest })
+        → plugged t.outer (within frame.around (drawn (laid t.source) (join_parts (drawings t.parts) (parts_from frame.place (plains rest))))) ≡ l
+        → taking (free_of old) (part_sizes l) ≡ taking (free_of now) (parts_sizes (parts_from frame.place (plains rest)) ++ (root_sizes t.source frame.around ++ sizes_left t.outer)) → IsNext l old now at cells popped frame
+    by empty c o d b = absurd (omega (arith, o.left, some))
+    by (tree m k r) c o d b = record {
+      source = t.source;
+      parts = t.parts;
+      label = m;
+      below = k;
+      rest = r;
+      outer = t.outer;
+      popped_is = t.popped_is;
+      whole = t.whole;
+      cells_are = c ∙ ap (λ (ns : List Node). cell_of (node_of m k) ∷ map cell_of ns) (append_assoc (flatten k) (flatten r) (nodes_left t.outer));
+      innermost = o;
+      others = t.others;
+      layout_is = d;
+      budget = b;
+      keeps = t.keeps;
+      stands = t.stands;
+      short = t.short;
+    }
+
+pub next_shows : {l : Layout} {old now : State} {at : ℕ} {cells : List Cell} {popped : List Frame} {frame : Frame} (n : IsNext l old now at cells popped frame) → ShowsTree at (tree n.label n.below empty) cells
+next_shows {at = at} {cells = cells} n = record {
+  alone = refl;
+  whole = (n.innermost.expressions.0, n.innermost.expressions.1, tt);
+  behind = map cell_of (flatten n.rest ++ nodes_left n.outer);
+  cells_are = n.cells_are ∙ ap (λ (y : List Cell). cell_of (node_of n.label n.below) ∷ y) (map-append cell_of (flatten n.below) (flatten n.rest ++ nodes_left n.outer) ∙ ap (λ (ns : List Node). map cell_of ns ++ map cell_of (flatten n.rest ++ nodes_left n.outer)) (sym (append-nil (flatten n.below))));
+}
+
+-- the parts of a node are few
+pub parts_are_few : {l : Layout} {old now : State} {at : ℕ} {cells : List Cell} {popped : List Frame} {frame : Frame} → IsTop l old now at cells popped frame → frame.parts ≤ 65535
+parts_are_few {old = old} {now = now} t =
+    omega (arith, few_trees now t.stands, ap arity t.whole, arity-join (forest old) (join (made_of t.outer) t.parts), arity-join (made_of t.outer) t.parts, t.innermost.number)
+
+-- ---- a mark is placed, and the child is entered
+
+marked : (a b c d : Forest) → join (join a (join b c)) d ≡ join a (join b (join c d))
+marked a b c d = join_assoc a (join b c) d ∙ ap (join a) (join_assoc b c d)
+
+regroup : (a b c d : List ℕ) → ((a ++ b) ++ c) ++ d ≡ a ++ (b ++ (c ++ d))
+regroup a b c d = append_assoc (a ++ b) c d ∙ append_assoc a b (c ++ d)
+
+pub entered : {l : Layout} {old now : State} {at : ℕ} {cells : List Cell} {popped : List Frame} {frame : Frame} (after : State) (marks_placed : ℕ) (around : Option Kind) (begin : ℕ) (d : Cell) (frames : List Frame)
+    → IsNext l old now at cells popped frame → PlacesMark (mark_before frame.place) (forest now) (forest after) marks_placed → KeepsRefusals now after → taking (free_of now) (around_sizes (mark_before frame.place)) ≡ Ok (free_of after) → Stands after
+    → ((t : Forest) → ShowsTree at t cells → around ≡ around_of frame.place (plain t)) → begin ≡ used after.nodes
+    → frames ≡ (popped ++ frame_behind frame marks_placed ∷ []) ++ frame_of (get_or cells at d) around begin ∷ []
+    → IsUnderWay l old after (at + 1) cells frames
+entered {l = l} {old = old} {now = now} {at = at} {cells = cells} {popped = popped} {frame = frame} after marks_placed around begin d frames n m kept room st around_is b f =
+    let base = forest old in
+    let made = join (made_of n.outer) (join n.parts m.parts) in
+    let t = tree n.label n.below empty in
+    let a : around ≡ around_of frame.place (plain t) = around_is t (next_shows n) in
+    let whole : forest after ≡ join base made = m.whole ∙ ap (λ (g : Forest). join g m.parts) n.whole ∙ marked base (made_of n.outer) n.parts m.parts in
+    let c = cell_of (node_of n.label n.below) in
+    let first : get_or cells at d ≡ c = first_is cells (map cell_of (flatten n.below ++ (flatten n.rest ++ nodes_left n.outer))) at c d n.cells_are in
+    let stands_in : IsAround around = subst IsAround (sym a) (stands_around frame.place (root_kind (plain t)) (deciding_kind frame.place (plain t))) in
+    let x = fresh base made n.label n.below around begin (b ∙ used_forest after st ∙ ap bytes_in whole) (n.innermost.expressions.0, n.innermost.expressions.1, tt) (n.innermost.known.0, n.innermost.known.1, tt) stands_in in
+    let outer_owed : Owed = record { frame = frame_behind frame marks_placed; source = n.source; parts = join n.parts m.parts; rest = n.rest } in
+    let rest_parts = parts_from (next_place frame.place) (plains n.rest) in
+    let placed_marks = marks (mark_before frame.place) in
+    let child : finished (fresh_owed n.label n.below around begin) (parts_left (fresh_owed n.label n.below around begin)) ≡ within (around_of frame.place (plain t)) (layout (plain t)) = x.drawing ∙ ap (λ (y : Option Kind). within y (layout (plain t))) a in
+    let mark_count : count_parts placed_marks ≡ arity m.parts = ap count_parts (sym m.drawings_are) ∙ count-drawings m.parts in
+    let long : arity n.parts + 0 + count_parts (parts_from frame.place (plains (tree n.label n.below n.rest))) ≡ arity (join n.parts m.parts) + 1 + count_parts rest_parts
+    = omega (arith, arity-join n.parts m.parts, count-join placed_marks (beside (within (around_of frame.place (plain t)) (layout (plain t))) rest_parts), mark_count) in
+    let sizes : parts_sizes (parts_from frame.place (plains (tree n.label n.below n.rest))) ≡ around_sizes (mark_before frame.place) ++ (part_sizes (within (around_of frame.place (plain t)) (layout (plain t))) ++ parts_sizes rest_parts)
+    = sizes-join placed_marks (beside (within (around_of frame.place (plain t)) (layout (plain t))) rest_parts) ∙ ap (λ (y : List ℕ). y ++ (part_sizes (within (around_of frame.place (plain t)) (layout (plain t))) ++ parts_sizes rest_parts)) (sizes-marks frame.place) in
+    let child_sizes : part_sizes (within (around_of frame.place (plain t)) (layout (plain t))) ≡ parts_sizes (parts_left (fresh_owed n.label n.below around begin)) ++ root_sizes n.label.payload around
+    = ap (λ (y : Option Kind). part_sizes (within y (layout (plain t)))) (sym a) ∙ x.sizes in
+    let tail = root_sizes n.source frame.around ++ sizes_left n.outer in
+    record {
+      inner = fresh_owed n.label n.below around begin;
+      outer = outer_owed ∷ n.outer;
+      frames_are = f ∙ ap (λ (y : Cell). (popped ++ frame_behind frame marks_placed ∷ []) ++ frame_of y around begin ∷ []) first ∙ ap (λ (y : List Frame). (y ++ frame_behind frame marks_placed ∷ []) ++ frame_of c around begin ∷ []) n.popped_is;
+      whole = whole ∙ ap (join base) (sym (join-empty made));
+      cells_are = others_are cells (map cell_of (flatten n.below ++ (flatten n.rest ++ nodes_left n.outer))) at c n.cells_are;
+      innermost = x.owed;
+      others = (
+        record {
+          left = omega (arith, n.innermost.left);
+          begin = n.innermost.begin;
+          number = omega (arith, n.innermost.number, arity-join n.parts m.parts, m.number);
+          once = all-join IsOnce n.parts m.parts n.innermost.once m.once;
+          composed_parts = all-join IsComposed n.parts m.parts n.innermost.composed_parts m.composed_whole;
+          expressions = n.innermost.expressions.2;
+          known = n.innermost.known.2;
+          live = n.innermost.live;
+          source_is = n.innermost.source_is;
+          composed_whole = ap (composes (laid n.source)) (sym long) ∙ n.innermost.composed_whole;
+          around = n.innermost.around;
+        },
+        n.others,
+      );
+      layout_is = ap (λ (y : Layouts). plugged n.outer (within frame.around (drawn (laid n.source) y)))
+          (ap (λ (y : Layouts). join_parts y (beside (finished (fresh_owed n.label n.below around begin) (parts_left (fresh_owed n.label n.below around begin))) rest_parts)) (drawings-join n.parts m.parts ∙ ap (join_parts (drawings n.parts)) m.drawings_are)
+          ∙ join_parts-assoc (drawings n.parts) placed_marks (beside (finished (fresh_owed n.label n.below around begin) (parts_left (fresh_owed n.label n.below around begin))) rest_parts)
+          ∙ ap (λ (y : Layout). join_parts (drawings n.parts) (join_parts placed_marks (beside y rest_parts))) child)
+          ∙ n.layout_is;
+      budget = n.budget ∙ ap (λ (y : List ℕ). taking (free_of now) (y ++ tail)) sizes
+          ∙ ap (taking (free_of now)) (append_assoc (around_sizes (mark_before frame.place)) (part_sizes (within (around_of frame.place (plain t)) (layout (plain t))) ++ parts_sizes rest_parts) tail)
+          ∙ taken_first (free_of now) (free_of after) (around_sizes (mark_before frame.place)) ((part_sizes (within (around_of frame.place (plain t)) (layout (plain t))) ++ parts_sizes rest_parts) ++ tail) room
+          ∙ ap (λ (y : List ℕ). taking (free_of after) ((y ++ parts_sizes rest_parts) ++ tail)) child_sizes
+          ∙ ap (taking (free_of after)) (regroup (parts_sizes (parts_left (fresh_owed n.label n.below around begin))) (root_sizes n.label.payload around) (parts_sizes rest_parts) tail);
+      keeps = keeps_after old now after n.keeps kept;
+      stands = st;
+      short = omega (arith, ap length f, length-append (popped ++ frame_behind frame marks_placed ∷ []) (frame_of (get_or cells at d) around begin ∷ []), length-append popped (frame_behind frame marks_placed ∷ []), n.short);
+    }
+
+-- ---- a node is closed
+
+-- a leaf has no parts
+no_parts : (x : Payload) (n : ℕ) → is_leaf x ≡ true → composes (laid x) n ≡ true → n ≡ 0
+no_parts (rational r) n h c = eqb-true n 0 c
+no_parts (named y) n h c = eqb-true n 0 c
+no_parts (bare k) n h c = absurd (cc h)
+
+-- the tree of a node that is closed
+record IsClosed (l : Layout) (t : Forest) : Type 0 where
+  alone : arity t ≡ 1
+  once : AllOnce t
+  composed_whole : AllComposed t
+  drawing_is : drawings t ≡ one_part l
+
+closed_is : (around : Option Kind) (id root : ℕ) (x : Payload) (parts : Forest) → AllOnce parts → AllComposed parts → composes (laid x) (arity parts) ≡ true → IsAround around
+    → IsClosed (within around (drawn (laid x) (drawings parts))) (held_in around id (one_tree root (laid x) parts))
+closed_is None id root x parts o c h a = record { alone = refl; once = (refl, o, tt); composed_whole = (h, c, tt); drawing_is = refl }
+closed_is (Some k) id root x parts o c h a = record { alone = refl; once = (refl, (refl, o, tt), tt); composed_whole = (a.1, (h, c, tt), tt); drawing_is = refl }
+
+-- the layout found no room
+pub record HasStopped (l : Layout) (old after : State) (full : Full) : Type 0 where
+  pub full_is : taking (free_of old) (part_sizes l) ≡ Err full
+  pub refuses : Refuses old after full
+  pub lacks : LacksBytes after full
+  pub front : KeepsFront [] (forest old) (forest after)
+
+starts_as : {f g h : Forest} → f ≡ g → Starts f h → Starts g h
+starts_as {h = h} e s = subst (λ (x : Forest). Starts x h) e s
+
+keeps_starting : (f made g : Forest) → Starts (join f made) g → KeepsFront [] f g
+keeps_starting f made g s = record {
+  keeps = λ p q n. record {
+    behind = join q.behind (join made s.behind);
+    whole = s.whole ∙ ap (λ (x : Forest). join (join x made) s.behind) q.whole ∙ join_assoc (join p q.behind) made s.behind ∙ join_assoc p q.behind (join made s.behind);
+  };
+}
+
+pub front_kept : {others new : Forest} {id : ℕ} {l : Layout} → GivesLayout others new id l → KeepsFront [] others new
+front_kept {others = others} {new = new} g = keeps_starting others g.tree new (record { behind = empty; whole = g.ends.whole ∙ sym (join-empty (join others g.tree)) })
+
+-- what closing it wants
+pub record IsClosing (l : Layout) (old now : State) (popped : List Frame) (frame : Frame) (at : ℕ) (cells : List Cell) : Type 0 where
+  pub source : Payload
+  pub parts : Forest
+  pub outer : List Owed
+  pub popped_is : popped ≡ frames_of outer
+  pub whole : forest now ≡ join (join (forest old) (made_of outer)) parts
+  pub number : frame.parts ≡ arity parts
+  pub cells_are : drop at cells ≡ map cell_of (nodes_left outer)
+  pub innermost : IsOwed (forest old) (made_of outer) 0 (record { frame = frame; source = source; parts = parts; rest = empty })
+  pub others : AreOwed (forest old) 1 outer
+  pub layout_is : plugged outer (within frame.around (drawn (laid source) (drawings parts))) ≡ l
+  pub budget : taking (free_of old) (part_sizes l) ≡ taking (free_of now) (root_sizes source frame.around ++ sizes_left outer)
+  pub keeps : KeepsRefusals old now
+  pub stands : Stands now
+  pub short : length popped + 1 ≤ at
+  pub composed : composes (laid source) (arity parts) ≡ true
+
+pub closing : {l : Layout} {old now : State} {at : ℕ} {cells : List Cell} {popped : List Frame} {frame : Frame} → IsTop l old now at cells popped frame → frame.left ≡ 0 → IsClosing l old now popped frame at cells
+closing {l = l} {old = old} {now = now} {at = at} {cells = cells} {popped = popped} {frame = frame} t z = by t.rest t.cells_are t.innermost t.layout_is t.budget
+  where
+    by : (rest : Forest) → drop at cells ≡ map cell_of (flatten rest ++ nodes_left t.outer) → IsOwed (forest old) (made_of t.outer) 0 (record { frame = frame; source = t.source; parts = t.parts; rest = rest })
+        → plugged t.outer (within frame.around (drawn (laid t.source) (join_parts (drawings t.parts) (parts_from frame.place (plains rest))))) ≡ l
+        → taking (free_of old) (part_sizes l) ≡ taking (free_of now) (parts_sizes (parts_from frame.place (plains rest)) ++ (root_sizes t.source frame.around ++ sizes_left t.outer)) → IsClosing l old now popped frame at cells
+    by (tree m k r) c o d b = absurd (omega (arith, o.left, z))
+    by empty c o d b = record {
+      source = t.source;
+      parts = t.parts;
+      outer = t.outer;
+      popped_is = t.popped_is;
+      whole = t.whole ∙ sym (join_assoc (forest old) (made_of t.outer) t.parts);
+      number = omega (arith, o.number);
+      cells_are = c;
+      innermost = o;
+      others = t.others;
+      layout_is = ap (λ (y : Layouts). plugged t.outer (within frame.around (drawn (laid t.source) y))) (sym (join_parts-nothing (drawings t.parts))) ∙ d;
+      budget = b;
+      keeps = t.keeps;
+      stands = t.stands;
+      short = t.short;
+      composed = ap (composes (laid t.source)) (let same : arity t.parts ≡ arity t.parts + 0 + 0 = omega arith in same) ∙ o.composed_whole;
+    }
+
+module _ {l : Layout} {old now : State} {at : ℕ} {cells : List Cell} {popped : List Frame} {frame : Frame} (k : IsClosing l old now popped frame at cells) where
+  pub close_live : holds frame.id (forest now) ≡ true
+  close_live = ap (holds frame.id) (k.whole ∙ join_assoc (forest old) (made_of k.outer) k.parts) ∙ holds-left frame.id (forest old) (join (made_of k.outer) k.parts) k.innermost.live
+
+  pub close_source : payload_in frame.id (forest now) ≡ k.source
+  close_source = ap (payload_in frame.id) (k.whole ∙ join_assoc (forest old) (made_of k.outer) k.parts) ∙ ap root_payload (tree_at-join_left frame.id (forest old) (join (made_of k.outer) k.parts) k.innermost.live) ∙ k.innermost.source_is
+
+  pub close_few : frame.parts ≤ arity (forest now)
+  close_few = omega (arith, k.number, ap arity k.whole, arity-join (join (forest old) (made_of k.outer)) k.parts)
+
+  pub close_before : before_last frame.parts (forest now) ≡ join (forest old) (made_of k.outer)
+  close_before = ap (before_last frame.parts) k.whole ∙ before_last-join frame.parts (join (forest old) (made_of k.outer)) k.parts k.number
+
+  pub close_last : last_trees frame.parts (forest now) ≡ k.parts
+  close_last = ap (last_trees frame.parts) k.whole ∙ last_trees-join frame.parts (join (forest old) (made_of k.outer)) k.parts k.number
+
+  pub close_begin : frame.begin ≡ bytes_in (before_last frame.parts (forest now))
+  close_begin = k.innermost.begin ∙ ap bytes_in (sym close_before)
+
+  pub close_leaf : is_leaf (payload_in frame.id (forest now)) ≡ true → frame.parts ≡ 0
+  close_leaf h = k.number ∙ no_parts k.source (arity k.parts) (ap is_leaf (sym close_source) ∙ h) k.composed
+
+  closed_whole : (after : State) (id : ℕ) (c : Closes (payload_in frame.id (forest now)) frame.around frame.parts (forest now) (forest after) id)
+      → Ends id (held_in frame.around id (one_tree c.root (laid k.source) k.parts)) (join (forest old) (made_of k.outer)) (forest after)
+  closed_whole after id c =
+      ends_as c.ends (ap (λ (y : Payload). held_in frame.around id (one_tree c.root (laid y) (last_trees frame.parts (forest now)))) close_source ∙ ap (λ (y : Forest). held_in frame.around id (one_tree c.root (laid k.source) y)) close_last) close_before
+
+  left_sizes : (after : State) → taking (free_of now) (root_sizes (payload_in frame.id (forest now)) frame.around) ≡ Ok (free_of after) → taking (free_of old) (part_sizes l) ≡ taking (free_of after) (sizes_left k.outer)
+  left_sizes after room =
+      k.budget ∙ ap (λ (y : Payload). taking (free_of now) (root_sizes y frame.around ++ sizes_left k.outer)) (sym close_source)
+      ∙ taken_first (free_of now) (free_of after) (root_sizes (payload_in frame.id (forest now)) frame.around) (sizes_left k.outer) room
+
+  -- nothing is left
+  pub closed_all : (after : State) (id : ℕ) → popped ≡ [] → Closes (payload_in frame.id (forest now)) frame.around frame.parts (forest now) (forest after) id → GivesLayout (forest old) (forest after) id l
+  closed_all after id empty_list c = by k.outer k.popped_is k.layout_is (closed_whole after id c)
+    where
+      by : (outer : List Owed) → popped ≡ frames_of outer → plugged outer (within frame.around (drawn (laid k.source) (drawings k.parts))) ≡ l
+          → Ends id (held_in frame.around id (one_tree c.root (laid k.source) k.parts)) (join (forest old) (made_of outer)) (forest after) → GivesLayout (forest old) (forest after) id l
+      by (o ∷ os) p d e = absurd (omega (arith, ap length (sym empty_list ∙ p), length-append (frames_of os) (o.frame ∷ [])))
+      by [] p d e =
+          let t = closed_is frame.around id c.root k.source k.parts k.innermost.once k.innermost.composed_parts k.composed k.innermost.around in
+          record {
+            tree = held_in frame.around id (one_tree c.root (laid k.source) k.parts);
+            ends = ends_as e refl (join-empty (forest old));
+            once = t.once;
+            composed_whole = t.composed_whole;
+            drawing_is = t.drawing_is ∙ ap one_part d;
+          }
+
+  pub closed_room : (after : State) → popped ≡ [] → taking (free_of now) (root_sizes (payload_in frame.id (forest now)) frame.around) ≡ Ok (free_of after) → taking (free_of old) (part_sizes l) ≡ Ok (free_of after)
+  closed_room after empty_list room = by k.outer k.popped_is (left_sizes after room)
+    where
+      by : (outer : List Owed) → popped ≡ frames_of outer → taking (free_of old) (part_sizes l) ≡ taking (free_of after) (sizes_left outer) → taking (free_of old) (part_sizes l) ≡ Ok (free_of after)
+      by (o ∷ os) p b = absurd (omega (arith, ap length (sym empty_list ∙ p), length-append (frames_of os) (o.frame ∷ [])))
+      by [] p b = b
+
+  -- something is left
+  pub closed_one : (after : State) (id : ℕ) → 0 < length popped → Closes (payload_in frame.id (forest now)) frame.around frame.parts (forest now) (forest after) id → KeepsRefusals now after
+      → taking (free_of now) (root_sizes (payload_in frame.id (forest now)) frame.around) ≡ Ok (free_of after) → Stands after → IsUnderWay l old after at cells popped
+  closed_one after id some c kept room st = by k.outer k.popped_is k.cells_are k.others k.layout_is (closed_whole after id c) (left_sizes after room)
+    where
+      by : (outer : List Owed) → popped ≡ frames_of outer → drop at cells ≡ map cell_of (nodes_left outer) → AreOwed (forest old) 1 outer → plugged outer (within frame.around (drawn (laid k.source) (drawings k.parts))) ≡ l
+          → Ends id (held_in frame.around id (one_tree c.root (laid k.source) k.parts)) (join (forest old) (made_of outer)) (forest after)
+          → taking (free_of old) (part_sizes l) ≡ taking (free_of after) (sizes_left outer) → IsUnderWay l old after at cells popped
+      by [] p n o d e b = absurd (omega (arith, ap length p, some))
+      by (o ∷ os) p n w d e b =
+          let t = closed_is frame.around id c.root k.source k.parts k.innermost.once k.innermost.composed_parts k.composed k.innermost.around in
+          let tree_made = held_in frame.around id (one_tree c.root (laid k.source) k.parts) in
+          let child = within frame.around (drawn (laid k.source) (drawings k.parts)) in
+          record {
+            inner = record { frame = o.frame; source = o.source; parts = join o.parts tree_made; rest = o.rest };
+            outer = os;
+            frames_are = p;
+            whole = e.whole ∙ join_assoc (forest old) (join (made_of os) o.parts) tree_made ∙ ap (join (forest old)) (join_assoc (made_of os) o.parts tree_made);
+            cells_are = n;
+            innermost = record {
+              left = w.0.left;
+              begin = w.0.begin;
+              number = omega (arith, w.0.number, arity-join o.parts tree_made, t.alone);
+              once = all-join IsOnce o.parts tree_made w.0.once t.once;
+              composed_parts = all-join IsComposed o.parts tree_made w.0.composed_parts t.composed_whole;
+              expressions = w.0.expressions;
+              known = w.0.known;
+              live = w.0.live;
+              source_is = w.0.source_is;
+              composed_whole = ap (λ (n : ℕ). composes (laid o.source) (n + count_parts (parts_left o))) (let same : arity (join o.parts tree_made) + 0 ≡ arity o.parts + 1 = omega (arith, arity-join o.parts tree_made, t.alone) in same) ∙ w.0.composed_whole;
+              around = w.0.around;
+            };
+            others = w.1;
+            layout_is = ap (λ (y : Layouts). plugged os (within o.frame.around (drawn (laid o.source) y)))
+                (ap (λ (y : Layouts). join_parts y (parts_left o)) (drawings-join o.parts tree_made ∙ ap (join_parts (drawings o.parts)) t.drawing_is) ∙ join_parts-assoc (drawings o.parts) (one_part child) (parts_left o))
+                ∙ d;
+            budget = b;
+            keeps = keeps_after old now after k.keeps kept;
+            stands = st;
+            short = omega (arith, k.short);
+          }
+
+  -- ---- a refusal
+
+  pub close_stopped : (after : State) (full : Full) → IsStopped (before_last frame.parts (forest now)) (root_sizes (payload_in frame.id (forest now)) frame.around) now after full → HasStopped l old after full
+  close_stopped after full s = record {
+    full_is = k.budget ∙ ap (λ (y : Payload). taking (free_of now) (root_sizes y frame.around ++ sizes_left k.outer)) (sym close_source)
+        ∙ refused_first (free_of now) full (root_sizes (payload_in frame.id (forest now)) frame.around) (sizes_left k.outer) s.full_is;
+    refuses = refuses_after old now after full k.keeps s.refuses;
+    lacks = s.lacks;
+    front = keeps_starting (forest old) (made_of k.outer) (forest after) (starts_as close_before s.front);
+  }
+
+-- a mark was refused
+pub mark_stopped : {l : Layout} {old now : State} {at : ℕ} {cells : List Cell} {popped : List Frame} {frame : Frame} (after : State) (full : Full) → IsNext l old now at cells popped frame
+    → IsStopped (forest now) (around_sizes (mark_before frame.place)) now after full → HasStopped l old after full
+mark_stopped {l = l} {old = old} {now = now} {frame = frame} after full n s =
+    let placed_marks = marks (mark_before frame.place) in
+    let t = tree n.label n.below empty in
+    let others = beside (within (around_of frame.place (plain t)) (layout (plain t))) (parts_from (next_place frame.place) (plains n.rest)) in
+    let tail = root_sizes n.source frame.around ++ sizes_left n.outer in
+    let sizes : parts_sizes (join_parts placed_marks others) ≡ around_sizes (mark_before frame.place) ++ parts_sizes others = sizes-join placed_marks others ∙ ap (λ (y : List ℕ). y ++ parts_sizes others) (sizes-marks frame.place) in
+    record {
+      full_is = n.budget ∙ ap (λ (y : List ℕ). taking (free_of now) (y ++ tail)) sizes ∙ ap (taking (free_of now)) (append_assoc (around_sizes (mark_before frame.place)) (parts_sizes others) tail)
+          ∙ refused_first (free_of now) full (around_sizes (mark_before frame.place)) (parts_sizes others ++ tail) s.full_is;
+      refuses = refuses_after old now after full n.keeps s.refuses;
+      lacks = s.lacks;
+      front = keeps_starting (forest old) (join (made_of n.outer) n.parts) (forest after) (starts_as n.whole s.front);
+    }
+
+-- some node is under way
+pub some_under_way : {l : Layout} {old now : State} {at : ℕ} {cells : List Cell} {frames : List Frame} → IsUnderWay l old now at cells frames → 0 < length frames
+some_under_way u = omega (arith, ap length u.frames_are, length-append (frames_of u.outer) (u.inner.frame ∷ []))
+
+pub none_left : (frames : List Frame) → nat_eq (length frames) 0 ≡ true → frames ≡ []
+none_left [] e = refl
+none_left (f ∷ fs) e = absurd (omega (arith, eqb-true (length (f ∷ fs)) 0 e))
+
+pub some_left : (frames : List Frame) → nat_eq (length frames) 0 ≡ false → 0 < length frames
+some_left [] e = absurd (cc e)
+some_left (f ∷ fs) e = omega arith

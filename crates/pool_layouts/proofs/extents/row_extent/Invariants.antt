@@ -1,0 +1,8 @@
+use Rattle.std.proofs.Common.{◌≡◌}
+use Rattle.tree_handles.specs.Forest.{Forest, arity}
+use Rattle.pool_layouts.specs.Extents.{HasSmall}
+use Rattle.pool_layouts.proofs.RowExtents.{IsGathering}
+use Rattle.pool_layouts.proofs.extents.row_extent.Given as goal
+
+abbrev pub invariant-loop : goal.invariant-loop
+invariant-loop l = (k : Forest) → HasSmall k l.fn.first l.fn.extents → l.fn.parts ≡ arity k → IsGathering k l.counter l.at l.extents l.row

@@ -1,0 +1,6 @@
+use Rattle.std.proofs.Common.{◌≡◌, replicate}
+use Rattle.line_text.specs.Content.{extended}
+use Rattle.pool_layouts.proofs.ink.repeat.Given as goal
+
+abbrev pub invariant-loop : goal.invariant-loop
+invariant-loop l = l.text ≡ extended l.fn.text (replicate l.counter l.byte)

@@ -1,0 +1,6 @@
+use Rattle.std.proofs.Common.{arith}
+use Rattle.tree_handles.proofs.Measures.{few_in}
+use Rattle.pool_layouts.proofs.picture.write_row.Goals as goal
+
+pub write_row_within-requires-else-nodes-lt-PLENTY-clause-listed : goal.write_row_within-requires-else-nodes-lt-PLENTY-clause-listed
+write_row_within-requires-else-nodes-lt-PLENTY-clause-listed c = omega (arith, few_in c.args.layout c.args.pool.now c.requires.stands)

@@ -1,0 +1,16 @@
+use Rattle.std.proofs.Common.{◌≡◌, ◌-◌, ◌+◌, ◌*◌, ◌++◌, length}
+use Rattle.tree_handles.specs.Inside.{tree_at}
+use Rattle.tree_handles.specs.Standing.{forest}
+use Rattle.pool_layouts.specs.Drawings.{drawing}
+use Rattle.pool_layouts.specs.Serial.{serial}
+use Rattle.pool_layouts.proofs.Writing.{IsWriting}
+use Rattle.pool_layouts.proofs.serial.write_nodes.Given as goal
+
+abbrev pub invariant-loop-rest : goal.invariant-loop-rest
+invariant-loop-rest g l = record {
+  writing : IsWriting (forest l.pool) l.at l.cells l.pending.items l.text.bytes (l.fn.text.bytes ++ serial (drawing (tree_at l.fn.layout (forest l.pool))));
+  capacity : l.text.capacity ≡ l.fn.text.capacity;
+}
+
+abbrev pub decreases-loop-rest : goal.decreases-loop-rest
+decreases-loop-rest g l = 2 * (length l.cells - l.at) + length l.pending.items

@@ -1,0 +1,9 @@
+use Rattle.std.proofs.Common.{ℕ, sym, subst}
+use Rattle.tree_handles.specs.Expressions.{IsExpression}
+use Rattle.tree_handles.specs.Standing.{forest}
+use Rattle.tree_handles.proofs.Given.{given_handed}
+use Rattle.tree_handles.proofs.Lasts.{expression_root}
+use Rattle.pool_layouts.proofs.tests.refused.Goals as goal
+
+pub layout_of-requires-clause-expression : goal.layout_of-requires-clause-expression
+layout_of-requires-clause-expression c = subst (λ (i : ℕ). IsExpression i (forest c.number.new.pool)) (sym c.id.ensures) (expression_root c.number.ensures.stands (given_handed c.in-Ok.ensures.given))

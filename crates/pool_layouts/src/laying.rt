@@ -1,0 +1,238 @@
+//! The layout of a face, built beside it.
+ghost use Rattle.std.specs.Prelude.{◌≡◌, ◌<◌, ◌≤◌, ◌^◌, ◌↔◌, IfOk, IfErr, IsOk, OnOk, Ok, Err, [], length, true};
+ghost use Rattle.calc_terms.specs.Payload.{size_of_payload};
+ghost use Rattle.node_pool.specs.State.{free_of};
+ghost use Rattle.tree_handles.specs.Building.{taking};
+ghost use Rattle.tree_handles.specs.Expressions.{IsExpression, plain};
+ghost use Rattle.tree_handles.specs.Forest.{Forest, arity, bytes_in, nodes_in, one_tree, before_last, last_trees};
+ghost use Rattle.tree_handles.specs.Handed.{Ends, KeepsFront};
+ghost use Rattle.tree_handles.specs.Inside.{holds, tree_at, payload_in};
+ghost use Rattle.tree_handles.specs.Standing.{Stands, forest, KeepsRefusals, Refuses, LacksBytes, IsRefused};
+ghost use Rattle.line_text.specs.Places.{kind_behind_opposites as behind_opposites};
+ghost use Rattle.pool_layouts.specs.Building.{laying};
+ghost use Rattle.pool_layouts.specs.Cells.{cells_of, ShowsTree, ShowsSome};
+ghost use Rattle.pool_layouts.specs.Drawings.{GivesLayout};
+ghost use Rattle.pool_layouts.specs.Layouts.{layout};
+ghost use Rattle.pool_layouts.specs.Laying.{Closes, HasLast, IsAround, is_leaf, IsStopped, PlacesMark, StandsIn, root_sizes, around_sizes};
+ghost use Rattle.pool_layouts.specs.Places.{laid, mark_before, around_of, deciding_kind as deciding};
+
+use crate::cells::{Cell, FEW, MANY, PLENTY, SEVERAL, list_nodes};
+use crate::frames::Frame;
+use crate::places::{Place, laid_kind};
+use arrayvec::ArrayVec;
+use calc_terms::Kind;
+use node_pool::{Full, Id, Pool};
+use tree_handles::{
+    Handle, kind, name, node, node_over_last, number, rational, symbol, tree_nodes,
+};
+
+/// The layout of a face as a new last root. Its nodes are placed in postfix order: the parts from
+/// left to right, and then what they are parts of.
+pub fn layout_of(pool: &mut Pool, face: Id) -> Result<Handle, Full>
+    requires stands { Stands pool.old }
+    requires expression { IsExpression face (forest pool.old) }
+    ensures ok { IfOk result (λ h. GivesLayout (forest pool.old) (forest pool.new) h (layout (plain (tree_at face (forest pool.old))))) }
+    ensures front { KeepsFront [] (forest pool.old) (forest pool.new) }
+    ensures kept { OnOk result (KeepsRefusals pool.old pool.new) }
+
+    // Refused exactly where a node finds no room, with the bytes that it needs and those left.
+    ensures room { OnOk result (laying (free_of pool.old) (layout (plain (tree_at face (forest pool.old)))) ≡ Ok (free_of pool.new)) }
+    ensures full { IfErr result (λ full. laying (free_of pool.old) (layout (plain (tree_at face (forest pool.old)))) ≡ Err full) }
+    ensures refuses { IfErr result (Refuses pool.old pool.new) }
+    ensures caused { IfErr result (LacksBytes pool.new) }
+
+    ensures stands { Stands pool.new }
+{
+    let nodes = tree_nodes(pool, face) as usize;
+    if nodes < FEW {
+        lay_within::<FEW>(pool, face)
+    } else if nodes < SEVERAL {
+        lay_within::<SEVERAL>(pool, face)
+    } else if nodes < PLENTY {
+        lay_within::<PLENTY>(pool, face)
+    } else {
+        lay_within::<MANY>(pool, face)
+    }
+}
+
+/// The same with lists that have room for so many nodes.
+#[inline(never)]
+fn lay_within<const N: usize>(pool: &mut Pool, face: Id) -> Result<Handle, Full>
+    requires stands { Stands pool.old }
+    requires expression { IsExpression face (forest pool.old) }
+    requires listed { nodes_in (tree_at face (forest pool.old)) < N }
+    requires few { N ≤ 2 ^ 16 }
+    ensures ok { IfOk result (λ h. GivesLayout (forest pool.old) (forest pool.new) h (layout (plain (tree_at face (forest pool.old))))) }
+    ensures front { KeepsFront [] (forest pool.old) (forest pool.new) }
+    ensures kept { OnOk result (KeepsRefusals pool.old pool.new) }
+    ensures room { OnOk result (laying (free_of pool.old) (layout (plain (tree_at face (forest pool.old)))) ≡ Ok (free_of pool.new)) }
+    ensures full { IfErr result (λ full. laying (free_of pool.old) (layout (plain (tree_at face (forest pool.old)))) ≡ Err full) }
+    ensures refuses { IfErr result (Refuses pool.old pool.new) }
+    ensures caused { IfErr result (LacksBytes pool.new) }
+    ensures stands { Stands pool.new }
+{
+    let mut cells: ArrayVec<Cell, N> = ArrayVec::new();
+    list_nodes(pool, face, &mut cells);
+    let mut under_way: ArrayVec<Frame, N> = ArrayVec::new();
+    lay(pool, face, cells.as_slice(), &mut under_way)
+}
+
+/// The same by the nodes of the face. The nodes whose layouts are under way are noted, the innermost last.
+fn lay<const N: usize>(
+    pool: &mut Pool,
+    face: Id,
+    cells: &[Cell],
+    under_way: &mut ArrayVec<Frame, N>,
+) -> Result<Handle, Full>
+    requires stands { Stands pool.old }
+    requires expression { IsExpression face (forest pool.old) }
+    requires cells { cells.now ≡ cells_of (tree_at face (forest pool.old)) }
+    requires none { under_way.old.items ≡ [] }
+    requires listed { nodes_in (tree_at face (forest pool.old)) < N }
+    requires few { N ≤ 2 ^ 16 }
+    ensures ok { IfOk result (λ h. GivesLayout (forest pool.old) (forest pool.new) h (layout (plain (tree_at face (forest pool.old))))) }
+    ensures front { KeepsFront [] (forest pool.old) (forest pool.new) }
+    ensures kept { OnOk result (KeepsRefusals pool.old pool.new) }
+    ensures room { OnOk result (laying (free_of pool.old) (layout (plain (tree_at face (forest pool.old)))) ≡ Ok (free_of pool.new)) }
+    ensures full { IfErr result (λ full. laying (free_of pool.old) (layout (plain (tree_at face (forest pool.old)))) ≡ Err full) }
+    ensures refuses { IfErr result (Refuses pool.old pool.new) }
+    ensures caused { IfErr result (LacksBytes pool.new) }
+    ensures stands { Stands pool.new }
+{
+    under_way.push(Frame::of(cells[0], None, pool.used()));
+    let mut at = 1;
+    while let Some(frame) = under_way.pop() {
+        if frame.left > 0 {
+            let marks = place_mark(pool, frame.place)?;
+            let around = around(cells, at, frame.place);
+            under_way.push(frame.behind(marks));
+            under_way.push(Frame::of(cells[at], around, pool.used()));
+            at += 1;
+        } else {
+            let last = close(pool, frame)?;
+            if under_way.is_empty() {
+                return Ok(last);
+            }
+        }
+    }
+    unreachable!()
+}
+
+/// Places the mark before a tree at a place, where there is one; how many marks.
+fn place_mark(pool: &mut Pool, place: Place) -> Result<u32, Full>
+    requires stands { Stands pool.old }
+    ensures ok { IfOk result (λ n. PlacesMark (mark_before place) (forest pool.old) (forest pool.new) n) }
+    ensures kept { OnOk result (KeepsRefusals pool.old pool.new) }
+    ensures room { OnOk result (taking (free_of pool.old) (around_sizes (mark_before place)) ≡ Ok (free_of pool.new)) }
+    ensures full { IfErr result (IsStopped (forest pool.old) (around_sizes (mark_before place)) pool.old pool.new) }
+    ensures stands { Stands pool.new }
+{
+    match place.mark() {
+        Some(mark) => match node(pool, mark) {
+            Ok(_) => Ok(1),
+            Err(full) => Err(full),
+        },
+        None => Ok(0),
+    }
+}
+
+/// What the tree at a place of the list stands in.
+fn around(cells: &[Cell], at: usize, place: Place) -> Option<Kind>
+    requires shown { ShowsSome at cells.now }
+    requires few { length cells.now < 2 ^ 16 }
+    ensures { (t : Forest) → ShowsTree at t cells.now → result ≡ around_of place (plain t) }
+{
+    place.around(cells[at].kind, deciding_kind(cells, at, place))
+}
+
+/// The kind on which it depends whether the tree at a place of the list needs parentheses.
+fn deciding_kind(cells: &[Cell], at: usize, place: Place) -> Kind
+    requires shown { ShowsSome at cells.now }
+    requires few { length cells.now < 2 ^ 16 }
+    ensures { (t : Forest) → ShowsTree at t cells.now → result ≡ deciding place (plain t) }
+{
+    match place {
+        Place::LaterOfProduct => kind_behind_opposites(cells, at),
+        _ => cells[at].kind,
+    }
+}
+
+/// The kind of the first node from a place on that is no opposite.
+fn kind_behind_opposites(cells: &[Cell], from: usize) -> Kind
+    requires shown { ShowsSome from cells.now }
+    requires few { length cells.now < 2 ^ 16 }
+    ensures { (t : Forest) → ShowsTree from t cells.now → result ≡ behind_opposites (plain t) }
+{
+    let mut at = from;
+    loop {
+        match cells[at].kind {
+            Kind::Neg => at += 1,
+            kind => return kind,
+        }
+    }
+}
+
+/// Places the node of a face whose parts are whole, and what it stands in.
+fn close(pool: &mut Pool, frame: Frame) -> Result<Handle, Full>
+    requires stands { Stands pool.old }
+    requires live { holds frame.id (forest pool.old) ≡ true }
+    requires few { frame.parts ≤ arity (forest pool.old) }
+    requires begin { frame.begin ≡ bytes_in (before_last frame.parts (forest pool.old)) }
+    requires leaf { is_leaf (payload_in frame.id (forest pool.old)) ≡ true → frame.parts ≡ 0 }
+    requires wraps { IsAround frame.around }
+    ensures ok { let old = forest pool.old in IfOk result (Closes (payload_in frame.id old) frame.around frame.parts old (forest pool.new)) }
+    ensures kept { OnOk result (KeepsRefusals pool.old pool.new) }
+    ensures room { OnOk result (taking (free_of pool.old) (root_sizes (payload_in frame.id (forest pool.old)) frame.around) ≡ Ok (free_of pool.new)) }
+    ensures full { let old = forest pool.old in
+        IfErr result (IsStopped (before_last frame.parts old) (root_sizes (payload_in frame.id old) frame.around) pool.old pool.new) }
+    ensures stands { Stands pool.new }
+{
+    let root = place_root(pool, frame.id, frame.parts, frame.begin)?;
+    stand_in(pool, frame.around, root, frame.begin)
+}
+
+/// Places what the last tree stands in, where it stands in something. The bytes of all trees before
+/// that tree are `begin`.
+fn stand_in(pool: &mut Pool, around: Option<Kind>, last: Handle, begin: u32) -> Result<Handle, Full>
+    requires stands { Stands pool.old }
+    requires wraps { IsAround around }
+    requires last { HasLast last begin (forest pool.old) }
+    ensures ok { IfOk result (StandsIn around last (forest pool.old) (forest pool.new)) }
+    ensures kept { OnOk result (KeepsRefusals pool.old pool.new) }
+    ensures room { OnOk result (taking (free_of pool.old) (around_sizes around) ≡ Ok (free_of pool.new)) }
+    ensures full { IfErr result (IsStopped (forest pool.old) (around_sizes around) pool.old pool.new) }
+    ensures stands { Stands pool.new }
+{
+    match around {
+        Some(outer) => node_over_last(pool, outer, 1, begin),
+        None => Ok(last),
+    }
+}
+
+/// Places the node of a face over the last trees, so many, which are its parts. The bytes of all trees before
+/// them are `begin`.
+fn place_root(pool: &mut Pool, face: Id, parts: u32, begin: u32) -> Result<Handle, Full>
+    requires stands { Stands pool.old }
+    requires live { holds face (forest pool.old) ≡ true }
+    requires few { parts ≤ arity (forest pool.old) }
+    requires begin { begin ≡ bytes_in (before_last parts (forest pool.old)) }
+    requires leaf { is_leaf (payload_in face (forest pool.old)) ≡ true → parts ≡ 0 }
+    ensures ok { let old = forest pool.old in
+        IfOk result (λ h. Ends h (one_tree h (laid (payload_in face old)) (last_trees parts old)) (before_last parts old) (forest pool.new)) }
+    ensures kept { OnOk result (KeepsRefusals pool.old pool.new) }
+    ensures full { IfErr result (IsRefused (size_of_payload (laid (payload_in face (forest pool.old)))) pool.old pool.new) }
+    ensures exactly { IsOk result ↔ (size_of_payload (laid (payload_in face (forest pool.old))) ≤ free_of pool.old) }
+    ensures stands { Stands pool.new }
+{
+    match kind(pool, face) {
+        Kind::Num => {
+            let value = rational(pool, face);
+            number(pool, value)
+        }
+        Kind::Sym => {
+            let name = name(pool, face);
+            symbol(pool, name)
+        }
+        kind => node_over_last(pool, laid_kind(kind), parts as u16, begin),
+    }
+}

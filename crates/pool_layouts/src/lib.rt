@@ -1,0 +1,21 @@
+//! Layouts of faces, their serial texts, and their pictures.
+#![tactic(auto)]
+
+mod cells;
+mod extents;
+mod frames;
+mod ink;
+mod laws;
+mod laying;
+mod picture;
+mod places;
+mod serial;
+mod steps;
+
+pub use laws::{base_row_is_within, rows_are_as_wide, serial_text_reads};
+pub use laying::layout_of;
+pub use picture::{rows, write_row};
+pub use serial::write_serial;
+
+#[cfg(test)]
+mod tests;
