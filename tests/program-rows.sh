@@ -40,7 +40,7 @@ answered() {
 
 # refused WORD..
 refused() {
-    run 2 '1\n' '' 'usage: poincare [--pool N]\n' "$@"
+    run 2 '1\n' '' 'usage: poincare [--pool N] [--interrupt K] [--gen N]\n' "$@"
 }
 
 greatest=170141183460469231731687303715884105727
@@ -53,7 +53,7 @@ answered ' \t\n' ''
 answered '1 + 2\n(1+2)+3\n((1))\n0.5+1\n1.0+2\n' '3\n6\n1\n3/2\n3\n'
 answered '2\303\2273\n1+\n1 + 1\n' '6\n! syntax\n2\n'
 answered '+1\n1++1\n1a\n(1)(2)\n-1\n' '! syntax\n! syntax\na\n2\n-1\n'
-answered ':pool\n \t:\n1->x\n' '! form\n! form\n! form\n'
+answered ':nothing\n \t:\n1->x\n' '! command\n! command\n1\n'
 answered '1.\n2$3\n2+\nabcdefgh\n' '! character 2\n! character 2\n! syntax\n! character 1\n'
 answered '1.000000000000000000000000000000000000001\n' '! number 1\n'
 answered "1\n$(printf '%063d' 0 | tr 0 -)1\n$(printf '%064d' 0 | tr 0 -)1\n" '1\n-1\n! deep\n'
@@ -77,7 +77,34 @@ answered '√(200280098)\n1/(1+√(2)+√(3))\nx+√(2)×x\n' '10007×√(2)\n1/
 answered '(-3+√(17))/4\n(√(2)+√(3))^2\n√(2)×√(3)\n√(1/2)\n' '-3/4+√(17)/4\n5+2×√(6)\n√(6)\n√(2)/2\n'
 answered '(x+√(2))^-1×(x+√(3))^-1\n' '1/((√(2)+x)×(√(3)+x))\n'
 answered '(x+1)-(x+1)\n(x×y)^2/x\n1/2x\n√(x)×√(x)\n2x(x+1)-2x^2\n' '0\nx×y^2\n1/(2×x)\nx\n2×x×(1+x)-2×x^2\n'
-answered '0.1+0.2\n2^(1/2)\n√(1+√(2))\n' '3/10\n2^(1/2)\n√(1+√(2))\n'
+answered '0.1+0.2\n2^(1/2)\n√(1+√(2))\n' '3/10\n√(2)\n√(1+√(2))\n'
+
+# Stores and commands.
+answered '5→x\nx+1\n7→x\nx+ans\n:pool\n' '5\n6\n7\n14\npool 80/32768 nodes 2 trees 2\n'
+answered 'x+1→y\n5→x\ny\n5→ans\n' '1+x\n5\n6\n! reserved\n'
+answered 'x+1→x\n:pool\n' '! circular x\npool 40/32768 nodes 1 trees 1\n'
+first='pool 40/32768 nodes 1 trees 1\n'
+second='pool 80/32768 nodes 2 trees 2\n'
+answered ':pool\n5→x\n:pool\n5→y\n:pool\n' "${first}5\n${first}5\n${second}"
+answered '5→x\n5→y\n7\n:pool\n:forget x\n:pool\n:forget x\n' "5\n5\n7\npool 120/32768 nodes 3 trees 3\nforgot x\n${second}no x\n"
+answered '1/2\n:pool\n' '1/2\npool 88/32768 nodes 3 trees 1\n'
+zeros='00 00 00 00 00 00 00 00\n'
+answered ':dump\n' "01 00 00 00 01 00 00 00\n${zeros}${zeros}01 00 00 00 00 00 00 00\n${zeros}"
+answered '7\n:pool\n' "${full}pool 40/64 nodes 1 trees 1\n" --pool 64
+answered ':POOL\n:pool x\n:forget\n:forget 1\n:forget sqrt\n :pool \n:forget ans\n' \
+    "! command\n! command\n! command\n! command\n! command\n${first}! reserved\n"
+
+# Breakers.
+answered ':after 3\n1+2+3\n:after 4\n1+2+3\n7\n:after 0\n' \
+    'after 3\n! interrupted\nafter 4\n6\n! interrupted\nno breaker\n'
+answered ':after 0\n:pool\n1\n' "after 0\n${first}! interrupted\n"
+answered ':after 18446744073709551616\n:after 007\n' '! command\nafter 7\n'
+answered '1\n1\n' '! interrupted\n1\n' --interrupt 0
+answered '1+2+3\n7\n7\n' '6\n! interrupted\n7\n' --interrupt=4 --pool=64000
+
+# Generated sessions.
+answered '1\n' 'lines 2000 shown 0 stored 0 undef 0 refused 2000 bytes 47500\n' --pool 64 --gen 1
+answered '1\n' 'lines 2000 shown 1750 stored 250 undef 0 refused 0 bytes 27383\n' --gen 1
 
 # A hundred lines of all kinds.
 "$program" <"$top/tests/hundred-lines.txt" >"$folder/written"
@@ -101,6 +128,12 @@ refused --pool 000000000000000000064
 refused --pool 64 --pool 64
 refused --pool=64 --pool=64
 refused --pool 64 x
+refused --interrupt
+refused --interrupt=18446744073709551616
+refused --interrupt 1 --interrupt=1
+refused --interrupt --pool 64
+refused --gen 4294967296
+refused --gen 1 --pool 65
 refused --
 refused ''
 refused x

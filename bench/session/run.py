@@ -1,6 +1,7 @@
 #!/usr/bin/env python3
-"""Times a session of 1,750 lines of eight kinds: this program, and beside it what is installed of GiNaC's ginsh, maxima,
-giac and Python's sympy, each asked to clear roots from divisors and to join like roots.
+"""Times a session of 2,000 lines of eight kinds in this program, which it makes itself (--gen 1) or reads from a file. Then
+the 1,750 lines of them that store nothing: this program, and beside it what is installed of GiNaC's ginsh, maxima, giac
+and Python's sympy, each asked to clear roots from divisors and to join like roots.
 
     bench/session/run.py [RUNS]
 
@@ -17,7 +18,9 @@ import time
 
 TOP = os.path.join(os.path.dirname(os.path.abspath(__file__)), "..", "..")
 
-# The lines of each eight, by their place from 1 on. The seventh would be a store and is left out.
+PROGRAM = os.path.join(TOP, "crates", "poincare", "out", "poincare")
+
+# The lines of each eight, by their place from 1 on. The seventh is a store.
 KINDS = {
     1: "{a}/{b}+{b}/{a}",
     2: "√({a})+√({b})",
@@ -25,6 +28,7 @@ KINDS = {
     4: "({a}+√({b}))^3",
     5: "{a}×x+{b}×x-√({a})×x",
     6: "(x+{a})^2/(x+{b})",
+    7: "{a}/{b}→y",
     0: "y×√({b})+x",
 }
 
@@ -42,9 +46,7 @@ def lines(count):
     state = 1
     for place in range(1, count + 1):
         state = (75 * state + 74) % 65537
-        form = KINDS.get(place % 8)
-        if form:
-            yield form.format(a=state % 97 + 1, b=state // 97 % 89 + 1)
+        yield KINDS[place % 8].format(a=state % 97 + 1, b=state // 97 % 89 + 1)
 
 
 def plain(line):
@@ -53,10 +55,9 @@ def plain(line):
 
 def programs():
     """Each program with its words and its input."""
-    session = list(lines(2000))
+    session = [line for line in lines(2000) if "→" not in line]
     ascii_lines = [plain(line) for line in session]
-    subprocess.run([os.path.join(TOP, "poincare")], stdin=subprocess.DEVNULL, check=True)
-    yield "poincare", [os.path.join(TOP, "crates", "poincare", "out", "poincare")], session
+    yield "poincare", [PROGRAM], session
     if shutil.which("ginsh"):
         yield "ginsh", ["ginsh"], [f"normal({line});" for line in ascii_lines]
     if shutil.which("maxima"):
@@ -103,6 +104,11 @@ def kilobytes_of(command, text):
 
 def main():
     runs = int(sys.argv[1]) if len(sys.argv) > 1 else 3
+    subprocess.run([os.path.join(TOP, "poincare")], stdin=subprocess.DEVNULL, check=True)
+    whole = "\n".join(lines(2000)) + "\n"
+    for name, words, text in ("generated", ["--gen", "1"], ""), ("read", [], whole):
+        seconds = min(seconds_of([PROGRAM, *words], text) for _ in range(runs))
+        print(f"{name:10} {2000 / seconds:9.0f} lines a second")
     own = None
     print(f"{'program':10} {'seconds':>9} {'ratio':>8} {'memory/KB':>10}")
     for name, command, session in programs():
