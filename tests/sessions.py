@@ -86,6 +86,18 @@ def check_many_uses():
     return answers(lines) == ["1/2", "20", "u+v", "2", "3", "5", "5", "2"]
 
 
+def check_depths():
+    """A tree of forty roots is stored and may be used, but not under thirty more."""
+    lines = ["√(" * 40 + "x" + ")" * 40 + "→y", "√(" * 20 + "y" + ")" * 20, "√(" * 30 + "y" + ")" * 30]
+    first, second, third = answers(lines)
+    return first == "√(" * 40 + "x" + ")" * 40 and second == "√(" * 60 + "x" + ")" * 60 and third == "! deep"
+
+
+def check_whole_trees():
+    """The reduced tree stands in the pool: where it finds no room, a face that would fit is not shown."""
+    return answers(["-a-b"], "--pool=88")[0].startswith("! full needed ") and answers(["-a-b"]) == ["-a-b"]
+
+
 def check_generated():
     """Generated sessions are answered as the model answers them, and take nothing from the input."""
     summary = "lines 2000 shown 1750 stored 250 undef 0 refused 0 bytes {}"
@@ -94,7 +106,8 @@ def check_generated():
     return all(answers(["1+1"], f"--gen={n}") == [summary.format(size)] for n, size in wanted.items())
 
 
-CHECKS = [check_answers, check_pools, check_interruptions, check_many_names, check_many_uses, check_generated]
+CHECKS = [check_answers, check_pools, check_interruptions, check_many_names, check_many_uses, check_depths,
+          check_whole_trees, check_generated]
 
 
 def main():
