@@ -1,11 +1,17 @@
 -- How many bytes the face of a tree without its minus sign takes: at least 8 less than three times the tree's.
-use Rattle.std.proofs.Common.{◌≡◌, ℕ, zero, suc, ◌+◌, ◌-◌, ◌*◌, ◌≤◌, refl, arith, Bool, true, false, ◌==◌, nat_abs, if◌then◌else◌}
+use Rattle.std.proofs.Common.{◌≡◌, ℕ, pos, ap, zero, suc, ◌+◌, ◌-◌, ◌*◌, ◌≤◌, refl, arith, Bool, true, false, ◌==◌, nat_abs, if◌then◌else◌}
 use Rattle.calc_language.specs.Faces.{fraction_of, product_of, power_below, unsigned_face, unless_one, exponent_below, has_minus, with_minus, factor_above, factor_below, factors_above, factors_below, next_term, next_terms}
-use Rattle.calc_terms.specs.Fractions.{Fraction}
+use Rattle.calc_terms.specs.Fractions.{Fraction, lowest}
+use Rattle.calc_terms.specs.declared.kind.Kind.TheVariants as kind
+use Rattle.calc_terms.specs.Kind.{size_by_form}
+use Rattle.calc_terms.specs.Short.{is_short}
+use Rattle.calc_terms.proofs.ShortForm.{short_whole}
+use Rattle.calc_terms.proofs.Sizes.{num_least, num_most, whole_size}
 use Rattle.calc_language.specs.Grammar.{SoFar, single, summed, multiplied, as_tree}
 use Rattle.calc_terms.specs.Trees.{Tree, num, symbol, undef, add, mult, power, root, neg, sub, div, Trees, none, more, count, size, sizes, whole_num, HasTwo, AllParts, AllPartsOf, root_size}
 use Rattle.tree_handles.specs.Expressions.{children_of}
-use Rattle.beautify.specs.Room.{node_room}
+use Rattle.beautify.specs.Room.{node_room, number_room, fraction_room, product_room}
+use Rattle.beautify.proofs.Places.{fraction_room-small}
 use Rattle.beautify.specs.Showing.{IsShowable, IsFactor, AreFactors, unsigned_faces}
 use Rattle.beautify.proofs.Sizes.{sizes-append, eight_each}
 
@@ -13,28 +19,51 @@ size-minus : (b : Bool) (t : Tree) → size (with_minus b t) ≤ size t + 8
 size-minus true t = omega arith
 size-minus false t = omega arith
 
+-- a whole number
+number_bytes : (n : ℕ) → size (whole_num n) ≤ 40
+number_bytes n = num_most (lowest (pos n) 1)
+
+one_bytes : size (whole_num 1) ≡ 16
+one_bytes = whole_size 1 (omega arith)
+
 sizes-unless_one : (n : ℕ) (ts : Trees) → sizes (unless_one n ts) ≤ sizes ts + 40
 sizes-unless_one n ts = by (n == 1)
   where
     by : (b : Bool) → sizes (if b then ts else more (whole_num n) ts) ≤ sizes ts + 40
     by true = omega arith
-    by false = omega arith
+    by false = omega (arith, number_bytes n)
+
+-- a whole number that stands alone
+size-alone : (n : ℕ) → size (product_of (unless_one n none)) ≤ 40
+size-alone n = by (n == 1)
+  where
+    by : (b : Bool) → size (product_of (if b then none else more (whole_num n) none)) ≤ 40
+    by true = omega (arith, one_bytes)
+    by false = number_bytes n
 
 size-number : (n d : ℕ) → size (fraction_of (unless_one n none) (unless_one d none)) ≤ 112
 size-number n d = by (n == 1) (d == 1)
   where
     by : (a b : Bool) → size (fraction_of (if a then none else more (whole_num n) none) (if b then none else more (whole_num d) none)) ≤ 112
-    by true true = omega arith
-    by true false = omega arith
-    by false true = omega arith
-    by false false = omega arith
+    by true true = omega (arith, one_bytes)
+    by true false = omega (arith, one_bytes, number_bytes d)
+    by false true = omega (arith, number_bytes n)
+    by false false = omega (arith, number_bytes n, number_bytes d)
+
+unless-one : (d : ℕ) (ts : Trees) → d ≡ 1 → unless_one d ts ≡ ts
+unless-one d ts e = ap (λ (k : ℕ). unless_one k ts) e
+
+-- a number by its form
+number_face : (b : Bool) (q : Fraction) → is_short q ≡ b → size (fraction_of (unless_one (nat_abs q.num) none) (unless_one q.den none)) + 8 ≤ 3 * size_by_form kind.Num b
+number_face true q e = omega (arith, ap (λ (vs : Trees). size (fraction_of (unless_one (nat_abs q.num) none) vs)) (unless-one q.den none (short_whole q e)), size-alone (nat_abs q.num))
+number_face false q e = omega (arith, size-number (nat_abs q.num) q.den)
 
 size-power_below : (b : Tree) (n : ℕ) → size (power_below b n) ≤ size b + 48
 size-power_below b n = by (n == 1)
   where
     by : (k : Bool) → size (if k then b else power b (whole_num n)) ≤ size b + 48
     by true = omega arith
-    by false = omega arith
+    by false = omega (arith, number_bytes n)
 
 size-next : (s : SoFar) (b : Bool) (t : Tree) → size (as_tree (next_term s b t)) ≤ size (as_tree s) + size t + 8
 size-next s true t = omega arith
@@ -46,32 +75,36 @@ size-some : (t : Tree) (ts : Trees) → size (product_of (more t ts)) ≤ sizes 
 size-some t none = omega arith
 size-some t (more u ts) = omega arith
 
--- with 32 bytes put aside for each tree below the line
-size-fraction : (us vs : Trees) (k : ℕ) → 16 ≤ k → sizes us + sizes vs + 32 * count vs ≤ k → size (fraction_of us vs) ≤ k + 24
-size-fraction none none k h w = omega (arith, h)
+-- with 8 bytes put aside for each tree below the line
+size-fraction : (us vs : Trees) (k : ℕ) → 16 ≤ k → sizes us + sizes vs + 8 * count vs ≤ k → size (fraction_of us vs) ≤ k + 24
+size-fraction none none k h w = omega (arith, h, one_bytes)
 size-fraction (more t us) none k h w = omega (arith, size-some t us, w)
-size-fraction none (more v vs) k h w = omega (arith, size-some v vs, w)
+size-fraction none (more v vs) k h w = omega (arith, size-some v vs, w, one_bytes)
 size-fraction (more u us) (more v vs) k h w = omega (arith, size-some u us, size-some v vs, w)
 
-size-exponent : (e : Tree) (k : ℕ) → exponent_below e ≡ suc k → size e ≡ 40
-size-exponent (num q) k h = refl
+size-exponent : (e : Tree) (k : ℕ) → exponent_below e ≡ suc k → 16 ≤ size e
+size-exponent (num q) k h = num_least q
 size-exponent _ k h = absurd (omega (arith, h))
 
 -- what a factor adds to both lists
 record Adds (t : Tree) : Type 0 where
-  above_below : (us vs : Trees) → sizes (factor_above t us) + sizes (factor_below t vs) + 32 * count (factor_below t vs) + 8 ≤ sizes us + sizes vs + 32 * count vs + 3 * size t
+  above_below : (us vs : Trees) → sizes (factor_above t us) + sizes (factor_below t vs) + 8 * count (factor_below t vs) + 8 ≤ sizes us + sizes vs + 8 * count vs + 3 * size t
 
-count-unless_one : (n : ℕ) (ts : Trees) → 40 * count (unless_one n ts) + sizes ts ≤ 40 * count ts + 40 + sizes ts
+count-unless_one : (n : ℕ) (ts : Trees) → count (unless_one n ts) ≤ count ts + 1
 count-unless_one n ts = by (n == 1)
   where
-    by : (b : Bool) → 40 * count (if b then ts else more (whole_num n) ts) + sizes ts ≤ 40 * count ts + 40 + sizes ts
+    by : (b : Bool) → count (if b then ts else more (whole_num n) ts) ≤ count ts + 1
     by true = omega arith
     by false = omega arith
 
-adds_number : (q : Fraction) → Adds (num q)
-adds_number q = record { above_below = λ us vs. omega (arith, sizes-unless_one (nat_abs q.num) us, sizes-unless_one q.den vs, count-unless_one q.den vs) }
+number_factors : (b : Bool) (q : Fraction) → is_short q ≡ b → (us vs : Trees) → sizes (unless_one (nat_abs q.num) us) + sizes (unless_one q.den vs) + 8 * count (unless_one q.den vs) + 8 ≤ sizes us + sizes vs + 8 * count vs + 3 * size_by_form kind.Num b
+number_factors true q e us vs = let one = unless-one q.den vs (short_whole q e) in omega (arith, sizes-unless_one (nat_abs q.num) us, ap sizes one, ap count one)
+number_factors false q e us vs = omega (arith, sizes-unless_one (nat_abs q.num) us, sizes-unless_one q.den vs, count-unless_one q.den vs)
 
-bound_product : (ts : Trees) → HasTwo ts → sizes (factors_above ts) + sizes (factors_below ts) + 32 * count (factors_below ts) + 8 * count ts ≤ 3 * sizes ts → size (fraction_of (factors_above ts) (factors_below ts)) + 8 ≤ 3 * (8 + sizes ts)
+adds_number : (q : Fraction) → Adds (num q)
+adds_number q = record { above_below = number_factors (is_short q) q refl }
+
+bound_product : (ts : Trees) → HasTwo ts → sizes (factors_above ts) + sizes (factors_below ts) + 8 * count (factors_below ts) + 8 * count ts ≤ 3 * sizes ts → size (fraction_of (factors_above ts) (factors_below ts)) + 8 ≤ 3 * (8 + sizes ts)
 bound_product none two w = absurd two
 bound_product (more t none) two w = absurd two
 bound_product (more t (more u ts)) two w =
@@ -81,18 +114,26 @@ bound_product (more t (more u ts)) two w =
 
 mutual
   bound : (t : Tree) → AllParts IsShowable t → size (unsigned_face t) + 8 ≤ 3 * size t
-  bound (num q) h = omega (arith, size-number (nat_abs q.num) q.den)
+  bound (num q) h = number_face (is_short q) q refl
   bound (symbol x) h = omega arith
   bound undef h = absurd h
   bound (add none) h = absurd (h.0)
   bound (add (more t ts)) h = omega (arith, size-minus (has_minus t) (unsigned_face t), bound t h.1.0, bound_terms (single (with_minus (has_minus t) (unsigned_face t))) ts h.1.1)
   bound (mult ts) h = bound_product ts h.0.0 (bound_factors ts h.0.1 h.1)
-  bound (power b e) h = by (exponent_below e) refl (omega (arith, size-minus (has_minus b) (unsigned_face b), bound b h.1)) (omega (arith, size-minus (has_minus e) (unsigned_face e), bound e h.2))
+  bound (power b e) h = by (exponent_below e) refl (omega (arith, size-minus (has_minus b) (unsigned_face b), bound b h.1)) (omega (arith, size-minus (has_minus e) (unsigned_face e), bound e h.2)) (bound b h.1)
     where
-      by : (k : ℕ) → exponent_below e ≡ k → size (with_minus (has_minus b) (unsigned_face b)) ≤ 3 * size b → size (with_minus (has_minus e) (unsigned_face e)) ≤ 3 * size e
+      by : (k : ℕ) → exponent_below e ≡ k → size (with_minus (has_minus b) (unsigned_face b)) ≤ 3 * size b → size (with_minus (has_minus e) (unsigned_face e)) ≤ 3 * size e → size (unsigned_face b) + 8 ≤ 3 * size b
           → size (elim k [ zero ↦ power (with_minus (has_minus b) (unsigned_face b)) (with_minus (has_minus e) (unsigned_face e)) | suc n ↦ fraction_of none (more (power_below (with_minus (has_minus b) (unsigned_face b)) (suc n)) none) ]) + 8 ≤ 3 * (8 + (size b + size e))
-      by zero is m n = omega (arith, m, n)
-      by (suc k) is m n = omega (arith, m, size-power_below (with_minus (has_minus b) (unsigned_face b)) (suc k), size-exponent e k is)
+      by zero is m n u = omega (arith, m, n)
+      by (suc k) is m n u =
+          omega (
+            arith,
+            u,
+            ap (λ (x : Bool). size (with_minus x (unsigned_face b))) (h.0 k is),
+            size-power_below (with_minus (has_minus b) (unsigned_face b)) (suc k),
+            size-exponent e k is,
+            one_bytes,
+          )
   bound (root a) h = omega (arith, size-minus (has_minus a) (unsigned_face a), bound a h.1)
   bound (neg a) h = absurd (h.0)
   bound (sub a b) h = absurd (h.0)
@@ -102,7 +143,7 @@ mutual
   bound_terms s none h = omega arith
   bound_terms s (more t ts) h = omega (arith, size-next s (has_minus t) (unsigned_face t), bound t h.0, bound_terms (next_term s (has_minus t) (unsigned_face t)) ts h.1)
 
-  bound_factors : (ts : Trees) → AreFactors ts → AllPartsOf IsShowable ts → sizes (factors_above ts) + sizes (factors_below ts) + 32 * count (factors_below ts) + 8 * count ts ≤ 3 * sizes ts
+  bound_factors : (ts : Trees) → AreFactors ts → AllPartsOf IsShowable ts → sizes (factors_above ts) + sizes (factors_below ts) + 8 * count (factors_below ts) + 8 * count ts ≤ 3 * sizes ts
   bound_factors none f h = omega arith
   bound_factors (more t ts) f h = omega (arith, (adds t f.0 h.0).above_below (factors_above ts) (factors_below ts), bound_factors ts f.1 h.1)
 
@@ -113,12 +154,13 @@ mutual
   adds (add none) f h = absurd (h.0)
   adds (add (more t ts)) f h = record { above_below = λ us vs. omega (arith, size-minus (has_minus t) (unsigned_face t), bound t h.1.0, bound_terms (single (with_minus (has_minus t) (unsigned_face t))) ts h.1.1) }
   adds (mult ts) f h = absurd f
-  adds (power b e) f h = record { above_below = λ us vs. by us vs (exponent_below e) refl (omega (arith, size-minus (has_minus b) (unsigned_face b), bound b h.1)) (omega (arith, size-minus (has_minus e) (unsigned_face e), bound e h.2)) }
+  adds (power b e) f h = record { above_below = λ us vs. by us vs (exponent_below e) refl (omega (arith, size-minus (has_minus b) (unsigned_face b), bound b h.1)) (omega (arith, size-minus (has_minus e) (unsigned_face e), bound e h.2)) (bound b h.1) }
     where
-      by : (us vs : Trees) (k : ℕ) → exponent_below e ≡ k → size (with_minus (has_minus b) (unsigned_face b)) ≤ 3 * size b → size (with_minus (has_minus e) (unsigned_face e)) ≤ 3 * size e
-          → sizes (elim k [ zero ↦ more (power (with_minus (has_minus b) (unsigned_face b)) (with_minus (has_minus e) (unsigned_face e))) us | suc n ↦ us ]) + sizes (elim k [ zero ↦ vs | suc n ↦ more (power_below (with_minus (has_minus b) (unsigned_face b)) (suc n)) vs ]) + 32 * count (elim k as (λ x. Trees) [ zero ↦ vs | suc n ↦ more (power_below (with_minus (has_minus b) (unsigned_face b)) (suc n)) vs ]) + 8 ≤ sizes us + sizes vs + 32 * count vs + 3 * (8 + (size b + size e))
-      by us vs zero is m n = omega (arith, m, n)
-      by us vs (suc k) is m n = omega (arith, m, size-power_below (with_minus (has_minus b) (unsigned_face b)) (suc k), size-exponent e k is)
+      by : (us vs : Trees) (k : ℕ) → exponent_below e ≡ k → size (with_minus (has_minus b) (unsigned_face b)) ≤ 3 * size b → size (with_minus (has_minus e) (unsigned_face e)) ≤ 3 * size e → size (unsigned_face b) + 8 ≤ 3 * size b
+          → sizes (elim k [ zero ↦ more (power (with_minus (has_minus b) (unsigned_face b)) (with_minus (has_minus e) (unsigned_face e))) us | suc n ↦ us ]) + sizes (elim k [ zero ↦ vs | suc n ↦ more (power_below (with_minus (has_minus b) (unsigned_face b)) (suc n)) vs ]) + 8 * count (elim k as (λ x. Trees) [ zero ↦ vs | suc n ↦ more (power_below (with_minus (has_minus b) (unsigned_face b)) (suc n)) vs ]) + 8 ≤ sizes us + sizes vs + 8 * count vs + 3 * (8 + (size b + size e))
+      by us vs zero is m n u = omega (arith, m, n)
+      by us vs (suc k) is m n u =
+          omega (arith, u, ap (λ (x : Bool). size (with_minus x (unsigned_face b))) (h.0 k is), size-power_below (with_minus (has_minus b) (unsigned_face b)) (suc k), size-exponent e k is)
   adds (root a) f h = record { above_below = λ us vs. omega (arith, size-minus (has_minus a) (unsigned_face a), bound a h.1) }
   adds (neg a) f h = absurd f
   adds (sub a b) f h = absurd f
@@ -133,9 +175,24 @@ bounds (more t ts) h = omega (arith, bound t h.0, bounds ts h.1)
 pub bound_tree : (t : Tree) → AllParts IsShowable t → size (unsigned_face t) + 8 ≤ 3 * size t
 bound_tree t h = bound t h
 
+-- the room of a number by its form
+unless_room : (n : ℕ) → sizes (unless_one n none) + product_room (count (unless_one n none)) ≤ 48
+unless_room n = by (n == 1)
+  where
+    by : (b : Bool) → sizes (if b then none else more (whole_num n) none) + product_room (count (if b then none else more (whole_num n) none)) ≤ 48
+    by true = omega (arith, one_bytes)
+    by false = omega (arith, number_bytes n)
+
+number_needs : (b : Bool) (q : Fraction) → is_short q ≡ b → number_room (nat_abs q.num) q.den + 8 ≤ 4 * size_by_form kind.Num b
+number_needs true q e =
+    let one = unless-one q.den none (short_whole q e) in
+    omega (arith, ap sizes one, ap (λ (vs : Trees). fraction_room (count (unless_one (nat_abs q.num) none)) (count vs)) one, unless_room (nat_abs q.num))
+number_needs false q e =
+    omega (arith, sizes-unless_one (nat_abs q.num) none, sizes-unless_one q.den none, fraction_room-small (count (unless_one (nat_abs q.num) none)) (count (unless_one q.den none)))
+
 -- a node's own bytes, and what it needs beside its children's faces
 pub needs : (t : Tree) → AllParts IsShowable t → node_room t + 8 ≤ size t + 3 * root_size t + 8 * count (children_of t)
-needs (num q) h = omega arith
+needs (num q) h = omega (arith, number_needs (is_short q) q refl)
 needs (symbol x) h = omega arith
 needs undef h = absurd h
 needs (add ts) h = omega arith
@@ -144,7 +201,7 @@ needs (mult (more t none)) h = absurd (h.0.0)
 needs (mult (more t (more u ts))) h = omega (arith, eight_each (more t (more u ts)))
 needs (power b e) h = by (exponent_below e) refl
   where
-    by : (k : ℕ) → exponent_below e ≡ k → elim k as (λ x. ℕ) [ zero ↦ 24 | suc n ↦ 72 ] + 8 ≤ size (power b e) + 3 * 8 + 8 * 2
+    by : (k : ℕ) → exponent_below e ≡ k → elim k as (λ x. ℕ) [ zero ↦ 24 | suc n ↦ 48 ] + 8 ≤ size (power b e) + 3 * 8 + 8 * 2
     by zero is = omega (arith, eight_each (more b (more e none)))
     by (suc k) is = omega (arith, eight_each (more b (more e none)), size-exponent e k is)
 needs (root a) h = omega (arith, eight_each (more a none))

@@ -41,7 +41,7 @@ pub mult_of_kind : (t : Tree) → root_kind t ≡ kind.Mult → is_mult t ≡ tr
 mult_of_kind (mult ts) h = refl
 mult_of_kind _ h = absurd (cc (ap (λ (k : Kind). root_kind (is_pow_kind k)) h))
 
-pub mult_room : (t : Tree) → root_kind t ≡ kind.Mult → node_room t ≡ 56
+pub mult_room : (t : Tree) → root_kind t ≡ kind.Mult → node_room t ≡ 32
 mult_room (mult ts) h = refl
 mult_room _ h = absurd (cc (ap (λ (k : Kind). root_kind (is_pow_kind k)) h))
 

@@ -1,8 +1,12 @@
 -- The parts of a reduced tree can be shown.
-use Rattle.std.proofs.Common.{◌≡◌, inl, inr, refl, sym, ap, ◌∙◌, arith, true, false}
+use Rattle.std.proofs.Common.{◌≡◌, ◌≤◌, ℕ, ℤ, zero, suc, pos, negsuc, Bool, if◌then◌else◌, [], length, inl, inr, refl, sym, ap, ◌∙◌, arith, true, false}
 use Rattle.calc_terms.specs.Trees.{Tree, num, symbol, undef, add, mult, power, root, neg, sub, div, Trees, none, more, AllParts, AllPartsOf, is_mult, is_undef, HasTwo}
-use Rattle.calc_algebra.specs.Numbers.{IsTerm}
-use Rattle.calc_algebra.specs.Reduced.{is_reduced, NoneIs, HasForm, IsReduced}
+use Rattle.calc_terms.specs.Fractions.{Fraction, is_zero_fraction}
+use Rattle.calc_language.specs.Faces.{below_zero, exponent_below, has_minus}
+use Rattle.calc_algebra.specs.Numbers.{IsTerm, classes}
+use Rattle.calc_algebra.specs.Surds.{surd_of}
+use Rattle.calc_algebra.proofs.NumberLaws.{number_test}
+use Rattle.calc_algebra.specs.Reduced.{is_reduced, NoneIs, HasForm, IsReduced, IsWholePowerForm}
 use Rattle.calc_algebra.proofs.ReducedLaws.{reduced_words}
 use Rattle.beautify.specs.Showing.{IsShowable, IsFactor, AreFactors}
 
@@ -67,6 +71,31 @@ two_factors : (ts : Trees) → HasForm (mult ts) → HasTwo ts × NoneIs is_mult
 two_factors ts (inl h) = term_product ts h
 two_factors ts (inr h) = (h.two, h.no_product)
 
+-- an exponent below the line is whole
+below_whole : (p : ℤ) (d k : ℕ) → below_zero p d ≡ suc k → d ≡ 1
+below_whole (pos n) d k h = absurd (omega (arith, h))
+below_whole (negsuc n) zero k h = absurd (omega (arith, h))
+below_whole (negsuc n) (suc zero) k h = refl
+below_whole (negsuc n) (suc (suc d)) k h = absurd (omega (arith, h))
+
+-- a rational has one class at most
+few_classes : (p : Fraction) → 3 ≤ classes (num p) → ⊥
+few_classes p = by (is_zero_fraction p)
+  where
+    by : (b : Bool) → 3 ≤ length (if b then [] else surd_of p) → ⊥
+    by true h = omega (arith, h)
+    by false h = omega (arith, h)
+
+no_minus : (b : Tree) (q : Fraction) → IsWholePowerForm b q → has_minus b ≡ false
+no_minus (num p) q w = absurd (few_classes p (w.wide (number_test (num p) tt)).1)
+no_minus (mult ts) q w = let no : true ≡ false = w.no_product in cc
+no_minus _ q w = refl
+
+lone_base : (b e : Tree) → HasForm (power b e) → (n : ℕ) → exponent_below e ≡ suc n → has_minus b ≡ false
+lone_base b (num q) (inl h) n e = absurd h
+lone_base b (num q) (inr h) n e = no_minus b q (h.1 (below_whole q.num q.den n e))
+lone_base b _ h n e = absurd (omega (arith, e))
+
 mutual
   showable : (t : Tree) → AllParts HasForm t → AllParts IsShowable t
   showable (num q) h = tt
@@ -74,7 +103,7 @@ mutual
   showable undef h = formed undef h
   showable (add ts) h = (two_terms ts h.0, showables ts h.1)
   showable (mult ts) h = let p = two_factors ts h.0 in ((p.0, factors ts h.1 (p.1)), showables ts h.1)
-  showable (power b e) h = (tt, showable b h.1, showable e h.2)
+  showable (power b e) h = (lone_base b e h.0, showable b h.1, showable e h.2)
   showable (root a) h = (tt, showable a h.1)
   showable (neg a) h = absurd (formed (neg a) h.0)
   showable (sub a b) h = absurd (formed (sub a b) h.0)

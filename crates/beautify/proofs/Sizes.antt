@@ -4,6 +4,7 @@ use Rattle.std.proofs.lemmas.Bool.{eqb-true}
 use Rattle.calc_terms.specs.Trees.{Tree, num, symbol, undef, add, mult, power, root, neg, sub, div, Trees, none, more, append, count, size, sizes, is_add, is_div}
 use Rattle.calc_terms.specs.declared.kind.Kind.{Kind}
 use Rattle.calc_terms.specs.declared.kind.Kind.TheVariants as kind
+use Rattle.calc_terms.proofs.Sizes.{num_least}
 use Rattle.node_pool.specs.Nodes.{used}
 use Rattle.node_pool.specs.State.{State, free_of}
 use Rattle.tree_handles.specs.Expressions.{nth, inserted, compound, takes_kind, children_of}
@@ -100,7 +101,7 @@ sizes-divisor at to ts h w =
 -- ---- how many trees
 
 pub some_size : (t : Tree) → 8 ≤ size t
-some_size (num q) = omega arith
+some_size (num q) = omega (arith, num_least q)
 some_size (symbol x) = omega arith
 some_size undef = omega arith
 some_size (add ts) = omega arith

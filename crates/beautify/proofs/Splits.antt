@@ -38,7 +38,7 @@ abbrev below_by : ℕ → Tree → Trees → Trees
 below_by k x us = elim k [ zero ↦ us | suc n ↦ more (power_below x (suc n)) us ]
 
 abbrev pub room_by : ℕ → ℕ
-room_by k = elim k [ zero ↦ 24 | suc n ↦ 72 ]
+room_by k = elim k [ zero ↦ 24 | suc n ↦ 48 ]
 
 abbrev signed : Tree → Tree
 signed t = with_minus (has_minus t) (unsigned_face t)

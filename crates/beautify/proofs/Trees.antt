@@ -2,7 +2,6 @@
 use Rattle.std.proofs.Common.{◌≡◌, ℕ, zero, suc, ◌+◌, ◌-◌, ◌<◌, ◌≤◌, refl, ap, ◌∙◌, arith, true}
 use Rattle.calc_terms.specs.Trees.{Tree, add, div, Trees, none, more, append, count, is_add, is_div, root_kind}
 use Rattle.calc_terms.specs.Payload.{is_bare}
-use Rattle.calc_terms.specs.Kind.{size_of_kind}
 use Rattle.calc_terms.specs.declared.kind.Kind.{Kind}
 use Rattle.calc_terms.specs.declared.kind.Kind.TheVariants as kind
 use Rattle.tree_handles.specs.Expressions.{nth, inserted, takes_kind, children_of}
@@ -125,8 +124,3 @@ bare_takes k n h = refl
 pub add_children : (t : Tree) → is_add t ≡ true → t ≡ add (children_of t)
 add_children (add ts) h = refl
 add_children _ h = absurd cc
-
-pub bare_size : (k : Kind) → is_bare k ≡ true → size_of_kind k ≡ 8
-bare_size kind.Num h = absurd cc
-bare_size kind.Sym h = absurd cc
-bare_size k h = refl

@@ -1,6 +1,6 @@
 -- Nodes of reduced trees, as their faces need them.
-use Rattle.std.specs.Prelude.{◌≡◌, ⊤, Bool, true, false, nat_lt}
-use Rattle.calc_language.specs.Faces.{unsigned_face, exponent_below}
+use Rattle.std.specs.Prelude.{ℕ, suc, ◌≡◌, ⊤, Bool, true, false, nat_lt}
+use Rattle.calc_language.specs.Faces.{unsigned_face, exponent_below, has_minus}
 use Rattle.calc_language.specs.Grammar.{SoFar, summed}
 use Rattle.calc_terms.specs.Integers.{int_is_negative}
 use Rattle.calc_terms.specs.Trees.{Tree, num, symbol, add, mult, power, root, Trees, none, more, append, count, HasTwo}
@@ -38,13 +38,13 @@ abbrev pub AreFactors : Trees → Type 0
 AreFactors none = ⊤
 AreFactors (more t ts) = IsFactor t × AreFactors ts
 
--- the root's own node is one of a reduced tree that is not Undef
+-- the root's own node is one of a reduced tree that is not Undef; what a power has below the line has no minus sign
 abbrev pub IsShowable : Tree → Type 0
 IsShowable (num q) = ⊤
 IsShowable (symbol x) = ⊤
 IsShowable (add ts) = HasTwo ts
 IsShowable (mult ts) = HasTwo ts × AreFactors ts
-IsShowable (power b e) = ⊤
+IsShowable (power b e) = (n : ℕ) → exponent_below e ≡ suc n → has_minus b ≡ false
 IsShowable (root a) = ⊤
 IsShowable _ = ⊥
 

@@ -1,7 +1,7 @@
 //! Fractions on top of a stack: what stands above the line, and behind it what stands below.
 ghost use Rattle.std.specs.Prelude.{◌≡◌, ◌<◌, ◌≤◌, ◌+◌, ◌^◌, ℕ, true, IfErr, IfOk, OnOk};
 ghost use Rattle.beautify.specs.Lists.{first, behind, cut};
-ghost use Rattle.beautify.specs.Room.{product_room};
+ghost use Rattle.beautify.specs.Room.{fraction_room, product_room};
 ghost use Rattle.beautify.specs.Stacks.{stacked, IsStack, Restacks, FailsAbove};
 ghost use Rattle.calc_language.specs.Faces.{fraction_of, product_of, unless_one};
 ghost use Rattle.calc_terms.specs.Trees.{none, more, count, sizes};
@@ -30,8 +30,8 @@ pub(crate) fn make_fraction(pool: &mut Pool, stack: &Handle, sides: Sides) -> Re
     ensures ok { let trees = stacked stack.now (forest pool.old) in
         OnOk result (Restacks stack.now pool.old pool.new (more (fraction_of (first sides.above trees) (first sides.below (behind sides.above trees))) (behind (sides.above + sides.below) trees))) }
     ensures fails { IfErr result (FailsAbove stack.now pool.old pool.new) }
-    ensures cost { OnOk result (free_of pool.old ≤ free_of pool.new + 56) }
-    ensures room { IfErr result (λ full. free_of pool.old < 56) }
+    ensures cost { OnOk result (free_of pool.old ≤ free_of pool.new + fraction_room sides.above sides.below) }
+    ensures room { IfErr result (λ full. free_of pool.old < fraction_room sides.above sides.below) }
     ensures stands { Stands pool.new }
 {
     if sides.below == 0 {

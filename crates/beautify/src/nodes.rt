@@ -1,7 +1,7 @@
 //! The face of one node over the faces of its children, which lie on top of a stack.
-ghost use Rattle.std.specs.Prelude.{◌≡◌, ◌<◌, ◌≤◌, ◌+◌, true, IfErr, OnOk};
+ghost use Rattle.std.specs.Prelude.{◌≡◌, ◌<◌, ◌≤◌, ◌+◌, nat_abs, true, IfErr, OnOk};
 ghost use Rattle.beautify.specs.Lists.{behind};
-ghost use Rattle.beautify.specs.Room.{node_room};
+ghost use Rattle.beautify.specs.Room.{node_room, number_room};
 ghost use Rattle.beautify.specs.Showing.{IsShowable, HoldsFaces};
 ghost use Rattle.beautify.specs.Stacks.{stacked, IsStack, Restacks, FailsAbove};
 ghost use Rattle.calc_language.specs.Faces.{unsigned_face, has_minus, with_minus, fraction_of};
@@ -57,7 +57,7 @@ fn show_number(pool: &mut Pool, stack: &Handle, value: Rat) -> Result<(), Full>
     requires stack { IsStack stack.now (forest pool.old) }
     ensures ok { OnOk result (Restacks stack.now pool.old pool.new (more (unsigned_face (num (value_of value))) (stacked stack.now (forest pool.old)))) }
     ensures fails { IfErr result (FailsAbove stack.now pool.old pool.new) }
-    ensures room { IfErr result (λ full. free_of pool.old < 136) }
+    ensures room { IfErr result (λ full. free_of pool.old < number_room (nat_abs (value_of value).num) (value_of value).den) }
     ensures stands { Stands pool.new }
 {
     let below = push_unless_one(pool, stack, 0, denominator(value))?;
@@ -119,7 +119,7 @@ fn invert(pool: &mut Pool, stack: &Handle, base: Id) -> Result<(), Full>
         let trees = stacked stack.now (forest pool.old) in
         OnOk result (Restacks stack.now pool.old pool.new (more (fraction_of none (more (with_minus minus (nth 0 trees)) none)) (behind 2 trees))) }
     ensures fails { IfErr result (FailsAbove stack.now pool.old pool.new) }
-    ensures room { IfErr result (λ full. free_of pool.old < 72) }
+    ensures room { IfErr result (λ full. free_of pool.old < 48) }
     ensures stands { Stands pool.new }
 {
     sign(pool, stack, 0, base)?;
@@ -138,7 +138,7 @@ fn raise_and_invert(pool: &mut Pool, stack: &Handle, base: Id) -> Result<(), Ful
         let trees = stacked stack.now (forest pool.old) in
         OnOk result (Restacks stack.now pool.old pool.new (more (fraction_of none (more (power (with_minus minus (nth 0 trees)) (nth 1 trees)) none)) (behind 2 trees))) }
     ensures fails { IfErr result (FailsAbove stack.now pool.old pool.new) }
-    ensures room { IfErr result (λ full. free_of pool.old < 72) }
+    ensures room { IfErr result (λ full. free_of pool.old < 48) }
     ensures stands { Stands pool.new }
 {
     sign(pool, stack, 0, base)?;

@@ -32,7 +32,7 @@ pub(crate) fn show_product(pool: &mut Pool, stack: &Handle, id: Id) -> Result<()
     ensures ok { let t = plain (tree_at id (without_root stack.now (forest pool.old))) in
         OnOk result (Restacks stack.now pool.old pool.new (more (unsigned_face t) (behind (count (children_of t)) (stacked stack.now (forest pool.old))))) }
     ensures fails { IfErr result (FailsAbove stack.now pool.old pool.new) }
-    ensures room { IfErr result (λ full. free_of pool.old < 56) }
+    ensures room { IfErr result (λ full. free_of pool.old < 32) }
     ensures stands { Stands pool.new }
 {
     let mut left = children(pool, id);

@@ -49,8 +49,8 @@ pub(crate) fn push_number(pool: &mut Pool, stack: &Handle, at: u16, value: Rat) 
     requires within { at ≤ count (stacked stack.now (forest pool.old)) }
     ensures ok { OnOk result (Restacks stack.now pool.old pool.new (inserted at (more (num (value_of value)) none) (stacked stack.now (forest pool.old)))) }
     ensures fails { IfErr result (FailsAbove stack.now pool.old pool.new) }
-    ensures cost { OnOk result (free_of pool.old ≤ free_of pool.new + 40) }
-    ensures room { IfErr result (λ full. free_of pool.old < 40) }
+    ensures cost { OnOk result (free_of pool.old ≤ free_of pool.new + size (num (value_of value))) }
+    ensures room { IfErr result (λ full. free_of pool.old < size (num (value_of value))) }
     ensures stands { Stands pool.new }
 {
     let number = number(pool, value)?;

@@ -1,4 +1,4 @@
-//! Faces of numbers, worked by hand: a sign of 8 bytes, a line of 8 bytes, and 40 for each whole
+//! Faces of numbers, worked by hand: a sign of 8 bytes, a line of 8 bytes, and 16 for each short
 //! number, where a denominator of 1 is not written.
 ghost use Rattle.std.specs.Prelude.{IfOk};
 ghost use Rattle.node_pool.specs.State.{IsPoolSize};
@@ -13,16 +13,16 @@ use tree_handles::number;
 
 /// A numerator, a denominator, and the bytes of the face.
 const ROWS: [(i8, u8, u32); 10] = [
-    (-3, 2, 96),
-    (-1, 2, 96),
-    (1, 2, 88),
-    (2, 3, 88),
-    (3, 1, 40),
-    (1, 1, 40),
-    (0, 1, 40),
-    (-1, 1, 48),
-    (-5, 1, 48),
-    (-128, 255, 96),
+    (-3, 2, 48),
+    (-1, 2, 48),
+    (1, 2, 40),
+    (2, 3, 40),
+    (3, 1, 16),
+    (1, 1, 16),
+    (0, 1, 16),
+    (-1, 1, 24),
+    (-5, 1, 24),
+    (-128, 255, 48),
 ];
 
 /// A pool with no tree in it.
@@ -67,16 +67,16 @@ fn faces_of_numbers(rt: HostRuntime) -> Result<(), Fail> {
     Ok(())
 }
 
-/// The number takes 40 bytes, the stack 8, and the face of -3/2 beside them 96.
+/// The number takes 40 bytes, the stack 8, and the face of -3/2 beside them 48.
 #[test]
 fn small_pools_refuse(rt: HostRuntime) -> Result<(), Fail> {
-    for size in [64u32, 72, 80, 88, 96, 104, 112, 120, 128, 136] {
+    for size in [64u32, 72, 80, 88] {
         let mut pool = opened(rt.alloc(), size)?;
         let used = bytes_of_face(&mut pool, rational(-3, 2));
         assert_eq!(rt; used, None, "{size}");
         assert_eq!(rt; pool.refusals(), 1, "{size}");
     }
-    let mut pool = opened(rt.alloc(), 144)?;
-    assert_eq!(rt; bytes_of_face(&mut pool, rational(-3, 2)), Some(96));
+    let mut pool = opened(rt.alloc(), 96)?;
+    assert_eq!(rt; bytes_of_face(&mut pool, rational(-3, 2)), Some(48));
     Ok(())
 }

@@ -14,7 +14,7 @@ ghost use Rattle.calc_terms.specs.Examples.{x, y, z, root_of, three, sum, produc
 pub fn a_sum_measured()
     ensures nodes { nodes third_and_sixth ≡ 7 }
     ensures depth { depth third_and_sixth ≡ 3 }
-    ensures size { size third_and_sixth ≡ 184 }
+    ensures size { size third_and_sixth ≡ 88 }
     ensures room { room third_and_sixth ≡ 7168 }
     ensures high { high third_and_sixth ≡ 5 }
     ensures low { low third_and_sixth ≡ 10 }

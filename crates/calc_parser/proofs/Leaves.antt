@@ -4,11 +4,10 @@ use Rattle.std.proofs.Common.{refl, sym, ap}
 use Rattle.calc_terms.specs.declared.kind.Kind.TheVariants as kind
 use Rattle.calc_terms.specs.declared.name.Name.{Name}
 use Rattle.calc_terms.specs.declared.rat.Rat.{Rat}
-use Rattle.calc_terms.specs.Kind.{size_of_kind}
 use Rattle.calc_terms.specs.Leaf.{name_of}
 use Rattle.calc_terms.specs.Payload.{Payload, rational, named, bare}
 use Rattle.calc_terms.specs.Rat.{ratio_of}
-use Rattle.calc_terms.specs.Trees.{Trees, undef}
+use Rattle.calc_terms.specs.Trees.{Trees, undef, root_size}
 use Rattle.calc_tokens.specs.declared.tokens.What.{What}
 use Rattle.calc_tokens.specs.declared.tokens.What.TheVariants as what
 use Rattle.calc_tokens.specs.Tokens.{token_of}
@@ -36,10 +35,10 @@ name_grows x id f new e = record { payload = named (name_of x); ends = over_none
 
 -- any other token's leaf is Undef
 pub record IsUndef (w : What) : Type 0 where
-  pub bytes : bytes_of_node (leaf (token_of w)) ≡ size_of_kind kind.Undef
+  pub bytes : bytes_of_node (leaf (token_of w)) ≡ root_size undef
   pub tree : (ts : Trees) → undef ≡ tree_over (leaf (token_of w)) ts
 
-is_undef : {w : What} → bytes_of_node (leaf (token_of w)) ≡ size_of_kind kind.Undef → ((ts : Trees) → undef ≡ tree_over (leaf (token_of w)) ts) → IsUndef w
+is_undef : {w : What} → bytes_of_node (leaf (token_of w)) ≡ root_size undef → ((ts : Trees) → undef ≡ tree_over (leaf (token_of w)) ts) → IsUndef w
 is_undef b t = record { bytes = b; tree = t }
 
 pub other : (w : What) → ((r : Rat) → w ≡ what.Number r → ⊥) → ((x : Name) → w ≡ what.Name x → ⊥) → IsUndef w

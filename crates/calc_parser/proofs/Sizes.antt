@@ -23,7 +23,7 @@ bytes_behind ns n = omega (arith, bytes_of-append ns (n ∷ []))
 
 mutual
   bytes_of-postfix : (t : Tree) → bytes_of (postfix t) ≡ size t
-  bytes_of-postfix (num q) = refl
+  bytes_of-postfix (num q) = omega arith
   bytes_of-postfix (symbol x) = refl
   bytes_of-postfix undef = refl
   bytes_of-postfix (add ts) = omega (arith, bytes_behind (postfixes ts) (parent kind.Add (count ts)), bytes_of-postfixes ts)

@@ -4,5 +4,7 @@ pub mod Signs
 pub mod FractionFacts
 pub mod Names
 pub mod LowBytes
+pub mod Sizes
+pub mod ShortForm
 pub mod Codec
 pub mod Leaves

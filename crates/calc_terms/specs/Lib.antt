@@ -4,6 +4,7 @@ pub mod Fractions
 pub mod FractionLaws
 pub mod Ratio
 pub mod Rat
+pub mod Short
 pub mod Kind
 pub mod Name
 pub mod Payload

@@ -1,13 +1,13 @@
 -- Nodes, and their bytes.
-use Rattle.std.specs.Prelude.{ℕ, zero, suc, ◌+◌, ◌*◌, ◌/◌, ◌%◌, ◌^◌, ◌<◌, List, [], ◌∷◌, ◌++◌, take, drop, Option, Some, None}
-use Rattle.std.specs.Int.{w128, cast_signed, cast_unsigned}
+use Rattle.std.specs.Prelude.{ℕ, zero, suc, ◌+◌, ◌*◌, ◌/◌, ◌%◌, ◌^◌, ◌<◌, ◌==◌, Bool, true, false, List, [], ◌∷◌, ◌++◌, take, drop, Option, Some, None}
+use Rattle.std.specs.Int.{w64, w128, cast_signed, cast_unsigned}
 use Rattle.calc_terms.specs.declared.kind.Kind.{Kind}
 use Rattle.calc_terms.specs.declared.kind.Kind.TheVariants as kind
 use Rattle.calc_terms.specs.declared.leaf.Header.{Header}
-use Rattle.calc_terms.specs.Kind.{code_of, kind_of, size_of_kind}
-use Rattle.calc_terms.specs.Ratio.{Ratio}
+use Rattle.calc_terms.specs.Kind.{code_of, kind_of, size_by_form}
+use Rattle.calc_terms.specs.Ratio.{Ratio, whole}
 use Rattle.calc_terms.specs.Name.{before_zero, padded}
-use Rattle.calc_terms.specs.Payload.{Payload, rational, named, bare, kind_of_payload, size_of_payload, IsPayload}
+use Rattle.calc_terms.specs.Payload.{Payload, rational, named, bare, kind_of_payload, has_short_form, size_of_payload, IsPayload}
 
 pub record Node : Type 0 where
   pub id : ℕ
@@ -20,7 +20,7 @@ abbrev pub fresh : ℕ → Payload → Node
 fresh id x = record { id = id; count = 1; children = 0; payload = x }
 
 abbrev pub header_of : Node → Header
-header_of n = record { kind = kind_of_payload n.payload; id = n.id; count = n.count; children = n.children }
+header_of n = record { kind = kind_of_payload n.payload; short = has_short_form n.payload; id = n.id; count = n.count; children = n.children }
 
 -- the bytes of a node
 abbrev pub size_of : Node → ℕ
@@ -28,7 +28,7 @@ size_of n = size_of_payload n.payload
 
 -- the bytes of the node behind a header
 abbrev pub size_of_header : Header → ℕ
-size_of_header h = size_of_kind h.kind
+size_of_header h = size_by_form h.kind h.short
 
 -- what its bytes can hold
 pub record IsNode (n : Node) : Type 0 where
@@ -49,16 +49,26 @@ abbrev pub from_bytes : List ℕ → ℕ
 from_bytes [] = 0
 from_bytes (b ∷ bs) = b + 256 * from_bytes bs
 
--- kind, zero, identifier, count, children
+-- 1 for the short form
+abbrev pub form_of : Bool → ℕ
+form_of true = 1
+form_of false = 0
+
+-- kind, form, identifier, count, children
 unfoldable pub header_bytes : Header → List ℕ
-header_bytes h = low_bytes 1 (code_of h.kind) ++ (low_bytes 1 0 ++ (low_bytes 2 h.id ++ (low_bytes 2 h.count ++ low_bytes 2 h.children)))
+header_bytes h = low_bytes 1 (code_of h.kind) ++ (low_bytes 1 (form_of h.short) ++ (low_bytes 2 h.id ++ (low_bytes 2 h.count ++ low_bytes 2 h.children)))
 
 -- numerator and denominator
 abbrev pub ratio_bytes : Ratio → List ℕ
 ratio_bytes r = low_bytes 16 (cast_unsigned w128 r.num) ++ low_bytes 16 r.den
 
+-- a number; in the short form its value in two's complement
+abbrev pub number_bytes : Bool → Ratio → List ℕ
+number_bytes true r = low_bytes 8 (cast_unsigned w64 r.num)
+number_bytes false r = ratio_bytes r
+
 abbrev pub payload_bytes : Payload → List ℕ
-payload_bytes (rational r) = ratio_bytes r
+payload_bytes (rational r) = number_bytes (has_short_form (rational r)) r
 payload_bytes (named x) = padded x
 payload_bytes (bare k) = []
 
@@ -76,19 +86,37 @@ kind_or_undef (Some k) = k
 unfoldable pub kind_at : List ℕ → Kind
 kind_at bytes = kind_or_undef (kind_of (from_bytes (take 1 bytes)))
 
+-- the form is 1
+unfoldable pub short_at : List ℕ → Bool
+short_at bytes = from_bytes (take 1 (drop 1 bytes)) == 1
+
 abbrev pub ratio_at : List ℕ → Ratio
 ratio_at bytes = record { num = cast_signed w128 (from_bytes (take 16 bytes)); den = from_bytes (take 16 (drop 16 bytes)) }
 
-abbrev pub payload_at : Kind → List ℕ → Payload
-payload_at kind.Num bytes = rational (ratio_at bytes)
-payload_at kind.Sym bytes = named (before_zero (take 8 bytes))
-payload_at k bytes = bare k
+abbrev pub number_at : Bool → List ℕ → Ratio
+number_at true bytes = whole (cast_signed w64 (from_bytes (take 8 bytes)))
+number_at false bytes = ratio_at bytes
+
+abbrev pub payload_at : Kind → Bool → List ℕ → Payload
+payload_at kind.Num short bytes = rational (number_at short bytes)
+payload_at kind.Sym short bytes = named (before_zero (take 8 bytes))
+payload_at k short bytes = bare k
+
+-- the header whose bytes stand in front
+unfoldable pub header_in : List ℕ → Header
+header_in bytes = record {
+  kind = kind_at bytes;
+  short = short_at bytes;
+  id = from_bytes (take 2 (drop 2 bytes));
+  count = from_bytes (take 2 (drop 4 bytes));
+  children = from_bytes (take 2 (drop 6 bytes));
+}
 
 -- the node whose bytes stand in front
 unfoldable pub node_at : List ℕ → Node
 node_at bytes = record {
-  id = from_bytes (take 2 (drop 2 bytes));
-  count = from_bytes (take 2 (drop 4 bytes));
-  children = from_bytes (take 2 (drop 6 bytes));
-  payload = payload_at (kind_at bytes) (drop 8 bytes);
+  id = (header_in bytes).id;
+  count = (header_in bytes).count;
+  children = (header_in bytes).children;
+  payload = payload_at (header_in bytes).kind (header_in bytes).short (drop 8 bytes);
 }

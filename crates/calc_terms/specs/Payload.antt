@@ -2,8 +2,10 @@
 use Rattle.std.specs.Prelude.{ℕ, List, Bool, true, false, ◌≡◌}
 use Rattle.calc_terms.specs.declared.kind.Kind.{Kind}
 use Rattle.calc_terms.specs.declared.kind.Kind.TheVariants as kind
-use Rattle.calc_terms.specs.Kind.{size_of_kind}
+use Rattle.calc_terms.specs.Kind.{size_by_form}
+use Rattle.calc_terms.specs.Fractions.{lowest}
 use Rattle.calc_terms.specs.Ratio.{Ratio, IsRat}
+use Rattle.calc_terms.specs.Short.{is_short}
 use Rattle.calc_terms.specs.Name.{is_name}
 
 -- a rational, a name by its bytes, or a kind alone
@@ -17,9 +19,15 @@ kind_of_payload (rational r) = kind.Num
 kind_of_payload (named x) = kind.Sym
 kind_of_payload (bare k) = k
 
+-- a number that has the short form
+abbrev pub has_short_form : Payload → Bool
+has_short_form (rational r) = is_short (lowest r.num r.den)
+has_short_form (named x) = false
+has_short_form (bare k) = false
+
 -- the bytes of a node that holds it
 abbrev pub size_of_payload : Payload → ℕ
-size_of_payload x = size_of_kind (kind_of_payload x)
+size_of_payload x = size_by_form (kind_of_payload x) (has_short_form x)
 
 -- a kind that stands alone
 abbrev pub is_bare : Kind → Bool

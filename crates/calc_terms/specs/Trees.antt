@@ -2,8 +2,9 @@
 use Rattle.std.specs.Prelude.{ℕ, suc, ◌+◌, max, pos, List, [], ◌∷◌, ◌++◌, Bool, true, false, ◌&&◌, ◌||◌, ⊤}
 use Rattle.calc_terms.specs.declared.kind.Kind.{Kind}
 use Rattle.calc_terms.specs.declared.kind.Kind.TheVariants as kind
-use Rattle.calc_terms.specs.Kind.{code_of, size_of_kind}
+use Rattle.calc_terms.specs.Kind.{code_of, size_by_form}
 use Rattle.calc_terms.specs.Fractions.{Fraction, lowest}
+use Rattle.calc_terms.specs.Short.{is_short}
 
 -- a rational, a symbol by the bytes of its name, `undef`, or a node over its children
 mutual
@@ -56,9 +57,14 @@ root_kind (div a b) = kind.Div
 abbrev pub root_code : Tree → ℕ
 root_code t = code_of (root_kind t)
 
+-- the root's own node has the short form
+abbrev pub has_short_root : Tree → Bool
+has_short_root (num q) = is_short q
+has_short_root _ = false
+
 -- the bytes of the root's own node
 abbrev pub root_size : Tree → ℕ
-root_size t = size_of_kind (root_kind t)
+root_size t = size_by_form (root_kind t) (has_short_root t)
 
 abbrev pub is_num : Tree → Bool
 is_num (num q) = true

@@ -1,7 +1,7 @@
 //! What nodes are made of.
 ghost use Rattle.std.specs.Prelude.{◌≡◌};
 ghost use Rattle.calc_terms.specs.Leaf.{payload_of};
-ghost use Rattle.calc_terms.specs.Payload.{kind_of_payload, size_of_payload};
+ghost use Rattle.calc_terms.specs.Payload.{kind_of_payload, has_short_form, size_of_payload};
 ghost use Rattle.calc_terms.specs.Node.{header_of, fresh, size_of_header};
 
 use crate::kind::Kind;
@@ -27,6 +27,16 @@ impl Leaf {
         }
     }
 
+    /// Whether it is a number that has the short form.
+    pub fn is_short(self) -> bool
+        ensures { result ≡ has_short_form (payload_of self) }
+    {
+        match self {
+            Leaf::Num(value) => value.is_short(),
+            _ => false,
+        }
+    }
+
     /// The bytes of a node that holds it.
     pub fn size(self) -> u32
         ensures { result ≡ size_of_payload (payload_of self) }
@@ -40,6 +50,7 @@ impl Leaf {
     {
         Header {
             kind: self.kind(),
+            short: self.is_short(),
             id,
             count: 1,
             children: 0,
@@ -47,10 +58,11 @@ impl Leaf {
     }
 }
 
-/// The front of a node. `count` is how often it is held.
+/// The front of a node. `short` tells that it is a number in the short form, `count` how often it is held.
 #[derive(Clone, Copy, Debug, PartialEq, Eq)]
 pub struct Header {
     pub kind: Kind,
+    pub short: bool,
     pub id: u16,
     pub count: u16,
     pub children: u16,
@@ -62,6 +74,7 @@ impl Header {
         ensures { result ≡ size_of_header self }
     {
         match self.kind {
+            Kind::Num if self.short => 16,
             Kind::Num => 40,
             Kind::Sym => 16,
             _ => 8,

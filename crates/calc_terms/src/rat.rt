@@ -2,8 +2,12 @@
 ghost use Rattle.std.specs.Prelude.{◌≡◌, ◌<◌, ◌≤◌, ◌^◌, ◌↔◌, ℤ, pos, ◌<ℤ◌, ◌*ℤ◌, nat_abs, IsTrue};
 ghost use Rattle.calc_terms.specs.Fractions.{is_lowest};
 ghost use Rattle.calc_terms.specs.Ratio.{IsRat, whole};
+ghost use Rattle.calc_terms.specs.Short.{is_short_int};
 
 use crate::euclid::{reduced, signed};
+
+/// What short numbers stay below.
+const SHORT: i128 = 1 << 63;
 
 /// A rational in lowest terms: the denominator is from 1 to 2^127 - 1, the numerator's magnitude
 /// at most 2^127 - 1, and zero is 0/1.
@@ -19,6 +23,7 @@ pub struct Rat {
 
 impl Rat {
     ghost use Rattle.calc_terms.specs.Rat.{ratio_of, value_of};
+    ghost use Rattle.calc_terms.specs.Short.{is_short};
     ghost use Rattle.calc_terms.specs.Fractions.{lowest as lowest_of};
 
     /// The numerator, which carries the sign.
@@ -72,6 +77,13 @@ impl Rat {
         self.den == 1
     }
 
+    /// Whether it is a whole number of 64 bits, one of which is the sign.
+    pub fn is_short(self) -> bool
+        ensures { result ≡ is_short (value_of self) }
+    {
+        self.is_whole() && is_short_int(self.num)
+    }
+
     /// num/den in lowest terms, by cross products.
     fn divided(num: i128, den: i128) -> Rat
         requires num_fits { nat_abs num < 2 ^ 127 }
@@ -85,4 +97,10 @@ impl Rat {
             den: under as i128,
         }
     }
+}
+
+fn is_short_int(n: i128) -> bool
+    ensures { result ≡ is_short_int n }
+{
+    -SHORT <= n && n < SHORT
 }

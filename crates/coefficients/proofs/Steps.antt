@@ -1,10 +1,10 @@
 -- Steps of calls on a root that is a product or a sum: a child is taken out, put in, and the root goes last.
 use Rattle.std.proofs.Common.{◌≡◌, ℕ, ◌≤◌, [], ◌∷◌, refl, sym, ap, ◌∙◌, subst, arith, true, false, Result, Ok, Err}
 use Rattle.std.specs.Prelude.{IfOk, pos}
-use Rattle.calc_algebra.specs.Reduced.{product_tree, is_reduced}
+use Rattle.calc_algebra.specs.Reduced.{product_tree, is_reduced, num_one}
 use Rattle.calc_terms.specs.declared.kind.Kind.{Kind}
 use Rattle.calc_terms.specs.declared.kind.Kind.TheVariants as kind
-use Rattle.calc_terms.specs.Trees.{Tree, num, symbol, undef, add, mult, power, root, neg, sub, div, Trees, none, more, count, root_kind, is_mult, is_add}
+use Rattle.calc_terms.specs.Trees.{Tree, num, symbol, undef, add, mult, power, root, neg, sub, div, Trees, none, more, count, root_kind, is_mult, is_add, size}
 use Rattle.node_pool.specs.State.{State}
 use Rattle.tree_handles.specs.Handed.{tree_of, IsHanded, Represents, Ends, Gives, KeepsFront}
 use Rattle.tree_handles.specs.Expressions.{plain, compound, inserted, takes_kind, IsExpression, children_of}
@@ -17,7 +17,7 @@ use Rattle.tree_handles.proofs.Given.{gives, gives_as, given_handed, given_told,
 use Rattle.tree_handles.proofs.Lasts.{other_tree, ends_as, ends_at, ends_put, ends_without, kids_of_root, expression_root, plain_root}
 use Rattle.tree_handles.proofs.Roots.{root_held, put-put}
 use Rattle.calc_terms.specs.declared.rat.Rat.{Rat}
-use Rattle.calc_terms.specs.Fractions.{lowest, one_fraction}
+use Rattle.calc_terms.specs.Fractions.{Fraction, lowest, one_fraction}
 use Rattle.calc_terms.specs.Rat.{ratio_of, value_of}
 use Rattle.calc_terms.specs.Ratio.{Ratio, whole}
 use Rattle.calc_terms.specs.Payload.{bare}
@@ -206,6 +206,9 @@ if_map (Err e) P Q p f = tt
 pub one_value : (r : Rat) → ratio_of r ≡ whole (pos 1) → value_of r ≡ one_fraction
 unfolding one_fraction
 one_value r e = ap (λ (x : Ratio). lowest x.num x.den) e
+
+pub one_size : (r : Rat) → ratio_of r ≡ whole (pos 1) → size num_one ≡ size (num (value_of r))
+one_size r e = ap (λ (q : Fraction). size (num q)) (sym (one_value r e))
 
 pub length_seen : {s : State} {i j n : ℕ} → j ≡ i → Stands s → IsHanded i (forest s) → n ≡ coefficient_length (children_of (plain (tree_at j (forest s)))) → coefficient_length (children_of (tree_of i s)) ≡ n
 length_seen e st h k = ap (λ (t : Tree). coefficient_length (children_of t)) (sym (seen e st h)) ∙ sym k

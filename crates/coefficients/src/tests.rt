@@ -74,9 +74,9 @@ fn outcome(pool: &Pool, answer: &Result<Handle, NumberFault>) -> u32 {
     }
 }
 
-// A rational, and the bytes of it before a name (16) and before the sum of two roots (104): 0 stands alone, 1 is not
+// A rational, and the bytes of it before a name (16) and before the sum of two roots (56): 0 stands alone, 1 is not
 // written, and another goes before the name with a product over both, and into each term of the sum.
-const MULTIPLES: [[i128; 3]; 4] = [[0, 40, 40], [1, 16, 104], [2, 64, 200], [-1, 64, 200]];
+const MULTIPLES: [[i128; 3]; 4] = [[0, 16, 16], [1, 16, 56], [2, 40, 104], [-1, 40, 104]];
 
 #[test]
 fn zero_one_and_others(rt: HostRuntime) -> Result<(), Fail> {
@@ -99,7 +99,7 @@ fn zero_one_and_others(rt: HostRuntime) -> Result<(), Fail> {
 fn eight_bytes_too_few(rt: HostRuntime) -> Result<(), Fail> {
     let mut pool = opened(rt.alloc(), 64)?;
     let _undef = node(&mut pool, Kind::Undef)?;
-    let multiple = times_name(&mut pool, Rat::whole(2));
+    let multiple = times_name(&mut pool, Rat::ratio(1, 2));
     assert_eq!(rt; outcome(&pool, &multiple), 1);
     assert_eq!(rt; pool.refusals(), 1);
     Ok(())

@@ -28,6 +28,9 @@ pub decimal_is : (n : ℕ) → n < 10 ^ 64 → texts.decimal n ≡ decimal n
 unfolding texts.decimal
 decimal_is n h = decimal_from_prepends_wide digits_before prepends (suc n) n [] h (few n h) ∙ append-nil (decimal n)
 
--- those of a number of 127 bits
+-- those of a number of 63 bits, and of one of 127 bits
+pub decimal_shorter : (n : ℕ) → n ≤ 2 ^ 63 → length (texts.decimal n) ≤ 19
+decimal_shorter n h = omega (arith, ap length (decimal_is n (omega arith)), length-decimal-le_wide 19 n (omega arith) (omega arith) (omega arith))
+
 pub decimal_short : (n : ℕ) → n < 2 ^ 127 → length (texts.decimal n) ≤ 39
 decimal_short n h = omega (arith, ap length (decimal_is n (omega arith)), length-decimal-le_wide 39 n (omega arith) (omega arith) (omega arith))

@@ -1,13 +1,18 @@
 -- A text has at most twice the bytes of the nodes of its tree, with room for a sign and parentheses.
-use Rattle.std.proofs.Common.{ℕ, ◌+◌, ◌*◌, ◌^◌, ◌≤◌, List, ◌++◌, length, Bool, true, false, nat_abs, codes, cond, arith}
+use Rattle.std.proofs.Common.{ℕ, ◌+◌, ◌*◌, ◌^◌, ◌<◌, ◌≤◌, ◌≡◌, refl, List, ◌++◌, length, Bool, true, false, nat_abs, codes, cond, arith}
 use Rattle.std.proofs.lemmas.List.{length-append}
 use Rattle.std.proofs.lemmas.Bool.{ltb-true}
-use Rattle.calc_language.specs.Texts.{Place, first_of_sum, later_of_sum, first_of_product, left_of_quotient, later_of_product, base, exponent, admits, at_place, in_parentheses, text, text_of_sum, text_of_terms, text_of_product, text_of_factors, IsWritable, AreWritable}
+use Rattle.calc_language.specs.Texts.{Place, decimal, first_of_sum, later_of_sum, first_of_product, left_of_quotient, later_of_product, base, exponent, admits, at_place, in_parentheses, text, text_of_sum, text_of_terms, text_of_product, text_of_factors, IsWritable, AreWritable}
 use Rattle.calc_language.specs.Tokens.{times_sign}
 use Rattle.calc_terms.specs.Trees.{Tree, num, symbol, undef, add, mult, power, root, neg, sub, div, Trees, none, more, size, sizes, AllPartsOf}
+use Rattle.calc_terms.specs.declared.kind.Kind.TheVariants as kind
+use Rattle.calc_terms.specs.Fractions.{Fraction}
+use Rattle.calc_terms.specs.Kind.{size_by_form}
+use Rattle.calc_terms.specs.Short.{is_short}
+use Rattle.calc_terms.proofs.ShortForm.{short_magnitude}
 use Rattle.calc_terms.proofs.Names.{spelled}
 use Rattle.line_text.specs.Lengths.{IsFitting, HasFittingNumbers}
-use Rattle.line_text.proofs.Decimals.{decimal_short}
+use Rattle.line_text.proofs.Decimals.{decimal_short, decimal_shorter}
 
 -- a tree in its place has two parentheses more at most
 enclosed : (b : Bool) (bytes : List ℕ) → length (cond b bytes (in_parentheses bytes)) ≤ length bytes + 2
@@ -17,9 +22,14 @@ enclosed false bytes = omega (arith, length-append (codes "(" ++ bytes) (codes "
 placed : (p : Place) (t : Tree) (bytes : List ℕ) → length (at_place p t bytes) ≤ length bytes + 2
 placed p t bytes = enclosed (admits p t) bytes
 
+-- a number by its form
+pub number_text : (b : Bool) (q : Fraction) → is_short q ≡ b → nat_abs q.num < 2 ^ 127 → length (decimal (nat_abs q.num)) + 4 ≤ 2 * size_by_form kind.Num b
+number_text true q e f = omega (arith, decimal_shorter (nat_abs q.num) (short_magnitude q e))
+number_text false q e f = omega (arith, decimal_short (nat_abs q.num) f)
+
 mutual
   pub short : (t : Tree) → IsWritable t → HasFittingNumbers t → length (text t) + 4 ≤ 2 * size t
-  short (num q) w f = omega (arith, decimal_short (nat_abs q.num) (ltb-true (nat_abs q.num) (2 ^ 127) f))
+  short (num q) w f = omega (arith, number_text (is_short q) q refl (ltb-true (nat_abs q.num) (2 ^ 127) f))
   short (symbol x) w f = omega (arith, (spelled x w).short)
   short undef w f = omega arith
   short (add ts) w f = omega (arith, short_sum ts w f.1)

@@ -20,7 +20,7 @@ fn opened(alloc: Global, size: u32) -> Result<Pool, AllocError>
     Ok(pool)
 }
 
-/// The opposite of a number, in 48 bytes.
+/// The opposite of a number, in 24 bytes.
 fn opposite(pool: &mut Pool, n: i8) -> Result<Handle, Full>
     requires stands { Stands pool.old }
     ensures given { IfOk result (λ h. Gives (forest pool.old) (forest pool.new) h (λ t. ⊤)) }
@@ -53,9 +53,9 @@ fn a_tree_above_a_mark_goes(rt: HostRuntime) -> Result<(), Fail> {
     let before = pool.bytes().to_vec(rt.alloc())?;
     let mark = open_mark(&pool);
     opposite(&mut pool, 8).expect(&rt, "it fits");
-    assert_eq!(rt; pool.used(), 96);
-    roll_back(&mut pool, mark);
     assert_eq!(rt; pool.used(), 48);
+    roll_back(&mut pool, mark);
+    assert_eq!(rt; pool.used(), 24);
     assert_eq!(rt; pool.bytes(), before.as_slice());
     assert_eq!(rt; kind(&pool, below.id()), Kind::Neg);
     release(&mut pool, below);
@@ -101,14 +101,14 @@ fn what_an_inner_mark_kept_goes_with_the_outer(rt: HostRuntime) -> Result<(), Fa
 #[test]
 fn nothing_above_a_mark_changes_nothing(rt: HostRuntime) -> Result<(), Fail> {
     let mut pool = opened(rt.alloc(), 64)?;
-    for trees in 0..2u32 {
+    for trees in 0..3u32 {
         let before = pool.bytes().to_vec(rt.alloc())?;
         let mark = open_mark(&pool);
         roll_back(&mut pool, mark);
         assert_eq!(rt; pool.bytes(), before.as_slice(), "over {trees} trees");
         fill(&mut pool, 1);
     }
-    assert_eq!(rt; (pool.nodes(), pool.refusals()), (2, 1));
+    assert_eq!(rt; (pool.nodes(), pool.refusals()), (5, 1));
     Ok(())
 }
 
@@ -118,12 +118,12 @@ fn a_full_pool_is_rolled_back(rt: HostRuntime) -> Result<(), Fail> {
     opposite(&mut pool, 7).expect(&rt, "it fits");
     let before = pool.bytes().to_vec(rt.alloc())?;
     let mark = open_mark(&pool);
-    assert_eq!(rt; fill(&mut pool, 100), 4);
+    assert_eq!(rt; fill(&mut pool, 100), 9);
     roll_back(&mut pool, mark);
     assert_eq!(rt; pool.bytes(), before.as_slice());
     assert_eq!(rt; (pool.size(), pool.refusals()), (240, 1));
     let full = Full {
-        needed: 40,
+        needed: 16,
         free: 0,
     };
     assert_eq!(rt; pool.last_refused(), full);

@@ -14,6 +14,7 @@ use Rattle.calc_algebra.specs.Reduced.{is_half_num, is_whole_num, is_opaque_expo
 use Rattle.calc_terms.specs.Trees.{Tree, num, symbol, undef, add, mult, power, root, neg, sub, div, none, more, root_kind, is_num, is_undef, is_root}
 use Rattle.calc_terms.proofs.FractionFacts.{whole_numerator, whole_denominator, zero_is}
 use Rattle.calc_algebra.proofs.NumberLaws.{number_test, number_words}
+use Rattle.node_pool.specs.declared.full.Full.{Full}
 use Rattle.node_pool.specs.State.{State}
 use Rattle.number_forms.specs.Answers.{AnswersRationals}
 use Rattle.number_forms.specs.Readers.{is_zero}
@@ -397,11 +398,15 @@ pub rational_kept : (t : Tree) (s : State) (x : Step) → is_power t ≡ true �
 rational_kept t s (step.Done h) p w k b e = subst (λ (v : PlainValue). IsPlainAnswer v (tree_of h s)) (sym (ap plain_value (power_is t p) ∙ no_plain_value (base_in t) (exponent_in t) b e w)) tt
 rational_kept t s (step.Again h) p w k b e = absurd k
 
+same_full : (g f : Full) → fault.Full g ≡ fault.Full f → g ≡ f
+same_full g f e = cc
+
 -- a refusal, of a step
 pub step_fault : (v : PlainValue) (s : State) (x : NumberFault) (r : Result Step NumberFault) → IsErrAnd r (λ e. e ≡ x) → AnswersRationals v s (Err x) → AnswersRationalStep v s r
 step_fault v s (fault.Full f) (Ok y) h k = absurd h
 step_fault v s (fault.Overflow o) (Ok y) h k = absurd h
-step_fault v s (fault.Full f) (Err y) h k = absurd k
+step_fault v s (fault.Full f) (Err (fault.Full g)) h k = ap (λ (x : Full). x.needed) (same_full g f h) ∙ k
+step_fault v s (fault.Full f) (Err (fault.Overflow o)) h k = absurd cc
 step_fault v s (fault.Overflow o) (Err (fault.Full f)) h k = absurd cc
 step_fault v s (fault.Overflow o) (Err (fault.Overflow p)) h k = subst (IsPlainOverflow v) (sym (same p o h)) k
   where

@@ -1,15 +1,20 @@
 -- Half of an even exponent.
-use Rattle.std.proofs.Common.{◌≡◌, ◌<◌, ◌^◌, ℤ, pos, negsuc, Some, refl, sym, ap, ◌∙◌, arith, to_z, of_z, true, false, FitsSigned}
+use Rattle.std.proofs.Common.{◌≡◌, ◌<◌, ◌≤◌, ◌^◌, Bool, neg_ℤ, ℤ, pos, negsuc, Some, refl, sym, ap, ◌∙◌, arith, to_z, of_z, true, false, FitsSigned}
 use Rattle.std.proofs.lemmas.Int.{ints, quot_is, quot_fits, fits_signed_from_abs}
 use Rattle.std.specs.Int.{w128}
-use Rattle.std.specs.Prelude.{nat_abs, int_div}
+use Rattle.std.specs.Prelude.{nat_abs, int_div, int_le, int_lt}
 use Rattle.calc_terms.specs.declared.rat.Rat.{Rat}
 use Rattle.calc_terms.specs.Fractions.{lowest, whole_fraction}
 use Rattle.calc_algebra.specs.Numbers.{is_number}
 use Rattle.calc_terms.specs.Rat.{ratio_of, value_of}
 use Rattle.calc_terms.specs.Ratio.{Ratio, whole}
-use Rattle.calc_terms.specs.Trees.{Tree, num, power, root, is_root}
-use Rattle.calc_terms.proofs.FractionFacts.{whole_numerator}
+use Rattle.calc_terms.specs.Trees.{Tree, num, power, root, is_root, size}
+use Rattle.calc_terms.proofs.FractionFacts.{whole_numerator, whole_denominator}
+use Rattle.calc_terms.proofs.Sizes.{number_most}
+use Rattle.calc_terms.specs.declared.kind.Kind.TheVariants as kind
+use Rattle.calc_terms.specs.Kind.{size_by_form}
+use Rattle.calc_terms.specs.Short.{is_short, is_short_int}
+use Rattle.std.proofs.lemmas.Bool.{and_from, and_parts}
 use Rattle.power_reduce.specs.PowerSteps.{half, is_even_whole, rewritten}
 use Rattle.power_reduce.proofs.Exponents.{as_whole, whole_no_half}
 use Rattle.power_reduce.proofs.Whole.{whole_is}
@@ -32,3 +37,30 @@ pub half_rewritten : (b e : Tree) (z : ℤ) (r : Rat) → is_root b ≡ true →
 half_rewritten (root a) e z r t n even k v =
     ap (rewritten (root a)) k ∙ as_whole (root a) (num (whole_fraction z)) (whole_no_half (num (whole_fraction z)) (whole_is z)) ∙ rw (even, n) (ap (λ x. Some (power a (num (whole_fraction (half x))))) (whole_numerator z) ∙ ap (λ q. Some (power a (num q))) (sym v))
 half_rewritten b e z r t n even k v = cc
+
+-- ---- its bytes
+
+short_number : (z : ℤ) → is_short (whole_fraction z) ≡ is_short_int z
+unfolding is_short
+short_number z = rw (whole_numerator z, whole_denominator z) refl
+
+low_half : (z : ℤ) → int_le (neg_ℤ (pos (2 ^ 63))) z ≡ true → int_le (neg_ℤ (pos (2 ^ 63))) (half z) ≡ true
+low_half (pos n) h = grind (arith, ints)
+low_half (negsuc n) h = grind (arith, ints)
+
+high_half : (z : ℤ) → int_lt z (pos (2 ^ 63)) ≡ true → int_lt (half z) (pos (2 ^ 63)) ≡ true
+high_half (pos n) h = grind (arith, ints)
+high_half (negsuc n) h = grind (arith, ints)
+
+short_half : (z : ℤ) → is_short_int z ≡ true → is_short_int (half z) ≡ true
+short_half z h = let a = and_parts (int_le (neg_ℤ (pos (2 ^ 63))) z) (int_lt z (pos (2 ^ 63))) h in and_from _ _ (low_half z a.0) (high_half z a.1)
+
+smaller_form : (b c : Bool) → (b ≡ true → c ≡ true) → size_by_form kind.Num c ≤ size_by_form kind.Num b
+smaller_form true true h = omega arith
+smaller_form true false h = let no : false ≡ true = h refl in absurd cc
+smaller_form false c h = number_most c
+
+-- the half of a number takes no more bytes
+pub half_room : (z : ℤ) (r : Rat) → value_of r ≡ whole_fraction (half z) → size (num (value_of r)) ≤ size (num (whole_fraction z))
+half_room z r e =
+    rw e (smaller_form (is_short (whole_fraction z)) (is_short (whole_fraction (half z))) (λ h. short_number (half z) ∙ short_half z (sym (short_number z) ∙ h)))

@@ -81,10 +81,6 @@ pub second_taken : {i h : ℕ} {a e : Tree} {f new : Forest} → IsOver kind.Pow
     → Ends h (tree_nth 1 (kids (root_tree i f))) (put i (without_nth 1 (kids (root_tree i f))) f) new → IsTaken kind.Pow i 1 e (more a none) f new h
 second_taken {a = a} {e = e} o d = taken 1 (more a none) e none o refl d
 
-num_size : (t : Tree) → is_num t ≡ true → 40 ≤ size t
-num_size (num q) h = omega arith
-num_size t h = absurd cc
-
 -- the bytes of a rational that goes
-pub number_bytes : {s t : State} {i : ℕ} → Stands s → Stands t → KeepsRefusals s t → IsHanded i (forest s) → forest t ≡ without_root i (forest s) → is_num (tree_of i s) ≡ true → 40 ≤ free_of t
-number_bytes {s = s} {i = i} h k r o e n = omega (arith, released_free h k r o e, num_size (tree_of i s) n)
+pub number_bytes : {s t : State} {i : ℕ} → Stands s → Stands t → KeepsRefusals s t → IsHanded i (forest s) → forest t ≡ without_root i (forest s) → size (tree_of i s) ≤ free_of t
+number_bytes {s = s} {i = i} h k r o e = omega (arith, released_free h k r o e)

@@ -1,8 +1,11 @@
 -- A root of the pool that is a power: its sides, and what is left when they are taken.
-use Rattle.std.proofs.Common.{◌≡◌, ℕ, ◌≤◌, [], ◌∷◌, refl, sym, ap, ◌∙◌, arith, true}
+use Rattle.std.proofs.Common.{◌≡◌, ℕ, ◌+◌, ◌≤◌, [], ◌∷◌, refl, sym, ap, ◌∙◌, arith, true}
 use Rattle.calc_terms.specs.declared.kind.Kind.TheVariants as kind
 use Rattle.calc_terms.specs.Payload.{Payload, bare}
-use Rattle.calc_terms.specs.Trees.{Tree, num, power, Trees, none, more, is_num, size}
+use Rattle.calc_terms.specs.Trees.{Tree, num, power, Trees, none, more, size}
+use Rattle.calc_terms.specs.Fractions.{Fraction, one_fraction}
+use Rattle.calc_terms.proofs.Sizes.{num_least, num_most, whole_size}
+use Rattle.tree_handles.proofs.Room.{least_size}
 use Rattle.coefficients.specs.Pairs.{GivesTwo}
 use Rattle.coefficients.proofs.Places.{IsOver, IsTaken, taken, over_put, once_count, without_put}
 use Rattle.coefficients.proofs.Steps.{children_at, seen, expression, gives_without}
@@ -31,11 +34,22 @@ pub power_children : (t : Tree) → is_power t ≡ true → children_of t ≡ mo
 power_children (power b e) h = refl
 power_children t h = cc
 
--- a power with a rational as its exponent has the bytes of another rational
-pub number_room : (t : Tree) → is_power t ≡ true → is_num (exponent_in t) ≡ true → 40 ≤ size t
-number_room (power b (num q)) h k = omega arith
-number_room (power b e) h k = absurd cc
-number_room t h k = absurd cc
+-- the bytes of a power
+pub power_bytes : (t : Tree) → is_power t ≡ true → size t ≡ 8 + (size (base_in t) + size (exponent_in t))
+power_bytes (power b e) h = omega arith
+power_bytes t h = absurd cc
+
+-- those of a rational's power suffice for a rational
+pub rational_room : (t : Tree) (p q r : Fraction) → is_power t ≡ true → base_in t ≡ num p → exponent_in t ≡ num q → size (num r) ≤ size t
+rational_room t p q r h b e = omega (arith, power_bytes t h, ap size b, ap size e, num_least p, num_least q, num_most r)
+
+one_bytes : size (num one_fraction) ≡ 16
+unfolding one_fraction
+one_bytes = whole_size 1 (omega arith)
+
+-- and those of any power whose exponent is one, for 1
+pub one_room : (t : Tree) (q r : Fraction) → is_power t ≡ true → exponent_in t ≡ num q → r ≡ one_fraction → size (num r) ≤ size t
+one_room t q r h e o = omega (arith, power_bytes t h, ap size e, num_least q, least_size (base_in t), ap (λ (x : Fraction). size (num x)) o, one_bytes)
 
 -- ---- a root that is a power
 

@@ -1,8 +1,8 @@
 //! The base and the exponent of a power: read, taken out, and the power replaced.
-ghost use Rattle.std.specs.Prelude.{◌≡◌, [], ◌∷◌, true};
+ghost use Rattle.std.specs.Prelude.{◌≡◌, ◌≤◌, [], ◌∷◌, true};
 ghost use Rattle.calc_terms.specs.Rat.{value_of};
 ghost use Rattle.calc_algebra.specs.Reduced.{is_reduced, is_opaque_exponent, is_num_one};
-ghost use Rattle.calc_terms.specs.Trees.{num, is_num};
+ghost use Rattle.calc_terms.specs.Trees.{num, size};
 ghost use Rattle.coefficients.specs.Pairs.{GivesTwo};
 ghost use Rattle.power_reduce.specs.PowerAnswers.{is_power, base_in, exponent_in};
 ghost use Rattle.tree_handles.specs.Handed.{tree_of, IsHanded, Gives, KeepsFront};
@@ -97,12 +97,12 @@ pub(crate) fn take_sides(pool: &mut Pool, power: Handle) -> (Handle, Handle)
     (base, exponent)
 }
 
-/// A rational in the place of a power whose exponent is one, whose bytes suffice for it.
+/// A rational in the place of a power, whose bytes suffice for it.
 pub(crate) fn with_number(pool: &mut Pool, power: Handle, q: Rat) -> Handle
     requires stands { Stands pool.old }
     requires handed { IsHanded power (forest pool.old) }
     requires power { is_power (tree_of power pool.old) ≡ true }
-    requires exponent { is_num (exponent_in (tree_of power pool.old)) ≡ true }
+    requires room { size (num (value_of q)) ≤ size (tree_of power pool.old) }
     ensures gives { Gives (without_root power (forest pool.old)) (forest pool.new) result (λ t. t ≡ num (value_of q)) }
     ensures front { KeepsFront (power ∷ []) (forest pool.old) (forest pool.new) }
     ensures kept { KeepsRefusals pool.old pool.new }

@@ -1,5 +1,5 @@
 //! Steps on powers of rationals, of a symbol, of roots, of sums of roots, of a power and of a product. The expected bytes are worked out
-//! by hand: 8 for each node, 16 for the symbol x and 40 for a rational.
+//! by hand: 8 for each node, 16 for the symbol x and for a short number, and 40 for another.
 ghost use Rattle.std.specs.Prelude.{◌≡◌, IfOk, true};
 ghost use Rattle.calc_algebra.specs.Numbers.{is_number};
 ghost use Rattle.calc_terms.specs.Rat.{value_of};
@@ -165,20 +165,21 @@ fn outcome(pool: &Pool, step: &Result<Step, NumberFault>) -> u64 {
     }
 }
 
-// p/q, the exponent n/d and the outcome: Undef, a rational, or the power as it was. For a root under the power bytes
-// are lacking.
-const RATIONALS: [([i128; 4], u64); 11] = [
+// p/q, the exponent n/d and the outcome: Undef, a rational, the power as it was, or one of a root. For a long
+// exponent over a root bytes are lacking.
+const RATIONALS: [([i128; 4], u64); 12] = [
     ([0, 1, 0, 1], 8),
     ([0, 1, -1, 1], 8),
-    ([0, 1, 1, 1], 40),
-    ([5, 1, 0, 1], 40),
+    ([0, 1, 1, 1], 16),
+    ([5, 1, 0, 1], 16),
     ([2, 3, -2, 1], 40),
-    ([-1, 1, i128::MAX, 1], 40),
+    ([-1, 1, i128::MAX, 1], 16),
     ([2, 1, 126, 1], 40),
     ([2, 1, 127, 1], 2),
     ([2, 1, -127, 1], 2),
-    ([2, 1, 1, 3], 88),
-    ([2, 1, 1, 2], 1),
+    ([2, 1, 1, 3], 64),
+    ([2, 1, 1, 2], 1048),
+    ([i128::MAX, 1, 18_446_744_073_709_551_617, 2], 1),
 ];
 
 #[test]
@@ -196,7 +197,7 @@ fn powers_of_rationals(rt: HostRuntime) -> Result<(), Fail> {
 #[test]
 fn powers_of_a_symbol(rt: HostRuntime) -> Result<(), Fail> {
     if let Some(x) = Name::read(b"x") {
-        for (n, want) in [(0, 40), (1, 16), (2, 64), (-1, 64)] {
+        for (n, want) in [(0, 16), (1, 16), (2, 40), (-1, 40)] {
             let mut pool = opened(rt.alloc(), 64)?;
             let answer = symbol_step(&mut pool, x, Rat::whole(n));
             assert_eq!(rt; outcome(&pool, &answer), want, "x^{n}");
@@ -209,7 +210,7 @@ fn powers_of_a_symbol(rt: HostRuntime) -> Result<(), Fail> {
 #[test]
 fn roots_of_a_symbol(rt: HostRuntime) -> Result<(), Fail> {
     if let Some(x) = Name::read(b"x") {
-        for (n, want) in [(1, 1072), (3, 1072), (-1, 1072), (-3, 1072)] {
+        for (n, want) in [(1, 1048), (3, 1048), (-1, 1048), (-3, 1048)] {
             let mut pool = opened(rt.alloc(), 72)?;
             let answer = symbol_step(&mut pool, x, Rat::ratio(n, 2));
             assert_eq!(rt; outcome(&pool, &answer), want, "x^({n}/2)");
@@ -225,7 +226,7 @@ fn roots_of_a_symbol(rt: HostRuntime) -> Result<(), Fail> {
 #[test]
 fn powers_of_a_root(rt: HostRuntime) -> Result<(), Fail> {
     if let Some(x) = Name::read(b"x") {
-        for (n, want) in [(2, 1064), (-4, 1064), (3, 72), (1, 24)] {
+        for (n, want) in [(2, 1040), (-4, 1040), (3, 48), (1, 24)] {
             let mut pool = opened(rt.alloc(), 72)?;
             let answer = root_step(&mut pool, x, Rat::whole(n));
             assert_eq!(rt; outcome(&pool, &answer), want, "√x^{n}");
@@ -240,10 +241,10 @@ fn powers_of_a_power(rt: HostRuntime) -> Result<(), Fail> {
     if let Some(x) = Name::read(b"x") {
         let mut pool = opened(rt.alloc(), 112)?;
         let answer = nested_step(&mut pool, x, Rat::whole(2), Rat::whole(3));
-        assert_eq!(rt; outcome(&pool, &answer), 1112);
+        assert_eq!(rt; outcome(&pool, &answer), 1064);
         let mut pool = opened(rt.alloc(), 112)?;
         let answer = nested_step(&mut pool, x, Rat::ratio(1, 3), Rat::whole(2));
-        assert_eq!(rt; outcome(&pool, &answer), 112);
+        assert_eq!(rt; outcome(&pool, &answer), 88);
     }
     Ok(())
 }
@@ -252,10 +253,10 @@ fn powers_of_a_power(rt: HostRuntime) -> Result<(), Fail> {
 #[test]
 fn powers_of_a_product(rt: HostRuntime) -> Result<(), Fail> {
     if let Some(x) = Name::read(b"x") {
-        let mut pool = opened(rt.alloc(), 160)?;
+        let mut pool = opened(rt.alloc(), 88)?;
         let answer = product_step(&mut pool, x, Rat::whole(3));
-        assert_eq!(rt; outcome(&pool, &answer), 1160);
-        let mut pool = opened(rt.alloc(), 152)?;
+        assert_eq!(rt; outcome(&pool, &answer), 1088);
+        let mut pool = opened(rt.alloc(), 80)?;
         let answer = product_step(&mut pool, x, Rat::whole(3));
         assert_eq!(rt; outcome(&pool, &answer), 1);
     }
@@ -265,7 +266,7 @@ fn powers_of_a_product(rt: HostRuntime) -> Result<(), Fail> {
 // √2^2 is 2, and √2^-1 is 1/2×√2.
 #[test]
 fn powers_of_a_number(rt: HostRuntime) -> Result<(), Fail> {
-    for (n, want) in [(2, 40), (-1, 96), (-2, 40), (0, 40)] {
+    for (n, want) in [(2, 16), (-1, 72), (-2, 40), (0, 16)] {
         let mut pool = opened(rt.alloc(), 512)?;
         let answer = number_step(&mut pool, Rat::whole(n));
         assert_eq!(rt; outcome(&pool, &answer), want, "√2^{n}");
@@ -278,9 +279,9 @@ fn powers_of_a_number(rt: HostRuntime) -> Result<(), Fail> {
 fn inverses_of_sums(rt: HostRuntime) -> Result<(), Fail> {
     let mut pool = opened(rt.alloc(), 1024)?;
     let answer = two_class_step(&mut pool, Rat::whole(-2));
-    assert_eq!(rt; outcome(&pool, &answer), 144);
+    assert_eq!(rt; outcome(&pool, &answer), 72);
     let mut pool = opened(rt.alloc(), 1024)?;
     let answer = three_class_step(&mut pool, Rat::whole(-1));
-    assert_eq!(rt; outcome(&pool, &answer), 192);
+    assert_eq!(rt; outcome(&pool, &answer), 96);
     Ok(())
 }

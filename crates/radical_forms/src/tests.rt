@@ -58,18 +58,19 @@ fn outcome(pool: &Pool, reduced: &Result<Handle, NumberFault>) -> u32 {
     }
 }
 
-// p, q and the bytes of √(p/q): 8 for Undef, 40 for a rational, 48 for a root, 96 for a multiple of a root.
+// p, q and the bytes of √(p/q): 8 for Undef, 16 for a short number, 24 for its root, 48 for a short multiple of one,
+// and 24 more for each number in the long form.
 const ROOTS: [[i128; 3]; 12] = [
-    [8, 9, 96],
+    [8, 9, 72],
     [-1, 1, 8],
     [-1, 4, 8],
-    [0, 1, 40],
-    [1, 1, 40],
+    [0, 1, 16],
+    [1, 1, 16],
     [9, 4, 40],
-    [2, 1, 48],
-    [18, 1, 96],
-    [1, 2, 96],
-    [2, 9, 96],
+    [2, 1, 24],
+    [18, 1, 48],
+    [1, 2, 72],
+    [2, 9, 72],
     [i128::MAX, 1, 48],
     [i128::MAX, 2, 2],
 ];
@@ -88,7 +89,7 @@ fn roots_of_rationals(rt: HostRuntime) -> Result<(), Fail> {
 
 #[test]
 fn eight_bytes_too_few(rt: HostRuntime) -> Result<(), Fail> {
-    let mut pool = opened(rt.alloc(), 88)?;
+    let mut pool = opened(rt.alloc(), 64)?;
     let root = rational_root(&mut pool, Rat::ratio(8, 9));
     assert_eq!(rt; outcome(&pool, &root), 1);
     assert_eq!(rt; pool.refusals(), 1);

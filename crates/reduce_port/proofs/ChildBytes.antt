@@ -3,7 +3,7 @@ use Rattle.std.proofs.Common.{◌≡◌, ℕ, zero, suc, ◌+◌, ◌≤◌, ◌
 use Rattle.std.specs.Prelude.{◌==◌}
 use Rattle.calc_terms.specs.declared.kind.Kind.{Kind}
 use Rattle.calc_terms.specs.declared.kind.Kind.TheVariants as kind
-use Rattle.calc_terms.specs.Kind.{size_of_kind}
+use Rattle.calc_terms.proofs.Sizes.{payload_least}
 use Rattle.calc_terms.specs.Payload.{Payload, kind_of_payload, size_of_payload}
 use Rattle.node_pool.specs.State.{State, free_of}
 use Rattle.tree_handles.proofs.Forests.{bytes_in-join, first-rest}
@@ -46,13 +46,8 @@ taken_free {s = s} {t = t} i n a b r o d =
       nth_bytes n k,
     )
 
-kind_bytes : (k : Kind) → 8 ≤ size_of_kind k
-kind_bytes kind.Num = omega arith
-kind_bytes kind.Sym = omega arith
-kind_bytes k = omega arith
-
 node_bytes : (x : Payload) → 8 ≤ size_of_payload x
-node_bytes x = kind_bytes (kind_of_payload x)
+node_bytes x = payload_least x
 
 root_bytes : (n : ℕ) (f : Forest) → n < arity f → 8 + bytes_in (kids (tree_nth n f)) ≤ bytes_in (tree_nth n f)
 root_bytes n empty l = absurd (omega arith)

@@ -140,8 +140,8 @@ fn any_reducer_is_called_through_its_bound(rt: HostRuntime) -> Result<(), Fail> 
         (false, 1, Outcome::Interrupted(interrupted), 1, 0),
         (false, 2, Outcome::Answered(Id::of(0)), 1, 0),
         (true, 0, Outcome::Interrupted(interrupted), 2, 0),
-        // A number has 40 bytes and its opposite 8 more, so that two nodes of 8 bytes fill the pool.
-        (true, 1, Outcome::Full(full), 4, 1),
+        // A number has 16 bytes and its opposite 8 more, so that five nodes of 8 bytes fill the pool.
+        (true, 1, Outcome::Full(full), 7, 1),
     ] {
         let mut pool = opened(rt.alloc(), 64)?;
         let mut watch = armed(rt.alloc(), polls)?;

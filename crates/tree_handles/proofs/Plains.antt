@@ -3,9 +3,8 @@ use Rattle.std.proofs.Common.{◌≡◌, ℕ, zero, suc, ◌+◌, max, eqb, refl
 use Rattle.std.proofs.lemmas.Bool.{eqb-true, eq-eqb}
 use Rattle.calc_terms.specs.declared.kind.Kind.{Kind}
 use Rattle.calc_terms.specs.declared.kind.Kind.TheVariants as kind
-use Rattle.calc_terms.specs.Kind.{size_of_kind}
-use Rattle.calc_terms.specs.Payload.{Payload, rational, named, bare, kind_of_payload, size_of_payload, is_bare, IsPayload}
-use Rattle.calc_terms.specs.Trees.{Tree, num, symbol, undef, add, mult, power, root, neg, sub, div, Trees, none, more, append, count, root_kind, is_num, is_symbol, size, sizes, depth, depths, nodes, nodes_of}
+use Rattle.calc_terms.specs.Payload.{Payload, rational, named, bare, kind_of_payload, has_short_form, size_of_payload, is_bare, IsPayload}
+use Rattle.calc_terms.specs.Trees.{Tree, num, symbol, undef, add, mult, power, root, neg, sub, div, Trees, none, more, append, count, root_kind, root_size, has_short_root, is_num, is_symbol, size, sizes, depth, depths, nodes, nodes_of}
 use Rattle.tree_handles.specs.Forest.{Label, Forest, empty, tree, join, arity, tree_nth, kids, root_payload, bytes_in, nodes_in, depth_in}
 use Rattle.tree_handles.specs.Expressions.{nth, compound, grown, plains, plain, takes, takes_kind, AllExpressions, children_of}
 
@@ -98,22 +97,23 @@ two_trees (more t ts) h = ap (more t) (one_tree ts (eq-eqb (count ts) 1 (omega (
 -- the trees below a node of the language are its children
 pub record IsGrown (x : Payload) (ts : Trees) : Type 0 where
   pub kind-is : root_kind (grown x ts) ≡ kind_of_payload x
+  pub short-is : has_short_root (grown x ts) ≡ has_short_form x
   pub children-are : children_of (grown x ts) ≡ ts
 
 grown_kind : (k : Kind) (ts : Trees) → takes_kind k (count ts) ≡ true → IsGrown (bare k) ts
-grown_kind kind.Undef ts h = record { kind-is = refl; children-are = sym (no_trees ts h) }
-grown_kind kind.Add ts h = record { kind-is = refl; children-are = refl }
-grown_kind kind.Mult ts h = record { kind-is = refl; children-are = refl }
-grown_kind kind.Pow ts h = record { kind-is = refl; children-are = sym (two_trees ts h) }
-grown_kind kind.Root ts h = record { kind-is = refl; children-are = sym (one_tree ts h) }
-grown_kind kind.Neg ts h = record { kind-is = refl; children-are = sym (one_tree ts h) }
-grown_kind kind.Sub ts h = record { kind-is = refl; children-are = sym (two_trees ts h) }
-grown_kind kind.Div ts h = record { kind-is = refl; children-are = sym (two_trees ts h) }
+grown_kind kind.Undef ts h = record { kind-is = refl; short-is = refl; children-are = sym (no_trees ts h) }
+grown_kind kind.Add ts h = record { kind-is = refl; short-is = refl; children-are = refl }
+grown_kind kind.Mult ts h = record { kind-is = refl; short-is = refl; children-are = refl }
+grown_kind kind.Pow ts h = record { kind-is = refl; short-is = refl; children-are = sym (two_trees ts h) }
+grown_kind kind.Root ts h = record { kind-is = refl; short-is = refl; children-are = sym (one_tree ts h) }
+grown_kind kind.Neg ts h = record { kind-is = refl; short-is = refl; children-are = sym (one_tree ts h) }
+grown_kind kind.Sub ts h = record { kind-is = refl; short-is = refl; children-are = sym (two_trees ts h) }
+grown_kind kind.Div ts h = record { kind-is = refl; short-is = refl; children-are = sym (two_trees ts h) }
 grown_kind k ts h = absurd cc
 
 grown_is : (x : Payload) (ts : Trees) → takes x (count ts) ≡ true → IsGrown x ts
-grown_is (rational r) ts h = record { kind-is = refl; children-are = sym (no_trees ts h) }
-grown_is (named x) ts h = record { kind-is = refl; children-are = sym (no_trees ts h) }
+grown_is (rational r) ts h = record { kind-is = refl; short-is = refl; children-are = sym (no_trees ts h) }
+grown_is (named x) ts h = record { kind-is = refl; short-is = refl; children-are = sym (no_trees ts h) }
 grown_is (bare k) ts h = grown_kind k ts h
 
 pub grown_whole : (l : Label) (k r : Forest) → AllExpressions (tree l k r) → IsGrown l.payload (plains k)
@@ -133,8 +133,8 @@ whole_kids (tree l k r) h = h.1
 
 -- ---- measures
 
-size_grown : (t : Tree) → size t ≡ size_of_kind (root_kind t) + sizes (children_of t)
-size_grown (num q) = refl
+size_grown : (t : Tree) → size t ≡ root_size t + sizes (children_of t)
+size_grown (num q) = omega arith
 size_grown (symbol x) = refl
 size_grown undef = refl
 size_grown (add ts) = refl
@@ -188,7 +188,7 @@ sizes-plains empty h = refl
 sizes-plains (tree l k r) h =
     let t = grown l.payload (plains k) in
     let g = grown_whole l k r h in
-    let d : size t ≡ size_of_payload l.payload + bytes_in k = size_grown t ∙ rw (g.kind-is, g.children-are, sizes-plains k h.1) refl in
+    let d : size t ≡ size_of_payload l.payload + bytes_in k = size_grown t ∙ rw (g.kind-is, g.short-is, g.children-are, sizes-plains k h.1) refl in
     rw (d, sizes-plains r h.2) (omega arith)
 
 -- ---- one tree

@@ -1,12 +1,17 @@
 -- Free bytes from call to call.
-use Rattle.std.proofs.Common.{◌≡◌, ℕ, ◌+◌, ◌≤◌, true, ap, arith}
+use Rattle.std.proofs.Common.{◌≡◌, ℕ, ◌+◌, ◌≤◌, Bool, true, false, ap, arith}
 use Rattle.calc_terms.specs.Trees.{Tree, num, symbol, undef, add, mult, power, root, neg, sub, div, size}
+use Rattle.calc_terms.proofs.Sizes.{num_least}
+use Rattle.calc_terms.specs.declared.kind.Kind.TheVariants as kind
+use Rattle.calc_terms.specs.Kind.{size_by_form}
 use Rattle.node_pool.specs.State.{State, free_of}
+use Rattle.node_pool.specs.declared.full.Full.{Full}
+use Rattle.tree_handles.specs.Causes.{LacksLongForm}
 use Rattle.tree_handles.specs.Expressions.{plain}
 use Rattle.tree_handles.specs.Forest.{Forest, tree, bytes_in}
 use Rattle.tree_handles.specs.Handed.{Gives, IsHanded}
 use Rattle.tree_handles.specs.Roots.{root_tree, without_root, has_root}
-use Rattle.tree_handles.specs.Standing.{Stands, forest, KeepsRefusals}
+use Rattle.tree_handles.specs.Standing.{Stands, forest, KeepsRefusals, IsRefused}
 use Rattle.tree_handles.proofs.Forests.{bytes_in-join}
 use Rattle.tree_handles.proofs.Given.{given_told}
 use Rattle.tree_handles.proofs.Lasts.{last_tree}
@@ -36,7 +41,7 @@ released_free {s = s} {t = t} {i = i} h k r o e =
 
 -- each tree has the bytes of its root
 pub least_size : (t : Tree) → 8 ≤ size t
-least_size (num q) = omega arith
+least_size (num q) = omega (arith, num_least q)
 least_size (symbol x) = omega arith
 least_size undef = omega arith
 least_size (add ts) = omega arith
@@ -46,3 +51,8 @@ least_size (root a) = omega arith
 least_size (neg a) = omega arith
 least_size (sub a b) = omega arith
 least_size (div a b) = omega arith
+
+-- where the bytes of a short number are free, only the long form lacks some
+pub long_lacking : (b : Bool) {s t : State} {full : Full} → IsRefused (size_by_form kind.Num b) s t full → 16 ≤ free_of s → LacksLongForm full
+long_lacking true {s = s} {full = full} r h = absurd (omega (arith, r.lacks.lacking, ap (λ (f : Full). f.needed) r.told, ap (λ (f : Full). f.free) r.told))
+long_lacking false r h = ap (λ (f : Full). f.needed) r.told

@@ -230,26 +230,26 @@ const START: u64 = 0xcbf2_9ce4_8422_2325;
 /// 2×x is built and copied, x replaced by y + 3, the sum merged, and all released. The expected
 /// checksums come from a model of its own.
 const SCRIPT: [(Call, u64); 21] = [
-    (Call::Number(2), 0x9651_18ce_d162_91b6),
-    (Call::Symbol(b'x'), 0xcd83_358a_5093_84e4),
-    (Call::Node(Kind::Mult), 0xc0e4_d13d_66d1_6862),
-    (Call::Add(2, 0, 0), 0x941c_0d7c_408c_1f0b),
-    (Call::Add(2, 1, 1), 0x1ba0_d723_731a_cd30),
-    (Call::Copy(2), 0x2b73_7c87_eab4_edbc),
-    (Call::Retain(2), 0xd0a2_d35d_eb34_8b7f),
-    (Call::Retain(3), 0x3bfb_05ce_9180_515c),
-    (Call::Swap(3, 0, 1), 0x0e62_3987_19cf_6bcc),
-    (Call::Symbol(b'y'), 0xab57_f954_7329_aab0),
-    (Call::Number(3), 0xed27_649e_4fb2_f35d),
-    (Call::Node(Kind::Add), 0xc361_d4d7_6d3e_ff10),
-    (Call::Add(8, 0, 6), 0x5dff_e310_4f8d_8e99),
-    (Call::Add(8, 1, 7), 0xb724_e5d6_a849_59f2),
-    (Call::Replace(2, 1, 8), 0xd68d_3344_9eae_3b52),
-    (Call::Merge(2, 1), 0x50e6_d7c1_0cfc_3004),
-    (Call::Release(1), 0xa9d4_74bf_f1d2_8996),
-    (Call::Release(2), 0x06a0_6172_9612_a6a5),
-    (Call::Release(2), 0xafec_2be6_1425_673a),
-    (Call::Release(3), 0xfffd_cb14_8559_1639),
+    (Call::Number(2), 0x66bc_4be0_3779_206c),
+    (Call::Symbol(b'x'), 0xd424_4e78_818a_996e),
+    (Call::Node(Kind::Mult), 0x85e5_fc49_e4fa_65c8),
+    (Call::Add(2, 0, 0), 0x7b68_7c5b_775d_9c8d),
+    (Call::Add(2, 1, 1), 0x8c57_476c_9876_b17a),
+    (Call::Copy(2), 0xe1c8_d480_b9ae_6db0),
+    (Call::Retain(2), 0x887f_3de7_804a_f1bb),
+    (Call::Retain(3), 0xcf22_2565_6148_d040),
+    (Call::Swap(3, 0, 1), 0x7cf3_c7c4_1c9d_85ec),
+    (Call::Symbol(b'y'), 0x8836_2eb6_9c65_a790),
+    (Call::Number(3), 0x125a_3d81_fd20_6d4b),
+    (Call::Node(Kind::Add), 0x33af_d78c_564f_f266),
+    (Call::Add(8, 0, 6), 0x2bba_cd44_2222_0af7),
+    (Call::Add(8, 1, 7), 0xfdf9_ed1a_ec07_1ac4),
+    (Call::Replace(2, 1, 8), 0x1daf_6906_8800_2630),
+    (Call::Merge(2, 1), 0x395f_59ee_d044_338a),
+    (Call::Release(1), 0x9551_6968_fe66_f4c8),
+    (Call::Release(2), 0xfd11_c67b_b02f_4ca3),
+    (Call::Release(2), 0x0785_e093_3013_adb0),
+    (Call::Release(3), 0xa864_1667_696a_cfc3),
     (Call::Release(3), 0x7da1_44b9_7d05_4b25),
 ];
 
@@ -265,7 +265,7 @@ fn a_product_is_built_copied_and_released(rt: HostRuntime) -> Result<(), Fail> {
     Ok(())
 }
 
-/// A sum of 64 bytes.
+/// A sum of 40 bytes.
 const SUM: [Call; 5] = [
     Call::Number(1),
     Call::Symbol(b'a'),
@@ -276,15 +276,15 @@ const SUM: [Call; 5] = [
 
 #[test]
 fn a_copy_that_does_not_fit_changes_nothing(rt: HostRuntime) -> Result<(), Fail> {
-    let mut pool = opened(rt.alloc(), 120)?;
+    let mut pool = opened(rt.alloc(), 72)?;
     make_all(&rt, &mut pool, &SUM);
     let before = checksum(START, pool.bytes());
-    assert_eq!(rt; before, 0x633e_826d_c1d9_d7eb);
+    assert_eq!(rt; before, 0x97cd_4bac_a690_7e0d);
     let sum = Id::of(2);
     assert!(rt; is_node(&pool, sum));
     let full = Full {
-        needed: 64,
-        free: 56,
+        needed: 40,
+        free: 32,
     };
     assert_eq!(rt; copy_tree(&mut pool, sum).map(|copy| copy.id()), Err(full));
     assert_eq!(rt; checksum(START, pool.bytes()), before);
@@ -336,10 +336,10 @@ impl Draws {
 /// How many of the drawn calls were made after 400, 800, 1200 and 1600, and the checksum of the
 /// bytes after each call so far, by a model of its own.
 const CHECKED: [(u32, u64); 4] = [
-    (157, 0x9811_6ae4_24f4_22b5),
-    (285, 0xa591_7d91_0064_cdb6),
-    (395, 0x046b_1934_8e39_12bb),
-    (520, 0xdbac_fd3a_08a7_8e3f),
+    (169, 0xe5b9_7e11_243a_e1ba),
+    (296, 0x283c_27c3_f37a_62c5),
+    (415, 0x71ed_0bcf_de2b_971c),
+    (580, 0xb524_d8d8_02ae_02e9),
 ];
 
 /// Draws 400 calls, and tells how many were made and the checksum after each of them.
@@ -425,7 +425,7 @@ fn what_upper_calls_give_is_read(rt: HostRuntime) -> Result<(), Fail> {
         assert_eq!(rt; read(&pool, id), Some(node), "{path:?}");
     }
     assert!(rt; is_node(&pool, root.id()));
-    assert_eq!(rt; tree_bytes(&pool, root.id()), 120);
+    assert_eq!(rt; tree_bytes(&pool, root.id()), 72);
     assert_eq!(rt; tree_nodes(&pool, root.id()), 6);
     assert_eq!(rt; tree_depth(&pool, root.id()), 4);
     let larger = upper::one_of_two(&mut pool, 3, 4).expect(&rt, "it fits");

@@ -143,13 +143,13 @@ fn leaves_become_copies(rt: HostRuntime) -> Result<(), Fail> {
 fn the_second_copy_finds_no_room(rt: HostRuntime) -> Result<(), Fail> {
     let x = Name::read(b"x").expect(&rt, "x is a name");
     let mut before = opened(rt.alloc(), 64)?;
-    differences(&mut before, b"7y").expect(&rt, "it fits");
+    differences(&mut before, b"77y").expect(&rt, "it fits");
     let mut pool = opened(rt.alloc(), 192)?;
     let full = Full {
         needed: 64,
         free: 16,
     };
-    match substituted(&mut pool, b"xyx", x, b"7y") {
+    match substituted(&mut pool, b"xyx", x, b"77y") {
         Ok(_) => assert!(rt; false, "it does not fit"),
         Err(refusal) => assert_eq!(rt; refusal, full),
     }

@@ -42,10 +42,11 @@ fn shown(alloc: Global, bytes: &[u8]) -> Result<String, AllocError> {
             skipped -= 1;
             continue;
         }
-        let [code, _, id, _, _, _, children, _] = *node else {
+        let [code, form, id, _, _, _, children, _] = *node else {
             break;
         };
         let (sign, more) = match code {
+            1 if form == 1 => ("n", 1),
             1 => ("n", 4),
             2 => ("x", 1),
             3 => ("u", 0),
@@ -88,12 +89,12 @@ fn lines_are_built(rt: HostRuntime) -> Result<(), Fail> {
     Ok(())
 }
 
-// A number takes 40 bytes, a name 16 and any other node 8.
+// A fraction takes 40 bytes, a name 16 and any other node 8.
 #[test]
 fn a_full_pool_keeps_what_stands_first(rt: HostRuntime) -> Result<(), Fail> {
     let mut pool = opened(rt.alloc(), 104)?;
-    assert!(rt; matches!(built(&mut pool, b"9"), Some(Ok(_))));
-    let refused = built(&mut pool, b"1+1");
+    assert!(rt; matches!(built(&mut pool, b"0.5"), Some(Ok(_))));
+    let refused = built(&mut pool, b"0.5+0.5");
     assert!(rt;
         matches!(
             refused,

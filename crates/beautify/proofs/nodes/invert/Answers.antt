@@ -1,6 +1,8 @@
+use Rattle.std.proofs.Common.{arith}
 use Rattle.tree_handles.specs.Standing.{forest}
 use Rattle.beautify.specs.Stacks.{stacked}
 use Rattle.beautify.proofs.Stacking.{is_stack, stacked_is, on_ok, if_err, restacks_as, then, fails_then}
+use Rattle.beautify.proofs.Places.{fraction_room-small}
 use Rattle.beautify.proofs.Stages.{two_stay, inverted, one_left}
 use Rattle.beautify.proofs.nodes.invert.Goals as goal
 
@@ -25,3 +27,6 @@ returns-clause-ok c =
 
 pub returns-clause-fails : goal.returns-clause-fails
 returns-clause-fails c = if_err c.make_fraction.result c.make_fraction.ensures.fails (λ e f. fails_then (then c.in_ok-sign.ensures.ok c.discard.ensures.ok) f)
+
+pub returns-clause-room : goal.returns-clause-room
+returns-clause-room c = if_err c.make_fraction.result c.make_fraction.ensures.room (λ e l. omega (arith, l, c.in_ok-sign.ensures.cost, c.discard.ensures.cost, fraction_room-small 0 1))

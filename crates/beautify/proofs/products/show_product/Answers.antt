@@ -11,6 +11,7 @@ use Rattle.beautify.specs.Lists.{first, behind}
 use Rattle.beautify.specs.Showing.{unsigned_faces, IsFactor}
 use Rattle.beautify.specs.Stacks.{stacked}
 use Rattle.beautify.proofs.Children.{within_kids, child_of}
+use Rattle.beautify.proofs.Places.{fraction_room-small}
 use Rattle.beautify.proofs.Factors.{in_split, split_start, none_above, none_below, split_next, split_done, above_done, below_done, places, split_face, split_room, factor_of, split_end, split_fits}
 use Rattle.beautify.proofs.Stacking.{in_base, same_base, is_stack, stacked_is, on_ok, if_err, restacks_as, nothing_done, then, fails_then}
 use Rattle.beautify.proofs.products.show_product.Goals as goal
@@ -121,3 +122,6 @@ returns-clause-ok c =
 
 pub returns-clause-fails : goal.returns-clause-fails
 returns-clause-fails c = if_err c.make_fraction.result c.make_fraction.ensures.fails (λ e f. fails_then c.loop-left.invariant.holds f)
+
+pub returns-clause-room : goal.returns-clause-room
+returns-clause-room c = if_err c.make_fraction.result c.make_fraction.ensures.room (λ e l. omega (arith, l, c.loop-left.invariant.cost, fraction_room-small c.loop-left.sides.above c.loop-left.sides.below))

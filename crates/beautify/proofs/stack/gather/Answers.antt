@@ -1,4 +1,4 @@
-use Rattle.std.proofs.Common.{◌≡◌, ℕ, ◌<◌, ap, ◌∙◌, subst, arith}
+use Rattle.std.proofs.Common.{false, ◌≡◌, ℕ, ◌<◌, ap, ◌∙◌, subst, arith}
 use Rattle.calc_terms.specs.Trees.{count}
 use Rattle.node_pool.specs.State.{free_of}
 use Rattle.tree_handles.specs.Roots.{without_root}
@@ -9,7 +9,8 @@ use Rattle.beautify.specs.Lists.{cut}
 use Rattle.beautify.specs.Stacks.{stacked}
 use Rattle.beautify.proofs.Gathering.{gathering_start, more_there, gathering_taken, gathering_over, gathering_next, gathered_all, gathering_end}
 use Rattle.beautify.proofs.Stacking.{is_under, is_stack, stacked_is, opens_stack, last_given, stack_under, came, fails_at_once, short, passed_on}
-use Rattle.beautify.proofs.Trees.{bare_takes, bare_size, count-cut}
+use Rattle.beautify.proofs.Trees.{bare_takes, count-cut}
+use Rattle.calc_terms.proofs.Sizes.{bare_size}
 use Rattle.beautify.proofs.Sizes.{costs, sizes-gathered}
 use Rattle.beautify.proofs.stack.gather.Goals as goal
 
@@ -83,7 +84,7 @@ returns-in_err-over-clause-fails c =
 pub returns-in_err-over-clause-room : goal.returns-in_err-over-clause-room
 returns-in_err-over-clause-room c =
     passed_on c.from_residual.result c.in_err-over.field-0.0 _ c.from_residual.ensures.0 c.from_residual.ensures.1
-    (subst (λ (n : ℕ). free_of c.args.pool.now < n) (bare_size c.args.kind (bare_takes c.args.kind c.args.trees c.requires.takes)) (short _ _ c.in_err-over.ensures.exactly))
+    (subst (λ (n : ℕ). free_of c.args.pool.now < n) (bare_size c.args.kind false (bare_takes c.args.kind c.args.trees c.requires.takes)) (short _ _ c.in_err-over.ensures.exactly))
 
 pub returns-clause-cost : goal.returns-clause-cost
 returns-clause-cost c =

@@ -1,5 +1,5 @@
 use Rattle.std.proofs.Common.{◌≤◌, sym, subst, arith}
-use Rattle.calc_terms.specs.Trees.{count, num, none, more}
+use Rattle.calc_terms.specs.Trees.{count, num, none, more, size}
 use Rattle.tree_handles.specs.Forest.{Forest}
 use Rattle.tree_handles.specs.Standing.{forest}
 use Rattle.tree_handles.proofs.Forests.{keeps_after}
@@ -35,7 +35,7 @@ returns-in_err-number-clause-room c =
 
 pub returns-clause-cost : goal.returns-clause-cost
 returns-clause-cost c =
-    costs 40 c.requires.stands c.push.ensures.stands c.requires.stack (record {
+    costs (size (num (value_of c.args.value))) c.requires.stands c.push.ensures.stands c.requires.stack (record {
       gives = came c.args.at (same_stack c.requires.stack) c.in_ok-number.ensures.given c.push.ensures.gives;
       kept = keeps_after c.args.pool.now c.number.new.pool c.push.new.pool c.in_ok-number.ensures.kept c.push.ensures.kept;
     }) (omega (arith, sizes-inserted c.args.at (more (num (value_of c.args.value)) none) (stacked c.args.stack.now (forest c.args.pool.now))))

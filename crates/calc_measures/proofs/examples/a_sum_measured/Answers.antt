@@ -1,6 +1,7 @@
 use Rattle.std.proofs.Common.{refl}
 use Rattle.calc_terms.specs.Fractions.{lowest}
 use Rattle.calc_terms.specs.Gcd.{gcd}
+use Rattle.calc_terms.specs.Short.{is_short}
 use Rattle.calc_measures.proofs.examples.a_sum_measured.Goals as goal
 
 pub returns-clause-nodes : goal.returns-clause-nodes
@@ -12,7 +13,7 @@ unfolding gcd lowest
 returns-clause-depth c = refl
 
 pub returns-clause-size : goal.returns-clause-size
-unfolding gcd lowest
+unfolding gcd lowest is_short
 returns-clause-size c = refl
 
 pub returns-clause-room : goal.returns-clause-room

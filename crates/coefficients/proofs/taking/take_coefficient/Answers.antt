@@ -10,7 +10,7 @@ use Rattle.tree_handles.specs.Roots.{without_root}
 use Rattle.tree_handles.specs.Standing.{forest}
 use Rattle.coefficients.proofs.Bytes.{taking_product, taking_other, as_bytes, never, refused_once, short, short_as, passed_short}
 use Rattle.coefficients.proofs.Lengths.{some_factors, product_coefficient, product_part, other_coefficient, other_part}
-use Rattle.coefficients.proofs.Steps.{live, kind_of_root, product_kind, no_product_kind, gives_without, one_value}
+use Rattle.coefficients.proofs.Steps.{live, kind_of_root, product_kind, no_product_kind, gives_without, one_value, one_size}
 use Rattle.coefficients.proofs.taking.take_coefficient.Goals as goal
 
 pub kind-requires-clause-live : goal.kind-requires-clause-live
@@ -66,7 +66,7 @@ returns-in_ok-one-in_default c =
       front = front_end c.move_last.ensures.last (front_without behind_first (front_end one.ok front_same));
       kept = keeps_after _ _ _ one.kept c.move_last.ensures.kept;
       full = tt;
-      exactly = as_bytes (taking_other _ m) one.exactly;
+      exactly = as_bytes (taking_other _ m ∙ one_size c.whole.result c.whole.ensures) one.exactly;
       stands = c.move_last.ensures.stands;
     }
 
@@ -84,10 +84,10 @@ pub returns-in_err-one-in_default-clause-full : goal.returns-in_err-one-in_defau
 returns-in_err-one-in_default-clause-full c =
     let k = kind_of_root {k = c.kind.result} c.id.ensures c.requires.stands c.requires.handed c.kind.ensures.plain in
     passed_short c.from_residual-in_err-one-in_default.result c.in_err-one-in_default.field-0.0 c.from_residual-in_err-one-in_default.ensures.1
-    (short (keeps_none c.args.pool.now) refl (taking_other _ (no_product_kind _ (λ e. c.in_default.not-Mult (k ∙ sym e)))) c.in_err-one-in_default.ensures.full)
+    (short (keeps_none c.args.pool.now) refl (taking_other _ (no_product_kind _ (λ e. c.in_default.not-Mult (k ∙ sym e))) ∙ one_size c.whole.result c.whole.ensures) c.in_err-one-in_default.ensures.full)
 
 pub returns-in_err-one-in_default-clause-exactly : goal.returns-in_err-one-in_default-clause-exactly
 returns-in_err-one-in_default-clause-exactly c =
     let k = kind_of_root {k = c.kind.result} c.id.ensures c.requires.stands c.requires.handed c.kind.ensures.plain in
-    never c.from_residual-in_err-one-in_default.result c.from_residual-in_err-one-in_default.ensures.0 (taking_other _ (no_product_kind _ (λ e. c.in_default.not-Mult (k ∙ sym e))))
+    never c.from_residual-in_err-one-in_default.result c.from_residual-in_err-one-in_default.ensures.0 (taking_other _ (no_product_kind _ (λ e. c.in_default.not-Mult (k ∙ sym e))) ∙ one_size c.whole.result c.whole.ensures)
     (λ l. refused_once (c.in_err-one-in_default.ensures.exactly.1 l))

@@ -16,7 +16,7 @@ use Rattle.tree_handles.proofs.Forests.{keeps_after}
 use Rattle.coefficients.proofs.Bytes.{none_bytes, one_bytes, two_bytes, pair_free, always, never, no_bytes, as_bytes, refused_once, short, passed_short, result_short}
 use Rattle.coefficients.proofs.Lengths.{long, measured}
 use Rattle.coefficients.proofs.Places.{IsOver, over_product}
-use Rattle.coefficients.proofs.Steps.{expression, seen, length_seen, children_in, leaves_one, first_taken, pair_taken, pair_front, paired, if_map, one_value}
+use Rattle.coefficients.proofs.Steps.{expression, seen, length_seen, children_in, leaves_one, first_taken, pair_taken, pair_front, paired, if_map, one_value, one_size}
 use Rattle.coefficients.proofs.taking.take_leading.Goals as goal
 
 pub coefficient_length-length-requires-clause-expression : goal.coefficient_length-length-requires-clause-expression
@@ -116,12 +116,12 @@ returns-clause-front c =
 pub returns-then-length-eq0-clause-full : goal.returns-then-length-eq0-clause-full
 returns-then-length-eq0-clause-full c =
     let n = length_seen c.id.ensures c.requires.stands c.requires.handed c.coefficient_length-length.ensures ∙ c.if-length-eq0.true in
-    result_short _ c.args.pool.now c.number.new.pool c.number.result (none_bytes _ n) c.number.ensures.full
+    result_short _ c.args.pool.now c.number.new.pool c.number.result (none_bytes _ n ∙ one_size c.whole.result c.whole.ensures) c.number.ensures.full
 
 pub returns-then-length-eq0-clause-exactly : goal.returns-then-length-eq0-clause-exactly
 returns-then-length-eq0-clause-exactly c =
     let n = length_seen c.id.ensures c.requires.stands c.requires.handed c.coefficient_length-length.ensures ∙ c.if-length-eq0.true in
-    as_bytes (none_bytes _ n) c.number.ensures.exactly
+    as_bytes (none_bytes _ n ∙ one_size c.whole.result c.whole.ensures) c.number.ensures.exactly
 
 pub returns-then-length-eq1-clause-exactly : goal.returns-then-length-eq1-clause-exactly
 returns-then-length-eq1-clause-exactly c =

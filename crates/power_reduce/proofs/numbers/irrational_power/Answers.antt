@@ -7,6 +7,8 @@ use Rattle.tree_handles.proofs.Given.{gives_as, given_handed, given_rest, given_
 use Rattle.number_forms.proofs.Overflows.{refused_as}
 use Rattle.power_reduce.proofs.Misfits.{positive_misfit}
 use Rattle.power_reduce.proofs.NumberPowers.{irrational_power, zero_answer, one_answer, power_answer}
+use Rattle.power_reduce.proofs.Powers.{one_room}
+use Rattle.tree_handles.specs.Handed.{tree_of}
 use Rattle.power_reduce.proofs.RationalPowers.{zero_bits, no_zero_bits, not_below}
 use Rattle.power_reduce.proofs.Whole.{one_bits, no_one_bits}
 use Rattle.rational128.proofs.Signed.{told}
@@ -16,6 +18,9 @@ pub returns-then-n-eq0-clause-ok : goal.returns-then-n-eq0-clause-ok
 returns-then-n-eq0-clause-ok c =
     gives_as c.with_number.ensures.gives refl (λ t u. zero_answer _ _ c.args.n t c.requires.exponent (zero_bits c.args.n c.requires.fits c.if-n-eq0.true)
     (irrational_power _ _ c.requires.number c.requires.base c.requires.sides.exponent_defined) (u ∙ ap num (one_value c.whole.result c.whole.ensures)))
+
+pub with_number-requires-clause-room : goal.with_number-requires-clause-room
+with_number-requires-clause-room c = one_room (tree_of c.args.power c.args.pool.now) _ _ c.requires.sides.power c.requires.exponent (one_value c.whole.result c.whole.ensures)
 
 pub returns-then-n-eq1-clause-ok : goal.returns-then-n-eq1-clause-ok
 returns-then-n-eq1-clause-ok c =

@@ -7,7 +7,8 @@ use Rattle.tree_handles.proofs.Given.{gives_as, given_told}
 use Rattle.number_forms.proofs.Overflows.{passed_on}
 use Rattle.tree_handles.specs.declared.fault.NumberFault.TheVariants as fault
 use Rattle.power_reduce.proofs.Misfits.{rational_misfit}
-use Rattle.power_reduce.proofs.Powers.{power_is}
+use Rattle.power_reduce.proofs.Powers.{power_is, rational_room}
+use Rattle.tree_handles.specs.Handed.{tree_of}
 use Rattle.power_reduce.proofs.RationalPowers.{at_most, not_at_most, zero_rational, no_zero_rational, plain_power, powered_undefined, nothing_answer, value_answer, overflow_answer, plain_as, rationals_as}
 use Rattle.rational128.proofs.Signed.{told}
 use Rattle.power_reduce.proofs.numbers.rational_power.Goals as goal
@@ -46,6 +47,9 @@ pub returns-clause-ok : goal.returns-clause-ok
 returns-clause-ok c =
     gives_as c.with_number.ensures.gives refl (λ t u. value_answer _ _ (value_of c.args.q) c.args.n t _ c.requires.base c.requires.exponent (some (goal.at.returns-clause-ok c).Joined-else-num-eq0)
     (ap (λ z. powered (value_of c.args.q) z 1) (sym (told c.args.n c.requires.fits)) ∙ c.in_ok-value.ensures.value) u)
+
+pub with_number-requires-clause-room : goal.with_number-requires-clause-room
+with_number-requires-clause-room c = rational_room (tree_of c.args.power c.args.pool.now) _ _ (value_of c.in_ok-value.value) c.requires.sides.power c.requires.base c.requires.exponent
 
 pub returns-clause-rationals : goal.returns-clause-rationals
 returns-clause-rationals c =

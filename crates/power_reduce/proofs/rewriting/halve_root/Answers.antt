@@ -1,11 +1,12 @@
 use Rattle.std.proofs.Common.{◌≤◌, inl, refl, ap, ◌∙◌, arith}
-use Rattle.calc_terms.specs.Trees.{is_num}
+use Rattle.calc_terms.specs.Rat.{value_of}
+use Rattle.calc_terms.specs.Trees.{num, size}
 use Rattle.coefficients.proofs.Places.{over_put, over_same, over_end, without_put}
 use Rattle.coefficients.proofs.Steps.{children_in, added_as, moved}
 use Rattle.node_pool.specs.State.{free_of}
 use Rattle.power_reduce.proofs.InPlace.{first_alone, root_merged, merged_front, second_taken, number_bytes, apart_last, without_added}
 use Rattle.power_reduce.proofs.Powers.{over_power}
-use Rattle.power_reduce.proofs.Halves.{half_rewritten, halved}
+use Rattle.power_reduce.proofs.Halves.{half_rewritten, half_room, halved}
 use Rattle.tree_handles.specs.Roots.{without_root}
 use Rattle.tree_handles.proofs.Fronts.{behind_first, front_at, front_end, front_put, front_without}
 use Rattle.tree_handles.proofs.Given.{gives_as, given_handed, given_rest, given_root, given_told, owned}
@@ -34,7 +35,8 @@ unreachable-requires c =
     let m = root_merged c.args.pool.now c.requires.handed c.requires.sides.power c.requires.root (c.merge_children.ensures.root c.requires.handed.root) in
     let a = second_taken m.over (c.take_child-exponent.ensures.last m.over.root) in
     let o = c.release.ensures.owned (owned (given_handed a.gives)) in
-    let room : 40 ≤ free_of c.release.new.pool = number_bytes c.take_child-exponent.ensures.stands c.release.ensures.stands c.release.ensures.kept (given_handed a.gives) o (ap is_num (given_told a.gives ∙ c.requires.exponent)) in
+    let free = number_bytes c.take_child-exponent.ensures.stands c.release.ensures.stands c.release.ensures.kept (given_handed a.gives) o in
+    let room : size (num (value_of c.whole.result)) ≤ free_of c.release.new.pool = omega (arith, free, ap size (given_told a.gives ∙ c.requires.exponent), half_room c.args.n c.whole.result (halved c.args.n c.whole.result c.requires.fits c.whole.ensures)) in
     absurd (cc (c.in-Err.ensures.exactly.1 room))
 
 pub add_child-requires-clause-live : goal.add_child-requires-clause-live

@@ -1,16 +1,16 @@
 use Rattle.std.proofs.Common.{arith, ◌≤◌}
 use Rattle.node_pool.specs.State.{free_of}
 use Rattle.tree_handles.proofs.Room.{released_free}
-use Rattle.tree_handles.specs.Handed.{tree_of}
+use Rattle.calc_terms.specs.Rat.{value_of}
+use Rattle.calc_terms.specs.Trees.{num, size}
 use Rattle.tree_handles.proofs.Fronts.{behind_first, front_same, front_at, front_without, front_after}
 use Rattle.tree_handles.proofs.Given.{owned}
-use Rattle.power_reduce.proofs.Powers.{number_room}
 use Rattle.power_reduce.proofs.sides.with_number.Goals as goal
 
 pub unreachable-requires : goal.unreachable-requires
 unreachable-requires c =
     let free = released_free c.requires.stands c.release.ensures.stands c.release.ensures.kept c.requires.handed (c.release.ensures.owned (owned c.requires.handed)) in
-    let room : 40 ≤ free_of c.release.new.pool = omega (arith, free, number_room (tree_of c.args.power c.args.pool.now) c.requires.power c.requires.exponent) in
+    let room : size (num (value_of c.args.q)) ≤ free_of c.release.new.pool = omega (arith, free, c.requires.room) in
     absurd (cc (c.in-Err.ensures.exactly.1 room))
 
 pub returns-clause-front : goal.returns-clause-front

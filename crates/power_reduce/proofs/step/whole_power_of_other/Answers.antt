@@ -11,6 +11,7 @@ use Rattle.power_reduce.specs.PowerSteps.{is_even_whole}
 use Rattle.number_forms.proofs.Overflows.{passed_on, refused_as}
 use Rattle.power_reduce.proofs.Cases.{number_kept, zero_kept, one_kept, other_power, whole_goes_inside, no_number, even_bits, odd_bits, even_whole, odd_root_kept, again}
 use Rattle.power_reduce.proofs.NumberPowers.{zero_answer, one_answer}
+use Rattle.power_reduce.proofs.Powers.{one_room}
 use Rattle.power_reduce.proofs.RationalPowers.{zero_bits, no_zero_bits}
 use Rattle.power_reduce.proofs.Whole.{one_bits, no_one_bits, whole_is}
 use Rattle.rational128.proofs.Signed.{told}
@@ -26,8 +27,8 @@ irrational_power-requires-clause-number c = sym (ap is_number c.base_id-base.ens
 pub returns-then-is_reduced_number-clause-ok : goal.returns-then-is_reduced_number-clause-ok
 returns-then-is_reduced_number-clause-ok c = (number_kept (base_in (tree_of c.args.power c.args.pool.now)) (exponent_in (tree_of c.args.power c.args.pool.now)) (sym (ap is_number c.base_id-base.ensures.tree) ∙ sym c.is_reduced_number.ensures ∙ c.if-is_reduced_number.true) (ap is_whole_num c.requires.exponent ∙ whole_is c.args.n), c.in_ok-answer.ensures.ok)
 
-pub with_number-requires-clause-exponent : goal.with_number-requires-clause-exponent
-with_number-requires-clause-exponent c = ap is_num c.requires.exponent
+pub with_number-requires-clause-room : goal.with_number-requires-clause-room
+with_number-requires-clause-room c = one_room (tree_of c.args.power c.args.pool.now) _ _ c.requires.sides.power c.requires.exponent (one_value c.whole.result c.whole.ensures)
 
 pub returns-then-n-eq0-clause-ok : goal.returns-then-n-eq0-clause-ok
 returns-then-n-eq0-clause-ok c =

@@ -3,7 +3,8 @@ use Rattle.std.specs.Int.{w128}
 use Rattle.calc_terms.specs.Fractions.{whole_fraction}
 use Rattle.calc_terms.specs.Integers.{int_is_negative}
 use Rattle.calc_terms.specs.Rat.{value_of}
-use Rattle.calc_terms.specs.Trees.{num, size}
+use Rattle.calc_terms.specs.Trees.{num, root_size, size}
+use Rattle.calc_terms.proofs.Sizes.{num_most}
 use Rattle.node_pool.specs.State.{free_of}
 use Rattle.rational128.proofs.LowestTerms.{ratio_parts}
 use Rattle.rational128.proofs.Signed.{told}
@@ -46,8 +47,8 @@ returns-in_err-zero-clause-overflows c = (λ x. absurd (not_overflow _ _ c.from_
 pub returns-in_err-zero-clause-full_below_96_bytes : goal.returns-in_err-zero-clause-full_below_96_bytes
 returns-in_err-zero-clause-full_below_96_bytes c = λ full.
     let free = released_free c.requires.stands c.release.ensures.stands c.release.ensures.kept c.requires.handed (c.release.ensures.owned (owned c.requires.handed)) in
-    let lacking : 40 ≤ free_of c.release.new.pool → ⊥ = λ le. absurd (cc (c.in_err-zero.ensures.exactly.1 le)) in
-    omega (arith, free, lacking)
+    let lacking : root_size (num (value_of c.args.q)) ≤ free_of c.release.new.pool → ⊥ = λ le. absurd (cc (c.in_err-zero.ensures.exactly.1 le)) in
+    omega (arith, free, lacking, num_most (value_of c.args.q))
 
 pub returns-in_err-zero-clause-front : goal.returns-in_err-zero-clause-front
 returns-in_err-zero-clause-front c = front_after (front_at (front_without behind_first front_same) (c.release.ensures.owned (owned c.requires.handed))) c.number.ensures.front
@@ -114,7 +115,7 @@ returns-then-num-lt0-clause-room c = omega (arith, ap size (given_told c.undefin
 pub returns-then-num-eq0-clause-room : goal.returns-then-num-eq0-clause-room
 returns-then-num-eq0-clause-room c =
     let free = released_free c.requires.stands c.release.ensures.stands c.release.ensures.kept c.requires.handed (c.release.ensures.owned (owned c.requires.handed)) in
-    let least : 40 ≤ free_of c.release.new.pool = c.in_ok-zero.ensures.exactly.0 refl in
+    let least : root_size (num (value_of c.args.q)) ≤ free_of c.release.new.pool = c.in_ok-zero.ensures.exactly.0 refl in
     omega (arith, free, least, ap size (given_told c.in_ok-zero.ensures.given))
 
 pub returns-clause-room : goal.returns-clause-room
@@ -127,7 +128,7 @@ returns-clause-room c =
 pub returns-in_err-zero-clause-first_lack : goal.returns-in_err-zero-clause-first_lack
 returns-in_err-zero-clause-first_lack c =
     let free = released_free c.requires.stands c.release.ensures.stands c.release.ensures.kept c.requires.handed (c.release.ensures.owned (owned c.requires.handed)) in
-    let enough : 40 ≤ free_of c.release.new.pool = omega (arith, free, ap size c.requires.root) in
+    let enough : root_size (num (value_of c.args.q)) ≤ free_of c.release.new.pool = omega (arith, free, ap size c.requires.root) in
     absurd (cc (c.in_err-zero.ensures.exactly.1 enough))
 
 pub returns-in_err-term-clause-first_lack : goal.returns-in_err-term-clause-first_lack
