@@ -2,11 +2,11 @@
 use Rattle.std.proofs.Common.{List, [], ap, append-nil, append_assoc, arith, drop, length, refl, replicate, subst, sym, take, true, ℕ, ◌++◌, ◌+◌, ◌-◌, ◌<◌, ◌^◌, ◌∙◌, ◌∷◌, ◌≡◌, ◌≤◌}
 use Rattle.std.proofs.lemmas.List.{drop-drop, drop-replicate, drop_at, length-append, length-replicate, replicate-append-replicate, take_at}
 use Rattle.calc_terms.specs.Kind.{code_of}
-use Rattle.calc_terms.specs.Node.{IsNode, Node, encoding, fresh, header_bytes, low_bytes, payload_bytes, size_of}
-use Rattle.calc_terms.specs.Payload.{IsPayload, Payload, kind_of_payload, size_of_payload}
+use Rattle.calc_terms.specs.Node.{form_of, IsNode, Node, encoding, fresh, header_bytes, low_bytes, payload_bytes, size_of}
+use Rattle.calc_terms.specs.Payload.{has_short_form, IsPayload, Payload, kind_of_payload, size_of_payload}
 use Rattle.calc_terms.proofs.Codec.{length-encoding}
 use Rattle.calc_terms.proofs.LowBytes.{length-low_bytes}
-use Rattle.node_pool.specs.Bytes.{cleared, put, rotated, slid, switched}
+use Rattle.raw_region.specs.Bytes.{cleared, put, rotated, slid, switched}
 use Rattle.node_pool.specs.Contents.{Contents}
 use Rattle.node_pool.specs.Laid.{contents_of}
 use Rattle.node_pool.specs.Nodes.{AreNodes, encodings, has, place_of, used, with_children, with_count}
@@ -16,7 +16,7 @@ use Rattle.node_pool.proofs.Cuts.{AreNodes-swap, AreNodes-without, boundary_le, 
 use Rattle.node_pool.proofs.Exchanges.{AreBlocks, half}
 use Rattle.node_pool.proofs.Fields.{IsDone, IsOf, contents_are, laid, size_is}
 use Rattle.node_pool.proofs.Found.{found}
-use Rattle.node_pool.proofs.Puts.{length-put}
+use Rattle.raw_region.proofs.Puts.{length-put}
 use Rattle.node_pool.proofs.Sizes.{AreNodes-append, AreNodes-left, AreNodes-right, encodings-append, length-encodings, used-append}
 use Rattle.node_pool.proofs.Slides.{closed_up, switched_twice, turned}
 
@@ -145,25 +145,25 @@ put_at u v t w store at e hu hw =
     rw (first, last) refl
 
 -- the bytes before and behind a count, and before and behind a number of children
-counts : (n : Node) (rest : List ℕ) → encoding n ++ rest ≡ (low_bytes 1 (code_of (kind_of_payload n.payload)) ++ (low_bytes 1 0 ++ low_bytes 2 n.id)) ++ (low_bytes 2 n.count ++ (low_bytes 2 n.children ++ (payload_bytes n.payload ++ rest)))
+counts : (n : Node) (rest : List ℕ) → encoding n ++ rest ≡ (low_bytes 1 (code_of (kind_of_payload n.payload)) ++ (low_bytes 1 (form_of (has_short_form n.payload)) ++ low_bytes 2 n.id)) ++ (low_bytes 2 n.count ++ (low_bytes 2 n.children ++ (payload_bytes n.payload ++ rest)))
 unfolding encoding header_bytes low_bytes
 counts n rest = refl
 
-parents : (n : Node) (rest : List ℕ) → encoding n ++ rest ≡ (low_bytes 1 (code_of (kind_of_payload n.payload)) ++ (low_bytes 1 0 ++ (low_bytes 2 n.id ++ low_bytes 2 n.count))) ++ (low_bytes 2 n.children ++ (payload_bytes n.payload ++ rest))
+parents : (n : Node) (rest : List ℕ) → encoding n ++ rest ≡ (low_bytes 1 (code_of (kind_of_payload n.payload)) ++ (low_bytes 1 (form_of (has_short_form n.payload)) ++ (low_bytes 2 n.id ++ low_bytes 2 n.count))) ++ (low_bytes 2 n.children ++ (payload_bytes n.payload ++ rest))
 unfolding encoding header_bytes low_bytes
 parents n rest = refl
 
-four : (n : Node) → length (low_bytes 1 (code_of (kind_of_payload n.payload)) ++ (low_bytes 1 0 ++ low_bytes 2 n.id)) ≡ 4
+four : (n : Node) → length (low_bytes 1 (code_of (kind_of_payload n.payload)) ++ (low_bytes 1 (form_of (has_short_form n.payload)) ++ low_bytes 2 n.id)) ≡ 4
 unfolding low_bytes
 four n = refl
 
-six : (n : Node) → length (low_bytes 1 (code_of (kind_of_payload n.payload)) ++ (low_bytes 1 0 ++ (low_bytes 2 n.id ++ low_bytes 2 n.count))) ≡ 6
+six : (n : Node) → length (low_bytes 1 (code_of (kind_of_payload n.payload)) ++ (low_bytes 1 (form_of (has_short_form n.payload)) ++ (low_bytes 2 n.id ++ low_bytes 2 n.count))) ≡ 6
 unfolding low_bytes
 six n = refl
 
 count_bytes : (x : List ℕ) (n : Node) (rest store : List ℕ) (i c : ℕ) → store ≡ x ++ (encoding n ++ rest) → length x ≡ i → put store (i + 4) (low_bytes 2 c) ≡ x ++ (encoding (record n { count = c }) ++ rest)
 count_bytes x n rest store i c e h =
-    let u = low_bytes 1 (code_of (kind_of_payload n.payload)) ++ (low_bytes 1 0 ++ low_bytes 2 n.id) in
+    let u = low_bytes 1 (code_of (kind_of_payload n.payload)) ++ (low_bytes 1 (form_of (has_short_form n.payload)) ++ low_bytes 2 n.id) in
     let t = low_bytes 2 n.children ++ (payload_bytes n.payload ++ rest) in
     let bytes : store ≡ (x ++ u) ++ (low_bytes 2 n.count ++ t) = e ∙ ap (λ (y : List ℕ). x ++ y) (counts n rest) ∙ sym (append_assoc x u (low_bytes 2 n.count ++ t)) in
     put_at (x ++ u) (low_bytes 2 n.count) t (low_bytes 2 c) store (i + 4) bytes (omega (arith, length-append x u, four n)) (length-low_bytes 2 c ∙ sym (length-low_bytes 2 n.count))
@@ -171,7 +171,7 @@ count_bytes x n rest store i c e h =
 
 children_bytes : (x : List ℕ) (n : Node) (rest store : List ℕ) (i c : ℕ) → store ≡ x ++ (encoding n ++ rest) → length x ≡ i → put store (i + 6) (low_bytes 2 c) ≡ x ++ (encoding (record n { children = c }) ++ rest)
 children_bytes x n rest store i c e h =
-    let u = low_bytes 1 (code_of (kind_of_payload n.payload)) ++ (low_bytes 1 0 ++ (low_bytes 2 n.id ++ low_bytes 2 n.count)) in
+    let u = low_bytes 1 (code_of (kind_of_payload n.payload)) ++ (low_bytes 1 (form_of (has_short_form n.payload)) ++ (low_bytes 2 n.id ++ low_bytes 2 n.count)) in
     let t = payload_bytes n.payload ++ rest in
     let bytes : store ≡ (x ++ u) ++ (low_bytes 2 n.children ++ t) = e ∙ ap (λ (y : List ℕ). x ++ y) (parents n rest) ∙ sym (append_assoc x u (low_bytes 2 n.children ++ t)) in
     put_at (x ++ u) (low_bytes 2 n.children) t (low_bytes 2 c) store (i + 6) bytes (omega (arith, length-append x u, six n)) (length-low_bytes 2 c ∙ sym (length-low_bytes 2 n.children))

@@ -1,10 +1,12 @@
 -- A buffer whose bytes are those of a list of nodes.
-use Rattle.std.proofs.Common.{List, ap, arith, drop, get_or, length, refl, replicate, subst, sym, ℕ, ◌++◌, ◌+◌, ◌-◌, ◌<◌, ◌∙◌, ◌∷◌, ◌≡◌, ◌≤◌}
+use Rattle.std.proofs.Common.{List, ap, arith, drop, get_or, length, refl, replicate, subst, sym, take, ℕ, Bool, ◌==◌, ◌++◌, ◌+◌, ◌-◌, ◌<◌, ◌∙◌, ◌∷◌, ◌≡◌, ◌≤◌}
 use Rattle.std.specs.Prelude.{Option}
+use Rattle.std.proofs.lemmas.List.{drop-drop, drop-take, take-take}
 use Rattle.calc_terms.specs.Kind.{kind_of}
-use Rattle.calc_terms.specs.Node.{Node, header_of, kind_at, kind_or_undef, node_at, size_of, size_of_header}
+use Rattle.calc_terms.specs.Node.{Node, from_bytes, header_in, short_at, header_of, kind_at, kind_or_undef, size_of, size_of_header}
 use Rattle.calc_terms.specs.declared.kind.Kind.{Kind}
 use Rattle.calc_terms.specs.declared.leaf.Header.{Header}
+use Rattle.calc_terms.proofs.Codec.{header_in-encoding, header_is}
 use Rattle.node_pool.specs.Contents.{Contents, IsContents, nodes_of}
 use Rattle.node_pool.specs.Laid.{IsLaid, contents_of}
 use Rattle.node_pool.specs.Nodes.{AreNodes, encodings, first_of, used}
@@ -62,12 +64,12 @@ pub record IsSeen (h : Header) (at : ℕ) (ns : List Node) : Type 0 where
   pub rest : since at ns ≡ first_of (since at ns) ∷ since (at + size_of_header h) ns
   pub within : at + size_of_header h ≤ used ns
 
-pub seen : (b : Inside) (c : Contents) (h : Header) (at : ℕ) → IsLaid b → contents_of b ≡ c → IsBoundary at c.nodes → at < used c.nodes → h ≡ header_of (node_at (drop at b.store)) → IsSeen h at c.nodes
+pub seen : (b : Inside) (c : Contents) (h : Header) (at : ℕ) → IsLaid b → contents_of b ≡ c → IsBoundary at c.nodes → at < used c.nodes → h ≡ header_in (drop at b.store) → IsSeen h at c.nodes
 seen b c h at k e place lt q =
     let o = opened b c k e in
     let ns = c.nodes in
     let x = here at ns b.store (replicate (length b.store - used ns) 0) o.bytes o.nodes place lt in
-    let head : h ≡ header_of x.0 = q ∙ ap header_of x.1.is in
+    let head : h ≡ header_of x.0 = q ∙ ap header_in x.1.bytes ∙ header_in-encoding x.0 x.1.behind x.1.valid in
     let size : size_of_header h ≡ size_of x.0 = ap size_of_header head in
     let first : first_of (since at ns) ≡ x.0 = ap first_of x.1.rest in
     record {
@@ -88,3 +90,22 @@ has_room b c at k e place lt =
 pub kind_is : (xs : List ℕ) (at code : ℕ) (k : Option Kind) → at < length xs → code ≡ get_or xs at 0 → k ≡ kind_of code → kind_or_undef k ≡ kind_at (drop at xs)
 unfolding kind_at
 kind_is xs at code k h e is = ap kind_or_undef (is ∙ ap kind_of (e ∙ sym (byte_read xs at h)))
+
+-- the form that is read at a place
+pub short_is : (xs : List ℕ) (at form : ℕ) (b : Bool) → at + 2 ≤ length xs → form ≡ get_or xs (at + 1) 0 → b ≡ (form == 1) → b ≡ short_at (drop at xs)
+unfolding short_at
+short_is xs at form b h e is = is ∙ ap (λ (x : ℕ). x == 1) (e ∙ sym (byte_read xs (at + 1) (omega arith)) ∙ ap (λ (x : List ℕ). from_bytes (take 1 x)) (sym (drop-drop 1 at xs)))
+
+part_is : (i : ℕ) (xs : List ℕ) (n k : ℕ) → i + n ≡ 8 → k ≤ n → take k (drop i (take 8 xs)) ≡ take k (drop i xs)
+part_is i xs n k e h = ap (λ (m : ℕ). take k (drop i (take m xs))) (sym e) ∙ ap (take k) (drop-take i n xs) ∙ take-take k n (drop i xs) h
+
+-- a header is read from eight bytes
+pub front_is : (xs : List ℕ) → header_in (take 8 xs) ≡ header_in xs
+unfolding header_in kind_at short_at
+front_is xs =
+    let kind : take 1 (take 8 xs) ≡ take 1 xs = take-take 1 8 xs (omega arith) in
+    let form : take 1 (drop 1 (take 8 xs)) ≡ take 1 (drop 1 xs) = part_is 1 xs 7 1 (omega arith) (omega arith) in
+    let id : take 2 (drop 2 (take 8 xs)) ≡ take 2 (drop 2 xs) = part_is 2 xs 6 2 (omega arith) (omega arith) in
+    let count : take 2 (drop 4 (take 8 xs)) ≡ take 2 (drop 4 xs) = part_is 4 xs 4 2 (omega arith) (omega arith) in
+    let children : take 2 (drop 6 (take 8 xs)) ≡ take 2 (drop 6 xs) = part_is 6 xs 2 2 (omega arith) (omega arith) in
+    header_is xs (kind_at (take 8 xs)) (short_at (take 8 xs)) _ _ _ (ap (λ (x : List ℕ). kind_or_undef (kind_of (from_bytes x))) kind) (ap (λ (x : List ℕ). from_bytes x == 1) form) (ap from_bytes id) (ap from_bytes count) (ap from_bytes children)

@@ -61,10 +61,3 @@ pub byte_read : (xs : List ℕ) (at : ℕ) → at < length xs → from_bytes (ta
 byte_read xs at h =
     let cut : drop at xs ≡ get_or xs at 0 ∷ drop (at + 1) xs = drop_more xs at 0 h in
     rw cut (omega arith)
-
--- two bytes read at once
-pub pair_is : (xs : List ℕ) (at low high : ℕ) → at + 2 ≤ length xs → low ≡ get_or xs at low → high ≡ get_or xs (at + 1) high → low + 256 * high ≡ from_bytes (take 2 (drop at xs))
-pair_is xs at low high h l r =
-    let one : drop at xs ≡ low ∷ drop (at + 1) xs = drop_more xs at low (omega arith) ∙ ap (λ (b : ℕ). b ∷ drop (at + 1) xs) (sym l) in
-    let two : drop (at + 1) xs ≡ high ∷ drop (at + 1 + 1) xs = drop_more xs (at + 1) high (omega arith) ∙ ap (λ (b : ℕ). b ∷ drop (at + 1 + 1) xs) (sym r) in
-    rw (one, two) (omega arith)

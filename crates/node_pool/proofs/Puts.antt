@@ -2,46 +2,30 @@
 use Rattle.std.proofs.Common.{List, [], ap, append_assoc, arith, drop, length, refl, sym, take, ℕ, ◌%◌, ◌++◌, ◌+◌, ◌<◌, ◌∙◌, ◌∷◌, ◌≡◌, ◌≤◌}
 use Rattle.std.proofs.lemmas.List.{drop-drop, drop_at, length-append, length-drop, length-take, take-append-drop, take_at}
 use Rattle.calc_terms.specs.Kind.{code_of}
-use Rattle.calc_terms.specs.Node.{encoding, fresh, header_bytes, header_of, low_bytes, payload_bytes}
+use Rattle.calc_terms.specs.Node.{encoding, form_of, fresh, header_bytes, header_of, low_bytes, payload_bytes}
 use Rattle.calc_terms.specs.Payload.{Payload}
 use Rattle.calc_terms.specs.declared.leaf.Header.{Header}
 use Rattle.calc_terms.proofs.Codec.{length-header_bytes}
 use Rattle.calc_terms.proofs.LowBytes.{length-low_bytes}
-use Rattle.node_pool.specs.Bytes.{put}
-
-pub length-put : (xs : List ℕ) (at : ℕ) (ys : List ℕ) → at + length ys ≤ length xs → length (put xs at ys) ≡ length xs
-length-put xs at ys h = omega (arith, length-append (take at xs) (ys ++ drop (at + length ys) xs), length-append ys (drop (at + length ys) xs), length-take at xs, length-drop (at + length ys) xs)
-
-pub put-nil : (xs : List ℕ) (at : ℕ) → xs ≡ put xs at []
-put-nil xs at = let e : at + 0 ≡ at = omega arith in rw e (sym (take-append-drop at xs))
-
-pub put-put : (xs : List ℕ) (at : ℕ) (ys : List ℕ) (next : ℕ) (zs : List ℕ) → next ≡ at + length ys → at ≤ length xs → put (put xs at ys) next zs ≡ put xs at (ys ++ zs)
-put-put xs at ys next zs e h =
-    let a = take at xs in
-    let d = drop (at + length ys) xs in
-    let len : length (a ++ ys) ≡ next = omega (arith, length-append a ys, length-take at xs) in
-    let grouped : put xs at ys ≡ (a ++ ys) ++ d = sym (append_assoc a ys d) in
-    let first : take next (put xs at ys) ≡ a ++ ys = ap (take next) grouped ∙ take_at (a ++ ys) d next len in
-    let over : drop (next + length zs) (put xs at ys) ≡ drop (at + length (ys ++ zs)) xs =
-    sym (drop-drop (length zs) next (put xs at ys)) ∙ ap (λ (x : List ℕ). drop (length zs) x) (ap (drop next) grouped ∙ drop_at (a ++ ys) d next len)
-    ∙ drop-drop (length zs) (at + length ys) xs ∙ ap (λ (n : ℕ). drop n xs) (omega (arith, length-append ys zs)) in
-    rw (first, over) (append_assoc a ys (zs ++ drop (at + length (ys ++ zs)) xs) ∙ ap (λ (x : List ℕ). a ++ x) (sym (append_assoc ys zs (drop (at + length (ys ++ zs)) xs))))
+use Rattle.raw_region.specs.Bytes.{put}
+use Rattle.raw_region.proofs.Puts.{put-put}
 
 -- one write more
 pub then_put : (s0 s1 s2 : List ℕ) (at : ℕ) (ys : List ℕ) (next : ℕ) (zs : List ℕ) → at ≤ length s0 → next ≡ at + length ys → s1 ≡ put s0 at ys → s2 ≡ put s1 next zs → s2 ≡ put s0 at (ys ++ zs)
 then_put s0 s1 s2 at ys next zs h e p q = q ∙ ap (λ (s : List ℕ). put s next zs) p ∙ put-put s0 at ys next zs e h
 
-pub header_put : (s0 s1 s2 s3 s4 : List ℕ) (at k : ℕ) (h : Header) → at ≤ length s0 → k ≡ code_of h.kind → k < 256
-    → s1 ≡ put s0 at (k ∷ 0 ∷ []) → s2 ≡ put s1 (at + 2) (low_bytes 2 h.id) → s3 ≡ put s2 (at + 4) (low_bytes 2 h.count) → s4 ≡ put s3 (at + 6) (low_bytes 2 h.children) → s4 ≡ put s0 at (header_bytes h)
+pub header_put : (s0 s1 s2 s3 s4 : List ℕ) (at k f : ℕ) (h : Header) → at ≤ length s0 → k ≡ code_of h.kind → k < 256 → f ≡ form_of h.short → f < 256
+    → s1 ≡ put s0 at (k ∷ f ∷ []) → s2 ≡ put s1 (at + 2) (low_bytes 2 h.id) → s3 ≡ put s2 (at + 4) (low_bytes 2 h.count) → s4 ≡ put s3 (at + 6) (low_bytes 2 h.children) → s4 ≡ put s0 at (header_bytes h)
 unfolding header_bytes low_bytes
-header_put s0 s1 s2 s3 s4 at k h small hk byte e1 e2 e3 e4 =
-    let front = low_bytes 1 k ++ low_bytes 1 0 in
+header_put s0 s1 s2 s3 s4 at k f h small hk byte hf form e1 e2 e3 e4 =
+    let front = low_bytes 1 k ++ low_bytes 1 f in
     let same : k % 256 ≡ k = omega arith in
-    let f1 : s1 ≡ put s0 at front = e1 ∙ ap (λ (b : ℕ). put s0 at (b ∷ 0 ∷ [])) (sym same) in
+    let alike : f % 256 ≡ f = omega arith in
+    let f1 : s1 ≡ put s0 at front = e1 ∙ ap (λ (b : ℕ). put s0 at (b ∷ f ∷ [])) (sym same) ∙ ap (λ (b : ℕ). put s0 at (k % 256 ∷ b ∷ [])) (sym alike) in
     let f2 = then_put s0 s1 s2 at front (at + 2) (low_bytes 2 h.id) small refl f1 e2 in
     let f3 = then_put s0 s2 s3 at (front ++ low_bytes 2 h.id) (at + 4) (low_bytes 2 h.count) small refl f2 e3 in
     let f4 = then_put s0 s3 s4 at ((front ++ low_bytes 2 h.id) ++ low_bytes 2 h.count) (at + 6) (low_bytes 2 h.children) small refl f3 e4 in
-    rw (← hk) f4
+    rw (← hk, ← hf) f4
 
 pub rational_put : (s0 s1 s2 : List ℕ) (at a b p q : ℕ) → at + 32 ≤ length s0 → p ≡ a → q ≡ b → s1 ≡ put s0 at (low_bytes 16 p) → s2 ≡ put s1 (at + 16) (low_bytes 16 q) → s2 ≡ put s0 at (low_bytes 16 a ++ low_bytes 16 b)
 rational_put s0 s1 s2 at a b p q small hp hq e1 e2 =

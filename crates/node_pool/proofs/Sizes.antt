@@ -1,22 +1,15 @@
 -- Sizes and bytes of lists of nodes.
 use Rattle.std.proofs.Common.{List, [], ap, append_assoc, arith, drop, length, refl, suc, sym, zero, ℕ, ◌*◌, ◌++◌, ◌+◌, ◌∙◌, ◌∷◌, ◌≡◌, ◌≤◌}
 use Rattle.std.proofs.lemmas.List.{drop_at, length-append}
-use Rattle.calc_terms.specs.Kind.{size_of_kind}
 use Rattle.calc_terms.specs.Node.{Node, encoding, node_at, size_of}
-use Rattle.calc_terms.specs.Payload.{Payload, kind_of_payload, size_of_payload}
-use Rattle.calc_terms.specs.declared.kind.Kind.TheVariants as kind
-use Rattle.calc_terms.specs.declared.kind.Kind.{Kind}
+use Rattle.calc_terms.specs.Payload.{Payload, size_of_payload}
+use Rattle.calc_terms.proofs.Sizes.{payload_least}
 use Rattle.calc_terms.proofs.Codec.{length-encoding, node_at-encoding}
 use Rattle.node_pool.specs.Contents.{nodes_of}
 use Rattle.node_pool.specs.Nodes.{AreNodes, encodings, used}
 
-size_from_kind : (k : Kind) → 8 ≤ size_of_kind k
-size_from_kind kind.Num = omega arith
-size_from_kind kind.Sym = omega arith
-size_from_kind k = omega arith
-
 pub size_leaf : (x : Payload) → 8 ≤ size_of_payload x
-size_leaf x = size_from_kind (kind_of_payload x)
+size_leaf x = payload_least x
 
 pub size_from : (n : Node) → 8 ≤ size_of n
 size_from n = size_leaf n.payload

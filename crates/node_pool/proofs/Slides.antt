@@ -1,16 +1,7 @@
 -- Bytes that move or go.
 use Rattle.std.proofs.Common.{List, ap, append_assoc, arith, drop, length, refl, replicate, sym, take, ℕ, ◌++◌, ◌+◌, ◌-◌, ◌∙◌, ◌≡◌, ◌≤◌}
 use Rattle.std.proofs.lemmas.List.{drop-drop, drop-take, drop_at, length-append, length-drop, length-take-le, take-append-drop, take-take, take_at}
-use Rattle.node_pool.specs.Bytes.{cleared, rotated, slid, switched}
-
-pub rotated_is : (xs ys : List ℕ) (a b c : ℕ) → a ≤ b → b ≤ c → ys ≡ drop (b - a) (take (c - a) (drop a xs)) ++ take (b - a) (take (c - a) (drop a xs)) → take a xs ++ (ys ++ drop (c - a) (drop a xs)) ≡ rotated xs a b c
-rotated_is xs ys a b c h k e =
-    let whole : c - a ≡ (b - a) + (c - b) = omega arith in
-    let first : drop (b - a) (take (c - a) (drop a xs)) ≡ take (c - b) (drop b xs) =
-    ap (λ (n : ℕ). drop (b - a) (take n (drop a xs))) whole ∙ drop-take (b - a) (c - b) (drop a xs) ∙ ap (take (c - b)) (drop-drop (b - a) a xs) ∙ ap (λ (n : ℕ). take (c - b) (drop n xs)) (omega arith) in
-    let second : take (b - a) (take (c - a) (drop a xs)) ≡ take (b - a) (drop a xs) = take-take (b - a) (c - a) (drop a xs) (omega arith) in
-    let third : drop (c - a) (drop a xs) ≡ drop c xs = drop-drop (c - a) a xs ∙ ap (λ (n : ℕ). drop n xs) (omega arith) in
-    rw (e, first, second, third) refl
+use Rattle.raw_region.specs.Bytes.{cleared, rotated, slid, switched}
 
 -- a part goes, what is behind it closes up, and zeros come to the end
 pub closed_up : (a b c z store s1 : List ℕ) (i len j : ℕ) → store ≡ a ++ (b ++ (c ++ z)) → length a ≡ i → length b ≡ len → length c ≡ j → s1 ≡ slid store (i + len) i j
@@ -83,16 +74,3 @@ switched_twice store i k len h fits =
     turned (a ++ z) x y d s1 (i + len) (i + len + len) (k + len) (first ∙ regrouped) (omega (arith, length-append a z)) (omega arith) (omega arith) (omega arith) (omega arith) in
     let flat : a ++ (z ++ (y ++ (x ++ d))) ≡ (a ++ z) ++ ((y ++ x) ++ d) = sym (simp append_assoc) in
     switched_parts a x y z d store i k len whole ha hx hy hz h ∙ flat ∙ sym second
-
-pub switched_is : (bytes front back one two : List ℕ) (low high len : ℕ) → low + len ≤ high → front ≡ take high bytes → back ≡ drop high bytes → one ≡ take len back → two ≡ take (low + len - low) (drop low front)
-    → (take low front ++ (one ++ drop (low + len - low) (drop low front))) ++ (two ++ drop len back) ≡ switched bytes low high len
-switched_is bytes front back one two low high len h ef eb e1 e2 =
-    let n : low + len - low ≡ len = omega arith in
-    let rest : drop low front ≡ take (high - low) (drop low bytes) = ap (drop low) (ef ∙ ap (λ (k : ℕ). take k bytes) (omega arith)) ∙ drop-take low (high - low) bytes in
-    let start : take low front ≡ take low bytes = ap (take low) ef ∙ take-take low high bytes (omega arith) in
-    let first : two ≡ take len (drop low bytes) = e2 ∙ ap (λ (k : ℕ). take k (drop low front)) n ∙ ap (take len) rest ∙ take-take len (high - low) (drop low bytes) (omega arith) in
-    let second : one ≡ take len (drop high bytes) = e1 ∙ ap (take len) eb in
-    let middle : drop (low + len - low) (drop low front) ≡ take (high - (low + len)) (drop (low + len) bytes) =
-    ap (λ (k : ℕ). drop k (drop low front)) n ∙ ap (λ (t : List ℕ). drop len t) (rest ∙ ap (λ (k : ℕ). take k (drop low bytes)) (omega arith)) ∙ drop-take len (high - (low + len)) (drop low bytes) ∙ ap (take (high - (low + len))) (drop-drop len low bytes) in
-    let last : drop len back ≡ drop (high + len) bytes = ap (λ (t : List ℕ). drop len t) eb ∙ drop-drop len high bytes in
-    rw (start, first, second, middle, last) (simp append_assoc)

@@ -1,15 +1,17 @@
 -- What a node holds, read from its bytes.
-use Rattle.std.proofs.Common.{FitsSigned, List, ap, arith, drop, false, length, of_z, pos, refl, replicate, subst, sym, take, to_z, true, unsigned_abs, ℕ, ℤ, ◌++◌, ◌+◌, ◌-◌, ◌<ℤ◌, ◌<◌, ◌∙◌, ◌∷◌, ◌≡◌, ◌≤◌}
+use Rattle.std.proofs.Common.{Bool, FitsSigned, List, ap, arith, drop, false, length, of_z, pos, refl, replicate, subst, sym, take, to_z, true, unsigned_abs, ℕ, ℤ, ◌++◌, ◌+◌, ◌-◌, ◌<ℤ◌, ◌<◌, ◌∙◌, ◌∷◌, ◌≡◌, ◌≤◌}
 use Rattle.std.proofs.lemmas.Int.{ints, to_z-of_z, to_z_pos}
 use Rattle.std.proofs.lemmas.List.{drop-drop, take_at}
 use Rattle.std.specs.Int.{w128}
 use Rattle.calc_terms.specs.Name.{HoldsName, before_zero, is_name, padded}
-use Rattle.calc_terms.specs.Node.{Node, from_bytes, payload_bytes, ratio_at}
-use Rattle.calc_terms.specs.Payload.{IsPayload, Payload, bare, is_bare, kind_of_payload, named, rational, size_of_payload}
+use Rattle.calc_terms.specs.Node.{Node, from_bytes, number_at, short_at, payload_bytes, ratio_at}
+use Rattle.calc_terms.specs.Payload.{IsPayload, Payload, bare, has_short_form, is_bare, kind_of_payload, named, rational, size_of_payload}
 use Rattle.calc_terms.specs.Ratio.{IsRat, Ratio}
 use Rattle.calc_terms.specs.declared.kind.Kind.TheVariants as kind
+use Rattle.calc_terms.specs.Kind.{size_by_form}
 use Rattle.calc_terms.specs.declared.kind.Kind.{Kind}
-use Rattle.calc_terms.proofs.Codec.{drop-encoding, ratio_at-ratio_bytes}
+use Rattle.calc_terms.proofs.Codec.{drop-encoding, short_at-encoding, number_at-number_bytes}
+use Rattle.calc_terms.proofs.ShortForm.{short_parts}
 use Rattle.calc_terms.proofs.Names.{before_zero-padded, length-padded}
 use Rattle.node_pool.specs.Contents.{Contents}
 use Rattle.node_pool.specs.Laid.{IsLaid, contents_of}
@@ -27,6 +29,7 @@ pub record IsHeld (x : Payload) (at : ℕ) (store : List ℕ) : Type 0 where
   pub bytes : drop (at + 8) store ≡ payload_bytes x ++ behind
   pub room : at + size_of_payload x ≤ length store
   pub valid : IsPayload x
+  pub form : (short_at (drop at store)) ≡ has_short_form x
 
 pub held : (b : Inside) (c : Contents) (i at : ℕ) → IsLaid b → contents_of b ≡ c → has i c.nodes ≡ true → at ≡ place_of i c.nodes → IsHeld (payload_of_id i c.nodes) at b.store
 held b c i at k e live place =
@@ -44,22 +47,24 @@ held b c i at k e live place =
       bytes = sym (drop-drop 8 at b.store) ∙ ap (drop 8) x.1.bytes ∙ drop-encoding x.0 x.1.behind;
       room = omega (arith, x.1.room, o.fits);
       valid = x.1.valid.payload;
+      form = ap short_at x.1.bytes ∙ short_at-encoding x.0 x.1.behind x.1.valid;
     })
 
 -- ---- a number
 
 pub record HoldsRational (x : Payload) (at : ℕ) (store : List ℕ) : Type 0 where
-  pub room : at + 8 + 32 ≤ length store
-  pub is : x ≡ rational (ratio_at (drop (at + 8) store))
-  pub rat : IsRat (ratio_at (drop (at + 8) store))
+  pub room : at + size_by_form kind.Num (short_at (drop at store)) ≤ length store
+  pub is : x ≡ rational (number_at (short_at (drop at store)) (drop (at + 8) store))
+  pub rat : IsRat (number_at (short_at (drop at store)) (drop (at + 8) store))
 
 bare_number : (k : Kind) → is_bare k ≡ true → k ≡ kind.Num → ⊥
 bare_number k h e = let no : is_bare k ≡ false = ap is_bare e in cc
 
 pub holds_rational : (x : Payload) (at : ℕ) (store : List ℕ) → IsHeld x at store → kind_of_payload x ≡ kind.Num → HoldsRational x at store
 holds_rational (rational r) at store h k =
-    let e : ratio_at (drop (at + 8) store) ≡ r = ap ratio_at h.bytes ∙ ratio_at-ratio_bytes r h.behind h.valid in
-    record { room = omega (arith, h.room); is = ap (λ (y : Ratio). rational y) (sym e); rat = rw e h.valid }
+    let s = has_short_form (rational r) in
+    let e : number_at (short_at (drop at store)) (drop (at + 8) store) ≡ r = ap (λ (b : Bool). number_at b (drop (at + 8) store)) h.form ∙ ap (number_at s) h.bytes ∙ number_at-number_bytes s r h.behind h.valid (short_parts r h.valid) in
+    record { room = subst (λ (b : Bool). at + size_by_form kind.Num b ≤ length store) (sym h.form) h.room; is = ap (λ (y : Ratio). rational y) (sym e); rat = rw e h.valid }
 holds_rational (named x) at store h k = absurd cc
 holds_rational (bare k) at store h e = absurd (bare_number k h.valid e)
 

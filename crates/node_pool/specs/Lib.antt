@@ -1,4 +1,3 @@
-pub mod Bytes
 pub mod Nodes
 pub mod Places
 pub mod State

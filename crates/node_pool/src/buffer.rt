@@ -79,6 +79,7 @@ impl Buffer {
     }
 
     /// The header of the node that begins at a place.
+    #[inline(always)]
     pub fn header(&self, at: u32) -> Header
         requires boundary { IsBoundary at self.now.nodes }
         requires inside { at < used self.now.nodes }

@@ -1,35 +1,65 @@
 //! One node's bytes: a header of eight bytes, and then the payload. The header has the code of the
-//! kind, a zero, and in two bytes each the identifier, the count and the number of children, the
-//! lower byte first. A number's payload is numerator and denominator in sixteen bytes each, a
-//! symbol's its name and zeros to eight bytes, and other nodes have none.
-ghost use Rattle.std.specs.Prelude.{◌≡◌, ◌+◌, ◌<◌, ◌≤◌, ◌^◌, length, take, drop};
+//! kind, the form, and in two bytes each the identifier, the count and the number of children, the
+//! lower byte first. The form is 1 for a number in the short form, whose payload is its value in
+//! eight bytes, and 0 for every other node. Another number's payload is numerator and denominator in
+//! sixteen bytes each, a symbol's its name and zeros to eight bytes, and other nodes have none.
+ghost use Rattle.std.specs.Prelude.{◌≡◌, ◌+◌, ◌<◌, ◌≤◌, ◌^◌, length, take, drop, true};
 ghost use Rattle.calc_terms.specs.Ratio.{IsRat};
 ghost use Rattle.calc_terms.specs.Rat.{ratio_of};
 ghost use Rattle.calc_terms.specs.Name.{HoldsName, before_zero};
-ghost use Rattle.calc_terms.specs.Payload.{size_of_payload};
+ghost use Rattle.calc_terms.specs.declared.kind.Kind.TheVariants.{Num};
+ghost use Rattle.calc_terms.specs.Kind.{size_by_form};
+ghost use Rattle.calc_terms.specs.Payload.{rational, size_of_payload};
 ghost use Rattle.calc_terms.specs.Leaf.{payload_of, name_of, IsUsable};
-ghost use Rattle.calc_terms.specs.Node.{node_at, kind_at, ratio_at, header_of, fresh, encoding, header_bytes, low_bytes, payload_bytes, ratio_bytes};
-ghost use Rattle.node_pool.specs.Bytes.{put};
+ghost use Rattle.calc_terms.specs.Node.{header_in, kind_at, short_at, ratio_at, number_at, fresh, encoding, header_bytes, low_bytes, payload_bytes, ratio_bytes, from_bytes};
+ghost use Rattle.raw_region.specs.Bytes.{put};
 
 use crate::store::Store;
 use calc_terms::{Header, Kind, Leaf, Name, Rat};
 
-/// The header of the node whose bytes stand at a place.
+/// The header of the node whose bytes stand at a place. It is inlined, so that a caller decodes only the fields that it
+/// uses.
+#[inline(always)]
 pub fn header_at(store: &Store, at: u32) -> Header
     requires inside { at + 8 ≤ length store.now }
     requires small { length store.now < 2 ^ 32 }
-    ensures { result ≡ header_of (node_at (drop at store.now)) }
+    ensures { result ≡ header_in (drop at store.now) }
 {
+    let front = store.eight(at);
     Header {
-        kind: kind_at(store, at),
-        id: store.pair(at + 2),
-        count: store.pair(at + 4),
-        children: store.pair(at + 6),
+        kind: kind_in(front),
+        short: is_short_in(front),
+        id: pair_in(front, 2),
+        count: pair_in(front, 4),
+        children: pair_in(front, 6),
     }
 }
 
 /// The rational of the node whose bytes stand at a place.
 pub fn rational_at(store: &Store, at: u32) -> Rat
+    requires inside { at + size_by_form Num (short_at (drop at store.now)) ≤ length store.now }
+    requires small { length store.now < 2 ^ 32 }
+    requires rat { IsRat (number_at (short_at (drop at store.now)) (drop (at + 8) store.now)) }
+    ensures { ratio_of result ≡ number_at (short_at (drop at store.now)) (drop (at + 8) store.now) }
+{
+    if is_short_at(store, at) {
+        short_at(store, at)
+    } else {
+        long_at(store, at)
+    }
+}
+
+/// The number of the short form.
+fn short_at(store: &Store, at: u32) -> Rat
+    requires inside { at + 8 + 8 ≤ length store.now }
+    requires small { length store.now < 2 ^ 32 }
+    ensures { ratio_of result ≡ number_at true (drop (at + 8) store.now) }
+{
+    Rat::whole(i128::from(store.long(at + 8).cast_signed()))
+}
+
+/// The number of the long form.
+fn long_at(store: &Store, at: u32) -> Rat
     requires inside { at + 8 + 32 ≤ length store.now }
     requires small { length store.now < 2 ^ 32 }
     requires rat { IsRat (ratio_at (drop (at + 8) store.now)) }
@@ -60,7 +90,7 @@ pub fn write_node(store: &mut Store, at: u32, id: u16, leaf: Leaf)
 {
     write_header(store, at, leaf.header(id));
     match leaf {
-        Leaf::Num(value) => write_rational(store, at + 8, value),
+        Leaf::Num(value) => write_number(store, at + 8, value),
         Leaf::Sym(name) => store.put(at + 8, &name.padded()),
         Leaf::Plain(_) => {}
     }
@@ -84,14 +114,41 @@ pub fn write_children(store: &mut Store, at: u32, children: u16)
     store.put_pair(at + 6, children);
 }
 
-fn kind_at(store: &Store, at: u32) -> Kind
-    requires { at < length store.now }
-    ensures { result ≡ kind_at (drop at store.now) }
+/// The kind that a header's bytes tell.
+#[inline(always)]
+fn kind_in(front: [u8; 8]) -> Kind
+    ensures { result ≡ kind_at front }
 {
-    match Kind::from_code(store.get(at)) {
+    match Kind::from_code(front[0]) {
         Some(kind) => kind,
         None => Kind::Undef,
     }
+}
+
+/// Whether a header's bytes tell the short form.
+#[inline(always)]
+fn is_short_in(front: [u8; 8]) -> bool
+    ensures { result ≡ short_at front }
+{
+    front[1] == 1
+}
+
+/// The number in two bytes of a header, the lower byte first.
+#[inline(always)]
+fn pair_in(front: [u8; 8], at: usize) -> u16
+    requires { at + 2 ≤ 8 }
+    ensures { result ≡ from_bytes (take 2 (drop at front)) }
+{
+    u16::from_le_bytes([front[at], front[at + 1]])
+}
+
+/// Whether the header at a place tells the short form.
+fn is_short_at(store: &Store, at: u32) -> bool
+    requires inside { at + 2 ≤ length store.now }
+    requires small { length store.now < 2 ^ 32 }
+    ensures { result ≡ short_at (drop at store.now) }
+{
+    store.get(at + 1) == 1
 }
 
 fn write_header(store: &mut Store, at: u32, header: Header)
@@ -100,10 +157,24 @@ fn write_header(store: &mut Store, at: u32, header: Header)
     ensures put { store.new ≡ put store.old at (header_bytes header) }
     ensures len { length store.new ≡ length store.old }
 {
-    store.put(at, &[header.kind.code(), 0]);
+    store.put(at, &[header.kind.code(), u8::from(header.short)]);
     store.put_pair(at + 2, header.id);
     store.put_pair(at + 4, header.count);
     store.put_pair(at + 6, header.children);
+}
+
+/// Writes a number in its form.
+fn write_number(store: &mut Store, at: u32, value: Rat)
+    requires inside { at + size_of_payload (rational (ratio_of value)) ≤ length store.old + 8 }
+    requires small { length store.old < 2 ^ 32 }
+    ensures put { store.new ≡ put store.old at (payload_bytes (rational (ratio_of value))) }
+    ensures len { length store.new ≡ length store.old }
+{
+    if value.is_short() {
+        store.put_long(at, (value.num() as i64).cast_unsigned());
+    } else {
+        write_rational(store, at, value);
+    }
 }
 
 fn write_rational(store: &mut Store, at: u32, value: Rat)

@@ -38,17 +38,18 @@ fn the_first_number_stands_as_written_down(rt: HostRuntime) -> Result<(), Fail> 
     let mut pool = Pool::open(rt.alloc(), 64)?;
     let id = pool.place(Leaf::Num(Rat::whole(0)))?;
     assert_eq!(rt; id.value(), 0);
+    pool.place(Leaf::Sym(Name::ans()))?;
     let bytes = [
-        1, 0, 0, 0, 1, 0, 0, 0, 0, 0, 0, 0, 0, 0, 0, 0, 0, 0, 0, 0, 0, 0, 0, 0, 1, 0, 0, 0, 0, 0,
+        1, 1, 0, 0, 1, 0, 0, 0, 0, 0, 0, 0, 0, 0, 0, 0, 2, 0, 1, 0, 1, 0, 0, 0, 97, 110, 115, 0, 0,
         0, 0, 0, 0, 0, 0, 0, 0, 0, 0, 0, 0, 0, 0, 0, 0, 0, 0, 0, 0, 0, 0, 0, 0, 0, 0, 0, 0, 0, 0,
-        0, 0, 0, 0,
+        0, 0, 0, 0, 0,
     ];
     assert_eq!(rt; pool.bytes(), bytes.as_slice());
     let full = Full {
         needed: 40,
-        free: 24,
+        free: 32,
     };
-    assert_eq!(rt; pool.place(Leaf::Num(Rat::whole(1))), Err(full));
+    assert_eq!(rt; pool.place(Leaf::Num(Rat::ratio(1, 2))), Err(full));
     assert_eq!(rt; pool.bytes(), bytes.as_slice());
     assert_eq!(rt; pool.refusals(), 1);
     assert_eq!(rt; pool.last_refused(), full);
@@ -88,43 +89,102 @@ fn all_bytes_are_those_of_the_nodes_and_zeros(rt: HostRuntime) -> Result<(), Fai
     Ok(())
 }
 
+/// A number's code and form, and the bytes behind its header, as they are written down by hand.
+const FORMS: [(i128, i128, [u8; 2], &[u8]); 8] = [
+    (-1, 1, [1, 1], b"\xff\xff\xff\xff\xff\xff\xff\xff"),
+    (
+        (1 << 63) - 1,
+        1,
+        [1, 1],
+        b"\xff\xff\xff\xff\xff\xff\xff\x7f",
+    ),
+    (-(1 << 63), 1, [1, 1], b"\0\0\0\0\0\0\0\x80"),
+    (
+        1 << 63,
+        1,
+        [1, 0],
+        b"\0\0\0\0\0\0\0\x80\0\0\0\0\0\0\0\0\x01\0\0\0\0\0\0\0\0\0\0\0\0\0\0\0",
+    ),
+    (
+        -(1 << 63) - 1,
+        1,
+        [1, 0],
+        b"\xff\xff\xff\xff\xff\xff\xff\x7f\xff\xff\xff\xff\xff\xff\xff\xff\x01\0\0\0\0\0\0\0\0\0\0\0\0\0\0\0",
+    ),
+    (
+        1,
+        2,
+        [1, 0],
+        b"\x01\0\0\0\0\0\0\0\0\0\0\0\0\0\0\0\x02\0\0\0\0\0\0\0\0\0\0\0\0\0\0\0",
+    ),
+    (
+        3,
+        2,
+        [1, 0],
+        b"\x03\0\0\0\0\0\0\0\0\0\0\0\0\0\0\0\x02\0\0\0\0\0\0\0\0\0\0\0\0\0\0\0",
+    ),
+    (4, 2, [1, 1], b"\x02\0\0\0\0\0\0\0"),
+];
+
+#[test]
+fn numbers_have_one_form(rt: HostRuntime) -> Result<(), Fail> {
+    for (num, den, front, payload) in FORMS {
+        let mut pool = Pool::open(rt.alloc(), 64)?;
+        if num != i128::MIN && 1 <= den {
+            let id = pool.place(Leaf::Num(Rat::ratio(num, den)))?;
+            let value = pool.rational(id);
+            assert!(rt; pool.bytes().starts_with(&front), "{num}/{den}");
+            let used = pool.used() as usize;
+            assert_eq!(rt; used, 8usize.saturating_add(payload.len()), "{num}/{den}");
+            assert_eq!(rt; pool.bytes().get(8..used), Some(payload), "{num}/{den}");
+            assert_eq!(rt;
+                value.num().checked_mul(den),
+                num.checked_mul(value.den()),
+                "{num}/{den}"
+            );
+        }
+    }
+    Ok(())
+}
+
 #[test]
 fn nodes_go_and_move_and_their_identifiers_come_again(rt: HostRuntime) -> Result<(), Fail> {
-    let mut pool = Pool::open(rt.alloc(), 80)?;
-    let number = pool.place(Leaf::Num(Rat::whole(258)))?;
-    assert_eq!(rt; pool.rational(number).num(), 258);
+    let mut pool = Pool::open(rt.alloc(), 72)?;
+    pool.place(Leaf::Sym(Name::ans()))?;
+    pool.place(Leaf::Sym(Name::ans()))?;
     let symbol = pool.place(Leaf::Sym(Name::ans()))?;
     assert_eq!(rt; pool.name(symbol).bytes(), b"ans".as_slice());
-    assert_eq!(rt; pool.locate(symbol), 40);
+    assert_eq!(rt; pool.locate(symbol), 32);
     let header = Header {
         kind: Kind::Sym,
-        id: 1,
+        short: false,
+        id: 2,
         count: 1,
         children: 0,
     };
-    assert_eq!(rt; pool.header(40), header);
+    assert_eq!(rt; pool.header(32), header);
     pool.place(Leaf::Plain(Kind::Add))?;
-    pool.remove_block(40, 16);
+    pool.remove_block(32, 16);
     let add = pool.place(Leaf::Plain(Kind::Mult))?;
-    assert_eq!(rt; add.value(), 1, "the least identifier that is free");
+    assert_eq!(rt; add.value(), 2, "the least identifier that is free");
     pool.set_count(add, 515);
     pool.set_children(add, 1);
-    pool.move_block(48, 8, 0);
+    pool.move_block(40, 8, 0);
     let bytes = [
-        5, 0, 1, 0, 3, 2, 1, 0, 1, 0, 0, 0, 1, 0, 0, 0, 2, 1, 0, 0, 0, 0, 0, 0, 0, 0, 0, 0, 0, 0,
-        0, 0, 1, 0, 0, 0, 0, 0, 0, 0, 0, 0, 0, 0, 0, 0, 0, 0, 4, 0, 2, 0, 1, 0, 0, 0, 0, 0, 0, 0,
-        0, 0, 0, 0, 0, 0, 0, 0, 0, 0, 0, 0, 0, 0, 0, 0, 0, 0, 0, 0,
+        5, 0, 2, 0, 3, 2, 1, 0, 2, 0, 0, 0, 1, 0, 0, 0, 97, 110, 115, 0, 0, 0, 0, 0, 2, 0, 1, 0, 1,
+        0, 0, 0, 97, 110, 115, 0, 0, 0, 0, 0, 4, 0, 3, 0, 1, 0, 0, 0, 0, 0, 0, 0, 0, 0, 0, 0, 0, 0,
+        0, 0, 0, 0, 0, 0, 0, 0, 0, 0, 0, 0, 0, 0,
     ];
     assert_eq!(rt; pool.bytes(), bytes.as_slice());
     let full = Full {
-        needed: 56,
+        needed: 48,
         free: 24,
     };
-    assert_eq!(rt; pool.ask(0, 56), Err(full));
-    assert_eq!(rt; pool.ask(48, 8), Ok(()));
+    assert_eq!(rt; pool.ask(0, 48), Err(full));
+    assert_eq!(rt; pool.ask(40, 8), Ok(()));
     assert_eq!(rt; pool.bytes(), bytes.as_slice());
-    pool.remove_block(0, 56);
-    assert_eq!(rt; pool.bytes(), [0; 80].as_slice());
+    pool.remove_block(0, 48);
+    assert_eq!(rt; pool.bytes(), [0; 72].as_slice());
     assert_eq!(rt; pool.refusals(), 1);
     Ok(())
 }

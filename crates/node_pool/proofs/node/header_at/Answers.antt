@@ -1,14 +1,11 @@
-use Rattle.std.proofs.Common.{◌∙◌, ap, sym, take, drop}
-use Rattle.std.proofs.lemmas.List.{drop-drop}
-use Rattle.calc_terms.specs.Node.{from_bytes}
+use Rattle.std.proofs.Common.{◌∙◌, ap, drop}
+use Rattle.calc_terms.specs.Node.{header_in}
 use Rattle.calc_terms.proofs.Codec.{header_is}
+use Rattle.node_pool.proofs.Fields.{front_is}
 use Rattle.node_pool.proofs.node.header_at.Goals as goal
 
 pub returns : goal.returns
 returns c =
-    let s = c.args.store.now in
-    let at = c.args.at in
-    header_is (drop at s) _ _ _ _ c.kind_at.ensures
-    (c.pair.ensures ∙ ap (λ x. from_bytes (take 2 x)) (sym (drop-drop 2 at s)))
-    (c.pair-2.ensures ∙ ap (λ x. from_bytes (take 2 x)) (sym (drop-drop 4 at s)))
-    (c.pair-3.ensures ∙ ap (λ x. from_bytes (take 2 x)) (sym (drop-drop 6 at s)))
+    header_is c.eight-front.result _ _ _ _ _ c.kind_in.ensures c.is_short_in.ensures c.pair_in.ensures c.pair_in-2.ensures c.pair_in-3.ensures
+    ∙ ap header_in c.eight-front.ensures
+    ∙ front_is (drop c.args.at c.args.store.now)

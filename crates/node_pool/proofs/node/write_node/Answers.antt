@@ -2,14 +2,15 @@ use Rattle.std.proofs.Common.{◌+◌, ◌∙◌, ap, sym, arith}
 use Rattle.calc_terms.specs.declared.leaf.Leaf.{Leaf}
 use Rattle.calc_terms.specs.Leaf.{payload_of}
 use Rattle.calc_terms.specs.Node.{payload_bytes}
-use Rattle.node_pool.specs.Bytes.{put}
+use Rattle.raw_region.specs.Bytes.{put}
 use Rattle.node_pool.proofs.Sizes.{size_leaf}
-use Rattle.node_pool.proofs.Puts.{node_put, put-nil}
+use Rattle.node_pool.proofs.Puts.{node_put}
+use Rattle.raw_region.proofs.Puts.{put-nil}
 use Rattle.node_pool.proofs.node.write_node.Goals as goal
 
 pub returns-in-Num-clause-put : goal.returns-in-Num-clause-put
 returns-in-Num-clause-put c = node_put c.args.store.now c.write_header.new.store _ c.args.at c.args.id (payload_of c.args.leaf) c.header.result (omega (arith, c.requires.inside, size_leaf (payload_of c.args.leaf))) c.header.ensures c.write_header.ensures.put
-    (c.write_rational.ensures.put ∙ ap (λ (x : Leaf). put c.write_header.new.store (c.args.at + 8) (payload_bytes (payload_of x))) (sym c.in-Num.is))
+    (c.write_number.ensures.put ∙ ap (λ (x : Leaf). put c.write_header.new.store (c.args.at + 8) (payload_bytes (payload_of x))) (sym c.in-Num.is))
 
 pub returns-in-Sym-clause-put : goal.returns-in-Sym-clause-put
 returns-in-Sym-clause-put c = node_put c.args.store.now c.write_header.new.store _ c.args.at c.args.id (payload_of c.args.leaf) c.header.result (omega (arith, c.requires.inside, size_leaf (payload_of c.args.leaf))) c.header.ensures c.write_header.ensures.put

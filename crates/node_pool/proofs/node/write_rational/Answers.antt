@@ -4,7 +4,8 @@ use Rattle.calc_terms.specs.Node.{low_bytes, ratio_bytes}
 use Rattle.calc_terms.specs.Rat.{ratio_of}
 use Rattle.calc_terms.proofs.LowBytes.{length-low_bytes}
 use Rattle.std.proofs.lemmas.List.{length-append}
-use Rattle.node_pool.proofs.Puts.{length-put, rational_put}
+use Rattle.node_pool.proofs.Puts.{rational_put}
+use Rattle.raw_region.proofs.Puts.{length-put}
 use Rattle.calc_terms.proofs.Codec.{back_unsigned}
 use Rattle.node_pool.proofs.node.write_rational.Goals as goal
 

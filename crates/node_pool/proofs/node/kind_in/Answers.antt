@@ -1,0 +1,10 @@
+use Rattle.std.proofs.Common.{arith, refl}
+use Rattle.std.specs.Prelude.{None, Some}
+use Rattle.node_pool.proofs.Fields.{kind_is}
+use Rattle.node_pool.proofs.node.kind_in.Goals as goal
+
+pub returns-in-Some : goal.returns-in-Some
+returns-in-Some c = kind_is c.args.front 0 _ (Some c.in-Some.kind) (omega arith) refl c.in-Some.ensures.exact
+
+pub returns-in-None : goal.returns-in-None
+returns-in-None c = kind_is c.args.front 0 _ None (omega arith) refl c.in-None.ensures.exact

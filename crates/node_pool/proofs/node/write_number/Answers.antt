@@ -1,0 +1,49 @@
+use Rattle.std.proofs.Common.{Bool, List, false, ap, arith, length, refl, rules, sym, true, ℕ, ℤ, ◌+◌, ◌∙◌, ◌≡◌, ◌≤◌, ◌<◌, ◌^◌, FitsSigned, unsigned_abs}
+use Rattle.std.specs.Int.{w64, w128, cast_signed, cast_unsigned}
+use Rattle.std.proofs.lemmas.Int.{ints, to_z-of_z}
+use Rattle.calc_terms.specs.declared.kind.Kind.TheVariants.{Num}
+use Rattle.calc_terms.specs.Kind.{size_by_form}
+use Rattle.calc_terms.specs.Node.{low_bytes, number_bytes, payload_bytes}
+use Rattle.calc_terms.specs.Payload.{rational, has_short_form}
+use Rattle.calc_terms.specs.Rat.{ratio_of}
+use Rattle.calc_terms.specs.Ratio.{Ratio}
+use Rattle.calc_terms.proofs.LowBytes.{length-low_bytes}
+use Rattle.calc_terms.proofs.ShortForm.{short_parts}
+use Rattle.raw_region.specs.Bytes.{put}
+use Rattle.raw_region.proofs.Puts.{length-put}
+use Rattle.node_pool.proofs.node.write_number.Goals as goal
+
+wide : (z : ℤ) → unsigned_abs z < 2 ^ 127 → FitsSigned w128 z
+wide z h = omega (arith, ints)
+
+-- the number that is handed on is the numerator
+same : (x y : ℤ) → unsigned_abs y < 2 ^ 127 → x ≡ y → cast_signed w128 (cast_unsigned w128 x) ≡ y
+same x y small e = ap (λ (z : ℤ). cast_signed w128 (cast_unsigned w128 z)) e ∙ to_z-of_z w128 y (wide y small)
+
+pub overflow_cast-num : goal.overflow_cast-num
+overflow_cast-num c = rw (same c.num.result (ratio_of c.args.value).num c.num.ensures.rat.num_fits c.num.ensures.value) (short_parts (ratio_of c.args.value) c.num.ensures.rat (sym c.is_short.ensures ∙ c.if-is_short.true)).fits
+
+-- in the short form
+formed : (b : Bool) (f : Ratio) → b ≡ true → low_bytes 8 (cast_unsigned w64 f.num) ≡ number_bytes b f
+formed b f e = rw e refl
+
+-- what is written is the numerator
+written : (r : ℕ) (x y : ℤ) → unsigned_abs y < 2 ^ 127 → FitsSigned w64 y → x ≡ y → r ≡ cast_unsigned w64 (cast_signed w64 (cast_unsigned w64 (cast_signed w128 (cast_unsigned w128 x)))) → r ≡ cast_unsigned w64 y
+written r x y small fits e h = h ∙ ap (λ (z : ℤ). cast_unsigned w64 (cast_signed w64 (cast_unsigned w64 z))) (same x y small e) ∙ ap (cast_unsigned w64) (to_z-of_z w64 y fits)
+
+pub returns-then-is_short-clause-put : goal.returns-then-is_short-clause-put
+returns-then-is_short-clause-put c =
+    let f = ratio_of c.args.value in
+    let s : has_short_form (rational f) ≡ true = sym c.is_short.ensures ∙ c.if-is_short.true in
+    let number = written c.cast_unsigned.result c.num.result f.num c.num.ensures.rat.num_fits (short_parts f c.num.ensures.rat s).fits c.num.ensures.value c.cast_unsigned.ensures in
+    c.put_long.ensures ∙ ap (λ (n : ℕ). put c.args.store.now c.args.at (low_bytes 8 n)) number ∙ ap (put c.args.store.now c.args.at) (formed (has_short_form (rational f)) f s)
+
+room : (b : Bool) (at n : ℕ) → b ≡ true → at + size_by_form Num b ≤ n + 8 → at + 8 ≤ n
+room true at n e h = omega arith
+room false at n e h = absurd cc
+
+pub returns-then-is_short-clause-len : goal.returns-then-is_short-clause-len
+returns-then-is_short-clause-len c =
+    let n = c.cast_unsigned.result in
+    let inside = room (has_short_form (rational (ratio_of c.args.value))) c.args.at (length c.args.store.now) (sym c.is_short.ensures ∙ c.if-is_short.true) c.requires.inside in
+    ap length c.put_long.ensures ∙ length-put c.args.store.now c.args.at (low_bytes 8 n) (omega (arith, length-low_bytes 8 n))

@@ -1,0 +1,7 @@
+use Rattle.std.proofs.Common.{◌∙◌, ap}
+use Rattle.raw_region.specs.Bytes.{put}
+use Rattle.node_pool.proofs.Numbers.{written_is}
+use Rattle.node_pool.proofs.store.Store.put_long.Goals as goal
+
+pub returns : goal.returns
+returns c = c.put.ensures ∙ ap (put c.args.self.now c.args.at) (c.to_le_bytes.ensures ∙ written_is 8 c.args.number)

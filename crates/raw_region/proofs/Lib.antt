@@ -1,0 +1,4 @@
+pub mod Blocks
+pub mod Puts
+pub mod Slides
+pub mod Turns
