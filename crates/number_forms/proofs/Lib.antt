@@ -18,3 +18,4 @@ pub mod Recognized
 pub mod SquareFreeSums
 pub mod Overflows
 pub mod Placings
+pub mod ListedTerms

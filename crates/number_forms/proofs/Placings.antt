@@ -4,6 +4,9 @@ use Rattle.std.specs.Prelude.{IsOk, IsErr, IfOk, IfErr, nat_le, if◌then◌else
 use Rattle.std.proofs.lemmas.Bool.{eqb-true, eq-eqb, le-leb, lt-leb}
 use Rattle.calc_terms.specs.Fractions.{Fraction, lowest, one_fraction, is_one_fraction, is_zero_fraction, whole_fraction}
 use Rattle.calc_terms.specs.Gcd.{gcd}
+use Rattle.calc_terms.specs.declared.kind.Kind.TheVariants as kind
+use Rattle.calc_terms.specs.Kind.{size_by_form}
+use Rattle.calc_terms.specs.Short.{is_short}
 use Rattle.calc_terms.specs.Trees.{Tree, num, symbol, undef, add, mult, power, root, neg, sub, div, Trees, more, none, size, sizes, root_size}
 use Rattle.calc_terms.proofs.FractionFacts.{one_is}
 use Rattle.calc_algebra.specs.Numbers.{value, classes}
@@ -11,7 +14,8 @@ use Rattle.calc_algebra.specs.Surds.{Term, surd_of}
 use Rattle.node_pool.specs.State.{State, free_of}
 use Rattle.node_pool.specs.declared.full.Full.{Full}
 use Rattle.number_forms.specs.Shapes.{term_tree}
-use Rattle.tree_handles.specs.Building.{node_sizes, nodes_sizes, taking}
+use Rattle.tree_handles.specs.Building.{building, node_sizes, nodes_sizes, taking}
+use Rattle.tree_handles.specs.Causes.{LacksLongForm}
 use Rattle.tree_handles.specs.Forest.{Forest}
 use Rattle.tree_handles.specs.Handed.{tree_of, Gives}
 use Rattle.tree_handles.specs.Roots.{root_tree}
@@ -97,9 +101,24 @@ built free left t ms e = past free left (node_sizes t) ms (omega (arith, total-n
 pub placed_before : (free mid left : ℕ) (x y : Tree) (ms : List ℕ) → free ≡ mid + size x → mid ≡ left + size y → taking free (nodes_sizes (more x (more y none)) ++ ms) ≡ taking left ms
 placed_before free mid left x y ms e f = past free left (nodes_sizes (more x (more y none))) ms (omega (arith, total-nodes_sizes (more x (more y none))))
 
-pub number_lacks : {A : Type 0} (s t : State) (r : Result A Full) → IfErr r (IsRefused 40 s t) → IfErr r (λ full. taking (free_of s) (40 ∷ []) ≡ Err full)
-number_lacks s t (Ok x) h = tt
-number_lacks s t (Err full) h = lacking [] h
+pub number_lacks : {A : Type 0} (s t : State) (n : ℕ) (r : Result A Full) → IfErr r (IsRefused n s t) → IfErr r (λ full. taking (free_of s) (n ∷ []) ≡ Err full)
+number_lacks s t n (Ok x) h = tt
+number_lacks s t n (Err full) h = lacking [] h
+
+-- a number that lacks bytes where those of a short one are free
+lacking_form : (b : Bool) (free : ℕ) (full : Full) → 16 ≤ free → (if nat_le (size_by_form kind.Num b) free then Ok (free - size_by_form kind.Num b) else Err (record { needed = size_by_form kind.Num b; free = free })) ≡ Err full → full.needed ≡ size_by_form kind.Num false
+lacking_form true free full h e = absurd (no_error (sym (ap (λ b. if b then Ok (free - 16) else Err (record { needed = 16; free = free })) (le-leb 16 free h)) ∙ e))
+  where
+    no_error : {n : ℕ} → Ok n ≡ Err full → ⊥
+    no_error f = cc
+lacking_form false free full h e = by (nat_le 40 free) e
+  where
+    by : (b : Bool) → (if b then Ok (free - 40) else Err (record { needed = 40; free = free })) ≡ Err full → full.needed ≡ 40
+    by true f = cc
+    by false f = cc
+
+pub number_alone : (q : Fraction) (free : ℕ) (full : Full) → 16 ≤ free → building free (num q) ≡ Err full → LacksLongForm full
+number_alone q free full h e = lacking_form (is_short q) free full h e
 
 pub one_test : is_one_fraction one_fraction ≡ true
 unfolding one_fraction lowest gcd

@@ -7,6 +7,7 @@ use Rattle.calc_algebra.specs.Surds.{Surd}
 use Rattle.calc_terms.specs.Trees.{Tree}
 use Rattle.node_pool.specs.State.{State}
 use Rattle.calc_measures.specs.PlainTrees.{IsPlainAnswer, IsPlainOverflow}
+use Rattle.tree_handles.specs.Causes.{LacksLongForm}
 use Rattle.tree_handles.specs.Handed.{tree_of}
 use Rattle.tree_handles.specs.declared.fault.NumberFault.{NumberFault}
 use Rattle.tree_handles.specs.declared.fault.NumberFault.TheVariants as fault
@@ -16,8 +17,8 @@ pub record IsNumberOf (v : Surd) (t : Tree) : Type 0 where
   pub number : is_number t ≡ true
   pub worth : Same (value t) v
 
--- the answer of a call on rationals: the rational where the operation fits, its overflow with these operands where it doesn't, and bytes are never lacking
+-- the answer of a call on rationals: the rational where the operation fits, its overflow with these operands where it doesn't, and bytes are lacking only for a number in the long form
 abbrev pub AnswersRationals : PlainValue → State → Result ℕ NumberFault → Type 0
 AnswersRationals v new (Ok h) = IsPlainAnswer v (tree_of h new)
-AnswersRationals v new (Err (fault.Full full)) = ⊥
+AnswersRationals v new (Err (fault.Full full)) = LacksLongForm full
 AnswersRationals v new (Err (fault.Overflow o)) = IsPlainOverflow v o

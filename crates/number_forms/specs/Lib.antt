@@ -6,3 +6,4 @@ pub mod Joins
 pub mod Inverses
 pub mod Overflows
 pub mod Lacks
+pub mod Listings

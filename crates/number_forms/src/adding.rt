@@ -1,11 +1,12 @@
 //! Sums of Numbers.
-ghost use Rattle.std.specs.Prelude.{◌≡◌, ◌==◌, ◌&&◌, ◌∷◌, ◌++◌, [], true, false, IfOk, IfErr, OnOk};
+ghost use Rattle.std.specs.Prelude.{◌≡◌, ◌<◌, ◌^◌, ◌==◌, ◌&&◌, ◌∷◌, ◌++◌, [], true, false, IfOk, IfErr, OnOk};
 ghost use Rattle.calc_terms.specs.Fits.{add_op};
 ghost use Rattle.calc_terms.specs.Fractions.{Fraction};
 ghost use Rattle.calc_algebra.specs.Numbers.{is_number, value};
 ghost use Rattle.calc_measures.specs.PlainValues.{calculated};
 ghost use Rattle.calc_terms.specs.Trees.{num, is_num, is_add};
 ghost use Rattle.number_forms.specs.Answers.{IsNumberOf, AnswersRationals};
+ghost use Rattle.number_forms.specs.Listings.{Lists};
 ghost use Rattle.number_forms.specs.Overflows.{SumOverflows};
 ghost use Rattle.number_forms.specs.Sums.{IsSum, IsSumOf};
 ghost use Rattle.tree_handles.specs.Standing.{LacksBytes, Stands, forest, KeepsRefusals, Refuses};
@@ -15,9 +16,10 @@ ghost use Rattle.tree_handles.specs.Faults.{Faults, OfOverflow};
 ghost use Rattle.tree_handles.specs.Roots.{without_root};
 
 use crate::joining::join_term;
+use crate::listing::{FEW, Listing, MANY, NONE};
 use crate::rationals::{is_rational, take_rationals};
 use crate::read::{is_zero, term_count};
-use crate::term::nth_term;
+use crate::term::listed_term;
 use calc_terms::{Kind, Rat};
 use node_pool::{Full, Id, Pool};
 use rational128::add;
@@ -86,8 +88,38 @@ fn add_terms(pool: &mut Pool, a: Handle, b: Handle) -> Result<Handle, NumberFaul
     ensures caused { IfErr result (IsCaused pool.new) }
     ensures stands { Stands pool.new }
 {
+    let terms = term_count(pool, a.id()).saturating_add(term_count(pool, b.id()));
+    let terms = usize::from(terms);
+    if terms <= 2 {
+        add_within::<NONE>(pool, a, b)
+    } else if terms <= FEW {
+        add_within::<FEW>(pool, a, b)
+    } else {
+        add_within::<MANY>(pool, a, b)
+    }
+}
+
+/// The same with lists that have room for so many terms.
+#[inline(never)]
+fn add_within<const N: usize>(pool: &mut Pool, a: Handle, b: Handle) -> Result<Handle, NumberFault>
+    requires few { N < 2 ^ 16 }
+    requires stands { Stands pool.old }
+    requires first { IsHanded a (forest pool.old) }
+    requires second { IsHanded b (forest pool.old) }
+    requires apart { (a == b) ≡ false }
+    requires first_number { is_number (tree_of a pool.old) ≡ true }
+    requires second_number { is_number (tree_of b pool.old) ≡ true }
+    ensures ok { IfOk result (λ h. Gives (without_root b (without_root a (forest pool.old))) (forest pool.new) h (IsNumberOf (value (tree_of a pool.old) ++ value (tree_of b pool.old)))) }
+    ensures front { KeepsFront (a ∷ b ∷ []) (forest pool.old) (forest pool.new) }
+    ensures kept { OnOk result (KeepsRefusals pool.old pool.new) }
+    ensures faults { IfErr result (Faults pool.old pool.new) }
+    ensures overflow { IfErr result (OfOverflow (SumOverflows (value (tree_of a pool.old)) (value (tree_of b pool.old)))) }
+    ensures caused { IfErr result (IsCaused pool.new) }
+    ensures stands { Stands pool.new }
+{
     let sum = sum_over(pool, a)?;
-    join_terms(pool, &sum, b.id())?;
+    let mut list: Listing<N> = Listing::of(pool, sum.id());
+    join_terms(pool, &sum, &mut list, b.id())?;
     release(pool, b);
     Ok(number_of(pool, sum)?)
 }
@@ -137,12 +169,19 @@ fn sum_over_term(pool: &mut Pool, a: Handle) -> Result<Handle, Full>
 }
 
 /// Joins each term of a Number, another root, to a sum.
-pub(crate) fn join_terms(pool: &mut Pool, sum: &Handle, number: Id) -> Result<(), NumberFault>
+pub(crate) fn join_terms<const N: usize>(
+    pool: &mut Pool,
+    sum: &Handle,
+    list: &mut Listing<N>,
+    number: Id,
+) -> Result<(), NumberFault>
     requires stands { Stands pool.old }
     requires sum { Gives (without_root sum.now (forest pool.old)) (forest pool.old) sum.now IsSum }
+    requires lists { Lists list.old sum.now (forest pool.old) }
     requires handed { IsHanded number (without_root sum.now (forest pool.old)) }
     requires number { is_number (tree_of number pool.old) ≡ true }
     ensures ok { OnOk result (Gives (without_root sum.now (forest pool.old)) (forest pool.new) sum.now (IsSumOf (value (tree_of sum.now pool.old) ++ value (tree_of number pool.old)))) }
+    ensures lists { OnOk result (Lists list.new sum.now (forest pool.new)) }
     ensures front { KeepsFront (sum.now ∷ []) (forest pool.old) (forest pool.new) }
     ensures kept { OnOk result (KeepsRefusals pool.old pool.new) }
     ensures faults { IfErr result (Faults pool.old pool.new) }
@@ -150,9 +189,10 @@ pub(crate) fn join_terms(pool: &mut Pool, sum: &Handle, number: Id) -> Result<()
     ensures caused { IfErr result (IsCaused pool.new) }
     ensures stands { Stands pool.new }
 {
+    let terms: Listing<N> = Listing::of(pool, number);
     for at in 0..term_count(pool, number) {
-        let term = nth_term(pool, number, at);
-        join_term(pool, sum, term)?;
+        let term = listed_term(pool, number, &terms, at);
+        join_term(pool, sum, list, term)?;
     }
     Ok(())
 }

@@ -10,7 +10,7 @@ ghost use Rattle.number_forms.specs.Lacks.{OfFull};
 ghost use Rattle.number_forms.specs.Overflows.{InverseOverflows};
 ghost use Rattle.number_forms.specs.Shapes.{sum_of_terms};
 ghost use Rattle.tree_handles.specs.Building.{building};
-ghost use Rattle.tree_handles.specs.Causes.{IsCaused};
+ghost use Rattle.tree_handles.specs.Causes.{IsCaused, OnlyLacksLongForm};
 ghost use Rattle.tree_handles.specs.Handed.{tree_of, IsHanded, Gives, KeepsFront};
 ghost use Rattle.surd_terms.specs.Terms.{term_of};
 ghost use Rattle.tree_handles.specs.Faults.{Faults, OfOverflow};
@@ -46,7 +46,7 @@ pub fn invert_number(pool: &mut Pool, a: Handle) -> Result<Inverse, NumberFault>
     ensures front { KeepsFront (a ∷ []) (forest pool.old) (forest pool.new) }
     ensures kept { OnOk result (KeepsRefusals pool.old pool.new) }
     ensures faults { IfErr result (Faults pool.old pool.new) }
-    ensures rational { (q : Fraction) → tree_of a pool.old ≡ num q → IsOk result }
+    ensures rational { (q : Fraction) → tree_of a pool.old ≡ num q → IfErr result OnlyLacksLongForm }
     ensures exactly { IsOk result ↔ HasInverse (value (tree_of a pool.old)) (free_of pool.old + size (tree_of a pool.old)) }
     ensures overflow { IfErr result (OfOverflow (InverseOverflows (value (tree_of a pool.old)))) }
     ensures first_lack { IfErr result (OfFull (LacksInverse (value (tree_of a pool.old)) (free_of pool.old + size (tree_of a pool.old)))) }
@@ -76,7 +76,7 @@ fn invert_one(pool: &mut Pool, a: Handle) -> Result<Handle, NumberFault>
     ensures front { KeepsFront (a ∷ []) (forest pool.old) (forest pool.new) }
     ensures kept { OnOk result (KeepsRefusals pool.old pool.new) }
     ensures faults { IfErr result (Faults pool.old pool.new) }
-    ensures rational { (q : Fraction) → tree_of a pool.old ≡ num q → IsOk result }
+    ensures rational { (q : Fraction) → tree_of a pool.old ≡ num q → IfErr result OnlyLacksLongForm }
     ensures exactly { IsOk result ↔ HasInverse (value (tree_of a pool.old)) (free_of pool.old + size (tree_of a pool.old)) }
     ensures overflow { IfErr result (OfOverflow (InverseOverflows (value (tree_of a pool.old)))) }
     ensures first_lack { IfErr result (OfFull (LacksInverse (value (tree_of a pool.old)) (free_of pool.old + size (tree_of a pool.old)))) }

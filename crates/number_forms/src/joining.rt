@@ -1,9 +1,11 @@
 //! Terms joined to a sum of terms that stands last.
-ghost use Rattle.std.specs.Prelude.{◌≡◌, ◌<◌, ◌≤◌, ◌-◌, ◌^◌, ◌∷◌, [], IsTrue, IfOk, IfErr, OnOk};
+ghost use Rattle.std.specs.Prelude.{◌≡◌, ◌<◌, ◌≤◌, ◌-◌, ◌^◌, ◌∷◌, [], IsTrue, IfOk, IfErr, IfSome, OnOk};
+ghost use Rattle.calc_algebra.specs.Clean.{IsClean};
 ghost use Rattle.calc_algebra.specs.Numbers.{value, term_of as term_of_tree};
 ghost use Rattle.calc_terms.specs.Trees.{add, count};
 ghost use Rattle.number_forms.specs.Sums.{IsSum, IsSumOf, IsApart, IsPlace, AreBelow, removed};
 ghost use Rattle.number_forms.specs.Joins.{IsMatch};
+ghost use Rattle.number_forms.specs.Listings.{Lists};
 ghost use Rattle.number_forms.specs.Overflows.{JoinOverflows};
 ghost use Rattle.tree_handles.specs.Standing.{LacksBytes, Stands, forest, KeepsRefusals, Refuses};
 ghost use Rattle.tree_handles.specs.Causes.{IsCaused, Overflows};
@@ -14,14 +16,13 @@ ghost use Rattle.tree_handles.specs.Faults.{Faults, OfOverflow};
 ghost use Rattle.tree_handles.specs.Inside.{tree_at};
 ghost use Rattle.tree_handles.specs.Roots.{without_root};
 
+use crate::listing::Listing;
 use crate::placing::place_term;
 use crate::term::term_at;
 use node_pool::{Full, Id, Pool};
 use rational128::Overflow;
-use surd_terms::{Joined, Term, join};
-use tree_handles::{
-    Handle, NumberFault, add_child, child_id, child_ids, children, release, take_child,
-};
+use surd_terms::{Joined, Term, join, undivided};
+use tree_handles::{Handle, NumberFault, add_child, child_ids, children, release, take_child};
 
 /// A clean number below this one is square-free, so that each class has one.
 const SQUARE_FREE_BELOW: u128 = 1_000_000_000_000;
@@ -36,10 +37,17 @@ enum Match {
 }
 
 /// Joins a term to a sum: with the term of its class, which may leave none, or at its place.
-pub(crate) fn join_term(pool: &mut Pool, sum: &Handle, term: Term) -> Result<(), NumberFault>
+pub(crate) fn join_term<const N: usize>(
+    pool: &mut Pool,
+    sum: &Handle,
+    list: &mut Listing<N>,
+    term: Term,
+) -> Result<(), NumberFault>
     requires stands { Stands pool.old }
     requires sum { Gives (without_root sum.now (forest pool.old)) (forest pool.old) sum.now IsSum }
+    requires lists { Lists list.old sum.now (forest pool.old) }
     ensures ok { OnOk result (Gives (without_root sum.now (forest pool.old)) (forest pool.new) sum.now (IsSumOf (term_of term ∷ value (tree_of sum.now pool.old)))) }
+    ensures lists { OnOk result (Lists list.new sum.now (forest pool.new)) }
     ensures front { KeepsFront (sum.now ∷ []) (forest pool.old) (forest pool.new) }
     ensures kept { OnOk result (KeepsRefusals pool.old pool.new) }
     ensures faults { IfErr result (Faults pool.old pool.new) }
@@ -47,65 +55,112 @@ pub(crate) fn join_term(pool: &mut Pool, sum: &Handle, term: Term) -> Result<(),
     ensures caused { IfErr result (IsCaused pool.new) }
     ensures stands { Stands pool.new }
 {
-    match match_in(pool, sum.id(), term)? {
-        Match::Apart(at) => insert(pool, sum, at, term)?,
-        Match::Zero(at) => remove(pool, sum, at),
+    match match_in(pool, sum.id(), list, term)? {
+        Match::Apart(at) => insert(pool, sum, list, at, term)?,
+        Match::Zero(at) => remove(pool, sum, list, at),
         Match::Term(at, joined) => {
-            remove(pool, sum, at);
-            let place = place_near(pool, sum.id(), at, joined.radicand());
-            insert(pool, sum, place, joined)?;
+            remove(pool, sum, list, at);
+            let place = place_of(pool, sum.id(), list, joined.radicand());
+            insert(pool, sum, list, place, joined)?;
         }
     }
     Ok(())
 }
 
 /// How a term meets a sum.
-fn match_in(pool: &Pool, sum: Id, term: Term) -> Result<Match, Overflow>
+fn match_in<const N: usize>(
+    pool: &Pool,
+    sum: Id,
+    list: &Listing<N>,
+    term: Term,
+) -> Result<Match, Overflow>
     requires stands { Stands pool.now }
     requires expression { IsExpression sum (forest pool.now) }
     requires sum { IsSum (plain (tree_at sum (forest pool.now))) }
+    requires lists { Lists list.now sum (forest pool.now) }
     ensures ok { IfOk result (IsMatch (term_of term) (children_of (plain (tree_at sum (forest pool.now))))) }
     ensures overflow { IfErr result (JoinOverflows (plain (tree_at sum (forest pool.now))) (term_of term)) }
     ensures caused { IfErr result Overflows }
 {
-    if term.radicand() < SQUARE_FREE_BELOW && are_square_free(pool, sum) {
-        match_at_place(pool, sum, term)
-    } else {
-        match_anywhere(pool, sum, term)
+    if term.radicand() < SQUARE_FREE_BELOW && are_square_free(pool, sum, list) {
+        return match_at_place(pool, sum, list, term);
+    }
+    match match_equal(pool, sum, list, term) {
+        Ok(Some(found)) => Ok(found),
+        Ok(None) => match_anywhere(pool, sum, list, term),
+        Err(overflow) => Err(overflow),
+    }
+}
+
+/// How a term meets the one of a sum that has its radicand, if there is one.
+fn match_equal<const N: usize>(
+    pool: &Pool,
+    sum: Id,
+    list: &Listing<N>,
+    term: Term,
+) -> Result<Option<Match>, Overflow>
+    requires stands { Stands pool.now }
+    requires expression { IsExpression sum (forest pool.now) }
+    requires sum { IsSum (plain (tree_at sum (forest pool.now))) }
+    requires lists { Lists list.now sum (forest pool.now) }
+    ensures ok { IfOk result (λ found. IfSome found (IsMatch (term_of term) (children_of (plain (tree_at sum (forest pool.now)))))) }
+    ensures overflow { IfErr result (JoinOverflows (plain (tree_at sum (forest pool.now))) (term_of term)) }
+    ensures caused { IfErr result Overflows }
+{
+    let at = place_of(pool, sum, list, term.radicand());
+    if at == children(pool, sum) {
+        return Ok(None);
+    }
+    let other = term_at(pool, list.term(pool, sum, at));
+    if other.radicand() != term.radicand() {
+        return Ok(None);
+    }
+    let joined = join(other, term)?;
+    match joined {
+        Joined::Apart => Ok(None),
+        Joined::Zero => Ok(Some(Match::Zero(at))),
+        Joined::Term(one) => Ok(Some(Match::Term(at, one))),
     }
 }
 
 /// Whether each radicand of a sum is below the number below which clean ones are square-free: the
 /// last one is the greatest.
-fn are_square_free(pool: &Pool, sum: Id) -> bool
+fn are_square_free<const N: usize>(pool: &Pool, sum: Id, list: &Listing<N>) -> bool
     requires stands { Stands pool.now }
     requires expression { IsExpression sum (forest pool.now) }
     requires sum { IsSum (plain (tree_at sum (forest pool.now))) }
+    requires lists { Lists list.now sum (forest pool.now) }
     ensures { IsTrue result → AreBelow (10 ^ 12) (children_of (plain (tree_at sum (forest pool.now)))) }
 {
     let many = children(pool, sum);
     if many == 0 {
         return true;
     }
-    radicand_at(pool, sum, many - 1) < SQUARE_FREE_BELOW
+    radicand_at(pool, sum, list, many - 1) < SQUARE_FREE_BELOW
 }
 
 /// The same where all radicands are square-free, so that only an equal one is alike.
-fn match_at_place(pool: &Pool, sum: Id, term: Term) -> Result<Match, Overflow>
+fn match_at_place<const N: usize>(
+    pool: &Pool,
+    sum: Id,
+    list: &Listing<N>,
+    term: Term,
+) -> Result<Match, Overflow>
     requires stands { Stands pool.now }
     requires expression { IsExpression sum (forest pool.now) }
     requires sum { IsSum (plain (tree_at sum (forest pool.now))) }
+    requires lists { Lists list.now sum (forest pool.now) }
     requires term_below { (term_of term).radicand < 10 ^ 12 }
     requires sum_below { AreBelow (10 ^ 12) (children_of (plain (tree_at sum (forest pool.now)))) }
     ensures ok { IfOk result (IsMatch (term_of term) (children_of (plain (tree_at sum (forest pool.now))))) }
     ensures overflow { IfErr result (JoinOverflows (plain (tree_at sum (forest pool.now))) (term_of term)) }
     ensures caused { IfErr result Overflows }
 {
-    let at = place_of(pool, sum, term.radicand());
+    let at = place_of(pool, sum, list, term.radicand());
     if at == children(pool, sum) {
         return Ok(Match::Apart(at));
     }
-    let other = term_at(pool, child_id(pool, sum, at));
+    let other = term_at(pool, list.term(pool, sum, at));
     let joined = join(other, term)?;
     match joined {
         Joined::Apart => Ok(Match::Apart(at)),
@@ -115,10 +170,16 @@ fn match_at_place(pool: &Pool, sum: Id, term: Term) -> Result<Match, Overflow>
 }
 
 /// The same for any radicands.
-fn match_anywhere(pool: &Pool, sum: Id, term: Term) -> Result<Match, Overflow>
+fn match_anywhere<const N: usize>(
+    pool: &Pool,
+    sum: Id,
+    list: &Listing<N>,
+    term: Term,
+) -> Result<Match, Overflow>
     requires stands { Stands pool.now }
     requires expression { IsExpression sum (forest pool.now) }
     requires sum { IsSum (plain (tree_at sum (forest pool.now))) }
+    requires lists { Lists list.now sum (forest pool.now) }
     ensures ok { IfOk result (IsMatch (term_of term) (children_of (plain (tree_at sum (forest pool.now))))) }
     ensures overflow { IfErr result (JoinOverflows (plain (tree_at sum (forest pool.now))) (term_of term)) }
     ensures caused { IfErr result Overflows }
@@ -132,17 +193,25 @@ fn match_anywhere(pool: &Pool, sum: Id, term: Term) -> Result<Match, Overflow>
             Joined::Term(joined) => return Ok(Match::Term(at, joined)),
         }
     }
-    let place = place_of(pool, sum, term.radicand());
+    let place = place_of(pool, sum, list, term.radicand());
     Ok(Match::Apart(place))
 }
 
 /// Puts a term into a sum at its place, where none is alike with it.
-fn insert(pool: &mut Pool, sum: &Handle, at: u16, term: Term) -> Result<(), Full>
+fn insert<const N: usize>(
+    pool: &mut Pool,
+    sum: &Handle,
+    list: &mut Listing<N>,
+    at: u16,
+    term: Term,
+) -> Result<(), Full>
     requires stands { Stands pool.old }
     requires sum { Gives (without_root sum.now (forest pool.old)) (forest pool.old) sum.now IsSum }
+    requires lists { Lists list.old sum.now (forest pool.old) }
     requires apart { IsApart (term_of term).radicand (value (tree_of sum.now pool.old)) }
     requires place { IsPlace at (term_of term).radicand (children_of (tree_of sum.now pool.old)) }
     ensures ok { OnOk result (Gives (without_root sum.now (forest pool.old)) (forest pool.new) sum.now (IsSumOf (term_of term ∷ value (tree_of sum.now pool.old)))) }
+    ensures lists { OnOk result (Lists list.new sum.now (forest pool.new)) }
     ensures front { KeepsFront (sum.now ∷ []) (forest pool.old) (forest pool.new) }
     ensures kept { OnOk result (KeepsRefusals pool.old pool.new) }
     ensures full { IfErr result (Refuses pool.old pool.new) }
@@ -150,80 +219,25 @@ fn insert(pool: &mut Pool, sum: &Handle, at: u16, term: Term) -> Result<(), Full
     ensures stands { Stands pool.new }
 {
     let child = place_term(pool, term)?;
+    let id = child.id();
     add_child(pool, sum, at, child);
+    list.insert(at, id);
     Ok(())
 }
 
-/// The place of a radicand among those of a sum, where one is given that may be it.
-fn place_near(pool: &Pool, sum: Id, at: u16, radicand: u128) -> u16
-    requires stands { Stands pool.now }
-    requires expression { IsExpression sum (forest pool.now) }
-    requires sum { IsSum (plain (tree_at sum (forest pool.now))) }
-    ensures { IsPlace result radicand (children_of (plain (tree_at sum (forest pool.now)))) }
-{
-    if is_place(pool, sum, at, radicand) {
-        at
-    } else {
-        place_of(pool, sum, radicand)
-    }
-}
-
-/// Whether a place is that of a radicand: the one before is below it, and the one there is not.
-fn is_place(pool: &Pool, sum: Id, at: u16, radicand: u128) -> bool
-    requires stands { Stands pool.now }
-    requires expression { IsExpression sum (forest pool.now) }
-    requires sum { IsSum (plain (tree_at sum (forest pool.now))) }
-    ensures { IsTrue result → IsPlace at radicand (children_of (plain (tree_at sum (forest pool.now)))) }
-{
-    if children(pool, sum) < at {
-        return false;
-    }
-    if !is_above_before(pool, sum, at, radicand) {
-        return false;
-    }
-    is_at_most_there(pool, sum, at, radicand)
-}
-
-/// Whether a radicand is above that of the term before a place, if there is one.
-fn is_above_before(pool: &Pool, sum: Id, at: u16, radicand: u128) -> bool
-    requires stands { Stands pool.now }
-    requires expression { IsExpression sum (forest pool.now) }
-    requires sum { IsSum (plain (tree_at sum (forest pool.now))) }
-    requires within { at ≤ count (children_of (plain (tree_at sum (forest pool.now)))) }
-    ensures { IsTrue result → 0 < at → (term_of_tree (nth (at - 1) (children_of (plain (tree_at sum (forest pool.now)))))).radicand < radicand }
-{
-    if at == 0 {
-        return true;
-    }
-    radicand_at(pool, sum, at - 1) < radicand
-}
-
-/// Whether a radicand is at most that of the term at a place, if there is one.
-fn is_at_most_there(pool: &Pool, sum: Id, at: u16, radicand: u128) -> bool
-    requires stands { Stands pool.now }
-    requires expression { IsExpression sum (forest pool.now) }
-    requires sum { IsSum (plain (tree_at sum (forest pool.now))) }
-    requires within { at ≤ count (children_of (plain (tree_at sum (forest pool.now)))) }
-    ensures { IsTrue result → at < count (children_of (plain (tree_at sum (forest pool.now)))) → radicand ≤ (term_of_tree (nth at (children_of (plain (tree_at sum (forest pool.now)))))).radicand }
-{
-    if at == children(pool, sum) {
-        return true;
-    }
-    radicand <= radicand_at(pool, sum, at)
-}
-
 /// The place of a radicand among those of a sum.
-fn place_of(pool: &Pool, sum: Id, radicand: u128) -> u16
+fn place_of<const N: usize>(pool: &Pool, sum: Id, list: &Listing<N>, radicand: u128) -> u16
     requires stands { Stands pool.now }
     requires expression { IsExpression sum (forest pool.now) }
     requires sum { IsSum (plain (tree_at sum (forest pool.now))) }
+    requires lists { Lists list.now sum (forest pool.now) }
     ensures { IsPlace result radicand (children_of (plain (tree_at sum (forest pool.now)))) }
 {
     let mut low = 0;
     let mut high = children(pool, sum);
     while low < high {
         let mid = low + (high - low) / 2;
-        if radicand_at(pool, sum, mid) < radicand {
+        if radicand_at(pool, sum, list, mid) < radicand {
             low = mid + 1;
         } else {
             high = mid;
@@ -233,26 +247,55 @@ fn place_of(pool: &Pool, sum: Id, radicand: u128) -> u16
 }
 
 /// The radicand of a term of a sum.
-fn radicand_at(pool: &Pool, sum: Id, at: u16) -> u128
+fn radicand_at<const N: usize>(pool: &Pool, sum: Id, list: &Listing<N>, at: u16) -> u128
     requires stands { Stands pool.now }
     requires expression { IsExpression sum (forest pool.now) }
     requires sum { IsSum (plain (tree_at sum (forest pool.now))) }
+    requires lists { Lists list.now sum (forest pool.now) }
     requires within { at < count (children_of (plain (tree_at sum (forest pool.now)))) }
-    ensures { result ≡ (term_of_tree (nth at (children_of (plain (tree_at sum (forest pool.now)))))).radicand }
+    ensures value { result ≡ (term_of_tree (nth at (children_of (plain (tree_at sum (forest pool.now)))))).radicand }
+    ensures clean { IsClean result }
 {
-    term_at(pool, child_id(pool, sum, at)).radicand()
+    term_at(pool, list.term(pool, sum, at)).radicand()
+}
+
+/// A clean number, which is what is left under the root of the product of two terms if a sum has that radicand.
+pub(crate) fn clean_radicand<const N: usize>(
+    pool: &Pool,
+    sum: Id,
+    list: &Listing<N>,
+    a: Term,
+    b: Term,
+) -> u128
+    requires stands { Stands pool.now }
+    requires expression { IsExpression sum (forest pool.now) }
+    requires sum { IsSum (plain (tree_at sum (forest pool.now))) }
+    requires lists { Lists list.now sum (forest pool.now) }
+    ensures { IsClean result }
+{
+    let Some(rest) = undivided(a, b) else {
+        return 1;
+    };
+    let at = place_of(pool, sum, list, rest);
+    if at == children(pool, sum) {
+        return 1;
+    }
+    radicand_at(pool, sum, list, at)
 }
 
 /// Takes a term out of a sum.
-fn remove(pool: &mut Pool, sum: &Handle, at: u16)
+fn remove<const N: usize>(pool: &mut Pool, sum: &Handle, list: &mut Listing<N>, at: u16)
     requires stands { Stands pool.old }
     requires sum { Gives (without_root sum.now (forest pool.old)) (forest pool.old) sum.now IsSum }
+    requires lists { Lists list.old sum.now (forest pool.old) }
     requires within { at < count (children_of (tree_of sum.now pool.old)) }
     ensures sum { Gives (without_root sum.now (forest pool.old)) (forest pool.new) sum.now (λ t. t ≡ add (removed at (children_of (tree_of sum.now pool.old)))) }
+    ensures lists { Lists list.new sum.now (forest pool.new) }
     ensures front { KeepsFront (sum.now ∷ []) (forest pool.old) (forest pool.new) }
     ensures kept { KeepsRefusals pool.old pool.new }
     ensures stands { Stands pool.new }
 {
     let child = take_child(pool, sum, at);
     release(pool, child);
+    list.remove(at);
 }

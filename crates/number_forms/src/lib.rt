@@ -5,6 +5,7 @@
 mod adding;
 mod inverting;
 mod joining;
+mod listing;
 mod multiplying;
 mod placing;
 mod powers;

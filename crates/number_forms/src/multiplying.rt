@@ -1,5 +1,5 @@
 //! Products of Numbers.
-ghost use Rattle.std.specs.Prelude.{◌≡◌, ◌==◌, ◌&&◌, ◌∷◌, ◌++◌, [], true, false, map, IfOk, IfErr, OnOk};
+ghost use Rattle.std.specs.Prelude.{◌≡◌, ◌<◌, ◌^◌, ◌==◌, ◌&&◌, ◌∷◌, ◌++◌, [], true, false, map, IfOk, IfErr, OnOk};
 ghost use Rattle.calc_terms.specs.Fits.{mul_op};
 ghost use Rattle.calc_terms.specs.Fractions.{Fraction};
 ghost use Rattle.calc_algebra.specs.Numbers.{is_number, value};
@@ -7,6 +7,7 @@ ghost use Rattle.calc_measures.specs.PlainValues.{calculated};
 ghost use Rattle.calc_algebra.specs.Surds.{term_times, surd_times};
 ghost use Rattle.calc_terms.specs.Trees.{num, is_num};
 ghost use Rattle.number_forms.specs.Answers.{IsNumberOf, AnswersRationals};
+ghost use Rattle.number_forms.specs.Listings.{Lists};
 ghost use Rattle.number_forms.specs.Overflows.{RowOverflows, ProductOverflows};
 ghost use Rattle.number_forms.specs.Sums.{IsSum, IsSumOf};
 ghost use Rattle.tree_handles.specs.Causes.{IsCaused};
@@ -17,14 +18,15 @@ ghost use Rattle.tree_handles.specs.Roots.{without_root};
 ghost use Rattle.tree_handles.specs.Standing.{Stands, forest, KeepsRefusals};
 
 use crate::adding::number_of;
-use crate::joining::join_term;
+use crate::joining::{clean_radicand, join_term};
+use crate::listing::{FEW, Listing, MANY, NONE};
 use crate::rationals::{is_rational, take_rationals};
 use crate::read::term_count;
-use crate::term::nth_term;
+use crate::term::{listed_term, nth_term};
 use calc_terms::Kind;
 use node_pool::{Id, Pool};
 use rational128::mul;
-use surd_terms::{Term, product};
+use surd_terms::{Term, product_with};
 use tree_handles::{Handle, NumberFault, node, number, release};
 
 /// The product of two Numbers, which go.
@@ -109,21 +111,65 @@ pub(crate) fn product_of(pool: &mut Pool, a: &Handle, b: &Handle) -> Result<Hand
     ensures caused { IfErr result (IsCaused pool.new) }
     ensures stands { Stands pool.new }
 {
+    let terms = term_count(pool, a.id()).saturating_mul(term_count(pool, b.id()));
+    let terms = usize::from(terms);
+    if terms <= 1 {
+        product_within::<NONE>(pool, a, b)
+    } else if terms <= FEW {
+        product_within::<FEW>(pool, a, b)
+    } else {
+        product_within::<MANY>(pool, a, b)
+    }
+}
+
+/// The same with lists that have room for so many terms.
+#[inline(never)]
+fn product_within<const N: usize>(
+    pool: &mut Pool,
+    a: &Handle,
+    b: &Handle,
+) -> Result<Handle, NumberFault>
+    requires few { N < 2 ^ 16 }
+    requires stands { Stands pool.old }
+    requires first { IsHanded a.now (forest pool.old) }
+    requires second { IsHanded b.now (forest pool.old) }
+    requires first_number { is_number (tree_of a.now pool.old) ≡ true }
+    requires second_number { is_number (tree_of b.now pool.old) ≡ true }
+    ensures ok { IfOk result (λ h. Gives (forest pool.old) (forest pool.new) h (IsNumberOf (surd_times (value (tree_of a.now pool.old)) (value (tree_of b.now pool.old))))) }
+    ensures front { KeepsFront [] (forest pool.old) (forest pool.new) }
+    ensures kept { OnOk result (KeepsRefusals pool.old pool.new) }
+    ensures faults { IfErr result (Faults pool.old pool.new) }
+    ensures overflow { IfErr result (OfOverflow (ProductOverflows (value (tree_of a.now pool.old)) (value (tree_of b.now pool.old)))) }
+    ensures caused { IfErr result (IsCaused pool.new) }
+    ensures stands { Stands pool.new }
+{
     let sum = node(pool, Kind::Add)?;
-    join_rows(pool, &sum, a.id(), b.id())?;
+    let mut list: Listing<N> = Listing::new();
+    let terms: Listing<N> = Listing::of(pool, b.id());
+    join_rows(pool, &sum, &mut list, a.id(), b.id(), &terms)?;
     Ok(number_of(pool, sum)?)
 }
 
 /// Joins the product of each term of a Number and each of another to a sum, beside which both are
 /// roots.
-fn join_rows(pool: &mut Pool, sum: &Handle, a: Id, b: Id) -> Result<(), NumberFault>
+fn join_rows<const N: usize>(
+    pool: &mut Pool,
+    sum: &Handle,
+    list: &mut Listing<N>,
+    a: Id,
+    b: Id,
+    terms: &Listing<N>,
+) -> Result<(), NumberFault>
     requires stands { Stands pool.old }
     requires sum { Gives (without_root sum.now (forest pool.old)) (forest pool.old) sum.now IsSum }
+    requires lists { Lists list.old sum.now (forest pool.old) }
     requires first { IsHanded a (without_root sum.now (forest pool.old)) }
     requires second { IsHanded b (without_root sum.now (forest pool.old)) }
     requires first_number { is_number (tree_of a pool.old) ≡ true }
     requires second_number { is_number (tree_of b pool.old) ≡ true }
+    requires terms { Lists terms.now b (forest pool.old) }
     ensures ok { OnOk result (Gives (without_root sum.now (forest pool.old)) (forest pool.new) sum.now (IsSumOf (value (tree_of sum.now pool.old) ++ surd_times (value (tree_of a pool.old)) (value (tree_of b pool.old))))) }
+    ensures lists { OnOk result (Lists list.new sum.now (forest pool.new)) }
     ensures front { KeepsFront (sum.now ∷ []) (forest pool.old) (forest pool.new) }
     ensures kept { OnOk result (KeepsRefusals pool.old pool.new) }
     ensures faults { IfErr result (Faults pool.old pool.new) }
@@ -133,18 +179,28 @@ fn join_rows(pool: &mut Pool, sum: &Handle, a: Id, b: Id) -> Result<(), NumberFa
 {
     for at in 0..term_count(pool, a) {
         let term = nth_term(pool, a, at);
-        join_products(pool, sum, term, b)?;
+        join_products(pool, sum, list, term, b, terms)?;
     }
     Ok(())
 }
 
 /// Joins the product of a term and each term of a Number, another root, to a sum.
-fn join_products(pool: &mut Pool, sum: &Handle, term: Term, number: Id) -> Result<(), NumberFault>
+fn join_products<const N: usize>(
+    pool: &mut Pool,
+    sum: &Handle,
+    list: &mut Listing<N>,
+    term: Term,
+    number: Id,
+    terms: &Listing<N>,
+) -> Result<(), NumberFault>
     requires stands { Stands pool.old }
     requires sum { Gives (without_root sum.now (forest pool.old)) (forest pool.old) sum.now IsSum }
+    requires lists { Lists list.old sum.now (forest pool.old) }
     requires handed { IsHanded number (without_root sum.now (forest pool.old)) }
     requires number { is_number (tree_of number pool.old) ≡ true }
+    requires terms { Lists terms.now number (forest pool.old) }
     ensures ok { OnOk result (Gives (without_root sum.now (forest pool.old)) (forest pool.new) sum.now (IsSumOf (value (tree_of sum.now pool.old) ++ map (term_times (term_of term)) (value (tree_of number pool.old))))) }
+    ensures lists { OnOk result (Lists list.new sum.now (forest pool.new)) }
     ensures front { KeepsFront (sum.now ∷ []) (forest pool.old) (forest pool.new) }
     ensures kept { OnOk result (KeepsRefusals pool.old pool.new) }
     ensures faults { IfErr result (Faults pool.old pool.new) }
@@ -153,9 +209,10 @@ fn join_products(pool: &mut Pool, sum: &Handle, term: Term, number: Id) -> Resul
     ensures stands { Stands pool.new }
 {
     for at in 0..term_count(pool, number) {
-        let other = nth_term(pool, number, at);
-        let product = product(term, other)?;
-        join_term(pool, sum, product)?;
+        let other = listed_term(pool, number, terms, at);
+        let clean = clean_radicand(pool, sum.id(), list, term, other);
+        let product = product_with(term, other, clean)?;
+        join_term(pool, sum, list, product)?;
     }
     Ok(())
 }

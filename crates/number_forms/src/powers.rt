@@ -1,5 +1,5 @@
 //! Powers of Numbers.
-ghost use Rattle.std.specs.Prelude.{◌≡◌, ◌∷◌, ◌≤◌, ◌≤ℤ◌, pos, nat_abs, [], true, false, IfOk, IfErr, OnOk};
+ghost use Rattle.std.specs.Prelude.{◌≡◌, ◌∷◌, ◌≤◌, ◌<◌, ◌≤ℤ◌, pos, nat_abs, [], true, false, IfOk, IfErr, OnOk};
 ghost use Rattle.calc_terms.specs.Fits.{pow_op};
 ghost use Rattle.calc_terms.specs.Fractions.{Fraction, whole_fraction};
 ghost use Rattle.calc_algebra.specs.Numbers.{is_number, value};
@@ -18,7 +18,7 @@ use crate::multiplying::product_of;
 use crate::rationals::{is_rational, take_rational};
 use node_pool::Pool;
 use rational128::pow;
-use tree_handles::{Handle, NumberFault, copy_tree, number, release};
+use tree_handles::{Handle, NumberFault, move_last, number, release};
 
 /// A Number, which goes, to a power.
 pub fn power_number(pool: &mut Pool, a: Handle, n: i128) -> Result<Handle, NumberFault>
@@ -37,6 +37,9 @@ pub fn power_number(pool: &mut Pool, a: Handle, n: i128) -> Result<Handle, Numbe
 {
     if is_rational(pool, a.id()) {
         power_rational(pool, a, n)
+    } else if n == 1 {
+        move_last(pool, &a);
+        Ok(a)
     } else {
         let power = power_of(pool, &a, n.unsigned_abs())?;
         release(pool, a);
@@ -64,12 +67,12 @@ fn power_rational(pool: &mut Pool, a: Handle, n: i128) -> Result<Handle, NumberF
 }
 
 /// A new last tree that is a power of a Number, which stays. It calls itself for half the exponent, so
-/// at most 127 times, and makes no power above the one that is asked for.
+/// at most 126 times, and makes no power above the one that is asked for.
 fn power_of(pool: &mut Pool, a: &Handle, n: u128) -> Result<Handle, NumberFault>
     requires stands { Stands pool.old }
     requires handed { IsHanded a.now (forest pool.old) }
     requires number { is_number (tree_of a.now pool.old) ≡ true }
-    requires positive { 1 ≤ n }
+    requires twice { 2 ≤ n }
     ensures ok { IfOk result (λ h. Gives (forest pool.old) (forest pool.new) h (IsNumberOf (surd_power (value (tree_of a.now pool.old)) n))) }
     ensures front { KeepsFront [] (forest pool.old) (forest pool.new) }
     ensures kept { OnOk result (KeepsRefusals pool.old pool.new) }
@@ -78,12 +81,35 @@ fn power_of(pool: &mut Pool, a: &Handle, n: u128) -> Result<Handle, NumberFault>
     ensures caused { IfErr result (IsCaused pool.new) }
     ensures stands { Stands pool.new }
 {
-    if n == 1 {
-        return Ok(copy_tree(pool, a.id())?);
+    if n < 4 {
+        return square_or_cube(pool, a, n);
     }
     let half = power_of(pool, a, n / 2)?;
     let square = squared(pool, half)?;
     if n % 2 == 0 {
+        Ok(square)
+    } else {
+        multiplied(pool, square, a)
+    }
+}
+
+/// The same for the exponents 2 and 3.
+fn square_or_cube(pool: &mut Pool, a: &Handle, n: u128) -> Result<Handle, NumberFault>
+    requires stands { Stands pool.old }
+    requires handed { IsHanded a.now (forest pool.old) }
+    requires number { is_number (tree_of a.now pool.old) ≡ true }
+    requires twice { 2 ≤ n }
+    requires few { n < 4 }
+    ensures ok { IfOk result (λ h. Gives (forest pool.old) (forest pool.new) h (IsNumberOf (surd_power (value (tree_of a.now pool.old)) n))) }
+    ensures front { KeepsFront [] (forest pool.old) (forest pool.new) }
+    ensures kept { OnOk result (KeepsRefusals pool.old pool.new) }
+    ensures faults { IfErr result (Faults pool.old pool.new) }
+    ensures overflow { IfErr result (OfOverflow (PowerOverflows (value (tree_of a.now pool.old)) n)) }
+    ensures caused { IfErr result (IsCaused pool.new) }
+    ensures stands { Stands pool.new }
+{
+    let square = product_of(pool, a, a)?;
+    if n == 2 {
         Ok(square)
     } else {
         multiplied(pool, square, a)

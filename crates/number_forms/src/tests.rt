@@ -5,3 +5,4 @@ mod building;
 mod pools;
 mod recognized;
 mod values;
+mod wide;

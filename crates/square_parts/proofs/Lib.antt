@@ -5,3 +5,4 @@ pub mod Ends
 pub mod LeftOf
 pub mod CleanParts
 pub mod CleanLaws
+pub mod CleanProducts

@@ -3,3 +3,5 @@ pub mod Rationals
 pub mod Values
 pub mod Extraction
 pub mod Misfits
+pub mod WholeFactors
+pub mod ProductMisfits

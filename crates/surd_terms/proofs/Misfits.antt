@@ -1,6 +1,6 @@
 -- Which of some calculations is the first that does not fit.
 use Rattle.std.proofs.Common.{◌≡◌, true, false, ℕ, ◌*◌, ◌/◌, ◌≤◌, Bool, List, [], ◌∷◌, ◌++◌, Option, Some, None, Result, Ok, Err, refl, sym, ap, ◌∙◌, subst, arith}
-use Rattle.std.specs.Prelude.{if◌then◌else◌, IsErr, IsErrAnd}
+use Rattle.std.specs.Prelude.{if◌then◌else◌, ◌↔◌, IsErr, IfOk, IfErr, IsErrAnd}
 use Rattle.std.specs.Int.{IsGcd, ◌∣◌}
 use Rattle.std.proofs.Math.Nat.{mul-div_cancel_left}
 use Rattle.std.proofs.lemmas.Nat.Gcd.{same_from_IsGcd, dvd_refl}
@@ -15,7 +15,7 @@ use Rattle.calc_algebra.specs.Surds.{Term}
 use Rattle.calc_algebra.proofs.SquareRootLaws.{square_root-square}
 use Rattle.rational128.specs.Refusals.{DoesNotFit}
 use Rattle.rational128.specs.declared.overflow.Op.{Op}
-use Rattle.rational128.specs.declared.overflow.Op.TheVariants.{Add}
+use Rattle.rational128.specs.declared.overflow.Op.TheVariants.{Add, Mul}
 use Rattle.rational128.specs.declared.overflow.Overflow.{Overflow}
 use Rattle.surd_terms.specs.Calculations.{Calculation, calculation, does_fit, first_misfit, calculation_of, misfit_of, scaled, scaling, joining_calculations}
 use Rattle.surd_terms.proofs.Values.{alike_itself, times_whole_one}
@@ -38,6 +38,17 @@ step_misfit o op x y a b cs n e f h =
     ap (λ p. Some (calculation_of p)) n
     ∙ sym (ap (λ fits. if fits then first_misfit cs else Some (calculation op (value_of x) (value_of y))) h)
     ∙ (λ i. first_misfit (calculation op (e i) (f i) ∷ cs))
+
+-- a product is refused for itself
+pub product_misfit : (r : Result Rat Overflow) (x y : Rat) (a b : Fraction) → (IsErr r ↔ DoesNotFit Mul (value_of x) (value_of y)) → IfErr r (λ o. o ≡ record { op = Mul; a = x; b = y }) → value_of x ≡ a → value_of y ≡ b
+    → misfit_of r ≡ first_misfit (calculation Mul a b ∷ [])
+product_misfit (Ok q) x y a b h n e f = sym (step_fits Mul a b _ _ [] e f h.1)
+product_misfit (Err o) x y a b h n e f = step_misfit o Mul x y a b [] n e f (h.0 refl)
+
+-- an answer of the same value
+pub if_value : (r : Result Rat Overflow) (a b : Fraction) → a ≡ b → IfOk r (λ q. value_of q ≡ a) → IfOk r (λ q. value_of q ≡ b)
+if_value (Ok q) a b e h = h ∙ e
+if_value (Err o) a b e h = tt
 
 -- lists that all fit are passed
 passed_more : (c : Calculation) (cs ds : List Calculation) (b : Bool) → does_fit c ≡ b → (None ≡ first_misfit cs → first_misfit (cs ++ ds) ≡ first_misfit ds) → None ≡ first_misfit (c ∷ cs) → first_misfit (c ∷ cs ++ ds) ≡ first_misfit ds

@@ -1,6 +1,7 @@
 -- The operations on fractions that a call on terms is made of, in order, and the first of them that does not fit.
-use Rattle.std.specs.Prelude.{ℕ, ◌≡◌, ◌*◌, ◌/◌, ◌++◌, List, [], ◌∷◌, Bool, ◌||◌, ◌==◌, if◌then◌else◌, Option, Some, None, Result, Ok, Err, pos}
-use Rattle.calc_terms.specs.Fits.{operation_fits}
+use Rattle.std.specs.Prelude.{ℕ, ◌≡◌, ◌*◌, ◌/◌, ◌++◌, List, [], ◌∷◌, Bool, true, ◌||◌, ◌==◌, ◌↔◌, if◌then◌else◌, Option, Some, None, Result, Ok, Err, pos}
+use Rattle.std.specs.Int.{IsGcd}
+use Rattle.calc_terms.specs.Fits.{operation_fits, fraction_fits}
 use Rattle.calc_terms.specs.Fractions.{Fraction, times, negative, inverse, whole_fraction}
 use Rattle.calc_terms.specs.Gcd.{gcd}
 use Rattle.calc_terms.specs.Rat.{value_of}
@@ -64,25 +65,43 @@ joining_calculations a b =
 abbrev pub has_rational : Term → Term → Bool
 has_rational a b = (a.radicand == 1) || (b.radicand == 1)
 
--- the product of the coefficients, and that of the radicands over what they share
-abbrev pub multiplying_calculations : Term → Term → List Calculation
-multiplying_calculations a b =
+-- the product of the radicands over what they share
+abbrev pub radicand_calculations : Term → Term → List Calculation
+radicand_calculations a b =
     let g = gcd a.radicand b.radicand in
-    calculation Mul a.coefficient b.coefficient
-    ∷ (if has_rational a b then [] else calculation Mul (whole_fraction (pos (a.radicand / g))) (whole_fraction (pos (b.radicand / g))) ∷ [])
+    if has_rational a b then [] else calculation Mul (whole_fraction (pos (a.radicand / g))) (whole_fraction (pos (b.radicand / g))) ∷ []
 
--- the coefficient times what is taken before the root
-abbrev pub extracting_calculations : Term → Term → ℕ → List Calculation
-extracting_calculations a b root = if has_rational a b then [] else calculation Mul (times a.coefficient b.coefficient) (whole_fraction (pos root)) ∷ []
+-- a whole number as it is cancelled against the denominators of c and d: what it shares with the first, what is left of it shares with the second, and the rest
+pub record IsCancelled (n : ℕ) (c d : Fraction) (first second rest : ℕ) : Type 0 where
+  pub whole : n ≡ first * second * rest
+  pub with_first : IsGcd n c.den first
+  pub with_second : IsGcd (second * rest) d.den second
 
--- the product is refused for the first of its calculations that does not fit, or for none; root is what is taken out
--- of r * s, so that the rest is clean
+-- c * d * n, once n is cancelled
+abbrev pub cancelled_calculations : Fraction → Fraction → ℕ → ℕ → ℕ → List Calculation
+cancelled_calculations c d first second rest =
+    let x = times c (whole_fraction (pos first)) in
+    let y = times d (whole_fraction (pos second)) in
+    calculation Mul x y ∷ calculation Mul (times x y) (whole_fraction (pos rest)) ∷ []
+
+-- what c * d * n is refused for: exactly where it does not fit, and then for the first product that does not fit once n is cancelled
+pub record IsCancelledMisfit (c d : Fraction) (n : ℕ) (misfit : Option Calculation) : Type 0 where
+  pub first : ℕ
+  pub second : ℕ
+  pub rest : ℕ
+  pub cancelled : IsCancelled n c d first second rest
+  pub named : misfit ≡ first_misfit (cancelled_calculations c d first second rest)
+  pub exactly : (misfit ≡ None) ↔ (fraction_fits (times (times c d) (whole_fraction (pos n))) ≡ true)
+
+-- what the product of two terms is refused for: that of the radicands over what they share, where it does not fit; else exactly where the coefficient of
+-- the answer does not fit, which is c * d * root; root is what is taken out of r * s, so that the rest is clean
 pub record IsProductMisfit (a b : Term) (misfit : Option Calculation) : Type 0 where
   pub root : ℕ
   pub rest : ℕ
-  pub square : first_misfit (multiplying_calculations a b) ≡ None → a.radicand * b.radicand ≡ root * root * rest
-  pub clean : first_misfit (multiplying_calculations a b) ≡ None → IsClean rest
-  pub first : misfit ≡ first_misfit (multiplying_calculations a b ++ extracting_calculations a b root)
+  pub square : first_misfit (radicand_calculations a b) ≡ None → a.radicand * b.radicand ≡ root * root * rest
+  pub clean : first_misfit (radicand_calculations a b) ≡ None → IsClean rest
+  pub of_radicands : (c : Calculation) → first_misfit (radicand_calculations a b) ≡ Some c → misfit ≡ Some c
+  pub of_coefficients : first_misfit (radicand_calculations a b) ≡ None → IsCancelledMisfit a.coefficient b.coefficient root misfit
 
 -- ---- inverses
 

@@ -2,6 +2,7 @@
 //! refused exactly where an operation on rationals does not fit.
 #![tactic(auto)]
 
+mod cancelling;
 mod inverses;
 mod products;
 mod roots;
@@ -10,7 +11,7 @@ mod term;
 mod whole;
 
 pub use inverses::{inverse, inverse_of_sum};
-pub use products::product;
+pub use products::{product, product_with, undivided};
 pub use roots::square_root;
 pub use sums::{Joined, join};
 pub use term::Term;

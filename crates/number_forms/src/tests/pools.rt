@@ -1,5 +1,6 @@
-//! Calls in pools of just enough bytes and of eight too few. The sizes follow from the order of work: a rational
-//! takes 40 bytes, every other node 8, and beside the operands stand the sum so far and the term that is joined to it.
+//! Calls in pools of just enough bytes and of eight too few. The sizes follow from the order of work: a small whole number
+//! takes 16 bytes, a fraction 40, every other node 8, and beside the operands stand the sum so far and the term that is
+//! joined to it.
 ghost use Rattle.std.specs.Prelude.{◌≡◌, IfOk, true};
 ghost use Rattle.calc_algebra.specs.Numbers.{is_number};
 ghost use Rattle.tree_handles.specs.Handed.{tree_of, IsHanded, Gives};
@@ -27,42 +28,38 @@ enum Question {
 
 const ZERO: Row = [0, 1, 1];
 
-/// A question, the bytes that it needs behind a number of 40, and the answer.
+/// A question, the bytes that it needs behind a number of 16, and the answer.
 const QUESTIONS: [(Question, u16, Rows); 8] = [
     (
         Question::Sum([1, 1, 8], [1, 1, 18]),
-        200,
+        104,
         [[5, 1, 2], ZERO, ZERO],
     ),
-    (
-        Question::Sum([1, 1, 2], [-1, 1, 2]),
-        152,
-        [ZERO, ZERO, ZERO],
-    ),
+    (Question::Sum([1, 1, 2], [-1, 1, 2]), 80, [ZERO, ZERO, ZERO]),
     (
         Question::Product([1, 1, 6], [1, 1, 10]),
-        200,
+        104,
         [[2, 1, 15], ZERO, ZERO],
     ),
     (
         Question::Power([1, 1, 2], [1, 1, 3], 2),
-        352,
+        128,
         [[5, 1, 1], [2, 1, 6], ZERO],
     ),
     (
         Question::Power([1, 2, 1], [1, 2, 5], 10),
-        432,
+        360,
         [[123, 2, 1], [55, 2, 5], ZERO],
     ),
-    (Question::Inverse([2, 3, 5]), 96, [[3, 10, 5], ZERO, ZERO]),
+    (Question::Inverse([2, 3, 5]), 72, [[3, 10, 5], ZERO, ZERO]),
     (
         Question::InverseOfSum([1, 1, 2], [1, 1, 3]),
-        152,
+        80,
         [[-1, 1, 2], [1, 1, 3], ZERO],
     ),
     (
         Question::InverseOfThree([1, 1, 1], [1, 1, 2], [1, 1, 3]),
-        192,
+        96,
         [[1, 1, 1], [1, 1, 2], [1, 1, 3]],
     ),
 ];
@@ -150,7 +147,7 @@ fn inverted(pool: &mut Pool, number: Handle) -> Result<Handle, NumberFault>
 #[test]
 fn just_enough_bytes(rt: HostRuntime) -> Result<(), Fail> {
     for (question, bytes, rows) in &QUESTIONS {
-        let mut pool = opened(rt.alloc(), bytes.saturating_add(40))?;
+        let mut pool = opened(rt.alloc(), bytes.saturating_add(16))?;
         let _kept = number(&mut pool, Rat::whole(7))?;
         let answer = answer(&mut pool, question)?;
         assert!(rt; has_terms(&pool, &answer, rows), "{question:?}");
@@ -161,7 +158,7 @@ fn just_enough_bytes(rt: HostRuntime) -> Result<(), Fail> {
 #[test]
 fn eight_bytes_too_few(rt: HostRuntime) -> Result<(), Fail> {
     for (question, bytes, _) in &QUESTIONS {
-        let mut pool = opened(rt.alloc(), bytes.saturating_add(32))?;
+        let mut pool = opened(rt.alloc(), bytes.saturating_add(8))?;
         let _kept = number(&mut pool, Rat::whole(7))?;
         let answer = answer(&mut pool, question);
         assert!(rt; matches!(answer, Err(NumberFault::Full(_))), "{question:?}");
@@ -203,7 +200,7 @@ fn product_of_primes(pool: &mut Pool) -> Result<Handle, NumberFault>
 
 #[test]
 fn a_radicand_does_not_fit(rt: HostRuntime) -> Result<(), Fail> {
-    let mut pool = opened(rt.alloc(), 192)?;
+    let mut pool = opened(rt.alloc(), 120)?;
     let _kept = number(&mut pool, Rat::whole(7))?;
     match product_of_primes(&mut pool) {
         Err(NumberFault::Overflow(overflow)) => {
@@ -222,7 +219,7 @@ fn a_radicand_does_not_fit(rt: HostRuntime) -> Result<(), Fail> {
 
 #[test]
 fn bytes_are_lacking_before_a_radicand(rt: HostRuntime) -> Result<(), Fail> {
-    let mut pool = opened(rt.alloc(), 184)?;
+    let mut pool = opened(rt.alloc(), 112)?;
     let _kept = number(&mut pool, Rat::whole(7))?;
     let answer = product_of_primes(&mut pool);
     assert!(rt; matches!(answer, Err(NumberFault::Full(_))));

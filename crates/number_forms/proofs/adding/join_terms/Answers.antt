@@ -1,8 +1,9 @@
-use Rattle.std.proofs.Common.{◌≡◌, ℕ, ◌≤◌, ◌∷◌, Some, length, sym, ap, ◌∙◌, arith, add-one}
+use Rattle.std.proofs.Common.{◌≡◌, ℕ, ◌≤◌, ◌∷◌, Some, length, sym, ap, ◌∙◌, arith, add-one, rules}
 use Rattle.std.specs.Prelude.{slice_get}
 use Rattle.calc_algebra.specs.Numbers.{is_number, value, classes}
 use Rattle.calc_terms.specs.Trees.{Tree}
 use Rattle.calc_algebra.proofs.TermLaws.{Same-refl}
+use Rattle.number_forms.proofs.ListedTerms.{lists_kept}
 use Rattle.number_forms.proofs.Loops.{joined_none, joined_more, joined_all, from_all, other_plain, other_read, other_expression, gives_rest}
 use Rattle.number_forms.proofs.Worth.{terms_from, from_next}
 use Rattle.tree_handles.specs.Handed.{tree_of}
@@ -16,58 +17,53 @@ use Rattle.tree_handles.proofs.Given.{given_told}
 use Rattle.number_forms.proofs.adding.join_terms.Goals as goal
 
 pub term_count-at-end-requires-clause-expression : goal.term_count-at-end-requires-clause-expression
-term_count-at-end-requires-clause-expression c = other_expression c.args.number c.args.pool.now c.requires.stands c.requires.sum c.requires.handed
+term_count-at-end-requires-clause-expression g c = other_expression c.args.number c.args.pool.now c.requires.stands c.requires.sum c.requires.handed
 
 pub term_count-at-end-requires-clause-number : goal.term_count-at-end-requires-clause-number
-term_count-at-end-requires-clause-number c = ap is_number (plain_root c.args.number c.requires.stands (given_other c.requires.sum c.requires.handed).root) ∙ c.requires.number
+term_count-at-end-requires-clause-number g c = ap is_number (plain_root c.args.number c.requires.stands (given_other c.requires.sum c.requires.handed).root) ∙ c.requires.number
 
 pub loop-at-init : goal.loop-at-init
-loop-at-init c = joined_none c.args.sum.now (value (tree_of c.args.number c.args.pool.now)) c.args.pool.now c.requires.stands c.requires.sum
+loop-at-init g c = record { joined = joined_none c.args.sum.now (value (tree_of c.args.number c.args.pool.now)) c.args.pool.now c.requires.stands c.requires.sum; lists = c.requires.lists }
 
-pub nth_term-term-requires-clause-expression : goal.nth_term-term-requires-clause-expression
-nth_term-term-requires-clause-expression c = other_expression c.args.number c.loop-at.pool c.loop-at.invariant.stands c.loop-at.invariant.gives c.requires.handed
+pub listed_term-term-requires : goal.listed_term-term-requires
+listed_term-term-requires g c = (search rules, (c.loop-at.invariant.joined.stands, (other_expression c.args.number c.loop-at.pool c.loop-at.invariant.joined.stands c.loop-at.invariant.joined.gives c.requires.handed, ((let same = other_read c.args.number c.loop-at.pool c.loop-at.invariant.joined.stands c.loop-at.invariant.joined.gives c.requires.handed ∙ sym (other_plain c.args.number c.requires.sum c.requires.handed.root) in ap is_number same ∙ c.requires.number), (lists_kept c.of-terms.result c.args.number c.args.pool.now c.loop-at.pool c.requires.stands c.loop-at.invariant.joined.stands c.requires.sum c.loop-at.invariant.joined.gives c.requires.handed c.of-terms.ensures, (let same = ap classes (other_read c.args.number c.loop-at.pool c.loop-at.invariant.joined.stands c.loop-at.invariant.joined.gives c.requires.handed ∙ sym (other_plain c.args.number c.requires.sum c.requires.handed.root)) in let all = ap classes (plain_root c.args.number c.requires.stands (given_other c.requires.sum c.requires.handed).root) in omega (arith, same, all, c.term_count-at-end.ensures, c.loop-at-test.true)))))))
 
-pub nth_term-term-requires-clause-number : goal.nth_term-term-requires-clause-number
-nth_term-term-requires-clause-number c =
-    let same = other_read c.args.number c.loop-at.pool c.loop-at.invariant.stands c.loop-at.invariant.gives c.requires.handed ∙ sym (other_plain c.args.number c.requires.sum c.requires.handed.root) in
-    ap is_number same ∙ c.requires.number
-
-pub nth_term-term-requires-clause-within : goal.nth_term-term-requires-clause-within
-nth_term-term-requires-clause-within c =
-    let same = ap classes (other_read c.args.number c.loop-at.pool c.loop-at.invariant.stands c.loop-at.invariant.gives c.requires.handed ∙ sym (other_plain c.args.number c.requires.sum c.requires.handed.root)) in
-    let all = ap classes (plain_root c.args.number c.requires.stands (given_other c.requires.sum c.requires.handed).root) in
-    omega (arith, same, all, c.term_count-at-end.ensures, c.loop-at-test.true)
-
-pub join_term-requires-clause-sum : goal.join_term-requires-clause-sum
-join_term-requires-clause-sum c = gives_rest c.loop-at.invariant.gives (λ t h. h.sum)
+pub join_term-requires : goal.join_term-requires
+join_term-requires g c = (search rules, (c.loop-at.invariant.joined.stands, (gives_rest c.loop-at.invariant.joined.gives (λ t h. h.sum), c.loop-at.invariant.lists)))
 
 pub loop-at-preserved : goal.loop-at-preserved
-loop-at-preserved c =
+loop-at-preserved g c =
     let number : Tree = tree_of c.args.number c.args.pool.now in
-    let same = other_read c.args.number c.loop-at.pool c.loop-at.invariant.stands c.loop-at.invariant.gives c.requires.handed ∙ sym (other_plain c.args.number c.requires.sum c.requires.handed.root) in
-    let here : slice_get (value number) c.loop-at.at ≡ Some (term_of c.nth_term-term.result) = ap (λ (t : Tree). slice_get (value t) c.loop-at.at) (sym same) ∙ c.nth_term-term.ensures in
-    let next = from_next (value number) c.loop-at.at (term_of c.nth_term-term.result) here ∙ ap (λ (n : ℕ). term_of c.nth_term-term.result ∷ terms_from n (value number)) (sym (add-one c.loop-at.at)) in
-    joined_more c.args.sum.now _ _ _ _ (term_of c.nth_term-term.result) c.args.pool.now c.loop-at.pool c.join_term.new.pool c.loop-at.invariant next (Same-refl _) c.in_ok-join_term.ensures.ok c.join_term.ensures.front c.in_ok-join_term.ensures.kept c.join_term.ensures.stands
+    let same = other_read c.args.number c.loop-at.pool c.loop-at.invariant.joined.stands c.loop-at.invariant.joined.gives c.requires.handed ∙ sym (other_plain c.args.number c.requires.sum c.requires.handed.root) in
+    let here : slice_get (value number) c.loop-at.at ≡ Some (term_of c.listed_term-term.result) = ap (λ (t : Tree). slice_get (value t) c.loop-at.at) (sym same) ∙ c.listed_term-term.ensures in
+    let next = from_next (value number) c.loop-at.at (term_of c.listed_term-term.result) here ∙ ap (λ (n : ℕ). term_of c.listed_term-term.result ∷ terms_from n (value number)) (sym (add-one c.loop-at.at)) in
+    record { joined = joined_more c.args.sum.now _ _ _ _ (term_of c.listed_term-term.result) c.args.pool.now c.loop-at.pool c.join_term.new.pool c.loop-at.invariant.joined next (Same-refl _) c.in_ok-join_term.ensures.ok c.join_term.ensures.front c.in_ok-join_term.ensures.kept c.join_term.ensures.stands; lists = c.in_ok-join_term.ensures.lists }
 
 pub returns-clause-ok : goal.returns-clause-ok
-returns-clause-ok c =
+returns-clause-ok g c =
     let all = ap classes (plain_root c.args.number c.requires.stands (given_other c.requires.sum c.requires.handed).root) in
     let end : length (value (tree_of c.args.number c.args.pool.now)) ≤ c.loop-at.at = omega (arith, all, c.term_count-at-end.ensures, c.loop-at-test.false) in
-    joined_all c.loop-at.invariant (from_all (value (tree_of c.args.number c.args.pool.now)) c.loop-at.at end)
+    joined_all c.loop-at.invariant.joined (from_all (value (tree_of c.args.number c.args.pool.now)) c.loop-at.at end)
 
 pub returns-in_err-join_term-clause-overflow : goal.returns-in_err-join_term-clause-overflow
-returns-in_err-join_term-clause-overflow c =
+returns-in_err-join_term-clause-overflow g c =
     let number : Tree = tree_of c.args.number c.args.pool.now in
-    let same = other_read c.args.number c.loop-at.pool c.loop-at.invariant.stands c.loop-at.invariant.gives c.requires.handed ∙ sym (other_plain c.args.number c.requires.sum c.requires.handed.root) in
-    let here : slice_get (value number) c.loop-at.at ≡ Some (term_of c.nth_term-term.result) = ap (λ (t : Tree). slice_get (value t) c.loop-at.at) (sym same) ∙ c.nth_term-term.ensures in
-    let told = given_told c.loop-at.invariant.gives in
+    let same = other_read c.args.number c.loop-at.pool c.loop-at.invariant.joined.stands c.loop-at.invariant.joined.gives c.requires.handed ∙ sym (other_plain c.args.number c.requires.sum c.requires.handed.root) in
+    let here : slice_get (value number) c.loop-at.at ≡ Some (term_of c.listed_term-term.result) = ap (λ (t : Tree). slice_get (value t) c.loop-at.at) (sym same) ∙ c.listed_term-term.ensures in
+    let told = given_told c.loop-at.invariant.joined.gives in
     passed_on c.from_residual.result c.in_err-join_term.field-0.0 (OfOverflow (SumOverflows (value (tree_of c.args.sum.now c.args.pool.now)) (value number))) c.from_residual.ensures.0 c.from_residual.ensures.1
     (overflow_as c.in_err-join_term.field-0.0 c.in_err-join_term.ensures.overflow (λ o j. record {
       at = c.loop-at.at;
-      next = term_of c.nth_term-term.result;
+      next = term_of c.listed_term-term.result;
       here = here;
       partial = tree_of c.args.sum.now c.loop-at.pool;
       sum = told.sum;
       worth = told.worth;
       joined = j;
     }))
+
+pub returns-clause-lists : goal.returns-clause-lists
+returns-clause-lists g c = c.loop-at.invariant.lists
+
+pub of-terms-requires : goal.of-terms-requires
+of-terms-requires g c = (search rules, (c.requires.stands, other_expression c.args.number c.args.pool.now c.requires.stands c.requires.sum c.requires.handed))

@@ -5,6 +5,9 @@ use Rattle.calc_terms.specs.Trees.{Tree}
 use Rattle.number_forms.proofs.InverseSteps.{only_term, inverse_term, tree_of_one, fits_as, unfit, has_inverse, room_for, lacks_inverse}
 use Rattle.number_forms.specs.Inverses.{inverse_trees, LacksInverse}
 use Rattle.number_forms.specs.Lacks.{OfFull}
+use Rattle.calc_terms.proofs.Sizes.{num_least}
+use Rattle.tree_handles.specs.Building.{building}
+use Rattle.tree_handles.specs.Causes.{OnlyLacksLongForm}
 use Rattle.surd_terms.specs.Inverses.{inverse_of}
 use Rattle.number_forms.proofs.SumChanges.{same_plain, read_expression}
 use Rattle.tree_handles.specs.Handed.{tree_of}
@@ -20,7 +23,7 @@ use Rattle.std.proofs.Common.{[], ◌∷◌, ◌≤◌, ◌+◌, refl}
 use Rattle.calc_algebra.specs.Surds.{Term}
 use Rattle.calc_terms.specs.Trees.{more, none, size}
 use Rattle.node_pool.specs.State.{free_of}
-use Rattle.number_forms.proofs.Placings.{rational_radicand, rational_term, refused, given_tree}
+use Rattle.number_forms.proofs.Placings.{number_alone, rational_radicand, rational_term, refused, given_tree}
 use Rattle.tree_handles.proofs.Room.{released_free}
 use Rattle.number_forms.specs.Shapes.{term_tree}
 use Rattle.number_forms.proofs.inverting.invert_one.Goals.{After-nth_term}
@@ -74,8 +77,9 @@ returns-in_err-place_term-clause-rational c = λ q e.
     let radicand = rational_radicand (tree_of c.args.a c.args.pool.now) q _ e (only (goal.at.returns-in_err-place_term-clause-rational c).After-nth_term) in
     let tree = rational_term (term_of c.in_ok-inverse.inverse) (ap (λ (t : Term). t.radicand) c.in_ok-inverse.ensures.value ∙ radicand) in
     let free = released_free c.requires.stands c.release.ensures.stands c.release.ensures.kept c.requires.handed (c.release.ensures.owned (owned c.requires.handed)) in
-    let enough : size (term_tree (term_of c.in_ok-inverse.inverse)) ≤ free_of c.release.new.pool = omega (arith, ap size tree, free, ap size e) in
-    absurd (cc (c.in_err-place_term.ensures.exactly.1 enough))
+    passed_on c.from_residual-in_err-place_term.result (fault.Full c.in_err-place_term.field-0.0) OnlyLacksLongForm c.from_residual-in_err-place_term.ensures.0 c.from_residual-in_err-place_term.ensures.1
+    (number_alone (term_of c.in_ok-inverse.inverse).coefficient (free_of c.release.new.pool) c.in_err-place_term.field-0.0 (omega (arith, free, ap size e, num_least q))
+    (ap (building (free_of c.release.new.pool)) (sym tree) ∙ c.in_err-place_term.ensures.first_lack))
 
 -- ---- where it fits, and its bytes suffice
 

@@ -1,4 +1,4 @@
-use Rattle.std.proofs.Common.{◌≡◌, ◌<◌, ◌-◌, subst, ltb-true, arith}
+use Rattle.std.proofs.Common.{◌≡◌, ◌<◌, ◌-◌, subst, ltb-true, arith, rules}
 use Rattle.calc_terms.specs.Trees.{count}
 use Rattle.number_forms.proofs.SquareFreeSums.{all_below}
 use Rattle.tree_handles.specs.Expressions.{plain, children_of}
@@ -6,13 +6,11 @@ use Rattle.tree_handles.specs.Inside.{tree_at}
 use Rattle.tree_handles.specs.Standing.{forest}
 use Rattle.number_forms.proofs.joining.are_square_free.Goals as goal
 
-pub radicand_at-requires-clause-within : goal.radicand_at-requires-clause-within
-radicand_at-requires-clause-within c =
-    let many : c.children-many.result ≡ count (children_of (plain (tree_at c.args.sum (forest c.args.pool.now)))) = c.children-many.ensures.plain c.requires.expression in
-    omega (arith, many, c.if-many-eq0.false)
+pub radicand_at-requires : goal.radicand_at-requires
+radicand_at-requires g c = (search rules, (c.requires.stands, (c.requires.expression, (c.requires.sum, (c.requires.lists, (let many : c.children-many.result ≡ count (children_of (plain (tree_at c.args.sum (forest c.args.pool.now)))) = c.children-many.ensures.plain c.requires.expression in omega (arith, many, c.if-many-eq0.false)))))))
 
 pub returns : goal.returns
-returns c = λ test.
+returns g c = λ test.
     let t = plain (tree_at c.args.sum (forest c.args.pool.now)) in
     let many : c.children-many.result ≡ count (children_of t) = c.children-many.ensures.plain c.requires.expression in
-    all_below t (c.children-many.result - 1) 1000000000000 c.requires.sum (omega (arith, many, c.if-many-eq0.false)) (subst (λ (n : _). n < 1000000000000) c.radicand_at.ensures (ltb-true c.radicand_at.result 1000000000000 test))
+    all_below t (c.children-many.result - 1) 1000000000000 c.requires.sum (omega (arith, many, c.if-many-eq0.false)) (subst (λ (n : _). n < 1000000000000) c.radicand_at.ensures.value (ltb-true c.radicand_at.result 1000000000000 test))

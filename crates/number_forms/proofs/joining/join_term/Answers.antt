@@ -1,6 +1,7 @@
-use Rattle.std.proofs.Common.{sym, subst, refl}
+use Rattle.std.proofs.Common.{sym, subst, refl, rules}
 use Rattle.calc_terms.specs.Trees.{Tree}
 use Rattle.number_forms.specs.Sums.{IsApart}
+use Rattle.number_forms.proofs.ListedTerms.{lists_at}
 use Rattle.number_forms.proofs.SumChanges.{same_plain, read_expression, read_sum, read_place, sum_value, removed_is_sum, cancelled, made_one, matched, apart_rest}
 use Rattle.tree_handles.specs.Handed.{tree_of}
 use Rattle.surd_terms.specs.Terms.{term_of}
@@ -12,70 +13,36 @@ use Rattle.number_forms.proofs.Overflows.{passed_on}
 use Rattle.tree_handles.specs.declared.fault.NumberFault.TheVariants as fault
 use Rattle.number_forms.proofs.joining.join_term.Goals as goal
 
-pub match_in-requires-clause-expression : goal.match_in-requires-clause-expression
-match_in-requires-clause-expression c = read_expression _ c.args.sum.now c.args.pool.now c.id.ensures c.requires.stands (given_handed c.requires.sum)
+pub match_in-requires : goal.match_in-requires
+match_in-requires g c = (search rules, (c.requires.stands, (read_expression _ c.args.sum.now c.args.pool.now c.id.ensures c.requires.stands (given_handed c.requires.sum), (read_sum _ c.args.sum.now c.args.pool.now c.id.ensures c.requires.stands c.requires.sum, lists_at {N = g.row.N} _ _ _ _ c.id.ensures c.requires.lists))))
 
-pub match_in-requires-clause-sum : goal.match_in-requires-clause-sum
-match_in-requires-clause-sum c = read_sum _ c.args.sum.now c.args.pool.now c.id.ensures c.requires.stands c.requires.sum
+pub insert-requires : goal.insert-requires
+insert-requires g c = (search rules, (c.requires.stands, (c.requires.sum, (c.requires.lists, ((let sum : Tree = tree_of c.args.sum.now c.args.pool.now in let same = same_plain _ c.args.sum.now c.args.pool.now c.id.ensures c.requires.stands (given_root c.requires.sum) in subst (IsApart (term_of c.args.term).radicand) (sym (sum_value sum (given_told c.requires.sum))) (matched (term_of c.args.term) _ sum _ _ same c.in-Apart.is c.in_ok-at.ensures.ok).0), (let same = same_plain _ c.args.sum.now c.args.pool.now c.id.ensures c.requires.stands (given_root c.requires.sum) in (matched (term_of c.args.term) _ (tree_of c.args.sum.now c.args.pool.now) _ _ same c.in-Apart.is c.in_ok-at.ensures.ok).1))))))
 
-pub insert-requires-clause-apart : goal.insert-requires-clause-apart
-insert-requires-clause-apart c =
-    let sum : Tree = tree_of c.args.sum.now c.args.pool.now in
-    let same = same_plain _ c.args.sum.now c.args.pool.now c.id.ensures c.requires.stands (given_root c.requires.sum) in
-    subst (IsApart (term_of c.args.term).radicand) (sym (sum_value sum (given_told c.requires.sum))) (matched (term_of c.args.term) _ sum _ _ same c.in-Apart.is c.in_ok-at.ensures.ok).0
+pub remove-requires : goal.remove-requires
+remove-requires g c = (search rules, (c.requires.stands, (c.requires.sum, (c.requires.lists, (let same = same_plain _ c.args.sum.now c.args.pool.now c.id.ensures c.requires.stands (given_root c.requires.sum) in (matched (term_of c.args.term) _ (tree_of c.args.sum.now c.args.pool.now) _ _ same c.in-Zero.is c.in_ok-at.ensures.ok).0)))))
 
-pub insert-requires-clause-place : goal.insert-requires-clause-place
-insert-requires-clause-place c =
-    let same = same_plain _ c.args.sum.now c.args.pool.now c.id.ensures c.requires.stands (given_root c.requires.sum) in
-    (matched (term_of c.args.term) _ (tree_of c.args.sum.now c.args.pool.now) _ _ same c.in-Apart.is c.in_ok-at.ensures.ok).1
+pub remove-requires-in-Term : goal.remove-requires-in-Term
+remove-requires-in-Term g c = (search rules, (c.requires.stands, (c.requires.sum, (c.requires.lists, (let same = same_plain _ c.args.sum.now c.args.pool.now c.id.ensures c.requires.stands (given_root c.requires.sum) in (matched (term_of c.args.term) _ (tree_of c.args.sum.now c.args.pool.now) _ _ same c.in-Term.is c.in_ok-at.ensures.ok).0)))))
 
-pub remove-requires-clause-within : goal.remove-requires-clause-within
-remove-requires-clause-within c =
-    let same = same_plain _ c.args.sum.now c.args.pool.now c.id.ensures c.requires.stands (given_root c.requires.sum) in
-    (matched (term_of c.args.term) _ (tree_of c.args.sum.now c.args.pool.now) _ _ same c.in-Zero.is c.in_ok-at.ensures.ok).0
+pub place_of-place-requires : goal.place_of-place-requires
+place_of-place-requires g c = (search rules, (c.remove-in-Term.ensures.stands, (read_expression _ c.args.sum.now c.remove-in-Term.new.pool c.id-in-Term.ensures c.remove-in-Term.ensures.stands (given_handed c.remove-in-Term.ensures.sum), ((let rest = gives_as c.remove-in-Term.ensures.sum refl (λ t e. removed_is_sum c.in-Term.at (tree_of c.args.sum.now c.args.pool.now) t (given_told c.requires.sum) e) in read_sum _ c.args.sum.now c.remove-in-Term.new.pool c.id-in-Term.ensures c.remove-in-Term.ensures.stands rest), lists_at {N = g.row.N} _ _ _ _ c.id-in-Term.ensures c.remove-in-Term.ensures.lists))))
 
-pub remove-requires-in-Term-clause-within : goal.remove-requires-in-Term-clause-within
-remove-requires-in-Term-clause-within c =
-    let same = same_plain _ c.args.sum.now c.args.pool.now c.id.ensures c.requires.stands (given_root c.requires.sum) in
-    (matched (term_of c.args.term) _ (tree_of c.args.sum.now c.args.pool.now) _ _ same c.in-Term.is c.in_ok-at.ensures.ok).0
-
-pub place_near-place-requires-clause-expression : goal.place_near-place-requires-clause-expression
-place_near-place-requires-clause-expression c = read_expression _ c.args.sum.now c.remove-in-Term.new.pool c.id-in-Term.ensures c.remove-in-Term.ensures.stands (given_handed c.remove-in-Term.ensures.sum)
-
-pub place_near-place-requires-clause-sum : goal.place_near-place-requires-clause-sum
-place_near-place-requires-clause-sum c =
-    let rest = gives_as c.remove-in-Term.ensures.sum refl (λ t e. removed_is_sum c.in-Term.at (tree_of c.args.sum.now c.args.pool.now) t (given_told c.requires.sum) e) in
-    read_sum _ c.args.sum.now c.remove-in-Term.new.pool c.id-in-Term.ensures c.remove-in-Term.ensures.stands rest
-
-pub insert-requires-in-Term-clause-place : goal.insert-requires-in-Term-clause-place
-insert-requires-in-Term-clause-place c =
-    read_place _ c.args.sum.now c.place_near-place.result _ _ c.remove-in-Term.new.pool c.id-in-Term.ensures c.remove-in-Term.ensures.stands (given_root c.remove-in-Term.ensures.sum) c.radicand.ensures.value c.place_near-place.ensures
-
-pub insert-requires-in-Term-clause-sum : goal.insert-requires-in-Term-clause-sum
-insert-requires-in-Term-clause-sum c =
-    let rest = c.remove-in-Term.ensures.sum in
-    gives_as rest (sym (given_rest rest)) (λ t e. removed_is_sum c.in-Term.at (tree_of c.args.sum.now c.args.pool.now) t (given_told c.requires.sum) e)
-
-pub insert-requires-in-Term-clause-apart : goal.insert-requires-in-Term-clause-apart
-insert-requires-in-Term-clause-apart c =
-    let sum : Tree = tree_of c.args.sum.now c.args.pool.now in
-    let same = same_plain _ c.args.sum.now c.args.pool.now c.id.ensures c.requires.stands (given_root c.requires.sum) in
-    let m = matched (term_of c.args.term) _ sum _ _ same c.in-Term.is c.in_ok-at.ensures.ok in
-    apart_rest c.in-Term.at sum _ (term_of c.args.term) (term_of c.in-Term.joined) (given_told c.requires.sum) m.0 (record { not_zero = c.in-Term.joined.not_zero; positive = c.in-Term.joined.positive }) m.1.0 m.1.1
-    (given_told c.remove-in-Term.ensures.sum)
+pub insert-requires-in-Term : goal.insert-requires-in-Term
+insert-requires-in-Term g c = (search rules, (c.remove-in-Term.ensures.stands, ((let rest = c.remove-in-Term.ensures.sum in gives_as rest (sym (given_rest rest)) (λ t e. removed_is_sum c.in-Term.at (tree_of c.args.sum.now c.args.pool.now) t (given_told c.requires.sum) e)), (c.remove-in-Term.ensures.lists, ((let sum : Tree = tree_of c.args.sum.now c.args.pool.now in let same = same_plain _ c.args.sum.now c.args.pool.now c.id.ensures c.requires.stands (given_root c.requires.sum) in let m = matched (term_of c.args.term) _ sum _ _ same c.in-Term.is c.in_ok-at.ensures.ok in apart_rest c.in-Term.at sum _ (term_of c.args.term) (term_of c.in-Term.joined) (given_told c.requires.sum) m.0 (record { not_zero = c.in-Term.joined.not_zero; positive = c.in-Term.joined.positive }) m.1.0 m.1.1 (given_told c.remove-in-Term.ensures.sum)), read_place _ c.args.sum.now c.place_of-place.result _ _ c.remove-in-Term.new.pool c.id-in-Term.ensures c.remove-in-Term.ensures.stands (given_root c.remove-in-Term.ensures.sum) c.radicand.ensures.value c.place_of-place.ensures)))))
 
 pub returns-in_err-insert-in-Term-clause-front : goal.returns-in_err-insert-in-Term-clause-front
-returns-in_err-insert-in-Term-clause-front c = front_after_one behind_first c.remove-in-Term.ensures.front c.insert-in-Term.ensures.front
+returns-in_err-insert-in-Term-clause-front g c = front_after_one behind_first c.remove-in-Term.ensures.front c.insert-in-Term.ensures.front
 
 pub returns-in-Zero-clause-ok : goal.returns-in-Zero-clause-ok
-returns-in-Zero-clause-ok c =
+returns-in-Zero-clause-ok g c =
     let sum : Tree = tree_of c.args.sum.now c.args.pool.now in
     let same = same_plain _ c.args.sum.now c.args.pool.now c.id.ensures c.requires.stands (given_root c.requires.sum) in
     let m = matched (term_of c.args.term) _ sum _ _ same c.in-Zero.is c.in_ok-at.ensures.ok in
     gives_as c.remove.ensures.sum refl (λ t e. cancelled c.in-Zero.at sum t (term_of c.args.term) (given_told c.requires.sum) m.0 m.1.1 e)
 
 pub returns-in_ok-insert-in-Term-clause-ok : goal.returns-in_ok-insert-in-Term-clause-ok
-returns-in_ok-insert-in-Term-clause-ok c =
+returns-in_ok-insert-in-Term-clause-ok g c =
     let sum : Tree = tree_of c.args.sum.now c.args.pool.now in
     let same = same_plain _ c.args.sum.now c.args.pool.now c.id.ensures c.requires.stands (given_root c.requires.sum) in
     let m = matched (term_of c.args.term) _ sum _ _ same c.in-Term.is c.in_ok-at.ensures.ok in
@@ -84,10 +51,10 @@ returns-in_ok-insert-in-Term-clause-ok c =
     (λ x w. made_one c.in-Term.at sum _ x (term_of c.args.term) (term_of c.in-Term.joined) (given_told c.requires.sum) m.0 m.1.1 (given_told rest) w)
 
 pub returns-in_ok-insert-in-Term-clause-front : goal.returns-in_ok-insert-in-Term-clause-front
-returns-in_ok-insert-in-Term-clause-front c = front_after_one behind_first c.remove-in-Term.ensures.front c.insert-in-Term.ensures.front
+returns-in_ok-insert-in-Term-clause-front g c = front_after_one behind_first c.remove-in-Term.ensures.front c.insert-in-Term.ensures.front
 
 pub returns-in_err-at-clause-overflow : goal.returns-in_err-at-clause-overflow
-returns-in_err-at-clause-overflow c =
+returns-in_err-at-clause-overflow g c =
     let same = same_plain _ c.args.sum.now c.args.pool.now c.id.ensures c.requires.stands (given_root c.requires.sum) in
     passed_on c.from_residual.result (fault.Overflow c.in_err-at.field-0.0) (OfOverflow (JoinOverflows (tree_of c.args.sum.now c.args.pool.now) (term_of c.args.term))) c.from_residual.ensures.0 c.from_residual.ensures.1
     (subst (λ (t : Tree). JoinOverflows t (term_of c.args.term) c.in_err-at.field-0.0) same c.in_err-at.ensures.overflow)

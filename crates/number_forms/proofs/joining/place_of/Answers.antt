@@ -6,9 +6,9 @@ use Rattle.tree_handles.specs.Standing.{forest}
 use Rattle.number_forms.proofs.joining.place_of.Goals as goal
 
 pub loop-low-preserved-then-radicand_at-radicand : goal.loop-low-preserved-then-radicand_at-radicand
-loop-low-preserved-then-radicand_at-radicand c =
+loop-low-preserved-then-radicand_at-radicand g c =
     let mid = c.loop-low.low + (c.loop-low.high - c.loop-low.low) / 2 in
-    let below = subst (λ (n : _). n < c.args.radicand) c.radicand_at.ensures c.if-radicand_at-radicand.true in
+    let below = subst (λ (n : _). n < c.args.radicand) c.radicand_at.ensures.value c.if-radicand_at-radicand.true in
     record {
       order = omega (arith, c.loop-low-test.true);
       within = c.loop-low.invariant.within;

@@ -1,4 +1,5 @@
 use Rattle.std.proofs.Common.{inl, sym, ◌∙◌, subst, arith}
+use Rattle.number_forms.proofs.ListedTerms.{lists_less}
 use Rattle.number_forms.proofs.LastSums.{kids_represented, once_nth}
 use Rattle.number_forms.proofs.SumChanges.{many_kids, removed_sum}
 use Rattle.tree_handles.specs.Forest.{kids}
@@ -9,25 +10,34 @@ use Rattle.tree_handles.proofs.Fronts.{behind_first, front_same, front_at, front
 use Rattle.tree_handles.proofs.Given.{given_root, given_handed}
 use Rattle.tree_handles.proofs.Lasts.{last_root, last_tree, last_rest}
 use Rattle.number_forms.proofs.joining.remove.Goals as goal
+use Rattle.number_forms.proofs.joining.remove.Given.{Over}
 use Rattle.number_forms.proofs.joining.remove.Goals.{After-release}
 
 pub take_child-child-requires-clause-within : goal.take_child-child-requires-clause-within
-take_child-child-requires-clause-within c = omega (arith, c.requires.within, many_kids c.args.sum.now c.args.pool.now c.requires.stands (given_handed c.requires.sum))
+take_child-child-requires-clause-within g c = omega (arith, c.requires.within, many_kids c.args.sum.now c.args.pool.now c.requires.stands (given_handed c.requires.sum))
 
 pub release-requires-clause-releasable : goal.release-requires-clause-releasable
-release-requires-clause-releasable c = inl (last_root (c.take_child-child.ensures.last (given_root c.requires.sum)))
+release-requires-clause-releasable g c = inl (last_root (c.take_child-child.ensures.last (given_root c.requires.sum)))
 
-owned : (c : After-release) → IsOwned c.take_child-child.result (forest c.take_child-child.new.pool)
-owned c =
+owned : (g : Over) (c : After-release g) → IsOwned c.take_child-child.result (forest c.take_child-child.new.pool)
+owned g c =
     let taken = c.take_child-child.ensures.last (given_root c.requires.sum) in
     let handed = given_handed c.requires.sum in
     let tree = root_tree c.args.sum.now (forest c.args.pool.now) in
     record { root = last_root taken; once = subst AllOnce (sym (last_tree taken)) (once_nth c.args.at (kids tree) (kids_represented tree handed.once handed.whole).once) }
 
 pub returns-clause-sum : goal.returns-clause-sum
-returns-clause-sum c = removed_sum c.args.at c.requires.sum (c.take_child-child.ensures.last (given_root c.requires.sum)) (c.release.ensures.owned (owned c))
+returns-clause-sum g c = removed_sum c.args.at c.requires.sum (c.take_child-child.ensures.last (given_root c.requires.sum)) (c.release.ensures.owned (owned g (goal.at.returns-clause-sum g c).After-release))
 
 pub returns-clause-front : goal.returns-clause-front
-returns-clause-front c =
+returns-clause-front g c =
     let taken = c.take_child-child.ensures.last (given_root c.requires.sum) in
-    front_at (front_put _ behind_first front_same) (c.release.ensures.owned (owned c) ∙ last_rest taken)
+    front_at (front_put _ behind_first front_same) (c.release.ensures.owned (owned g (goal.at.returns-clause-front g c).After-release) ∙ last_rest taken)
+
+pub returns-clause-lists : goal.returns-clause-lists
+returns-clause-lists g c =
+    let i = c.args.sum.now in
+    let taken = c.take_child-child.ensures.last (given_root c.requires.sum) in
+    let many = many_kids i c.args.pool.now c.requires.stands (given_handed c.requires.sum) in
+    lists_less c.args.list.now c.remove.new.self i c.args.at c.args.pool.now c.release.new.pool (forest c.args.pool.now) c.requires.stands c.release.ensures.stands (given_root c.requires.sum) (given_root c.requires.sum)
+    c.remove.ensures c.requires.lists (omega (arith, many, c.requires.within)) (c.release.ensures.owned (owned g (goal.at.returns-clause-lists g c).After-release) ∙ last_rest taken)

@@ -1,4 +1,4 @@
-use Rattle.std.proofs.Common.{◌≡◌, ℕ, ◌≤◌, ◌∷◌, Some, length, map, sym, ap, ◌∙◌, arith, add-one}
+use Rattle.std.proofs.Common.{◌≡◌, ℕ, ◌≤◌, ◌∷◌, Some, length, map, sym, ap, ◌∙◌, arith, add-one, rules}
 use Rattle.std.specs.Prelude.{slice_get}
 use Rattle.calc_algebra.specs.Numbers.{is_number, value, classes}
 use Rattle.calc_algebra.specs.Surds.{term_times}
@@ -6,80 +6,79 @@ use Rattle.calc_terms.specs.Trees.{Tree}
 use Rattle.calc_algebra.proofs.TermLaws.{Same-refl}
 use Rattle.number_forms.proofs.Loops.{joined_none, joined_more, joined_all, from_all, other_plain, other_read, other_expression, gives_rest}
 use Rattle.number_forms.proofs.Worth.{terms_from, products_next, same_first}
+use Rattle.number_forms.proofs.ListedTerms.{lists_at, lists_kept}
+use Rattle.number_forms.proofs.SumChanges.{read_expression, read_sum}
+use Rattle.tree_handles.proofs.Fronts.{behind_first, front_after_one}
 use Rattle.tree_handles.specs.Handed.{tree_of}
 use Rattle.surd_terms.specs.Terms.{term_of}
-use Rattle.tree_handles.proofs.Given.{given_other}
+use Rattle.tree_handles.proofs.Given.{given_handed, given_other}
 use Rattle.tree_handles.proofs.Lasts.{plain_root}
 use Rattle.std.proofs.Common.{inl, inr}
 use Rattle.number_forms.specs.Overflows.{RowOverflows}
 use Rattle.tree_handles.specs.Faults.{OfOverflow}
 use Rattle.number_forms.proofs.Overflows.{passed_on, overflow_as}
-use Rattle.number_forms.proofs.multiplying.join_products.Goals.{After-nth_term-other}
+use Rattle.number_forms.proofs.multiplying.join_products.Goals.{After-listed_term-other}
 use Rattle.tree_handles.proofs.Given.{given_told}
 use Rattle.tree_handles.specs.declared.fault.NumberFault.TheVariants as fault
 use Rattle.number_forms.proofs.multiplying.join_products.Goals as goal
+use Rattle.number_forms.proofs.multiplying.join_products.Given.{Over}
 
 pub term_count-at-end-requires-clause-expression : goal.term_count-at-end-requires-clause-expression
-term_count-at-end-requires-clause-expression c = other_expression c.args.number c.args.pool.now c.requires.stands c.requires.sum c.requires.handed
+term_count-at-end-requires-clause-expression g c = other_expression c.args.number c.args.pool.now c.requires.stands c.requires.sum c.requires.handed
 
 pub term_count-at-end-requires-clause-number : goal.term_count-at-end-requires-clause-number
-term_count-at-end-requires-clause-number c = ap is_number (plain_root c.args.number c.requires.stands (given_other c.requires.sum c.requires.handed).root) ∙ c.requires.number
+term_count-at-end-requires-clause-number g c = ap is_number (plain_root c.args.number c.requires.stands (given_other c.requires.sum c.requires.handed).root) ∙ c.requires.number
 
 pub loop-at-init : goal.loop-at-init
-loop-at-init c = joined_none c.args.sum.now (map (term_times (term_of c.args.term)) (value (tree_of c.args.number c.args.pool.now))) c.args.pool.now c.requires.stands c.requires.sum
+loop-at-init g c = record { joined = joined_none c.args.sum.now (map (term_times (term_of c.args.term)) (value (tree_of c.args.number c.args.pool.now))) c.args.pool.now c.requires.stands c.requires.sum; lists = c.requires.lists }
 
-pub nth_term-other-requires-clause-expression : goal.nth_term-other-requires-clause-expression
-nth_term-other-requires-clause-expression c = other_expression c.args.number c.loop-at.pool c.loop-at.invariant.stands c.loop-at.invariant.gives c.requires.handed
+pub listed_term-other-requires : goal.listed_term-other-requires
+listed_term-other-requires g c = (search rules, (c.loop-at.invariant.joined.stands, (other_expression c.args.number c.loop-at.pool c.loop-at.invariant.joined.stands c.loop-at.invariant.joined.gives c.requires.handed, ((let same = other_read c.args.number c.loop-at.pool c.loop-at.invariant.joined.stands c.loop-at.invariant.joined.gives c.requires.handed ∙ sym (other_plain c.args.number c.requires.sum c.requires.handed.root) in ap is_number same ∙ c.requires.number), (lists_kept c.args.terms.now c.args.number c.args.pool.now c.loop-at.pool c.requires.stands c.loop-at.invariant.joined.stands c.requires.sum c.loop-at.invariant.joined.gives c.requires.handed c.requires.terms, (let same = ap classes (other_read c.args.number c.loop-at.pool c.loop-at.invariant.joined.stands c.loop-at.invariant.joined.gives c.requires.handed ∙ sym (other_plain c.args.number c.requires.sum c.requires.handed.root)) in let all = ap classes (plain_root c.args.number c.requires.stands (given_other c.requires.sum c.requires.handed).root) in omega (arith, same, all, c.term_count-at-end.ensures, c.loop-at-test.true)))))))
 
-pub nth_term-other-requires-clause-number : goal.nth_term-other-requires-clause-number
-nth_term-other-requires-clause-number c =
-    let same = other_read c.args.number c.loop-at.pool c.loop-at.invariant.stands c.loop-at.invariant.gives c.requires.handed ∙ sym (other_plain c.args.number c.requires.sum c.requires.handed.root) in
-    ap is_number same ∙ c.requires.number
+pub clean_radicand-clean-requires : goal.clean_radicand-clean-requires
+clean_radicand-clean-requires g c = (search rules, (c.loop-at.invariant.joined.stands, (read_expression _ c.args.sum.now c.loop-at.pool c.id.ensures c.loop-at.invariant.joined.stands (given_handed c.loop-at.invariant.joined.gives), (read_sum _ c.args.sum.now c.loop-at.pool c.id.ensures c.loop-at.invariant.joined.stands (gives_rest c.loop-at.invariant.joined.gives (λ t h. h.sum)), lists_at {N = g.row.N} _ _ _ _ c.id.ensures c.loop-at.invariant.lists))))
 
-pub nth_term-other-requires-clause-within : goal.nth_term-other-requires-clause-within
-nth_term-other-requires-clause-within c =
-    let same = ap classes (other_read c.args.number c.loop-at.pool c.loop-at.invariant.stands c.loop-at.invariant.gives c.requires.handed ∙ sym (other_plain c.args.number c.requires.sum c.requires.handed.root)) in
-    let all = ap classes (plain_root c.args.number c.requires.stands (given_other c.requires.sum c.requires.handed).root) in
-    omega (arith, same, all, c.term_count-at-end.ensures, c.loop-at-test.true)
-
-pub join_term-requires-clause-sum : goal.join_term-requires-clause-sum
-join_term-requires-clause-sum c = gives_rest c.loop-at.invariant.gives (λ t h. h.sum)
+pub join_term-requires : goal.join_term-requires
+join_term-requires g c = (search rules, (c.loop-at.invariant.joined.stands, (gives_rest c.loop-at.invariant.joined.gives (λ t h. h.sum), c.loop-at.invariant.lists)))
 
 pub loop-at-preserved : goal.loop-at-preserved
-loop-at-preserved c =
+loop-at-preserved g c =
     let number : Tree = tree_of c.args.number c.args.pool.now in
     let x = term_of c.args.term in
-    let y = term_of c.nth_term-other.result in
-    let same = other_read c.args.number c.loop-at.pool c.loop-at.invariant.stands c.loop-at.invariant.gives c.requires.handed ∙ sym (other_plain c.args.number c.requires.sum c.requires.handed.root) in
-    let here : slice_get (value number) c.loop-at.at ≡ Some y = ap (λ (t : Tree). slice_get (value t) c.loop-at.at) (sym same) ∙ c.nth_term-other.ensures in
+    let y = term_of c.listed_term-other.result in
+    let same = other_read c.args.number c.loop-at.pool c.loop-at.invariant.joined.stands c.loop-at.invariant.joined.gives c.requires.handed ∙ sym (other_plain c.args.number c.requires.sum c.requires.handed.root) in
+    let here : slice_get (value number) c.loop-at.at ≡ Some y = ap (λ (t : Tree). slice_get (value t) c.loop-at.at) (sym same) ∙ c.listed_term-other.ensures in
     let next = products_next x (value number) c.loop-at.at y here ∙ ap (λ (n : ℕ). term_times x y ∷ map (term_times x) (terms_from n (value number))) (sym (add-one c.loop-at.at)) in
-    joined_more c.args.sum.now _ _ _ _ (term_times x y) c.args.pool.now c.loop-at.pool c.join_term.new.pool c.loop-at.invariant next (same_first (term_of c.in_ok-product.product) (term_times x y) _ _ c.in_ok-product.ensures.product (Same-refl _))
-    c.in_ok-join_term.ensures.ok c.join_term.ensures.front c.in_ok-join_term.ensures.kept c.join_term.ensures.stands
+    record {
+      joined = joined_more c.args.sum.now _ _ _ _ (term_times x y) c.args.pool.now c.loop-at.pool c.join_term.new.pool c.loop-at.invariant.joined next (same_first (term_of c.in_ok-product.product) (term_times x y) _ _ c.in_ok-product.ensures.product (Same-refl _))
+          c.in_ok-join_term.ensures.ok c.join_term.ensures.front c.in_ok-join_term.ensures.kept c.join_term.ensures.stands;
+      lists = c.in_ok-join_term.ensures.lists;
+    }
 
 pub returns-clause-ok : goal.returns-clause-ok
-returns-clause-ok c =
+returns-clause-ok g c =
     let all = ap classes (plain_root c.args.number c.requires.stands (given_other c.requires.sum c.requires.handed).root) in
     let end : length (value (tree_of c.args.number c.args.pool.now)) ≤ c.loop-at.at = omega (arith, all, c.term_count-at-end.ensures, c.loop-at-test.false) in
-    joined_all c.loop-at.invariant (ap (map (term_times (term_of c.args.term))) (from_all (value (tree_of c.args.number c.args.pool.now)) c.loop-at.at end))
+    joined_all c.loop-at.invariant.joined (ap (map (term_times (term_of c.args.term))) (from_all (value (tree_of c.args.number c.args.pool.now)) c.loop-at.at end))
 
-read : (c : After-nth_term-other) → slice_get (value (tree_of c.args.number c.args.pool.now)) c.loop-at.at ≡ Some (term_of c.nth_term-other.result)
-read c =
-    let same = other_read c.args.number c.loop-at.pool c.loop-at.invariant.stands c.loop-at.invariant.gives c.requires.handed ∙ sym (other_plain c.args.number c.requires.sum c.requires.handed.root) in
-    ap (λ (t : Tree). slice_get (value t) c.loop-at.at) (sym same) ∙ c.nth_term-other.ensures
+read : (g : Over) (c : After-listed_term-other g) → slice_get (value (tree_of c.args.number c.args.pool.now)) c.loop-at.at ≡ Some (term_of c.listed_term-other.result)
+read g c =
+    let same = other_read c.args.number c.loop-at.pool c.loop-at.invariant.joined.stands c.loop-at.invariant.joined.gives c.requires.handed ∙ sym (other_plain c.args.number c.requires.sum c.requires.handed.root) in
+    ap (λ (t : Tree). slice_get (value t) c.loop-at.at) (sym same) ∙ c.listed_term-other.ensures
 
 pub returns-in_err-product-clause-overflow : goal.returns-in_err-product-clause-overflow
-returns-in_err-product-clause-overflow c =
+returns-in_err-product-clause-overflow g c =
     passed_on c.from_residual.result (fault.Overflow c.in_err-product.field-0.0) (OfOverflow (RowOverflows (value (tree_of c.args.sum.now c.args.pool.now)) (term_of c.args.term) (value (tree_of c.args.number c.args.pool.now)))) c.from_residual.ensures.0 c.from_residual.ensures.1
-    (record { at = c.loop-at.at; other = term_of c.nth_term-other.result; here = read (goal.at.returns-in_err-product-clause-overflow c).After-nth_term-other; cause = inl c.in_err-product.ensures.overflow })
+    (record { at = c.loop-at.at; other = term_of c.listed_term-other.result; here = read g (goal.at.returns-in_err-product-clause-overflow g c).After-listed_term-other; cause = inl c.in_err-product.ensures.overflow })
 
 pub returns-in_err-join_term-clause-overflow : goal.returns-in_err-join_term-clause-overflow
-returns-in_err-join_term-clause-overflow c =
-    let told = given_told c.loop-at.invariant.gives in
+returns-in_err-join_term-clause-overflow g c =
+    let told = given_told c.loop-at.invariant.joined.gives in
     passed_on c.from_residual-in_err-join_term.result c.in_err-join_term.field-0.0 (OfOverflow (RowOverflows (value (tree_of c.args.sum.now c.args.pool.now)) (term_of c.args.term) (value (tree_of c.args.number c.args.pool.now)))) c.from_residual-in_err-join_term.ensures.0 c.from_residual-in_err-join_term.ensures.1
     (overflow_as c.in_err-join_term.field-0.0 c.in_err-join_term.ensures.overflow (λ o j. record {
       at = c.loop-at.at;
-      other = term_of c.nth_term-other.result;
-      here = read (goal.at.returns-in_err-join_term-clause-overflow c).After-nth_term-other;
+      other = term_of c.listed_term-other.result;
+      here = read g (goal.at.returns-in_err-join_term-clause-overflow g c).After-listed_term-other;
       cause = inr (record {
         product = term_of c.in_ok-product.product;
         extracted = c.in_ok-product.ensures.extracted;
@@ -89,3 +88,9 @@ returns-in_err-join_term-clause-overflow c =
         joined = j;
       });
     }))
+
+pub returns-clause-lists : goal.returns-clause-lists
+returns-clause-lists g c = c.loop-at.invariant.lists
+
+pub returns-in_err-join_term-clause-front : goal.returns-in_err-join_term-clause-front
+returns-in_err-join_term-clause-front g c = front_after_one behind_first c.loop-at.invariant.joined.front c.join_term.ensures.front

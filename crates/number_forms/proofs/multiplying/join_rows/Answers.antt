@@ -1,9 +1,10 @@
-use Rattle.std.proofs.Common.{◌≡◌, ℕ, ◌≤◌, ◌++◌, Some, length, map, sym, ap, ◌∙◌, arith, add-one, subst}
+use Rattle.std.proofs.Common.{◌≡◌, ℕ, ◌≤◌, ◌++◌, Some, length, map, sym, ap, ◌∙◌, arith, add-one, subst, rules}
 use Rattle.std.specs.Prelude.{slice_get}
 use Rattle.calc_algebra.specs.Numbers.{is_number, value, classes}
 use Rattle.calc_algebra.specs.Surds.{surd_times, term_times, Surd}
 use Rattle.calc_terms.specs.Trees.{Tree}
 use Rattle.number_forms.specs.Sums.{IsSumOf}
+use Rattle.number_forms.proofs.ListedTerms.{lists_kept}
 use Rattle.number_forms.proofs.Loops.{IsJoined, joined_none, joined_row, joined_all, from_all, other_plain, other_read, other_expression, gives_rest}
 use Rattle.number_forms.proofs.Worth.{terms_from}
 use Rattle.tree_handles.specs.Handed.{tree_of, Gives}
@@ -20,65 +21,59 @@ use Rattle.tree_handles.proofs.Given.{given_told}
 use Rattle.number_forms.proofs.multiplying.join_rows.Goals as goal
 
 pub term_count-at-end-requires-clause-expression : goal.term_count-at-end-requires-clause-expression
-term_count-at-end-requires-clause-expression c = other_expression c.args.a c.args.pool.now c.requires.stands c.requires.sum c.requires.first
+term_count-at-end-requires-clause-expression g c = other_expression c.args.a c.args.pool.now c.requires.stands c.requires.sum c.requires.first
 
 pub term_count-at-end-requires-clause-number : goal.term_count-at-end-requires-clause-number
-term_count-at-end-requires-clause-number c = ap is_number (plain_root c.args.a c.requires.stands (given_other c.requires.sum c.requires.first).root) ∙ c.requires.first_number
+term_count-at-end-requires-clause-number g c = ap is_number (plain_root c.args.a c.requires.stands (given_other c.requires.sum c.requires.first).root) ∙ c.requires.first_number
 
 pub loop-at-init : goal.loop-at-init
-loop-at-init c = joined_none c.args.sum.now (surd_times (value (tree_of c.args.a c.args.pool.now)) (value (tree_of c.args.b c.args.pool.now))) c.args.pool.now c.requires.stands c.requires.sum
+loop-at-init g c = record { joined = joined_none c.args.sum.now (surd_times (value (tree_of c.args.a c.args.pool.now)) (value (tree_of c.args.b c.args.pool.now))) c.args.pool.now c.requires.stands c.requires.sum; lists = c.requires.lists }
 
 pub nth_term-term-requires-clause-expression : goal.nth_term-term-requires-clause-expression
-nth_term-term-requires-clause-expression c = other_expression c.args.a c.loop-at.pool c.loop-at.invariant.stands c.loop-at.invariant.gives c.requires.first
+nth_term-term-requires-clause-expression g c = other_expression c.args.a c.loop-at.pool c.loop-at.invariant.joined.stands c.loop-at.invariant.joined.gives c.requires.first
 
 pub nth_term-term-requires-clause-number : goal.nth_term-term-requires-clause-number
-nth_term-term-requires-clause-number c =
-    let same = other_read c.args.a c.loop-at.pool c.loop-at.invariant.stands c.loop-at.invariant.gives c.requires.first ∙ sym (other_plain c.args.a c.requires.sum c.requires.first.root) in
+nth_term-term-requires-clause-number g c =
+    let same = other_read c.args.a c.loop-at.pool c.loop-at.invariant.joined.stands c.loop-at.invariant.joined.gives c.requires.first ∙ sym (other_plain c.args.a c.requires.sum c.requires.first.root) in
     ap is_number same ∙ c.requires.first_number
 
 pub nth_term-term-requires-clause-within : goal.nth_term-term-requires-clause-within
-nth_term-term-requires-clause-within c =
-    let same = ap classes (other_read c.args.a c.loop-at.pool c.loop-at.invariant.stands c.loop-at.invariant.gives c.requires.first ∙ sym (other_plain c.args.a c.requires.sum c.requires.first.root)) in
+nth_term-term-requires-clause-within g c =
+    let same = ap classes (other_read c.args.a c.loop-at.pool c.loop-at.invariant.joined.stands c.loop-at.invariant.joined.gives c.requires.first ∙ sym (other_plain c.args.a c.requires.sum c.requires.first.root)) in
     let all = ap classes (plain_root c.args.a c.requires.stands (given_other c.requires.sum c.requires.first).root) in
     omega (arith, same, all, c.term_count-at-end.ensures, c.loop-at-test.true)
 
-pub join_products-requires-clause-sum : goal.join_products-requires-clause-sum
-join_products-requires-clause-sum c = gives_rest c.loop-at.invariant.gives (λ t h. h.sum)
-
-pub join_products-requires-clause-handed : goal.join_products-requires-clause-handed
-join_products-requires-clause-handed c = handed_at c.requires.second (given_rest c.loop-at.invariant.gives)
-
-pub join_products-requires-clause-number : goal.join_products-requires-clause-number
-join_products-requires-clause-number c = ap is_number (other_plain c.args.b c.loop-at.invariant.gives c.requires.second.root ∙ sym (other_plain c.args.b c.requires.sum c.requires.second.root)) ∙ c.requires.second_number
+pub join_products-requires : goal.join_products-requires
+join_products-requires g c = (search rules, (c.loop-at.invariant.joined.stands, (gives_rest c.loop-at.invariant.joined.gives (λ t h. h.sum), (c.loop-at.invariant.lists, (handed_at c.requires.second (given_rest c.loop-at.invariant.joined.gives), (ap is_number (other_plain c.args.b c.loop-at.invariant.joined.gives c.requires.second.root ∙ sym (other_plain c.args.b c.requires.sum c.requires.second.root)) ∙ c.requires.second_number, lists_kept c.args.terms.now c.args.b c.args.pool.now c.loop-at.pool c.requires.stands c.loop-at.invariant.joined.stands c.requires.sum c.loop-at.invariant.joined.gives c.requires.second c.requires.terms))))))
 
 pub loop-at-preserved : goal.loop-at-preserved
-loop-at-preserved c =
+loop-at-preserved g c =
     let a : Tree = tree_of c.args.a c.args.pool.now in
     let b : Tree = tree_of c.args.b c.args.pool.now in
     let x = term_of c.nth_term-term.result in
-    let same = other_read c.args.a c.loop-at.pool c.loop-at.invariant.stands c.loop-at.invariant.gives c.requires.first ∙ sym (other_plain c.args.a c.requires.sum c.requires.first.root) in
+    let same = other_read c.args.a c.loop-at.pool c.loop-at.invariant.joined.stands c.loop-at.invariant.joined.gives c.requires.first ∙ sym (other_plain c.args.a c.requires.sum c.requires.first.root) in
     let here : slice_get (value a) c.loop-at.at ≡ Some x = ap (λ (t : Tree). slice_get (value t) c.loop-at.at) (sym same) ∙ c.nth_term-term.ensures in
-    let other = other_plain c.args.b c.loop-at.invariant.gives c.requires.second.root ∙ sym (other_plain c.args.b c.requires.sum c.requires.second.root) in
+    let other = other_plain c.args.b c.loop-at.invariant.joined.gives c.requires.second.root ∙ sym (other_plain c.args.b c.requires.sum c.requires.second.root) in
     let joined = subst (λ (t : Tree). Gives (without_root c.args.sum.now (forest c.loop-at.pool)) (forest c.join_products.new.pool) c.args.sum.now (IsSumOf (value (tree_of c.args.sum.now c.loop-at.pool) ++ map (term_times x) (value t)))) other c.in_ok-join_products.ensures.ok in
-    let next = joined_row c.args.sum.now c.loop-at.at (value a) (value b) _ x c.args.pool.now c.loop-at.pool c.join_products.new.pool c.loop-at.invariant here joined c.join_products.ensures.front c.in_ok-join_products.ensures.kept c.join_products.ensures.stands in
-    subst (λ (n : ℕ). IsJoined c.args.sum.now (surd_times (terms_from n (value a)) (value b)) (value (tree_of c.args.sum.now c.args.pool.now) ++ surd_times (value a) (value b)) c.args.pool.now c.join_products.new.pool) (sym (add-one c.loop-at.at)) next
+    let next = joined_row c.args.sum.now c.loop-at.at (value a) (value b) _ x c.args.pool.now c.loop-at.pool c.join_products.new.pool c.loop-at.invariant.joined here joined c.join_products.ensures.front c.in_ok-join_products.ensures.kept c.join_products.ensures.stands in
+    record { joined = subst (λ (n : ℕ). IsJoined c.args.sum.now (surd_times (terms_from n (value a)) (value b)) (value (tree_of c.args.sum.now c.args.pool.now) ++ surd_times (value a) (value b)) c.args.pool.now c.join_products.new.pool) (sym (add-one c.loop-at.at)) next; lists = c.in_ok-join_products.ensures.lists }
 
 pub returns-clause-ok : goal.returns-clause-ok
-returns-clause-ok c =
+returns-clause-ok g c =
     let all = ap classes (plain_root c.args.a c.requires.stands (given_other c.requires.sum c.requires.first).root) in
     let end : length (value (tree_of c.args.a c.args.pool.now)) ≤ c.loop-at.at = omega (arith, all, c.term_count-at-end.ensures, c.loop-at-test.false) in
-    joined_all c.loop-at.invariant (ap (λ (v : Surd). surd_times v (value (tree_of c.args.b c.args.pool.now))) (from_all (value (tree_of c.args.a c.args.pool.now)) c.loop-at.at end))
+    joined_all c.loop-at.invariant.joined (ap (λ (v : Surd). surd_times v (value (tree_of c.args.b c.args.pool.now))) (from_all (value (tree_of c.args.a c.args.pool.now)) c.loop-at.at end))
 
 pub returns-in_err-join_products-clause-overflow : goal.returns-in_err-join_products-clause-overflow
-returns-in_err-join_products-clause-overflow c = λ empty.
+returns-in_err-join_products-clause-overflow g c = λ empty.
     let a : Tree = tree_of c.args.a c.args.pool.now in
     let b : Tree = tree_of c.args.b c.args.pool.now in
     let partial : Tree = tree_of c.args.sum.now c.loop-at.pool in
     let x = term_of c.nth_term-term.result in
-    let same = other_read c.args.a c.loop-at.pool c.loop-at.invariant.stands c.loop-at.invariant.gives c.requires.first ∙ sym (other_plain c.args.a c.requires.sum c.requires.first.root) in
+    let same = other_read c.args.a c.loop-at.pool c.loop-at.invariant.joined.stands c.loop-at.invariant.joined.gives c.requires.first ∙ sym (other_plain c.args.a c.requires.sum c.requires.first.root) in
     let here : slice_get (value a) c.loop-at.at ≡ Some x = ap (λ (t : Tree). slice_get (value t) c.loop-at.at) (sym same) ∙ c.nth_term-term.ensures in
-    let other = other_plain c.args.b c.loop-at.invariant.gives c.requires.second.root ∙ sym (other_plain c.args.b c.requires.sum c.requires.second.root) in
-    let told = given_told c.loop-at.invariant.gives in
+    let other = other_plain c.args.b c.loop-at.invariant.joined.gives c.requires.second.root ∙ sym (other_plain c.args.b c.requires.sum c.requires.second.root) in
+    let told = given_told c.loop-at.invariant.joined.gives in
     passed_on c.from_residual.result c.in_err-join_products.field-0.0 (OfOverflow (ProductOverflows (value a) (value b))) c.from_residual.ensures.0 c.from_residual.ensures.1
     (overflow_as c.in_err-join_products.field-0.0 c.in_err-join_products.ensures.overflow (λ o r. record {
       at = c.loop-at.at;
@@ -89,3 +84,6 @@ returns-in_err-join_products-clause-overflow c = λ empty.
       worth = subst (λ (v : Surd). Same (value partial ++ surd_times (terms_from c.loop-at.at (value a)) (value b)) (v ++ surd_times (value a) (value b))) empty told.worth;
       row = subst (λ (t : Tree). RowOverflows (value partial) x (value t) o) other r;
     }))
+
+pub returns-clause-lists : goal.returns-clause-lists
+returns-clause-lists g c = c.loop-at.invariant.lists

@@ -1,11 +1,15 @@
 use Rattle.std.proofs.Common.{◌++◌}
 use Rattle.calc_algebra.specs.Numbers.{value}
 use Rattle.calc_algebra.specs.Surds.{surd_times}
+use Rattle.number_forms.specs.Listings.{Lists}
 use Rattle.number_forms.proofs.Loops.{IsJoined}
 use Rattle.number_forms.proofs.Worth.{terms_from}
 use Rattle.tree_handles.specs.Handed.{tree_of}
+use Rattle.tree_handles.specs.Standing.{forest}
 use Rattle.number_forms.proofs.multiplying.join_rows.Given as goal
 
 abbrev pub invariant-loop-at : goal.invariant-loop-at
-invariant-loop-at l =
-    IsJoined l.sum (surd_times (terms_from l.at (value (tree_of l.a l.fn.pool))) (value (tree_of l.b l.fn.pool))) (value (tree_of l.sum l.fn.pool) ++ surd_times (value (tree_of l.a l.fn.pool)) (value (tree_of l.b l.fn.pool))) l.fn.pool l.pool
+invariant-loop-at g l = record {
+  joined : IsJoined l.sum (surd_times (terms_from l.at (value (tree_of l.a l.fn.pool))) (value (tree_of l.b l.fn.pool))) (value (tree_of l.sum l.fn.pool) ++ surd_times (value (tree_of l.a l.fn.pool)) (value (tree_of l.b l.fn.pool))) l.fn.pool l.pool;
+  lists : Lists l.list l.sum (forest l.pool);
+}

@@ -1,65 +1,16 @@
-use Rattle.std.proofs.Common.{◌≡◌, ℕ, ◌++◌, refl, sym, ap, ◌∙◌, subst}
-use Rattle.calc_algebra.specs.Numbers.{is_number, value}
-use Rattle.calc_algebra.specs.Surds.{surd_times}
-use Rattle.calc_algebra.proofs.SquareClassLaws.{Same-trans}
-use Rattle.calc_algebra.proofs.TermLaws.{Same-eq}
-use Rattle.number_forms.specs.Sums.{IsSum}
-use Rattle.calc_terms.specs.Trees.{Tree}
-use Rattle.number_forms.proofs.Loops.{other_plain, gives_rest, number_as}
-use Rattle.tree_handles.specs.Handed.{tree_of, IsHanded}
-use Rattle.tree_handles.specs.Roots.{without_root}
-use Rattle.tree_handles.specs.Standing.{forest}
-use Rattle.tree_handles.proofs.Fronts.{behind_new, front_same, front_after_one}
-use Rattle.tree_handles.proofs.Given.{given_told, given_rest, gives_as, handed_at}
-use Rattle.number_forms.specs.Overflows.{ProductOverflows}
-use Rattle.tree_handles.specs.Faults.{OfOverflow}
-use Rattle.number_forms.proofs.Overflows.{passed_on, overflow_as}
+use Rattle.std.proofs.Common.{ap, ◌∙◌}
+use Rattle.calc_algebra.specs.Numbers.{is_number}
+use Rattle.number_forms.proofs.SumChanges.{same_plain, read_expression}
 use Rattle.number_forms.proofs.multiplying.product_of.Goals as goal
 
-pub join_rows-requires-clause-sum : goal.join_rows-requires-clause-sum
-join_rows-requires-clause-sum c = gives_rest (c.in_ok-sum.ensures.given refl) (λ t e. subst IsSum (sym e) (tt, tt))
+pub term_count-requires-clause-expression : goal.term_count-requires-clause-expression
+term_count-requires-clause-expression c = read_expression _ c.args.a.now c.args.pool.now c.id.ensures c.requires.stands c.requires.first
 
-pub join_rows-requires-clause-first : goal.join_rows-requires-clause-first
-join_rows-requires-clause-first c = subst (λ (i : ℕ). IsHanded i (without_root c.in_ok-sum.sum (forest c.node.new.pool))) (sym c.id.ensures) (handed_at c.requires.first (given_rest (c.in_ok-sum.ensures.given refl)))
+pub term_count-requires-clause-number : goal.term_count-requires-clause-number
+term_count-requires-clause-number c = ap is_number (same_plain _ c.args.a.now c.args.pool.now c.id.ensures c.requires.stands c.requires.first.root) ∙ c.requires.first_number
 
-pub join_rows-requires-clause-second : goal.join_rows-requires-clause-second
-join_rows-requires-clause-second c = subst (λ (i : ℕ). IsHanded i (without_root c.in_ok-sum.sum (forest c.node.new.pool))) (sym c.id-2.ensures) (handed_at c.requires.second (given_rest (c.in_ok-sum.ensures.given refl)))
+pub term_count-requires-2-clause-expression : goal.term_count-requires-2-clause-expression
+term_count-requires-2-clause-expression c = read_expression _ c.args.b.now c.args.pool.now c.id-2.ensures c.requires.stands c.requires.second
 
-pub join_rows-requires-clause-first_number : goal.join_rows-requires-clause-first_number
-join_rows-requires-clause-first_number c = ap (λ (i : ℕ). is_number (tree_of i c.node.new.pool)) c.id.ensures ∙ ap is_number (other_plain c.args.a.now (c.in_ok-sum.ensures.given refl) c.requires.first.root) ∙ c.requires.first_number
-
-pub join_rows-requires-clause-second_number : goal.join_rows-requires-clause-second_number
-join_rows-requires-clause-second_number c = ap (λ (i : ℕ). is_number (tree_of i c.node.new.pool)) c.id-2.ensures ∙ ap is_number (other_plain c.args.b.now (c.in_ok-sum.ensures.given refl) c.requires.second.root) ∙ c.requires.second_number
-
-pub returns-in_err-join_rows-clause-front : goal.returns-in_err-join_rows-clause-front
-returns-in_err-join_rows-clause-front c = front_after_one (behind_new (c.in_ok-sum.ensures.given refl).ends front_same) c.node.ensures.front c.join_rows.ensures.front
-
-pub number_of-requires-clause-sum : goal.number_of-requires-clause-sum
-number_of-requires-clause-sum c = gives_rest c.in_ok-join_rows.ensures.ok (λ t h. h.sum)
-
-pub returns-in_err-number_of-clause-front : goal.returns-in_err-number_of-clause-front
-returns-in_err-number_of-clause-front c =
-    let sum = behind_new (c.in_ok-sum.ensures.given refl).ends front_same in
-    front_after_one sum (front_after_one sum c.node.ensures.front c.join_rows.ensures.front) c.number_of.ensures.front
-
-pub returns-clause-front : goal.returns-clause-front
-returns-clause-front c =
-    let sum = behind_new (c.in_ok-sum.ensures.given refl).ends front_same in
-    front_after_one sum (front_after_one sum c.node.ensures.front c.join_rows.ensures.front) c.number_of.ensures.front
-
-pub returns-clause-ok : goal.returns-clause-ok
-returns-clause-ok c =
-    let new = c.in_ok-sum.ensures.given refl in
-    let rows = c.in_ok-join_rows.ensures.ok in
-    let a : tree_of c.id.result c.node.new.pool ≡ tree_of c.args.a.now c.args.pool.now = ap (λ (i : ℕ). tree_of i c.node.new.pool) c.id.ensures ∙ other_plain c.args.a.now new c.requires.first.root in
-    let b : tree_of c.id-2.result c.node.new.pool ≡ tree_of c.args.b.now c.args.pool.now = ap (λ (i : ℕ). tree_of i c.node.new.pool) c.id-2.ensures ∙ other_plain c.args.b.now new c.requires.second.root in
-    let worth = Same-trans (given_told rows).worth (Same-eq (λ i. value (given_told new i) ++ surd_times (value (a i)) (value (b i)))) in
-    gives_as c.in_ok-number_of.ensures.ok (given_rest rows ∙ given_rest new) (λ t h. number_as h worth)
-
-pub returns-in_err-join_rows-clause-overflow : goal.returns-in_err-join_rows-clause-overflow
-returns-in_err-join_rows-clause-overflow c =
-    let new = c.in_ok-sum.ensures.given refl in
-    let a : tree_of c.id.result c.node.new.pool ≡ tree_of c.args.a.now c.args.pool.now = ap (λ (i : ℕ). tree_of i c.node.new.pool) c.id.ensures ∙ other_plain c.args.a.now new c.requires.first.root in
-    let b : tree_of c.id-2.result c.node.new.pool ≡ tree_of c.args.b.now c.args.pool.now = ap (λ (i : ℕ). tree_of i c.node.new.pool) c.id-2.ensures ∙ other_plain c.args.b.now new c.requires.second.root in
-    passed_on c.from_residual-in_err-join_rows.result c.in_err-join_rows.field-0.0 (OfOverflow (ProductOverflows (value (tree_of c.args.a.now c.args.pool.now)) (value (tree_of c.args.b.now c.args.pool.now)))) c.from_residual-in_err-join_rows.ensures.0 c.from_residual-in_err-join_rows.ensures.1
-    (overflow_as c.in_err-join_rows.field-0.0 (c.in_err-join_rows.ensures.overflow (ap value (given_told new))) (λ o p. subst (λ (t : Tree). ProductOverflows (value (tree_of c.args.a.now c.args.pool.now)) (value t) o) b (subst (λ (t : Tree). ProductOverflows (value t) (value (tree_of c.id-2.result c.node.new.pool)) o) a p)))
+pub term_count-requires-2-clause-number : goal.term_count-requires-2-clause-number
+term_count-requires-2-clause-number c = ap is_number (same_plain _ c.args.b.now c.args.pool.now c.id-2.ensures c.requires.stands c.requires.second.root) ∙ c.requires.second_number

@@ -3,7 +3,7 @@ use Rattle.calc_terms.specs.Fractions.{whole_fraction}
 use Rattle.calc_terms.specs.declared.kind.Kind.TheVariants as kind
 use Rattle.calc_terms.specs.Payload.{bare}
 use Rattle.calc_terms.specs.Rat.{value_of}
-use Rattle.calc_terms.specs.Trees.{num, root, mult, more, none}
+use Rattle.calc_terms.specs.Trees.{num, root, mult, more, none, root_size}
 use Rattle.calc_terms.specs.declared.rat.Rat.{Rat}
 use Rattle.tree_handles.proofs.Fronts.{behind_new, front_same, front_end, front_without}
 use Rattle.tree_handles.proofs.Given.{represents_none, represents_handed, represents_with, represents_node, gives, gives_as, given_root, given_handed, given_told, given_rest}
@@ -51,10 +51,17 @@ returns-clause-front c =
     let one = ends_as (c.add_child.ensures.last _ _ c.in_ok-product.ensures.ok (given_root root)) refl (given_rest root) in
     front_end (c.add_child-2.ensures.last _ _ one (given_root rational)) (front_without (behind_new rational.ends front_same) c.number.ensures.front)
 
-mid : (c : In_ok-rational) → free_of c.args.pool.now ≡ free_of c.number.new.pool + 40
+-- the bytes of the two numbers
+abbrev first : Rat → ℕ
+first q = root_size (num (value_of q))
+
+abbrev second : ℕ → ℕ
+second r = root_size (num (whole_fraction (pos r)))
+
+mid : (c : In_ok-rational) → free_of c.args.pool.now ≡ free_of c.number.new.pool + first c.args.coefficient
 mid c = free_before c.requires.stands c.number.ensures.stands c.in_ok-rational.ensures.kept c.in_ok-rational.ensures.given
 
-late : (c : In_ok-root) → free_of c.number.new.pool ≡ free_of c.place_root.new.pool + 48
+late : (c : In_ok-root) → free_of c.number.new.pool ≡ free_of c.place_root.new.pool + (8 + second c.args.radicand)
 late c = free_before c.number.ensures.stands c.place_root.ensures.stands c.in_ok-root.ensures.kept c.in_ok-root.ensures.ok
 
 pub returns-in_err-rational-clause-exactly : goal.returns-in_err-rational-clause-exactly
@@ -82,18 +89,18 @@ abbrev Short : ℕ → Rat → ℕ → Full → Type 0
 Short free q r full = building free (mult (more (num (value_of q)) (more (root (num (whole_fraction (pos r)))) none))) ≡ Err full
 
 pub returns-in_err-rational-clause-first_lack : goal.returns-in_err-rational-clause-first_lack
-returns-in_err-rational-clause-first_lack c = passed_on c.from_residual.result c.in_err-rational.field-0.0 (Short (free_of c.args.pool.now) c.args.coefficient c.args.radicand) c.from_residual.ensures.0 c.from_residual.ensures.1 (lacking (40 ∷ 8 ∷ 8 ∷ []) c.in_err-rational.ensures.full)
+returns-in_err-rational-clause-first_lack c = passed_on c.from_residual.result c.in_err-rational.field-0.0 (Short (free_of c.args.pool.now) c.args.coefficient c.args.radicand) c.from_residual.ensures.0 c.from_residual.ensures.1 (lacking (second c.args.radicand ∷ 8 ∷ 8 ∷ []) c.in_err-rational.ensures.full)
 
 pub returns-in_err-root-clause-first_lack : goal.returns-in_err-root-clause-first_lack
 returns-in_err-root-clause-first_lack c =
     let at = goal.at.returns-in_err-root-clause-first_lack c in
     passed_on c.from_residual-in_err-root.result c.in_err-root.field-0.0 (Short (free_of c.args.pool.now) c.args.coefficient c.args.radicand) c.from_residual-in_err-root.ensures.0 c.from_residual-in_err-root.ensures.1
-    (taken _ _ 40 (40 ∷ 8 ∷ 8 ∷ []) (mid at.In_ok-rational) ∙ lacking_on (free_of at.In_ok-rational.number.new.pool) (40 ∷ 8 ∷ []) (8 ∷ []) _ c.in_err-root.ensures.first_lack)
+    (taken _ _ (first c.args.coefficient) (second c.args.radicand ∷ 8 ∷ 8 ∷ []) (mid at.In_ok-rational) ∙ lacking_on (free_of at.In_ok-rational.number.new.pool) (second c.args.radicand ∷ 8 ∷ []) (8 ∷ []) _ c.in_err-root.ensures.first_lack)
 
 pub returns-in_err-product-clause-first_lack : goal.returns-in_err-product-clause-first_lack
 returns-in_err-product-clause-first_lack c =
     let at = goal.at.returns-in_err-product-clause-first_lack c in
     let rest = free_of c.place_root.new.pool in
-    let root : free_of c.number.new.pool ≡ (rest + 8) + 40 = omega (arith, late at.In_ok-root) in
+    let root : free_of c.number.new.pool ≡ (rest + 8) + second c.args.radicand = omega (arith, late at.In_ok-root) in
     passed_on c.from_residual-in_err-product.result c.in_err-product.field-0.0 (Short (free_of c.args.pool.now) c.args.coefficient c.args.radicand) c.from_residual-in_err-product.ensures.0 c.from_residual-in_err-product.ensures.1
-    (taken _ _ 40 (40 ∷ 8 ∷ 8 ∷ []) (mid at.In_ok-rational) ∙ taken _ _ 40 (8 ∷ 8 ∷ []) root ∙ taken _ rest 8 (8 ∷ []) refl ∙ lacking [] c.in_err-product.ensures.full)
+    (taken _ _ (first c.args.coefficient) (second c.args.radicand ∷ 8 ∷ 8 ∷ []) (mid at.In_ok-rational) ∙ taken _ _ (second c.args.radicand) (8 ∷ 8 ∷ []) root ∙ taken _ rest 8 (8 ∷ []) refl ∙ lacking [] c.in_err-product.ensures.full)

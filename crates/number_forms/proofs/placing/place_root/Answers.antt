@@ -1,14 +1,14 @@
-use Rattle.std.proofs.Common.{◌≡◌, ℕ, pos, Err, ◌+◌, ◌≤◌, [], ◌∷◌, ap, ◌∙◌, refl, arith}
-use Rattle.calc_terms.specs.Fractions.{whole_fraction}
+use Rattle.std.proofs.Common.{◌≡◌, ℕ, pos, Err, ◌+◌, ◌≤◌, [], ◌∷◌, ap, sym, ◌∙◌, refl, arith}
+use Rattle.calc_terms.specs.Fractions.{Fraction, whole_fraction}
 use Rattle.calc_terms.specs.declared.kind.Kind.TheVariants as kind
 use Rattle.calc_terms.specs.Payload.{bare}
-use Rattle.calc_terms.specs.Trees.{num, root}
+use Rattle.calc_terms.specs.Trees.{num, root, root_size}
 use Rattle.tree_handles.proofs.Fronts.{behind_new, front_same, front_end, front_without}
 use Rattle.tree_handles.proofs.Given.{represents_none, represents_handed, represents_with, represents_node, gives, gives_as, given_root, given_handed, given_told, given_rest}
 use Rattle.tree_handles.proofs.Lasts.{last_held, last_apart, other_root}
 use Rattle.node_pool.specs.State.{free_of}
 use Rattle.node_pool.specs.declared.full.Full.{Full}
-use Rattle.tree_handles.specs.Building.{building}
+use Rattle.tree_handles.specs.Building.{building, taking}
 use Rattle.number_forms.proofs.Overflows.{passed_on}
 use Rattle.number_forms.proofs.Placings.{free_before, refused, taken, lacking}
 use Rattle.number_forms.proofs.placing.place_root.Goals as goal
@@ -35,11 +35,15 @@ returns-clause-front c =
     let rational = c.in_ok-rational.ensures.given in
     front_end (c.add_child.ensures.last _ _ c.in_ok-root.ensures.ok (given_root rational)) (front_without (behind_new rational.ends front_same) c.number.ensures.front)
 
-mid : (c : In_ok-rational) → free_of c.args.pool.now ≡ free_of c.number.new.pool + 40
-mid c = free_before c.requires.stands c.number.ensures.stands c.in_ok-rational.ensures.kept c.in_ok-rational.ensures.given
+-- the bytes of a number's node
+abbrev bytes : Fraction → ℕ
+bytes q = root_size (num q)
+
+mid : (c : In_ok-rational) → free_of c.args.pool.now ≡ free_of c.number.new.pool + bytes (whole_fraction (pos c.args.radicand))
+mid c = free_before c.requires.stands c.number.ensures.stands c.in_ok-rational.ensures.kept c.in_ok-rational.ensures.given ∙ ap (λ (q : Fraction). free_of c.number.new.pool + bytes q) c.whole.ensures
 
 pub returns-in_err-rational-clause-exactly : goal.returns-in_err-rational-clause-exactly
-returns-in_err-rational-clause-exactly c = refused c.from_residual.result _ c.from_residual.ensures.0 (λ enough. absurd (cc (c.in_err-rational.ensures.exactly.1 (omega (arith, enough)))))
+returns-in_err-rational-clause-exactly c = refused c.from_residual.result _ c.from_residual.ensures.0 (λ enough. absurd (cc (c.in_err-rational.ensures.exactly.1 (omega (arith, enough, ap bytes c.whole.ensures)))))
 
 pub returns-in_err-root-clause-exactly : goal.returns-in_err-root-clause-exactly
 returns-in_err-root-clause-exactly c =
@@ -57,9 +61,10 @@ abbrev Short : ℕ → ℕ → Full → Type 0
 Short free r full = building free (root (num (whole_fraction (pos r)))) ≡ Err full
 
 pub returns-in_err-rational-clause-first_lack : goal.returns-in_err-rational-clause-first_lack
-returns-in_err-rational-clause-first_lack c = passed_on c.from_residual.result c.in_err-rational.field-0.0 (Short (free_of c.args.pool.now) c.args.radicand) c.from_residual.ensures.0 c.from_residual.ensures.1 (lacking (8 ∷ []) c.in_err-rational.ensures.full)
+returns-in_err-rational-clause-first_lack c = passed_on c.from_residual.result c.in_err-rational.field-0.0 (Short (free_of c.args.pool.now) c.args.radicand) c.from_residual.ensures.0 c.from_residual.ensures.1
+    (ap (λ (q : Fraction). taking (free_of c.args.pool.now) (bytes q ∷ 8 ∷ [])) (sym c.whole.ensures) ∙ lacking (8 ∷ []) c.in_err-rational.ensures.full)
 
 pub returns-in_err-root-clause-first_lack : goal.returns-in_err-root-clause-first_lack
 returns-in_err-root-clause-first_lack c =
     passed_on c.from_residual-in_err-root.result c.in_err-root.field-0.0 (Short (free_of c.args.pool.now) c.args.radicand) c.from_residual-in_err-root.ensures.0 c.from_residual-in_err-root.ensures.1
-    (taken _ _ 40 (8 ∷ []) (mid (goal.at.returns-in_err-root-clause-first_lack c).In_ok-rational) ∙ lacking [] c.in_err-root.ensures.full)
+    (taken _ _ (bytes (whole_fraction (pos c.args.radicand))) (8 ∷ []) (mid (goal.at.returns-in_err-root-clause-first_lack c).In_ok-rational) ∙ lacking [] c.in_err-root.ensures.full)

@@ -4,7 +4,7 @@ use Rattle.std.specs.Prelude.{ℤ, pos, IsOk, IfErr, Err}
 use Rattle.std.proofs.lemmas.Int.{to_z-of_z}
 use Rattle.calc_terms.specs.Fractions.{one_fraction, whole_fraction}
 use Rattle.calc_terms.specs.Rat.{value_of}
-use Rattle.calc_terms.specs.Trees.{Tree, num, root, mult, more, none, size}
+use Rattle.calc_terms.specs.Trees.{Tree, num, root, mult, more, none, size, root_size}
 use Rattle.node_pool.specs.State.{free_of}
 use Rattle.tree_handles.specs.Building.{building}
 use Rattle.surd_terms.specs.Terms.{term_of}
@@ -49,39 +49,40 @@ returns-else-num-eq1-clause-ok c =
 
 pub returns-then-radicand-eq1-clause-exactly : goal.returns-then-radicand-eq1-clause-exactly
 returns-then-radicand-eq1-clause-exactly c =
-    subst (λ (t : Tree). IsOk c.number.result ↔ (size t ≤ free_of c.args.pool.now)) (sym (rational_term (term_of c.args.term) (sym c.radicand.ensures.value ∙ c.if-radicand-eq1.true))) c.number.ensures.exactly
+    subst (λ (t : Tree). IsOk c.number.result ↔ (size t ≤ free_of c.args.pool.now)) (ap num c.coefficient-coefficient.ensures.value ∙ sym (rational_term (term_of c.args.term) (sym c.radicand.ensures.value ∙ c.if-radicand-eq1.true))) c.number.ensures.exactly
 
 pub returns-then-den-eq1-clause-exactly : goal.returns-then-den-eq1-clause-exactly
 returns-then-den-eq1-clause-exactly c =
     let num_fits : FitsSigned w128 c.num.result = search rules in
     let den_fits : FitsSigned w128 c.den.result = search rules in
     let one : value_of c.coefficient-coefficient.result ≡ one_fraction = is_one_value c.coefficient-coefficient.result (sym c.num.ensures.value ∙ one_bits c.num.result num_fits c.if-num-eq1.true) (one_of (sym c.den.ensures.value ∙ one_bits c.den.result den_fits c.if-den-eq1.true)) in
-    subst (λ (t : Tree). IsOk c.place_root.result ↔ (size t ≤ free_of c.args.pool.now)) (sym (root_term (term_of c.args.term) (λ k. c.if-radicand-eq1.false (c.radicand.ensures.value ∙ k)) (sym c.coefficient-coefficient.ensures.value ∙ one))) c.place_root.ensures.exactly
+    subst (λ (t : Tree). IsOk c.place_root.result ↔ (size t ≤ free_of c.args.pool.now)) (ap (λ n. root (num (whole_fraction (pos n)))) c.radicand-then-den-eq1.ensures.value ∙ sym (root_term (term_of c.args.term) (λ k. c.if-radicand-eq1.false (c.radicand.ensures.value ∙ k)) (sym c.coefficient-coefficient.ensures.value ∙ one))) c.place_root.ensures.exactly
 
 pub returns-else-num-eq1-clause-exactly : goal.returns-else-num-eq1-clause-exactly
 returns-else-num-eq1-clause-exactly c =
     let q = c.coefficient-coefficient.result in
     let other : value_of q ≢ one_fraction = elim c.else-num-eq1.branch [ else-num-eq1-via-then-num-eq1+else-den-eq1 w ↦ not_one_den q (λ k. w.if-den-eq1.false (ap (of_z w128) (w.den.ensures.value ∙ ap pos k))) | else-num-eq1-via-else-num-eq1 w ↦ not_one_num q (λ k. w.if-num-eq1.false (ap (of_z w128) (c.num.ensures.value ∙ k))) ] in
     subst (λ (t : Tree). IsOk c.place_multiple.result ↔ (size t ≤ free_of c.args.pool.now))
-    (sym (multiple_term (term_of c.args.term) (λ k. c.if-radicand-eq1.false (c.radicand.ensures.value ∙ k)) (λ k. other (c.coefficient-coefficient.ensures.value ∙ k)))) c.place_multiple.ensures.exactly
+    ((λ i. mult (more (num (c.coefficient-coefficient.ensures.value i)) (more (root (num (whole_fraction (pos (c.radicand-else-num-eq1.ensures.value i))))) none))) ∙ sym (multiple_term (term_of c.args.term) (λ k. c.if-radicand-eq1.false (c.radicand.ensures.value ∙ k)) (λ k. other (c.coefficient-coefficient.ensures.value ∙ k)))) c.place_multiple.ensures.exactly
 
 pub returns-then-den-eq1-clause-first_lack : goal.returns-then-den-eq1-clause-first_lack
 returns-then-den-eq1-clause-first_lack c =
     let num_fits : FitsSigned w128 c.num.result = search rules in
     let den_fits : FitsSigned w128 c.den.result = search rules in
     let one : value_of c.coefficient-coefficient.result ≡ one_fraction = is_one_value c.coefficient-coefficient.result (sym c.num.ensures.value ∙ one_bits c.num.result num_fits c.if-num-eq1.true) (one_of (sym c.den.ensures.value ∙ one_bits c.den.result den_fits c.if-den-eq1.true)) in
-    subst (λ (t : Tree). IfErr c.place_root.result (λ full. building (free_of c.args.pool.now) t ≡ Err full)) (sym (root_term (term_of c.args.term) (λ k. c.if-radicand-eq1.false (c.radicand.ensures.value ∙ k)) (sym c.coefficient-coefficient.ensures.value ∙ one))) c.place_root.ensures.first_lack
+    subst (λ (t : Tree). IfErr c.place_root.result (λ full. building (free_of c.args.pool.now) t ≡ Err full)) (ap (λ n. root (num (whole_fraction (pos n)))) c.radicand-then-den-eq1.ensures.value ∙ sym (root_term (term_of c.args.term) (λ k. c.if-radicand-eq1.false (c.radicand.ensures.value ∙ k)) (sym c.coefficient-coefficient.ensures.value ∙ one))) c.place_root.ensures.first_lack
 
 pub returns-else-num-eq1-clause-first_lack : goal.returns-else-num-eq1-clause-first_lack
 returns-else-num-eq1-clause-first_lack c =
     let q = c.coefficient-coefficient.result in
     let other : value_of q ≢ one_fraction = elim c.else-num-eq1.branch [ else-num-eq1-via-then-num-eq1+else-den-eq1 w ↦ not_one_den q (λ k. w.if-den-eq1.false (ap (of_z w128) (w.den.ensures.value ∙ ap pos k))) | else-num-eq1-via-else-num-eq1 w ↦ not_one_num q (λ k. w.if-num-eq1.false (ap (of_z w128) (c.num.ensures.value ∙ k))) ] in
     subst (λ (t : Tree). IfErr c.place_multiple.result (λ full. building (free_of c.args.pool.now) t ≡ Err full))
-    (sym (multiple_term (term_of c.args.term) (λ k. c.if-radicand-eq1.false (c.radicand.ensures.value ∙ k)) (λ k. other (c.coefficient-coefficient.ensures.value ∙ k)))) c.place_multiple.ensures.first_lack
+    ((λ i. mult (more (num (c.coefficient-coefficient.ensures.value i)) (more (root (num (whole_fraction (pos (c.radicand-else-num-eq1.ensures.value i))))) none))) ∙ sym (multiple_term (term_of c.args.term) (λ k. c.if-radicand-eq1.false (c.radicand.ensures.value ∙ k)) (λ k. other (c.coefficient-coefficient.ensures.value ∙ k)))) c.place_multiple.ensures.first_lack
 
 pub returns-then-radicand-eq1-clause-first_lack : goal.returns-then-radicand-eq1-clause-first_lack
 returns-then-radicand-eq1-clause-first_lack c =
-    subst (λ (t : Tree). IfErr c.number.result (λ full. building (free_of c.args.pool.now) t ≡ Err full)) (sym (rational_term (term_of c.args.term) (sym c.radicand.ensures.value ∙ c.if-radicand-eq1.true))) (number_lacks c.args.pool.now c.number.new.pool c.number.result c.number.ensures.full)
+    subst (λ (t : Tree). IfErr c.number.result (λ full. building (free_of c.args.pool.now) t ≡ Err full)) (ap num c.coefficient-coefficient.ensures.value ∙ sym (rational_term (term_of c.args.term) (sym c.radicand.ensures.value ∙ c.if-radicand-eq1.true)))
+    (number_lacks c.args.pool.now c.number.new.pool (root_size (num (value_of c.coefficient-coefficient.result))) c.number.result c.number.ensures.full)
 
 -- ---- the very tree
 

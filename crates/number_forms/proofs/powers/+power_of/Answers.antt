@@ -1,39 +1,24 @@
-use Rattle.std.proofs.Common.{◌≡◌, refl, sym, ap, ◌∙◌, subst}
+use Rattle.std.proofs.Common.{ap, ◌∙◌, subst}
 use Rattle.calc_algebra.specs.Numbers.{is_number, value}
-use Rattle.calc_algebra.specs.Surds.{surd_times, surd_power}
+use Rattle.calc_algebra.specs.Surds.{surd_times}
 use Rattle.calc_terms.specs.Trees.{Tree}
 use Rattle.calc_algebra.proofs.SquareClassLaws.{Same-trans}
 use Rattle.calc_algebra.proofs.TermLaws.{Same-eq}
 use Rattle.number_forms.proofs.Loops.{other_plain}
 use Rattle.number_forms.proofs.PowerSteps.{power_even, power_odd}
-use Rattle.number_forms.proofs.SumChanges.{same_plain, read_expression}
 use Rattle.number_forms.proofs.TermTrees.{if_given}
 use Rattle.tree_handles.specs.Handed.{tree_of}
 use Rattle.tree_handles.specs.Expressions.{plain}
 use Rattle.tree_handles.specs.Forest.{Forest}
 use Rattle.tree_handles.specs.Roots.{root_tree}
-use Rattle.tree_handles.proofs.Fronts.{behind_new, front_same, front_at, front_end, front_after_one}
+use Rattle.tree_handles.proofs.Fronts.{behind_new, front_same, front_at, front_after_one}
 use Rattle.tree_handles.proofs.Given.{given_handed, given_told, given_rest, given_other, gives_as, handed_at}
 use Rattle.calc_algebra.proofs.TermLaws.{Same-refl}
 use Rattle.number_forms.specs.Overflows.{PowerOverflows, ProductOverflows}
 use Rattle.tree_handles.specs.Faults.{OfOverflow}
 use Rattle.number_forms.proofs.Overflows.{passed_on, overflow_as, refused_as, power_overflows_more, square_overflows, last_overflows}
-use Rattle.number_forms.proofs.PowerSteps.{half_positive, half_below, half_odd_within}
+use Rattle.number_forms.proofs.PowerSteps.{half_twice, half_below, half_odd_within}
 use Rattle.number_forms.proofs.powers.+power_of.Goals as goal
-
-pub copy_tree-requires-clause-live : goal.copy_tree-requires-clause-live
-copy_tree-requires-clause-live _ c = (read_expression _ c.args.a.now c.args.pool.now c.id.ensures c.requires.stands c.requires.handed).live
-
-pub returns-then-n-eq1-clause-ok : goal.returns-then-n-eq1-clause-ok
-returns-then-n-eq1-clause-ok _ c =
-    let a : Tree = tree_of c.args.a.now c.args.pool.now in
-    let expression = read_expression _ c.args.a.now c.args.pool.now c.id.ensures c.requires.stands c.requires.handed in
-    let same = same_plain _ c.args.a.now c.args.pool.now c.id.ensures c.requires.stands c.requires.handed.root in
-    gives_as (c.in_ok-copy_tree.ensures.given expression) refl
-    (λ t e. let is : t ≡ a = e ∙ same in record { number = ap is_number is ∙ c.requires.number; worth = Same-eq (ap value is ∙ ap (surd_power (value a)) (sym c.if-n-eq1.true)) })
-
-pub returns-then-n-eq1-clause-front : goal.returns-then-n-eq1-clause-front
-returns-then-n-eq1-clause-front _ c = front_end (c.in_ok-copy_tree.ensures.given (read_expression _ c.args.a.now c.args.pool.now c.id.ensures c.requires.stands c.requires.handed)).ends front_same
 
 pub squared-requires-clause-handed : goal.squared-requires-clause-handed
 squared-requires-clause-handed _ c = given_handed c.in_ok-half.ensures.ok
@@ -89,13 +74,13 @@ returns-else-n-eq0-clause-front _ c =
 
 pub returns-in_err-half-clause-overflow : goal.returns-in_err-half-clause-overflow
 returns-in_err-half-clause-overflow _ c =
-    passed_on c.from_residual-in_err-half.result c.in_err-half.field-0.0 (OfOverflow (PowerOverflows (value (tree_of c.args.a.now c.args.pool.now)) c.args.n)) c.from_residual-in_err-half.ensures.0 c.from_residual-in_err-half.ensures.1
+    passed_on c.from_residual.result c.in_err-half.field-0.0 (OfOverflow (PowerOverflows (value (tree_of c.args.a.now c.args.pool.now)) c.args.n)) c.from_residual.ensures.0 c.from_residual.ensures.1
     (overflow_as c.in_err-half.field-0.0 c.in_err-half.ensures.overflow (λ o p. power_overflows_more _ _ _ o (half_below c.args.n) p))
 
 pub returns-in_err-square-clause-overflow : goal.returns-in_err-square-clause-overflow
 returns-in_err-square-clause-overflow _ c =
     passed_on c.from_residual-in_err-square.result c.in_err-square.field-0.0 (OfOverflow (PowerOverflows (value (tree_of c.args.a.now c.args.pool.now)) c.args.n)) c.from_residual-in_err-square.ensures.0 c.from_residual-in_err-square.ensures.1
-    (overflow_as c.in_err-square.field-0.0 c.in_err-square.ensures.overflow (λ o p. square_overflows _ (tree_of c.in_ok-half.half c.power_of.new.pool) c.args.n o (half_positive c.args.n c.requires.positive c.if-n-eq1.false) (given_told c.in_ok-half.ensures.ok) p))
+    (overflow_as c.in_err-square.field-0.0 c.in_err-square.ensures.overflow (λ o p. square_overflows _ (tree_of c.in_ok-half.half c.power_of.new.pool) c.args.n o (half_twice c.args.n c.requires.twice) (given_told c.in_ok-half.ensures.ok) p))
 
 pub returns-else-n-eq0-clause-overflow : goal.returns-else-n-eq0-clause-overflow
 returns-else-n-eq0-clause-overflow _ c =
@@ -106,5 +91,5 @@ returns-else-n-eq0-clause-overflow _ c =
     let q : Tree = tree_of c.in_ok-square.square c.squared.new.pool in
     let same = other_plain c.args.a.now square (handed_at c.requires.handed rest).root ∙ ap (λ (f : Forest). plain (root_tree c.args.a.now f)) rest in
     refused_as c.multiplied.result c.multiplied.ensures.overflow
-    (λ o p. last_overflows (tree_of c.in_ok-half.half c.power_of.new.pool) q a c.args.n o (half_positive c.args.n c.requires.positive c.if-n-eq1.false) (half_odd_within c.args.n c.if-n-eq0.false) (given_told half).worth (given_told square)
+    (λ o p. last_overflows (tree_of c.in_ok-half.half c.power_of.new.pool) q a c.args.n o (half_twice c.args.n c.requires.twice) (half_odd_within c.args.n c.if-n-eq0.false) (given_told half).worth (given_told square)
     (record { number = c.requires.number; worth = Same-refl (value a) }) (subst (λ (t : Tree). ProductOverflows (value q) (value t) o) same p))

@@ -9,7 +9,7 @@ use Rattle.calc_algebra.proofs.TermLaws.{Same-eq}
 use Rattle.number_forms.proofs.Loops.{gives_without, number_as}
 use Rattle.number_forms.proofs.SumChanges.{same_plain, read_expression}
 use Rattle.tree_handles.specs.Handed.{tree_of}
-use Rattle.tree_handles.proofs.Fronts.{behind_first, front_same, front_at, front_without, front_after}
+use Rattle.tree_handles.proofs.Fronts.{behind_first, front_same, front_at, front_without, front_after, front_end}
 use Rattle.tree_handles.proofs.Given.{given_other, gives_as, owned}
 use Rattle.number_forms.proofs.powers.power_number.Goals as goal
 
@@ -48,3 +48,11 @@ pub returns-then-is_rational-clause-overflow : goal.returns-then-is_rational-cla
 returns-then-is_rational-clause-overflow c = λ other.
     let read = c.is_rational.ensures ∙ ap is_num (same_plain _ c.args.a c.args.pool.now c.id.ensures c.requires.stands c.requires.handed.root) in
     absurd (cc (sym read ∙ c.if-is_rational.true, other))
+
+pub returns-then-n-eq1-clause-rational : goal.returns-then-n-eq1-clause-rational
+returns-then-n-eq1-clause-rational c = λ q e.
+    let read = c.is_rational.ensures ∙ ap is_num (same_plain _ c.args.a c.args.pool.now c.id.ensures c.requires.stands c.requires.handed.root) in
+    absurd (cc (read ∙ ap is_num e, c.if-is_rational.false))
+
+pub returns-then-n-eq1-clause-front : goal.returns-then-n-eq1-clause-front
+returns-then-n-eq1-clause-front c = front_end c.move_last.ensures.last (front_without behind_first front_same)

@@ -18,6 +18,9 @@ use Rattle.number_forms.proofs.powers.power_rational.Goals as goal
 pub returns-in_err-power-clause-front : goal.returns-in_err-power-clause-front
 returns-in_err-power-clause-front c = front_at (front_without behind_first front_same) c.take_rational-q.ensures.gone
 
+pub returns-in_err-number-clause-front : goal.returns-in_err-number-clause-front
+returns-in_err-number-clause-front c = front_after (front_at (front_without behind_first front_same) c.take_rational-q.ensures.gone) c.number.ensures.front
+
 pub returns-clause-front : goal.returns-clause-front
 returns-clause-front c = front_after (front_at (front_without behind_first front_same) c.take_rational-q.ensures.gone) c.number.ensures.front
 

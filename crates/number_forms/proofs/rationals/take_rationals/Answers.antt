@@ -1,5 +1,5 @@
-use Rattle.std.proofs.Common.{sym, ap, ◌∙◌}
-use Rattle.calc_terms.specs.Trees.{is_num}
+use Rattle.std.proofs.Common.{sym, ap, ◌∙◌, arith}
+use Rattle.calc_terms.specs.Trees.{is_num, size}
 use Rattle.tree_handles.specs.Expressions.{plain}
 use Rattle.tree_handles.specs.Forest.{Forest}
 use Rattle.tree_handles.specs.Roots.{root_tree}
@@ -19,6 +19,10 @@ take_rational-q-requires-clause-rational c =
 pub returns-clause-second : goal.returns-clause-second
 returns-clause-second c =
     sym (ap (λ (f : Forest). plain (root_tree c.args.b f)) c.take_rational-p.ensures.gone ∙ ap plain (tree-without c.args.a c.args.b (forest c.args.pool.now) c.requires.apart)) ∙ c.take_rational-q.ensures.value
+
+pub returns-clause-room : goal.returns-clause-room
+returns-clause-room c =
+    omega (arith, c.take_rational-q.ensures.room, ap (λ (f : Forest). size (plain (root_tree c.args.b f))) c.take_rational-p.ensures.gone, ap (λ (f : Forest). size (plain f)) (tree-without c.args.a c.args.b (forest c.args.pool.now) c.requires.apart))
 
 pub returns-clause-front : goal.returns-clause-front
 returns-clause-front c =

@@ -1,0 +1,70 @@
+use Rattle.std.proofs.Common.{◌≡◌, ℕ, inl, sym, ap, ◌∙◌, subst, arith}
+use Rattle.calc_algebra.specs.Numbers.{is_number, value}
+use Rattle.calc_algebra.proofs.SquareClassLaws.{Same-trans}
+use Rattle.calc_algebra.proofs.TermLaws.{Same-append, Same-eq}
+use Rattle.number_forms.proofs.ListedTerms.{lists_at}
+use Rattle.number_forms.proofs.SumChanges.{read_expression}
+use Rattle.number_forms.proofs.Loops.{other_plain, gives_without, gives_rest, number_as}
+use Rattle.tree_handles.specs.Handed.{tree_of, IsHanded}
+use Rattle.tree_handles.specs.Expressions.{plain}
+use Rattle.tree_handles.specs.Roots.{without_root}
+use Rattle.tree_handles.specs.Standing.{forest}
+use Rattle.tree_handles.proofs.Fronts.{behind_first, behind_later, behind_new, front_same, front_at, front_without, front_after_one}
+use Rattle.tree_handles.proofs.Given.{given_handed, given_told, given_rest, given_other, gives_as, handed_beside, handed_at, owned}
+use Rattle.tree_handles.proofs.Roots.{tree-without}
+use Rattle.number_forms.specs.Overflows.{SumOverflows}
+use Rattle.tree_handles.specs.Faults.{OfOverflow}
+use Rattle.number_forms.proofs.Overflows.{passed_on, overflow_as, sum_overflows_as}
+use Rattle.number_forms.proofs.adding.add_within.Goals as goal
+
+pub join_terms-requires : goal.join_terms-requires
+join_terms-requires g c = (omega (arith, c.requires.few), (c.in_ok-sum.ensures.stands, (gives_rest c.in_ok-sum.ensures.ok (λ t h. h.sum), (lists_at {N = g.row.N} _ _ _ _ (sym c.id.ensures) c.of-list.ensures, (subst (λ (i : ℕ). IsHanded i (without_root c.in_ok-sum.sum (forest c.sum_over.new.pool))) (sym c.id-2.ensures) (handed_at (handed_beside c.args.a c.requires.apart c.requires.second) (given_rest c.in_ok-sum.ensures.ok)), (let beside = handed_beside c.args.a c.requires.apart c.requires.second in let same = other_plain c.args.b c.in_ok-sum.ensures.ok beside.root ∙ ap plain (tree-without c.args.a c.args.b (forest c.args.pool.now) c.requires.apart) in ap (λ (i : ℕ). is_number (tree_of i c.sum_over.new.pool)) c.id-2.ensures ∙ ap is_number same ∙ c.requires.second_number))))))
+
+pub returns-in_err-join_terms-clause-front : goal.returns-in_err-join_terms-clause-front
+returns-in_err-join_terms-clause-front g c =
+    front_after_one (behind_new c.in_ok-sum.ensures.ok.ends (front_without behind_first front_same)) (front_after_one behind_first front_same c.sum_over.ensures.front) c.join_terms.ensures.front
+
+pub release-requires-clause-releasable : goal.release-requires-clause-releasable
+release-requires-clause-releasable g c = inl (given_other c.in_ok-join_terms.ensures.ok (handed_at (handed_beside c.args.a c.requires.apart c.requires.second) (given_rest c.in_ok-sum.ensures.ok))).root
+
+pub number_of-requires-clause-sum : goal.number_of-requires-clause-sum
+number_of-requires-clause-sum g c =
+    let b = handed_at (handed_beside c.args.a c.requires.apart c.requires.second) (given_rest c.in_ok-sum.ensures.ok) in
+    let joined = c.in_ok-join_terms.ensures.ok in
+    gives_rest (gives_without c.args.b joined b.root (c.release.ensures.owned (owned (given_other joined b)))) (λ t h. h.sum)
+
+pub returns-in_err-number_of-clause-front : goal.returns-in_err-number_of-clause-front
+returns-in_err-number_of-clause-front g c =
+    let b = handed_at (handed_beside c.args.a c.requires.apart c.requires.second) (given_rest c.in_ok-sum.ensures.ok) in
+    let sum = behind_new c.in_ok-sum.ensures.ok.ends (front_without behind_first front_same) in
+    let joined = front_after_one sum (front_after_one behind_first front_same c.sum_over.ensures.front) c.join_terms.ensures.front in
+    front_after_one sum (front_at (front_without (behind_later behind_first) joined) (c.release.ensures.owned (owned (given_other c.in_ok-join_terms.ensures.ok b)))) c.number_of.ensures.front
+
+pub returns-clause-front : goal.returns-clause-front
+returns-clause-front g c =
+    let b = handed_at (handed_beside c.args.a c.requires.apart c.requires.second) (given_rest c.in_ok-sum.ensures.ok) in
+    let sum = behind_new c.in_ok-sum.ensures.ok.ends (front_without behind_first front_same) in
+    let joined = front_after_one sum (front_after_one behind_first front_same c.sum_over.ensures.front) c.join_terms.ensures.front in
+    front_after_one sum (front_at (front_without (behind_later behind_first) joined) (c.release.ensures.owned (owned (given_other c.in_ok-join_terms.ensures.ok b)))) c.number_of.ensures.front
+
+pub returns-clause-ok : goal.returns-clause-ok
+returns-clause-ok g c =
+    let beside = handed_beside c.args.a c.requires.apart c.requires.second in
+    let sum = c.in_ok-sum.ensures.ok in
+    let b = handed_at beside (given_rest sum) in
+    let joined = c.in_ok-join_terms.ensures.ok in
+    let left = gives_without c.args.b joined b.root (c.release.ensures.owned (owned (given_other joined b))) in
+    let same : tree_of c.id-2.result c.sum_over.new.pool ≡ tree_of c.args.b c.args.pool.now = ap (λ (i : ℕ). tree_of i c.sum_over.new.pool) c.id-2.ensures ∙ other_plain c.args.b sum beside.root ∙ ap plain (tree-without c.args.a c.args.b (forest c.args.pool.now) c.requires.apart) in
+    let worth = Same-trans (given_told left).worth (Same-append (given_told sum).worth (Same-eq (ap value same))) in
+    gives_as c.in_ok-number_of.ensures.ok (given_rest left ∙ ap (without_root c.args.b) (given_rest sum)) (λ t h. number_as h worth)
+
+pub returns-in_err-join_terms-clause-overflow : goal.returns-in_err-join_terms-clause-overflow
+returns-in_err-join_terms-clause-overflow g c =
+    let beside = handed_beside c.args.a c.requires.apart c.requires.second in
+    let sum = c.in_ok-sum.ensures.ok in
+    let same : tree_of c.id-2.result c.sum_over.new.pool ≡ tree_of c.args.b c.args.pool.now = ap (λ (i : ℕ). tree_of i c.sum_over.new.pool) c.id-2.ensures ∙ other_plain c.args.b sum beside.root ∙ ap plain (tree-without c.args.a c.args.b (forest c.args.pool.now) c.requires.apart) in
+    passed_on c.from_residual-in_err-join_terms.result c.in_err-join_terms.field-0.0 (OfOverflow (SumOverflows (value (tree_of c.args.a c.args.pool.now)) (value (tree_of c.args.b c.args.pool.now)))) c.from_residual-in_err-join_terms.ensures.0 c.from_residual-in_err-join_terms.ensures.1
+    (overflow_as c.in_err-join_terms.field-0.0 c.in_err-join_terms.ensures.overflow (λ o s. sum_overflows_as _ _ _ _ o (given_told sum).worth (ap value same) s))
+
+pub of-list-requires : goal.of-list-requires
+of-list-requires g c = (omega (arith, c.requires.few), (c.in_ok-sum.ensures.stands, read_expression _ c.in_ok-sum.sum c.sum_over.new.pool c.id.ensures c.in_ok-sum.ensures.stands (given_handed c.in_ok-sum.ensures.ok)))

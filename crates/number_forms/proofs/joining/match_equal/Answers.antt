@@ -1,0 +1,26 @@
+use Rattle.std.proofs.Common.{◌≡◌, ◌<◌, ap, ◌∙◌, arith}
+use Rattle.calc_terms.specs.Trees.{count}
+use Rattle.number_forms.proofs.SumChanges.{term_of_sum}
+use Rattle.surd_terms.specs.Terms.{term_of}
+use Rattle.tree_handles.specs.Expressions.{plain, children_of}
+use Rattle.tree_handles.specs.Inside.{tree_at}
+use Rattle.tree_handles.specs.Standing.{forest}
+use Rattle.calc_algebra.specs.Numbers.{term_of as term_of_tree}
+use Rattle.number_forms.specs.Overflows.{JoinOverflows}
+use Rattle.number_forms.proofs.Overflows.{passed_on, join_overflow}
+use Rattle.number_forms.proofs.joining.match_equal.Goals as goal
+
+pub term_at-other-requires-clause-term : goal.term_at-other-requires-clause-term
+term_at-other-requires-clause-term g c =
+    let t = plain (tree_at c.args.sum (forest c.args.pool.now)) in
+    let many : c.children.result ≡ count (children_of t) = c.children.ensures.plain c.requires.expression in
+    let within : c.place_of-at.result < count (children_of t) = omega (arith, many, c.place_of-at.ensures.within, c.if-at-children.false) in
+    term_of_sum t _ c.place_of-at.result c.requires.sum within (c.term.ensures.plain)
+
+pub returns-in_err-joined-clause-overflow : goal.returns-in_err-joined-clause-overflow
+returns-in_err-joined-clause-overflow g c =
+    let t = plain (tree_at c.args.sum (forest c.args.pool.now)) in
+    let many : c.children.result ≡ count (children_of t) = c.children.ensures.plain c.requires.expression in
+    let within : c.place_of-at.result < count (children_of t) = omega (arith, many, c.place_of-at.ensures.within, c.if-at-children.false) in
+    passed_on c.from_residual.result c.in_err-joined.field-0.0 (JoinOverflows t (term_of c.args.term)) c.from_residual.ensures.0 c.from_residual.ensures.1
+    (join_overflow t c.place_of-at.result _ _ _ within (c.term_at-other.ensures ∙ ap term_of_tree (c.term.ensures.plain)) c.in_err-joined.ensures.overflow)

@@ -1,0 +1,63 @@
+use Rattle.std.proofs.Common.{◌≡◌, ℕ, ◌++◌, refl, sym, ap, ◌∙◌, subst, arith}
+use Rattle.calc_algebra.specs.Numbers.{is_number, value}
+use Rattle.calc_algebra.specs.Surds.{surd_times}
+use Rattle.calc_algebra.proofs.SquareClassLaws.{Same-trans}
+use Rattle.calc_algebra.proofs.TermLaws.{Same-eq}
+use Rattle.number_forms.specs.Sums.{IsSum}
+use Rattle.number_forms.proofs.ListedTerms.{lists_none, lists_at}
+use Rattle.tree_handles.specs.Forest.{arity}
+use Rattle.tree_handles.proofs.Lasts.{kids_of_last, expression_root}
+use Rattle.calc_terms.specs.Trees.{Tree}
+use Rattle.number_forms.proofs.Loops.{other_plain, gives_rest, number_as}
+use Rattle.tree_handles.specs.Handed.{tree_of, IsHanded}
+use Rattle.tree_handles.specs.Expressions.{IsExpression}
+use Rattle.tree_handles.specs.Roots.{without_root}
+use Rattle.tree_handles.specs.Standing.{forest}
+use Rattle.tree_handles.proofs.Fronts.{behind_new, front_same, front_after_one}
+use Rattle.tree_handles.proofs.Given.{given_told, given_other, given_rest, gives_as, handed_at}
+use Rattle.number_forms.specs.Overflows.{ProductOverflows}
+use Rattle.tree_handles.specs.Faults.{OfOverflow}
+use Rattle.number_forms.proofs.Overflows.{passed_on, overflow_as}
+use Rattle.number_forms.proofs.multiplying.product_within.Goals as goal
+
+pub join_rows-requires : goal.join_rows-requires
+join_rows-requires g c = (omega (arith, c.requires.few), (c.in_ok-sum.ensures.stands, (gives_rest (c.in_ok-sum.ensures.given refl) (λ t e. subst IsSum (sym e) (tt, tt)), (lists_none c.new-list.result c.in_ok-sum.sum (forest c.node.new.pool) c.new-list.ensures (ap arity (kids_of_last c.in_ok-sum.ensures.stands c.in_ok-sum.ensures.ok)), (subst (λ (i : ℕ). IsHanded i (without_root c.in_ok-sum.sum (forest c.node.new.pool))) (sym c.id-2.ensures) (handed_at c.requires.first (given_rest (c.in_ok-sum.ensures.given refl))), (subst (λ (i : ℕ). IsHanded i (without_root c.in_ok-sum.sum (forest c.node.new.pool))) (sym c.id-3.ensures) (handed_at c.requires.second (given_rest (c.in_ok-sum.ensures.given refl))), (ap (λ (i : ℕ). is_number (tree_of i c.node.new.pool)) c.id-2.ensures ∙ ap is_number (other_plain c.args.a.now (c.in_ok-sum.ensures.given refl) c.requires.first.root) ∙ c.requires.first_number, (ap (λ (i : ℕ). is_number (tree_of i c.node.new.pool)) c.id-3.ensures ∙ ap is_number (other_plain c.args.b.now (c.in_ok-sum.ensures.given refl) c.requires.second.root) ∙ c.requires.second_number, lists_at {N = g.row.N} _ _ _ _ (c.id-3.ensures ∙ sym c.id.ensures) c.of-terms.ensures))))))))
+
+pub returns-in_err-join_rows-clause-front : goal.returns-in_err-join_rows-clause-front
+returns-in_err-join_rows-clause-front g c = front_after_one (behind_new (c.in_ok-sum.ensures.given refl).ends front_same) c.node.ensures.front c.join_rows.ensures.front
+
+pub number_of-requires-clause-sum : goal.number_of-requires-clause-sum
+number_of-requires-clause-sum g c = gives_rest c.in_ok-join_rows.ensures.ok (λ t h. h.sum)
+
+pub returns-in_err-number_of-clause-front : goal.returns-in_err-number_of-clause-front
+returns-in_err-number_of-clause-front g c =
+    let sum = behind_new (c.in_ok-sum.ensures.given refl).ends front_same in
+    front_after_one sum (front_after_one sum c.node.ensures.front c.join_rows.ensures.front) c.number_of.ensures.front
+
+pub returns-clause-front : goal.returns-clause-front
+returns-clause-front g c =
+    let sum = behind_new (c.in_ok-sum.ensures.given refl).ends front_same in
+    front_after_one sum (front_after_one sum c.node.ensures.front c.join_rows.ensures.front) c.number_of.ensures.front
+
+pub returns-clause-ok : goal.returns-clause-ok
+returns-clause-ok g c =
+    let new = c.in_ok-sum.ensures.given refl in
+    let rows = c.in_ok-join_rows.ensures.ok in
+    let a : tree_of c.id-2.result c.node.new.pool ≡ tree_of c.args.a.now c.args.pool.now = ap (λ (i : ℕ). tree_of i c.node.new.pool) c.id-2.ensures ∙ other_plain c.args.a.now new c.requires.first.root in
+    let b : tree_of c.id-3.result c.node.new.pool ≡ tree_of c.args.b.now c.args.pool.now = ap (λ (i : ℕ). tree_of i c.node.new.pool) c.id-3.ensures ∙ other_plain c.args.b.now new c.requires.second.root in
+    let worth = Same-trans (given_told rows).worth (Same-eq (λ i. value (given_told new i) ++ surd_times (value (a i)) (value (b i)))) in
+    gives_as c.in_ok-number_of.ensures.ok (given_rest rows ∙ given_rest new) (λ t h. number_as h worth)
+
+pub returns-in_err-join_rows-clause-overflow : goal.returns-in_err-join_rows-clause-overflow
+returns-in_err-join_rows-clause-overflow g c =
+    let new = c.in_ok-sum.ensures.given refl in
+    let a : tree_of c.id-2.result c.node.new.pool ≡ tree_of c.args.a.now c.args.pool.now = ap (λ (i : ℕ). tree_of i c.node.new.pool) c.id-2.ensures ∙ other_plain c.args.a.now new c.requires.first.root in
+    let b : tree_of c.id-3.result c.node.new.pool ≡ tree_of c.args.b.now c.args.pool.now = ap (λ (i : ℕ). tree_of i c.node.new.pool) c.id-3.ensures ∙ other_plain c.args.b.now new c.requires.second.root in
+    passed_on c.from_residual-in_err-join_rows.result c.in_err-join_rows.field-0.0 (OfOverflow (ProductOverflows (value (tree_of c.args.a.now c.args.pool.now)) (value (tree_of c.args.b.now c.args.pool.now)))) c.from_residual-in_err-join_rows.ensures.0 c.from_residual-in_err-join_rows.ensures.1
+    (overflow_as c.in_err-join_rows.field-0.0 (c.in_err-join_rows.ensures.overflow (ap value (given_told new))) (λ o p. subst (λ (t : Tree). ProductOverflows (value (tree_of c.args.a.now c.args.pool.now)) (value t) o) b (subst (λ (t : Tree). ProductOverflows (value t) (value (tree_of c.id-3.result c.node.new.pool)) o) a p)))
+
+pub of-terms-requires : goal.of-terms-requires
+of-terms-requires g c = (omega (arith, c.requires.few), (c.in_ok-sum.ensures.stands, subst (λ (i : ℕ). IsExpression i (forest c.node.new.pool)) (sym c.id.ensures) (expression_root c.in_ok-sum.ensures.stands (given_other (c.in_ok-sum.ensures.given refl) c.requires.second))))
+
+pub new-list-requires : goal.new-list-requires
+new-list-requires g c = omega (arith, c.requires.few)

@@ -1,0 +1,11 @@
+use Rattle.std.proofs.Common.{sym, ap, ◌∙◌, rules}
+use Rattle.std.specs.Prelude.{nat_abs, FitsSigned}
+use Rattle.std.specs.Int.{w128}
+use Rattle.std.proofs.lemmas.Int.{to_z-of_z}
+use Rattle.rational128.proofs.LowestTerms.{ratio_parts}
+use Rattle.surd_terms.proofs.cancelling.denominator.Goals as goal
+
+pub returns-clause-value : goal.returns-clause-value
+returns-clause-value c =
+    let fits : FitsSigned w128 c.den.result = search rules in
+    c.unsigned_abs.ensures.value ∙ ap nat_abs (to_z-of_z w128 _ fits ∙ c.den.ensures.value) ∙ sym (ratio_parts c.args.c).den

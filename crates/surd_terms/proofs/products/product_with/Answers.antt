@@ -1,0 +1,100 @@
+use Rattle.std.proofs.Common.{◌≡◌, ◌*◌, inl, inr, pos, [], refl, ap, sym, ◌∙◌, subst, arith}
+use Rattle.std.specs.Prelude.{true, false}
+use Rattle.calc_terms.specs.Fractions.{times, whole_fraction}
+use Rattle.calc_terms.specs.Rat.{value_of}
+use Rattle.calc_algebra.specs.Surds.{Term, term, term_times}
+use Rattle.rational128.specs.declared.overflow.Op.TheVariants.{Mul}
+use Rattle.surd_terms.specs.Calculations.{misfit_of, IsProductMisfit}
+use Rattle.surd_terms.specs.Products.{IsExtracted}
+use Rattle.surd_terms.specs.Terms.{term_of}
+use Rattle.surd_terms.proofs.Misfits.{refused_for, step_misfit, step_fits}
+use Rattle.surd_terms.proofs.ProductMisfits.{rational_misfit, coefficients_misfit, two_roots, cancelled_for}
+use Rattle.surd_terms.proofs.Rationals.{whole_not_zero}
+use Rattle.surd_terms.proofs.Values.{times_not_zero, extracted_nothing, extracted_value}
+use Rattle.surd_terms.proofs.products.product_with.Goals as goal
+use Rattle.surd_terms.proofs.products.product_with.Goals.{After-new, After-new-then-radicand-eq1-2, In_ok-root, After-new-2}
+
+-- ---- with a rational factor
+
+pub new-requires-clause-not_zero : goal.new-requires-clause-not_zero
+new-requires-clause-not_zero c = times_not_zero _ _ _ _ _ c.args.a.not_zero c.args.b.not_zero c.in_ok-coefficient.ensures.product c.coefficient.ensures.value c.coefficient-then-radicand-eq1.ensures.value
+
+first : (c : After-new) → term_of c.new.result ≡ term_times (term_of c.args.a) (term_of c.args.b)
+first c =
+    let one : c.args.a.radicand ≡ 1 = sym c.radicand.ensures.value ∙ c.if-radicand-eq1.true in
+    let radicand : c.radicand-then-radicand-eq1.result ≡ c.args.a.radicand * c.args.b.radicand = c.radicand-then-radicand-eq1.ensures.value ∙ rw one (omega arith) in
+    c.new.ensures ∙ (λ i. term ((c.in_ok-coefficient.ensures.product ∙ (λ j. times (c.coefficient.ensures.value j) (c.coefficient-then-radicand-eq1.ensures.value j))) i) (radicand i))
+
+pub returns-then-radicand-eq1-clause-product : goal.returns-then-radicand-eq1-clause-product
+returns-then-radicand-eq1-clause-product c = extracted_value _ _ (extracted_nothing _ _ (first c))
+
+pub returns-then-radicand-eq1-clause-extracted : goal.returns-then-radicand-eq1-clause-extracted
+returns-then-radicand-eq1-clause-extracted c = extracted_nothing _ _ (first c)
+
+pub returns-in_err-coefficient-clause-overflow : goal.returns-in_err-coefficient-clause-overflow
+returns-in_err-coefficient-clause-overflow c =
+    rational_misfit (term_of c.args.a) (term_of c.args.b) _ (inl (sym c.radicand.ensures.value ∙ c.if-radicand-eq1.true)) c.args.a.clean c.args.b.clean
+    (refused_for c.from_residual.result c.in_err-coefficient.field-0.0 _ c.from_residual.ensures.0 c.from_residual.ensures.1
+    (step_misfit _ Mul _ _ _ _ [] c.in_err-coefficient.ensures.named c.coefficient.ensures.value c.coefficient-then-radicand-eq1.ensures.value (c.in_err-coefficient.ensures.refused.0 refl)))
+
+pub returns-then-radicand-eq1-clause-overflow : goal.returns-then-radicand-eq1-clause-overflow
+returns-then-radicand-eq1-clause-overflow c =
+    rational_misfit (term_of c.args.a) (term_of c.args.b) _ (inl (sym c.radicand.ensures.value ∙ c.if-radicand-eq1.true)) c.args.a.clean c.args.b.clean
+    (sym (step_fits Mul _ _ _ _ [] c.coefficient.ensures.value c.coefficient-then-radicand-eq1.ensures.value c.in_ok-coefficient.ensures.refused.1))
+
+pub new-requires-then-radicand-eq1-2-clause-not_zero : goal.new-requires-then-radicand-eq1-2-clause-not_zero
+new-requires-then-radicand-eq1-2-clause-not_zero c =
+    times_not_zero _ _ _ _ _ c.args.a.not_zero c.args.b.not_zero c.in_ok-coefficient-2.ensures.product c.coefficient-then-radicand-eq1-2.ensures.value c.coefficient-then-radicand-eq1-2-2.ensures.value
+
+second : (c : After-new-then-radicand-eq1-2) → term_of c.new-then-radicand-eq1-2.result ≡ term_times (term_of c.args.a) (term_of c.args.b)
+second c =
+    let one : c.args.b.radicand ≡ 1 = sym c.radicand-2.ensures.value ∙ c.if-radicand-eq1-2.true in
+    let radicand : c.radicand-then-radicand-eq1-2.result ≡ c.args.a.radicand * c.args.b.radicand = c.radicand-then-radicand-eq1-2.ensures.value ∙ rw one (omega arith) in
+    c.new-then-radicand-eq1-2.ensures
+    ∙ (λ i. term ((c.in_ok-coefficient-2.ensures.product ∙ (λ j. times (c.coefficient-then-radicand-eq1-2.ensures.value j) (c.coefficient-then-radicand-eq1-2-2.ensures.value j))) i) (radicand i))
+
+pub returns-then-radicand-eq1-2-clause-product : goal.returns-then-radicand-eq1-2-clause-product
+returns-then-radicand-eq1-2-clause-product c = extracted_value _ _ (extracted_nothing _ _ (second c))
+
+pub returns-then-radicand-eq1-2-clause-extracted : goal.returns-then-radicand-eq1-2-clause-extracted
+returns-then-radicand-eq1-2-clause-extracted c = extracted_nothing _ _ (second c)
+
+pub returns-in_err-coefficient-2-clause-overflow : goal.returns-in_err-coefficient-2-clause-overflow
+returns-in_err-coefficient-2-clause-overflow c =
+    rational_misfit (term_of c.args.a) (term_of c.args.b) _ (inr (sym c.radicand-2.ensures.value ∙ c.if-radicand-eq1-2.true)) c.args.a.clean c.args.b.clean
+    (refused_for c.from_residual-in_err-coefficient-2.result c.in_err-coefficient-2.field-0.0 _ c.from_residual-in_err-coefficient-2.ensures.0 c.from_residual-in_err-coefficient-2.ensures.1
+    (step_misfit _ Mul _ _ _ _ [] c.in_err-coefficient-2.ensures.named c.coefficient-then-radicand-eq1-2.ensures.value c.coefficient-then-radicand-eq1-2-2.ensures.value (c.in_err-coefficient-2.ensures.refused.0 refl)))
+
+pub returns-then-radicand-eq1-2-clause-overflow : goal.returns-then-radicand-eq1-2-clause-overflow
+returns-then-radicand-eq1-2-clause-overflow c =
+    rational_misfit (term_of c.args.a) (term_of c.args.b) _ (inr (sym c.radicand-2.ensures.value ∙ c.if-radicand-eq1-2.true)) c.args.a.clean c.args.b.clean
+    (sym (step_fits Mul _ _ _ _ [] c.coefficient-then-radicand-eq1-2.ensures.value c.coefficient-then-radicand-eq1-2-2.ensures.value c.in_ok-coefficient-2.ensures.refused.1))
+
+-- ---- with two roots
+
+pub new-requires-2-clause-not_zero : goal.new-requires-2-clause-not_zero
+new-requires-2-clause-not_zero c =
+    let factors = times_not_zero _ _ _ _ _ c.args.a.not_zero c.args.b.not_zero refl c.coefficient-2.ensures.value c.coefficient-3.ensures.value in
+    times_not_zero _ _ _ _ _ factors (whole_not_zero c.in_ok-root.root c.in_ok-root.ensures.root_positive) c.in_ok-coefficient-3.ensures.product refl refl
+
+taken_out : (c : After-new-2) → IsExtracted (term_of c.new-2.result) (term_times (term_of c.args.a) (term_of c.args.b))
+taken_out c = record {
+  root = c.in_ok-root.root;
+  square = (λ i. sym c.radicand-3.ensures.value i * sym c.radicand-4.ensures.value i) ∙ c.in_ok-root.ensures.product ∙ ap (λ (t : Term). c.in_ok-root.root * c.in_ok-root.root * t.radicand) (sym c.new-2.ensures);
+  coefficient = ap (λ (t : Term). t.coefficient) c.new-2.ensures ∙ c.in_ok-coefficient-3.ensures.product ∙ (λ i. times (times (c.coefficient-2.ensures.value i) (c.coefficient-3.ensures.value i)) (whole_fraction (pos c.in_ok-root.root)));
+}
+
+pub returns-in_err-coefficient-3-clause-overflow : goal.returns-in_err-coefficient-3-clause-overflow
+returns-in_err-coefficient-3-clause-overflow c =
+    coefficients_misfit (term_of c.args.a) (term_of c.args.b) _ c.in_ok-root.root c.in_ok-root.radicand
+    (two_roots (term_of c.args.a) (term_of c.args.b) c.radicand-3.result c.radicand-4.result c.radicand-3.ensures.value c.radicand-4.ensures.value
+    (λ e. c.if-radicand-eq1.false (c.radicand.ensures.value ∙ sym c.radicand-3.ensures.value ∙ e)) (λ e. c.if-radicand-eq1-2.false (c.radicand-2.ensures.value ∙ sym c.radicand-4.ensures.value ∙ e)) c.in_ok-root.ensures.overflow)
+    ((λ i. sym c.radicand-3.ensures.value i * sym c.radicand-4.ensures.value i) ∙ c.in_ok-root.ensures.product) c.in_ok-root.ensures.clean
+    (cancelled_for c.from_residual-in_err-coefficient-3.result c.in_err-coefficient-3.field-0.0 _ _ _ _ _ c.from_residual-in_err-coefficient-3.ensures.0 c.from_residual-in_err-coefficient-3.ensures.1 c.coefficient-2.ensures.value c.coefficient-3.ensures.value
+    c.in_err-coefficient-3.ensures.overflow)
+
+pub returns-clause-product : goal.returns-clause-product
+returns-clause-product c = extracted_value _ _ (taken_out c)
+
+pub returns-clause-extracted : goal.returns-clause-extracted
+returns-clause-extracted c = taken_out c

@@ -1,0 +1,17 @@
+use Rattle.std.proofs.Common.{◌≡◌, ℕ, ◌*◌, ◌/◌, Option, Some, None, sym, ap, ◌∙◌}
+use Rattle.std.specs.Prelude.{IfSome}
+use Rattle.std.specs.Option.{SomeIff}
+use Rattle.std.specs.Int.{IsGcd}
+use Rattle.std.proofs.lemmas.Nat.Gcd.{same_from_IsGcd}
+use Rattle.calc_terms.specs.Gcd.{gcd, gcd_is}
+use Rattle.surd_terms.proofs.products.undivided.Goals as goal
+
+from_iff : (o : Option ℕ) (P : Type 0) (v w : ℕ) → SomeIff o P v → v ≡ w → IfSome o (λ n. n ≡ w)
+from_iff (Some n) P v w h e = h.1 ∙ e
+from_iff None P v w h e = tt
+
+over_shared : (r s r' s' g : ℕ) → r ≡ r' → s ≡ s' → IsGcd r s g → (r / g) * (s / g) ≡ (r' / gcd r' s') * (s' / gcd r' s')
+over_shared r s r' s' g e f is = ap (λ n. (r / n) * (s / n)) (same_from_IsGcd r s g (gcd r s) is (gcd_is r s)) ∙ (λ i. (e i / gcd (e i) (f i)) * (f i / gcd (e i) (f i)))
+
+pub returns : goal.returns
+returns c = from_iff c.checked_mul.result _ _ _ c.checked_mul.ensures (over_shared _ _ _ _ c.gcd-shared.result c.radicand-r.ensures.value c.radicand-s.ensures.value c.gcd-shared.ensures)
