@@ -1,12 +1,13 @@
 -- What a step is known to have made, in the arm for it.
-use Rattle.std.proofs.Common.{◌≡◌, ℕ, subst}
+use Rattle.std.proofs.Common.{◌≡◌, ◌<◌, ◌+◌, ◌^◌, ℕ, subst}
 use Rattle.std.specs.Prelude.{Some, None}
 use Rattle.calc_terms.specs.Trees.{Tree, Trees}
 use Rattle.node_pool.specs.State.{State}
 use Rattle.power_reduce.specs.PowerAnswers.{base_in, exponent_in, IsPowerAnswer, IsStep}
 use Rattle.power_reduce.specs.PowerSteps.{rewritten}
-use Rattle.product_reduce.specs.Answers.{IfFinished, IfJoined, IsFinished, IsJoined}
-use Rattle.product_reduce.specs.Joining.{IsJointAt}
+use Rattle.product_reduce.specs.Answers.{IfFinished, IfJoined, IsFinished}
+use Rattle.product_reduce.specs.Gathering.{IsGathered}
+use Rattle.product_reduce.specs.Neighbours.{IsPairAt}
 use Rattle.product_reduce.specs.declared.steps.Joining.{Joining}
 use Rattle.product_reduce.specs.declared.steps.Joining.TheVariants as joining
 use Rattle.calc_algebra.specs.Rewritings.{Rewrites}
@@ -24,12 +25,15 @@ module _ (i : ℕ) (old new : State) where
       → Gives (without_root i (forest old)) (forest new) h (IsFinished (children_of (tree_of i old)))
   is_finished e h = subst (λ (x : Joining). IfFinished x (λ k. Gives (without_root i (forest old)) (forest new) k (IsFinished (children_of (tree_of i old))))) e h
 
-  pub is_joined : {s : Joining} {h at : ℕ} → s ≡ joining.Joined h at → IfJoined s (λ k n. Gives (without_root i (forest old)) (forest new) k (IsJoined (children_of (tree_of i old))))
-      → Gives (without_root i (forest old)) (forest new) h (IsJoined (children_of (tree_of i old)))
-  is_joined e h = subst (λ (x : Joining). IfJoined x (λ k n. Gives (without_root i (forest old)) (forest new) k (IsJoined (children_of (tree_of i old))))) e h
+  pub is_gathered : {s : Joining} {h at : ℕ} → s ≡ joining.Joined h at → IfJoined s (λ k n. Gives (without_root i (forest old)) (forest new) k (IsGathered (children_of (tree_of i old))))
+      → Gives (without_root i (forest old)) (forest new) h (IsGathered (children_of (tree_of i old)))
+  is_gathered e h = subst (λ (x : Joining). IfJoined x (λ k n. Gives (without_root i (forest old)) (forest new) k (IsGathered (children_of (tree_of i old))))) e h
 
-  pub is_at : {s : Joining} {h at : ℕ} → s ≡ joining.Joined h at → IfJoined s (λ k n. IsJointAt n (children_of (tree_of k new))) → IsJointAt at (children_of (tree_of h new))
-  is_at e h = subst (λ (x : Joining). IfJoined x (λ k n. IsJointAt n (children_of (tree_of k new)))) e h
+  pub is_at : {s : Joining} {h at : ℕ} → s ≡ joining.Joined h at → IfJoined s (λ k n. IsPairAt n (children_of (tree_of k new))) → IsPairAt at (children_of (tree_of h new))
+  is_at e h = subst (λ (x : Joining). IfJoined x (λ k n. IsPairAt n (children_of (tree_of k new)))) e h
+
+  pub is_few : {s : Joining} {h at : ℕ} → s ≡ joining.Joined h at → IfJoined s (λ k n. n + 1 < 2 ^ 16) → at + 1 < 2 ^ 16
+  is_few e h = subst (λ (x : Joining). IfJoined x (λ k n. n + 1 < 2 ^ 16)) e h
 
   -- a power's step
   pub is_done : {s : Step} {h : ℕ} → s ≡ step.Done h → IsStep (tree_of i old) (without_root i (forest old)) new s

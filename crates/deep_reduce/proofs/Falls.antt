@@ -1,20 +1,37 @@
 -- The measure falls at each call.
-use Rattle.std.proofs.Common.{◌≡◌, ℕ, ◌+◌, ◌*◌, ◌≤◌, ◌<◌, true, refl, sym, ap, ◌∙◌, subst, arith}
+use Rattle.std.proofs.Common.{◌≡◌, ℕ, ◌+◌, ◌-◌, ◌*◌, ◌≤◌, ◌<◌, true, refl, sym, ap, ◌∙◌, subst, arith}
 use Rattle.calc_measures.specs.Loads.{nest, nest_of, weight, load_of_factors}
 use Rattle.calc_terms.specs.Trees.{Tree, add, mult, power, Trees, is_mult}
-use Rattle.deep_reduce.specs.Unfinished.{nest_over, nest_of_joint, nest_of_rewritten, weight_of_bases, weight_below, IsSummed}
+use Rattle.deep_reduce.specs.Unfinished.{nest_over, nest_of_joint, nest_of_rewritten, weight_of_bases, weight_below, IsLess, IsSummed}
 use Rattle.deep_reduce.proofs.Finished.{IsReadyProduct, IsReadyPower}
-use Rattle.deep_reduce.proofs.Measures.{of_product, of_power, of_joint, of_powers, of_exponent, of_rewritten}
+use Rattle.deep_reduce.proofs.Measures.{of_product, of_pairs, of_two, of_power, of_joint, of_powers, of_exponent, of_rewritten}
 use Rattle.deep_reduce.proofs.Nests.{over_power}
 use Rattle.deep_reduce.proofs.Opened.{IsOpened}
 use Rattle.deep_reduce.proofs.Ranks.{rank_second}
 use Rattle.deep_reduce.proofs.Rows.{IsPowerOf}
-use Rattle.deep_reduce.proofs.Settled.{IsLess, IsJointLess}
+use Rattle.deep_reduce.proofs.Joined.{pair_loaded}
+use Rattle.deep_reduce.proofs.Settled.{IsPairJoined, joint_less}
+use Rattle.calc_algebra.specs.Reduced.{are_reduced}
 use Rattle.power_reduce.specs.PowerAnswers.{base_in, exponent_in}
+use Rattle.product_reduce.specs.Gathering.{IsGathered}
+use Rattle.product_reduce.specs.Neighbours.{IsPairAt}
 use Rattle.tree_handles.specs.Expressions.{nth, children_of}
 
-pub joint_falls : (t u : Tree) (at : ℕ) → IsJointLess (children_of t) (nth at (children_of u)) → of_joint at u < of_product t
-joint_falls t u at h = rank_second _ _ _ _ h.nests (omega (arith, h.weighs))
+pub joint_falls : (t u : Tree) (at : ℕ) → IsPairJoined at (children_of t) u → of_joint at u < of_two t
+joint_falls t u at j = let h = joint_less at (children_of t) u j in rank_second _ _ _ _ h.nests (omega (arith, h.weighs))
+
+-- a product with a pair loads something
+pair_loads : (at : ℕ) (ts : Trees) → are_reduced ts ≡ true → IsPairAt at ts → 2 ≤ load_of_factors ts
+pair_loads at ts r p = omega (arith, (pair_loaded at ts r p).load)
+
+pub two_falls : (at : ℕ) (t : Tree) → are_reduced (children_of t) ≡ true → IsPairAt at (children_of t) → of_two t < of_pairs t
+two_falls at t r p = rank_second _ _ _ _ (omega arith) (omega (arith, pair_loads at (children_of t) r p))
+
+pub next_two_falls : (t u : Tree) → IsLess (children_of t) u → of_two u < of_pairs t
+next_two_falls t u l = rank_second _ _ _ _ l.nests (omega (arith, l.loads))
+
+pub pairs_fall : (at : ℕ) (t u : Tree) → IsGathered (children_of t) u → IsPairAt at (children_of u) → of_pairs u < of_product t
+pairs_fall at t u g p = rank_second _ _ _ _ g.nest (omega (arith, g.load, pair_loads at (children_of u) g.reduced p))
 
 pub product_falls : (t v : Tree) → IsLess (children_of t) v → of_product v < of_product t
 product_falls t v h = rank_second _ _ _ _ h.nests (omega (arith, h.loads))

@@ -8,7 +8,8 @@ use Rattle.deep_reduce.specs.Answers.{IsReducedProduct, IsReducedPower}
 use Rattle.deep_reduce.specs.Unfinished.{nest_over, nest_of_rewritten, weight_of_bases, weight_below, IsTransparent, AreTransparent, IsUnfinished, Finishes, IsMultiplied, IsLifted, AreReducedPowers, IsProductOfPowers}
 use Rattle.deep_reduce.proofs.Heavy.{heavy, factor_load}
 use Rattle.deep_reduce.proofs.Nests.{over_power, product_load}
-use Rattle.deep_reduce.proofs.Settled.{exponent_rewritten, factors_rewritten}
+use Rattle.deep_reduce.proofs.Pairs.{factors_rewritten}
+use Rattle.deep_reduce.proofs.Settled.{exponent_rewritten}
 use Rattle.power_reduce.specs.PowerAnswers.{base_in, exponent_in}
 use Rattle.calc_algebra.specs.Rewritings.{Rewrites}
 use Rattle.calc_algebra.proofs.Rewritings.{Rewrites-refl, rewrites_of, reduces_after}

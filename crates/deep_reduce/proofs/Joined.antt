@@ -1,11 +1,11 @@
 -- Factors of reduced trees before and after a joining: their loads and nests.
-use Rattle.std.proofs.Common.{◌≡◌, ℕ, ◌+◌, ◌≤◌, inl, inr, Bool, true, false, if◌then◌else◌, refl, sym, ap, ◌∙◌, subst, arith}
+use Rattle.std.proofs.Common.{◌≡◌, ℕ, zero, suc, ◌+◌, ◌<◌, ◌≤◌, inl, inr, Bool, true, false, not, ◌&&◌, if◌then◌else◌, refl, sym, ap, ◌∙◌, subst, arith}
 use Rattle.std.specs.Prelude.{max}
 use Rattle.std.proofs.lemmas.Bool.{and_parts}
 use Rattle.calc_measures.specs.Loads.{nest, nest_of, weight, load_of_factor, load_of_factors}
 use Rattle.calc_algebra.specs.Numbers.{is_number, IsNumber, are_numbers}
 use Rattle.calc_algebra.specs.Reduced.{is_reduced, is_num_one, base_of, HasForm, NoneIs, are_reduced}
-use Rattle.calc_terms.specs.Trees.{Tree, num, symbol, undef, add, mult, power, root, neg, sub, div, Trees, none, more, append, is_mult, AllPartsOf}
+use Rattle.calc_terms.specs.Trees.{Tree, num, symbol, undef, add, mult, power, root, neg, sub, div, Trees, none, more, append, count, is_mult, AllPartsOf}
 use Rattle.calc_algebra.proofs.NumberLaws.{number_test, number_words}
 use Rattle.coefficients.specs.Coefficients.{factors_of}
 use Rattle.coefficients.proofs.Forms.{reduced_parts, parts_reduced}
@@ -13,7 +13,8 @@ use Rattle.deep_reduce.specs.Unfinished.{nest_of_joint}
 use Rattle.deep_reduce.proofs.Heavy.{heavy_base}
 use Rattle.deep_reduce.proofs.Joints.{same_base, transparent_exponent, joint_load, joint_nest, joint_below}
 use Rattle.product_reduce.specs.Factors.{opened, others_in, coefficient_before}
-use Rattle.product_reduce.specs.Joining.{exponent_of, is_partner, has_partner, first_partner, without_partner, joint, have_partners, joined}
+use Rattle.product_reduce.specs.Joining.{exponent_of, is_partner, joint}
+use Rattle.product_reduce.specs.Neighbours.{is_single, IsPairAt, joined_pair}
 use Rattle.product_reduce.proofs.Bounds.{nest_factors, nest_opened, nest_others, load-append, load_number, load_factors, load_opened}
 use Rattle.calc_measures.proofs.Nests.{nest_number}
 
@@ -133,38 +134,6 @@ factor_load_is (neg a) n m = rw n refl
 factor_load_is (sub a b) n m = rw n refl
 factor_load_is (div a b) n m = rw n refl
 
--- the partner among the factors, and the others
-record IsPaired (t : Tree) (ts : Trees) : Type 0 where
-  partner : is_partner t (first_partner t ts) ≡ true
-  factor : IsFactor (first_partner t ts)
-  loads : load_of_factors (without_partner t ts) + load_of_factor (first_partner t ts) ≡ load_of_factors ts
-  nests : max (nest_of (without_partner t ts)) (nest (first_partner t ts)) ≤ nest_of ts
-
-paired : (t : Tree) (ts : Trees) → AreFactors ts → has_partner t ts ≡ true → IsPaired t ts
-paired t none f h = cc
-paired t (more u ts) f h = by (is_partner t u) refl h (paired t ts f.1)
-  where
-    by : (x : Bool) → is_partner t u ≡ x → (if x then true else has_partner t ts) ≡ true → (has_partner t ts ≡ true → IsPaired t ts) → IsPaired t (more u ts)
-    by true e k next =
-        let first : first_partner t (more u ts) ≡ u = ap (λ (x : Bool). if x then u else first_partner t ts) e in
-        let rest : without_partner t (more u ts) ≡ ts = ap (λ (x : Bool). if x then ts else more u (without_partner t ts)) e in
-        record {
-          partner = ap (is_partner t) first ∙ e;
-          factor = subst IsFactor (sym first) f.0;
-          loads = omega (arith, ap load_of_factors rest, ap load_of_factor first);
-          nests = omega (arith, ap nest_of rest, ap nest first);
-        }
-    by false e k next =
-        let p = next k in
-        let first : first_partner t (more u ts) ≡ first_partner t ts = ap (λ (x : Bool). if x then u else first_partner t ts) e in
-        let rest : without_partner t (more u ts) ≡ more u (without_partner t ts) = ap (λ (x : Bool). if x then ts else more u (without_partner t ts)) e in
-        record {
-          partner = ap (is_partner t) first ∙ p.partner;
-          factor = subst IsFactor (sym first) p.factor;
-          loads = omega (arith, ap load_of_factors rest, ap load_of_factor first, p.loads);
-          nests = omega (arith, ap nest_of rest, ap nest first, p.nests);
-        }
-
 -- each tree with a sum as its exponent nests no more than n once that sum is reduced
 abbrev pub JointsBelow : ℕ → Trees → Type 0
 JointsBelow n none = Unit {0}
@@ -186,49 +155,28 @@ below_more : (n m : ℕ) (ts : Trees) → n ≤ m → JointsBelow n ts → Joint
 below_more n m none l h = tt
 below_more n m (more t ts) l h = (omega (arith, h.0), below_more n m ts l h.1)
 
-joined_less : (ts : Trees) → AreFactors ts → have_partners ts ≡ true → IsLessLoaded ts (joined ts)
-joined_less none f h = cc
-joined_less (more t ts) f h = by (has_partner t ts) refl h (joined_less ts f.1)
-  where
-    by : (x : Bool) → has_partner t ts ≡ x → (if x then true else have_partners ts) ≡ true → (have_partners ts ≡ true → IsLessLoaded ts (joined ts))
-        → IsLessLoaded (more t ts) (if x then more (joint t (first_partner t ts)) (without_partner t ts) else more t (joined ts))
-    by true e k next =
-        let p = paired t ts f.1 e in
-        let u = first_partner t ts in
-        let same = same_base t u p.partner in
-        let one = joint_load (base_of t) (exponent_of t) (exponent_of u) (transparent_exponent t) (transparent_exponent u) in
-        let first = factor_load_is t f.0.no_number f.0.no_product in
-        let second = factor_load_is u p.factor.no_number p.factor.no_product in
-        record {
-          load = omega (arith, p.loads, one, first, second, ap weight same, heavy_base t f.0.reduced);
-          nests = (omega (arith, joint_nest t u same, p.nests), all_below _ (without_partner t ts) (omega (arith, p.nests)));
-        }
-    by false e k next =
-        let r = next k in
-        record { load = omega (arith, r.load); nests = (omega (arith, joint_below t), below_more _ _ (joined ts) (omega arith) r.nests) }
+is_false : (x : Bool) → not x ≡ true → x ≡ false
+is_false true h = cc
+is_false false h = refl
 
--- a Number before them
-before_load : (c : Tree) (ts : Trees) → is_number c ≡ true → load_of_factors (coefficient_before c ts) ≡ load_of_factors ts
-before_load c ts h = by (is_num_one c)
-  where
-    by : (x : Bool) → load_of_factors (if x then ts else append (factors_of c) ts) ≡ load_of_factors ts
-    by true = refl
-    by false = omega (arith, load-append (factors_of c) ts, load_factors c, load_number c h)
-
-before_below : (n : ℕ) (c : Tree) (ts : Trees) → is_number c ≡ true → JointsBelow n ts → JointsBelow n (coefficient_before c ts)
-before_below n c ts h k = by (is_num_one c)
-  where
-    by : (x : Bool) → JointsBelow n (if x then ts else append (factors_of c) ts)
-    by true = k
-    by false = below_append n (factors_of c) ts (all_below n (factors_of c) (omega (arith, nest_factors c, nest_number c h))) k
-
--- the factors of a joined product
-pub product_less : (ts : Trees) (c : Tree) → are_reduced ts ≡ true → is_number c ≡ true → have_partners (others_in (opened ts)) ≡ true
-    → IsLessLoaded ts (coefficient_before c (joined (others_in (opened ts))))
-product_less ts c r n h =
-    let os = others_in (opened ts) in
-    let l = joined_less os (open_factors ts r) h in
+-- two neighbours joined
+pub pair_loaded : (n : ℕ) (ts : Trees) → are_reduced ts ≡ true → IsPairAt n ts → IsLessLoaded ts (joined_pair n (suc n) ts)
+pair_loaded n none r p = absurd (let w = p.within in omega arith)
+pair_loaded zero (more t none) r p = absurd (let w = p.within in omega arith)
+pair_loaded zero (more t (more u ts)) r p =
+    let (both, partner) = and_parts (is_single t && is_single u) (is_partner t u) p.pair in
+    let (a, b) = and_parts (is_single t) (is_single u) both in
+    let (x, y) = and_parts _ _ a in
+    let (v, w) = and_parts _ _ b in
+    let same = same_base t u partner in
+    let one = joint_load (base_of t) (exponent_of t) (exponent_of u) (transparent_exponent t) (transparent_exponent u) in
+    let first = factor_load_is t (is_false _ x) (is_false _ y) in
+    let second = factor_load_is u (is_false _ v) (is_false _ w) in
+    let heavy = heavy_base t (and_parts _ _ r).0 in
     record {
-      load = omega (arith, before_load c (joined os) n, l.load, open_load ts);
-      nests = before_below (nest_of ts) c (joined os) n (below_more _ _ (joined os) (open_nest ts) l.nests);
+      load = omega (arith, one, first, second, ap weight same, heavy);
+      nests = (omega (arith, joint_nest t u same), all_below _ ts (omega arith));
     }
+pair_loaded (suc n) (more t ts) r p =
+    let l = pair_loaded n ts (and_parts _ _ r).1 (record { within = omega (arith, p.within); pair = p.pair }) in
+    record { load = omega (arith, l.load); nests = (omega (arith, joint_below t), below_more _ _ (joined_pair n (suc n) ts) (omega arith) l.nests) }

@@ -4,6 +4,7 @@ mod Counts
 mod Heavy
 mod Joints
 mod Joined
+mod Pairs
 mod Settled
 mod Opened
 mod HalfPowers

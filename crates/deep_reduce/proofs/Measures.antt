@@ -1,5 +1,5 @@
 -- What falls from call to call.
-use Rattle.std.proofs.Common.{◌≡◌, ℕ, suc, ◌+◌, ◌*◌, ◌≤◌, ◌<◌, Bool, true, false, refl, sym, ap, ◌∙◌, subst, arith}
+use Rattle.std.proofs.Common.{◌≡◌, ℕ, suc, ◌+◌, ◌-◌, ◌*◌, ◌≤◌, ◌<◌, Bool, true, false, refl, sym, ap, ◌∙◌, subst, arith}
 use Rattle.calc_measures.specs.Loads.{nest, nest_of, weight, load_of_factors}
 use Rattle.calc_terms.specs.Trees.{Tree, mult, Trees, nodes, nodes_of, is_mult}
 use Rattle.deep_reduce.specs.Unfinished.{nest_over, nest_of_joint, nest_of_rewritten, weight_of_bases, weight_below}
@@ -22,6 +22,12 @@ use Rattle.tree_handles.proofs.Roots.{root_arity}
 -- Nest first, and then the load of a product, the weight of a power's base, and what is above these
 abbrev pub of_product : Tree → ℕ
 of_product t = rank (nest_of (children_of t)) (3 * load_of_factors (children_of t))
+
+abbrev pub of_pairs : Tree → ℕ
+of_pairs t = rank (nest_of (children_of t)) (3 * load_of_factors (children_of t) - 1)
+
+abbrev pub of_two : Tree → ℕ
+of_two t = rank (nest_of (children_of t)) (3 * load_of_factors (children_of t) - 2)
 
 abbrev pub of_power : Tree → ℕ
 of_power t = rank (nest t) (3 * weight (base_in t))

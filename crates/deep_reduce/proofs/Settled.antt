@@ -1,25 +1,28 @@
 -- A product whose joint is reduced in its place.
-use Rattle.std.proofs.Common.{◌≡◌, ℕ, zero, suc, ◌+◌, ◌≤◌, ◌<◌, inl, inr, List, ◌++◌, Bool, true, false, ◌&&◌, if◌then◌else◌, refl, sym, ap, ◌∙◌, subst, arith}
-use Rattle.std.specs.Prelude.{max, Contains}
+use Rattle.std.proofs.Common.{◌≡◌, ℕ, zero, suc, ◌+◌, ◌≤◌, ◌<◌, inl, inr, List, ◌++◌, Bool, true, false, ◌&&◌, if◌then◌else◌, refl, sym, ap, ◌∙◌, subst, arith, add-one}
+use Rattle.std.specs.Prelude.{max, Contains, Option, Some, None, MatchOption, IfSome}
 use Rattle.std.proofs.lemmas.Bool.{and_parts}
 use Rattle.std.proofs.lemmas.List.Elements.{Contains-append_left, Contains-append_right, Contains-append_cases}
 use Rattle.calc_measures.specs.Loads.{nest, nest_of, load, weight, load_of_factor, load_of_factors}
 use Rattle.calc_algebra.specs.Numbers.{is_number, are_numbers}
 use Rattle.calc_algebra.specs.Reduced.{is_reduced, is_opaque_exponent, num_one, base_of, are_reduced}
-use Rattle.calc_terms.specs.Trees.{Tree, num, symbol, undef, add, mult, power, root, neg, sub, div, Trees, none, more, count, is_undef, names, names_of, has_undef}
+use Rattle.calc_terms.specs.Trees.{Tree, num, symbol, undef, add, mult, power, root, neg, sub, div, Trees, none, more, count, is_mult, is_undef, names, names_of, has_undef}
 use Rattle.calc_algebra.proofs.MeaningRewrites.{KeepsMeanings-refl, KeepsMeanings-power, KeepsMeanings-product_more}
 use Rattle.deep_reduce.specs.Answers.{IsReducedProduct, IsReducedPower}
-use Rattle.deep_reduce.specs.Unfinished.{nest_over, nest_of_joint, replaced, IsSummed, IsSettled}
+use Rattle.deep_reduce.specs.Unfinished.{nest_over, nest_of_joint, replaced, Joins, joins_gathered, joins_pair, joins_then, IsLess, IsSummed, IsSettled}
 use Rattle.coefficients.proofs.Forms.{parts_reduced}
 use Rattle.deep_reduce.proofs.Heavy.{base_reduced, exponent_reduced, some_weight, factor_load}
-use Rattle.deep_reduce.proofs.Joined.{JointsBelow, IsLessLoaded, product_less, numbers_opened}
+use Rattle.deep_reduce.proofs.Joined.{JointsBelow, IsLessLoaded, pair_loaded, numbers_opened}
+use Rattle.deep_reduce.proofs.Pairs.{factors_rewritten, pair_rewritten}
 use Rattle.deep_reduce.proofs.Joints.{transparent_exponent, joint_load, reduced_joint}
 use Rattle.deep_reduce.proofs.Nests.{over_power, product_load}
 use Rattle.number_forms.specs.Sums.{removed}
 use Rattle.power_reduce.specs.PowerAnswers.{base_in, exponent_in}
-use Rattle.product_reduce.specs.Answers.{IsJoined, IsFinished}
-use Rattle.product_reduce.specs.Factors.{opened, others_in}
-use Rattle.product_reduce.specs.Joining.{exponent_of, joint, have_partners, IsJointAt}
+use Rattle.product_reduce.specs.Answers.{AreJoinable, IsFinished}
+use Rattle.product_reduce.specs.Gathering.{IsGathered}
+use Rattle.product_reduce.specs.Joining.{exponent_of, have_partners, joint as joint_of, IsJointAt}
+use Rattle.product_reduce.specs.Neighbours.{IsNextPair, IsPairAt, NoPairBetween, joined_pair}
+use Rattle.product_reduce.proofs.Neighbours.{joint_there, neighbours_joint}
 use Rattle.calc_algebra.specs.Rewritings.{Rewrites, Reduces, HasNoNewName}
 use Rattle.calc_algebra.proofs.Rewritings.{keeps, kept, Rewrites-refl, Rewrites-trans, rewrites_of, reduces_after}
 use Rattle.sum_reduce.specs.SumAnswers.{IsSumAnswer}
@@ -31,15 +34,6 @@ pub exponent_rewritten : (b : Tree) {e g : Tree} → Rewrites e g → Rewrites (
 exponent_rewritten b {e} {g} h = record {
   no_new_name = record { name = λ x c. elim (Contains-append_cases (names b) (names g) x c) [ inl l ↦ Contains-append_left (names b) (names e) x l | inr r ↦ Contains-append_right (names b) (names e) x (h.no_new_name.name x r) ] };
   meanings = keeps (KeepsMeanings-power (KeepsMeanings-refl b) (kept h.meanings));
-}
-
-pub factors_rewritten : {t u : Tree} {ts us : Trees} → Rewrites t u → Rewrites (mult ts) (mult us) → Rewrites (mult (more t ts)) (mult (more u us))
-factors_rewritten {t} {u} {ts} {us} h k = record {
-  no_new_name = record {
-    name = λ x c. elim (Contains-append_cases (names u) (names_of us) x c)
-        [ inl l ↦ Contains-append_left (names t) (names_of ts) x (h.no_new_name.name x l) | inr r ↦ Contains-append_right (names t) (names_of ts) x (k.no_new_name.name x r) ];
-  };
-  meanings = keeps (KeepsMeanings-product_more (kept h.meanings) (kept k.meanings));
 }
 
 replaced_rewritten : (n : ℕ) (u : Tree) (ts : Trees) → Rewrites (nth n ts) u → Rewrites (mult ts) (mult (replaced n u ts))
@@ -192,55 +186,99 @@ joint_at j = record {
 
 -- ---- the product is reduced on
 
-pub record IsLess (ts : Trees) (u : Tree) : Type 0 where
+-- two neighbours of a product are joined
+pub record IsPairJoined (at : ℕ) (ts : Trees) (u : Tree) : Type 0 where
   pub is : u ≡ mult (children_of u)
-  pub some : 1 ≤ count (children_of u)
-  pub reduced : are_reduced (children_of u) ≡ true
+  pub joint : IsJointAt at (children_of u)
+  pub less : IsLessLoaded ts (children_of u)
   pub rewrites : Rewrites (mult ts) u
-  pub nests : nest_of (children_of u) ≤ nest_of ts
-  pub loads : load_of_factors (children_of u) < load_of_factors ts
+  pub pair : IsPairAt at ts
+  pub whole : children_of u ≡ joined_pair at (suc at) ts
+  pub joint-is : nth at (children_of u) ≡ joint_of (nth at ts) (nth (suc at) ts)
 
-pub settled_less : (ts : Trees) (u v : Tree) (at : ℕ) → are_reduced ts ≡ true → IsJoined ts u → IsJointAt at (children_of u) → IsSettled at (children_of u) v → IsLess ts v
-settled_less ts u v at r j p s =
+pub pair_joined : (at : ℕ) (ts : Trees) (u : Tree) → are_reduced ts ≡ true → IsPairAt at ts → u ≡ mult (joined_pair at (at + 1) ts) → IsPairJoined at ts u
+pair_joined at ts u r p e =
+    let whole : u ≡ mult (joined_pair at (suc at) ts) = e ∙ ap (λ (n : ℕ). mult (joined_pair at n ts)) (add-one at) in
+    subst (IsPairJoined at ts) (sym whole) (record { is = refl; joint = neighbours_joint at ts r p; less = pair_loaded at ts r p; rewrites = pair_rewritten at ts p; pair = p; whole = refl; joint-is = joint_there at ts p })
+
+pub settled_less : (at : ℕ) (ts : Trees) (u v : Tree) → IsPairJoined at ts u → IsSettled at (children_of u) v → IsLess ts v
+settled_less at ts u v j s =
     let us = children_of u in
-    let l : IsLessLoaded ts us = subst (λ (x : Tree). IsLessLoaded ts (children_of x)) (sym j.is) (product_less ts j.coefficient r j.joinable.coefficient.number j.joinable.partners) in
+    let p = j.joint in
     let a = answered (nth at us) s.exponent s.factor (joint_at p) s.sum s.answer in
-    let product : u ≡ mult us = subst (λ (x : Tree). x ≡ mult (children_of x)) (sym j.is) refl in
     let here : Rewrites (mult us) (mult (replaced at s.factor us)) = replaced_rewritten at s.factor us a.rewrites in
     subst (IsLess ts) (sym s.is) (record {
       is = refl;
       some = omega (arith, replaced_count at s.factor us, p.within);
       reduced = replaced_reduced at s.factor us a.reduced p.others;
-      rewrites = Rewrites-trans (subst (Rewrites (mult ts)) product j.rewrites) here;
-      nests = replaced_nest at (nest_of ts) s.factor us p.within l.nests p.others a.nests;
-      loads = omega (arith, replaced_load at s.factor us p.within, a.loads, l.load);
+      rewrites = Rewrites-trans (subst (Rewrites (mult ts)) j.is j.rewrites) here;
+      nests = replaced_nest at (nest_of ts) s.factor us p.within j.less.nests p.others a.nests;
+      loads = omega (arith, replaced_load at s.factor us p.within, a.loads, j.less.load);
+      joins =
+          subst (λ (xs : Trees). Joins ts (replaced at s.factor xs)) (sym j.whole)
+          (joins_pair at s.exponent s.factor j.pair (subst (λ (x : Tree). IsSumAnswer (children_of (exponent_in x)) s.exponent) j.joint-is s.sum) (subst (λ (x : Tree). IsReducedPower (base_in x) s.exponent s.factor) j.joint-is s.answer));
     })
+
+pub settled_within : (at : ℕ) (us : Trees) (v : Tree) → IsJointAt at us → IsSettled at us v → at < count (children_of v)
+settled_within at us v p s = omega (arith, ap (λ (x : Tree). count (children_of x)) s.is, replaced_count at s.factor us, p.within)
 
 -- the joint is less than the product
 pub record IsJointLess (ts : Trees) (t : Tree) : Type 0 where
   pub nests : nest_of_joint t ≤ nest_of ts
-  pub weighs : weight (base_in t) < load_of_factors ts
+  pub weighs : weight (base_in t) + 2 ≤ load_of_factors ts
 
-pub joint_less : (ts : Trees) (u : Tree) (at : ℕ) → are_reduced ts ≡ true → IsJoined ts u → IsJointAt at (children_of u) → IsJointLess ts (nth at (children_of u))
-joint_less ts u at r j p =
+pub joint_less : (at : ℕ) (ts : Trees) (u : Tree) → IsPairJoined at ts u → IsJointLess ts (nth at (children_of u))
+joint_less at ts u j =
     let us = children_of u in
-    let l : IsLessLoaded ts us = subst (λ (x : Tree). IsLessLoaded ts (children_of x)) (sym j.is) (product_less ts j.coefficient r j.joinable.coefficient.number j.joinable.partners) in
+    let p = j.joint in
     let k = joint_at p in
     let weight-is : weight (base_in (nth at us)) ≡ weight k.base = ap (λ (x : Tree). weight (base_in x)) k.is in
     let load-is : load_of_factor (nth at us) ≡ weight k.base = ap load_of_factor k.is ∙ joint_load k.base k.first k.second k.first_transparent k.second_transparent in
     record {
-      nests = joint_within at (nest_of ts) us p.within l.nests;
-      weighs = omega (arith, weight-is, load-is, nth_load at us p.within, l.load);
+      nests = joint_within at (nest_of ts) us p.within j.less.nests;
+      weighs = omega (arith, weight-is, load-is, nth_load at us p.within, j.less.load);
     }
+
+-- from the gathered product
+pub less_gathered : (ts : Trees) (u v : Tree) → IsGathered ts u → IsLess (children_of u) v → IsLess ts v
+less_gathered ts u v g l =
+    let product : u ≡ mult (children_of u) = subst (λ (x : Tree). x ≡ mult (children_of x)) (sym g.is) refl in
+    record {
+      is = l.is;
+      some = l.some;
+      reduced = l.reduced;
+      rewrites = Rewrites-trans (subst (Rewrites (mult ts)) product g.rewrites) l.rewrites;
+      nests = omega (arith, l.nests, g.nest);
+      loads = omega (arith, l.loads, g.load);
+      joins = joins_then (joins_gathered u g) l.joins;
+    }
+
+pub less_next : (ts : Trees) (u v : Tree) → IsLess ts u → IsLess (children_of u) v → IsLess ts v
+less_next ts u v k l = record {
+  is = l.is;
+  some = l.some;
+  reduced = l.reduced;
+  rewrites = Rewrites-trans (subst (Rewrites (mult ts)) k.is k.rewrites) l.rewrites;
+  nests = omega (arith, l.nests, k.nests);
+  loads = omega (arith, l.loads, k.loads);
+  joins = joins_then k.joins l.joins;
+}
+
+pub gathered_product : (ts : Trees) (u : Tree) → IsGathered ts u → is_mult u ≡ true
+gathered_product ts u g = ap is_mult g.is
+
+pub some_pair : (from : ℕ) (ts : Trees) (r : Option ℕ) → MatchOption r (NoPairBetween from (count ts) ts) (λ at. IsNextPair from at ts) → IfSome r (λ at. IsPairAt at ts)
+some_pair from ts None h = tt
+some_pair from ts (Some at) h = h.pair
 
 clash : {x : Bool} {A : Type 0} → x ≡ true → x ≡ false → A
 clash e f = absurd cc
 
-pub product_after : (ts : Trees) (u v t : Tree) → IsJoined ts u → IsLess ts v → IsReducedProduct (children_of v) t → IsReducedProduct ts t
-product_after ts u v t j l a = record {
+pub product_after : (ts : Trees) (c v t : Tree) → AreJoinable c ts → IsLess ts v → IsReducedProduct (children_of v) t → IsReducedProduct ts t
+product_after ts c v t j l a = record {
   reduces = reduces_after (subst (Rewrites (mult ts)) l.is l.rewrites) a.reduces;
-  undefined = λ e. clash e j.joinable.defined;
-  number = λ e. clash (j.joinable.partners) (ap have_partners (numbers_opened ts e));
+  undefined = λ e. clash e j.defined;
+  number = λ e. clash (j.partners) (ap have_partners (numbers_opened ts e));
   nest = omega (arith, a.nest, l.nests);
   load = omega (arith, a.load, product_load ts, product_load (children_of v), l.loads);
 }

@@ -1,12 +1,15 @@
 -- Trees after one rewriting, some of whose powers are still to be reduced, and bounds on what comes of them.
-use Rattle.std.specs.Prelude.{ℕ, zero, suc, ◌+◌, ◌≡◌, ◌≤◌, max, true, false}
-use Rattle.calc_measures.specs.Loads.{nest, nest_of, load, weight}
-use Rattle.calc_algebra.specs.Reduced.{is_reduced, is_opaque_exponent, are_reduced}
+use Rattle.std.specs.Prelude.{ℕ, zero, suc, ◌+◌, ◌≡◌, ◌≤◌, ◌<◌, max, true, false}
+use Rattle.calc_measures.specs.Loads.{nest, nest_of, load, load_of_factors, weight}
+use Rattle.calc_algebra.specs.Reduced.{is_reduced, is_opaque_exponent, are_reduced, base_of}
 use Rattle.calc_terms.specs.Trees.{Tree, add, mult, power, Trees, none, more, count}
 use Rattle.deep_reduce.specs.Answers.{IsReducedProduct, IsReducedPower}
 use Rattle.power_reduce.specs.PowerAnswers.{base_in, exponent_in}
-use Rattle.product_reduce.specs.Joining.{IsJointAt}
-use Rattle.calc_algebra.specs.Rewritings.{Reduces}
+use Rattle.product_reduce.specs.Answers.{IsFinished}
+use Rattle.product_reduce.specs.Gathering.{IsGathered}
+use Rattle.product_reduce.specs.Joining.{exponent_of, IsJointAt}
+use Rattle.product_reduce.specs.Neighbours.{IsPairAt, joined_pair}
+use Rattle.calc_algebra.specs.Rewritings.{Rewrites, Reduces}
 use Rattle.sum_reduce.specs.SumAnswers.{IsSumAnswer}
 use Rattle.tree_handles.specs.Expressions.{nth, children_of}
 
@@ -117,3 +120,28 @@ pub record IsSettled (at : ℕ) (ts : Trees) (t : Tree) : Type 0 where
   pub factor : Tree
   pub answer : IsReducedPower (base_in (nth at ts)) exponent factor
   pub is : t ≡ mult (replaced at factor ts)
+
+-- factors of a product, and what they become: their Numbers one coefficient, with the others behind it in the order of
+-- their bases; and two neighbours of one base that base to the sum of their exponents, reduced where the first one stood
+pub data Joins : Trees → Trees → Type 0 where
+  joins_none : {ts : Trees} → Joins ts ts
+  joins_gathered : {ts : Trees} (u : Tree) → IsGathered ts u → Joins ts (children_of u)
+  joins_pair : {ts : Trees} (at : ℕ) (e r : Tree) → IsPairAt at ts → IsSumAnswer (more (exponent_of (nth at ts)) (more (exponent_of (nth (suc at) ts)) none)) e → IsReducedPower (base_of (nth at ts)) e r
+      → Joins ts (replaced at r (joined_pair at (suc at) ts))
+  joins_then : {ts us vs : Trees} → Joins ts us → Joins us vs → Joins ts vs
+
+-- the finished product of these factors, joined until no two have one base
+pub record IsJoinedProduct (ts : Trees) (t : Tree) : Type 0 where
+  pub us : Trees
+  pub joins : Joins ts us
+  pub finished : IsFinished us t
+
+-- a product of reduced factors with what these factors mean, which loads less
+pub record IsLess (ts : Trees) (u : Tree) : Type 0 where
+  pub is : u ≡ mult (children_of u)
+  pub some : 1 ≤ count (children_of u)
+  pub reduced : are_reduced (children_of u) ≡ true
+  pub rewrites : Rewrites (mult ts) u
+  pub nests : nest_of (children_of u) ≤ nest_of ts
+  pub loads : load_of_factors (children_of u) < load_of_factors ts
+  pub joins : Joins ts (children_of u)

@@ -1,14 +1,15 @@
 //! Products and powers of reduced trees: steps are taken, and the new powers of each are reduced,
 //! until nothing is left to reduce.
-ghost use Rattle.std.specs.Prelude.{◌≡◌, ◌≤◌, IfOk, IfErr, OnOk, [], ◌∷◌, true, false};
+ghost use Rattle.std.specs.Prelude.{◌≡◌, ◌≤◌, ◌<◌, ◌+◌, ◌^◌, IfOk, IfErr, OnOk, [], ◌∷◌, true, false};
 ghost use Rattle.calc_measures.specs.PlainValues.{plain_value};
 ghost use Rattle.calc_algebra.specs.Reduced.{is_half_num, is_reduced, are_reduced};
 ghost use Rattle.calc_terms.specs.Trees.{count, is_mult, is_num, power as power_tree, are_rationals};
 ghost use Rattle.deep_reduce.specs.Answers.{IsReducedProduct, IsWrittenApart, IsReducedPower};
-ghost use Rattle.deep_reduce.specs.Unfinished.{AreTransparent, Finishes, IsLifted, IsProductOfPowers, IsSettled, IsUnfinished};
+ghost use Rattle.deep_reduce.specs.Unfinished.{AreTransparent, Finishes, IsJoinedProduct, IsLess, IsLifted, IsProductOfPowers, IsSettled, IsUnfinished};
 ghost use Rattle.number_forms.specs.Answers.{AnswersRationals};
 ghost use Rattle.power_reduce.specs.PowerAnswers.{base_in, exponent_in};
 ghost use Rattle.product_reduce.specs.Joining.{IsJointAt};
+ghost use Rattle.product_reduce.specs.Neighbours.{IsPairAt};
 ghost use Rattle.tree_handles.specs.Causes.{IsCaused};
 ghost use Rattle.tree_handles.specs.Handed.{tree_of, IsHanded, Gives, KeepsFront};
 ghost use Rattle.tree_handles.specs.Expressions.{children_of};
@@ -21,14 +22,15 @@ use crate::halves::{has_half_exponent, reduce_half_power};
 use calc_terms::Kind;
 use node_pool::Pool;
 use power_reduce::power_step;
-use product_reduce::{Joining, joining_step};
+use product_reduce::{Joining, gather_factors, join_neighbours, next_pair};
 use reduce_port::Step;
 use tree_handles::{
     Handle, NumberFault, add_child, child_id, children, kind, move_last, take_child,
 };
 
-/// The product of reduced factors, as a reduced tree. Factors with identical bases are joined one pair
-/// at a time, and each joint is reduced before the next pair is sought.
+/// The product of reduced factors, as a reduced tree. Its Numbers become one coefficient, and the others are put in the
+/// order of their bases; neighbours of one base are joined from left to right, each joint reduced before the next pair
+/// is sought; and so again until no two have one base.
 #[cycle(reduction)]
 pub fn reduce_product(pool: &mut Pool, product: Handle) -> Result<Handle, NumberFault>
     requires stands { Stands pool.old }
@@ -38,7 +40,11 @@ pub fn reduce_product(pool: &mut Pool, product: Handle) -> Result<Handle, Number
     requires reduced { are_reduced (children_of (tree_of product pool.old)) ≡ true }
     ensures ok { IfOk result (λ h. Gives (without_root product (forest pool.old)) (forest pool.new) h
         (IsReducedProduct (children_of (tree_of product pool.old)))) }
+
+    // The answer is the factors joined, and then finished. Where there are none to join, they are written as they are.
+    ensures joined { IfOk result (λ h. IsJoinedProduct (children_of (tree_of product pool.old)) (tree_of h pool.new)) }
     ensures written { IfOk result (λ h. IsWrittenApart (children_of (tree_of product pool.old)) (tree_of h pool.new)) }
+
     ensures rationals { are_rationals (children_of (tree_of product pool.old)) ≡ true
         → AnswersRationals (plain_value (tree_of product pool.old)) pool.new result }
     ensures front { KeepsFront (product ∷ []) (forest pool.old) (forest pool.new) }
@@ -47,13 +53,64 @@ pub fn reduce_product(pool: &mut Pool, product: Handle) -> Result<Handle, Number
     ensures caused { IfErr result (IsCaused pool.new) }
     ensures stands { Stands pool.new }
 {
-    match joining_step(pool, product)? {
+    match gather_factors(pool, product)? {
         Joining::Done(answer) => Ok(answer),
         Joining::Joined { product, at } => {
-            let settled = reduce_joint(pool, product, at)?;
-            reduce_product(pool, settled)
+            let joined = join_pairs(pool, product, at)?;
+            reduce_product(pool, joined)
         }
     }
+}
+
+/// From a pair on, two neighbours of one base become one factor, until there is no pair behind.
+#[cycle(reduction)]
+fn join_pairs(pool: &mut Pool, product: Handle, first: u16) -> Result<Handle, NumberFault>
+    requires stands { Stands pool.old }
+    requires handed { IsHanded product (forest pool.old) }
+    requires product { is_mult (tree_of product pool.old) ≡ true }
+    requires reduced { are_reduced (children_of (tree_of product pool.old)) ≡ true }
+    requires pair { IsPairAt first (children_of (tree_of product pool.old)) }
+    requires fits { first + 1 < 2 ^ 16 }
+    ensures ok { IfOk result (λ h. Gives (without_root product (forest pool.old)) (forest pool.new) h
+        (IsLess (children_of (tree_of product pool.old)))) }
+    ensures front { KeepsFront (product ∷ []) (forest pool.old) (forest pool.new) }
+    ensures kept { OnOk result (KeepsRefusals pool.old pool.new) }
+    ensures faults { IfErr result (Faults pool.old pool.new) }
+    ensures caused { IfErr result (IsCaused pool.new) }
+    ensures stands { Stands pool.new }
+{
+    let mut joined = join_two(pool, product, first)?;
+    let mut next = next_pair(pool, &joined, first);
+    while let Some(at) = next {
+        match join_two(pool, joined, at) {
+            Ok(product) => joined = product,
+            Err(fault) => return Err(fault),
+        }
+        next = next_pair(pool, &joined, at);
+    }
+    Ok(joined)
+}
+
+/// Two neighbours of one base become one factor, which is reduced.
+#[cycle(reduction)]
+fn join_two(pool: &mut Pool, product: Handle, at: u16) -> Result<Handle, NumberFault>
+    requires stands { Stands pool.old }
+    requires handed { IsHanded product (forest pool.old) }
+    requires product { is_mult (tree_of product pool.old) ≡ true }
+    requires reduced { are_reduced (children_of (tree_of product pool.old)) ≡ true }
+    requires pair { IsPairAt at (children_of (tree_of product pool.old)) }
+    requires fits { at + 1 < 2 ^ 16 }
+    ensures ok { IfOk result (λ h. Gives (without_root product (forest pool.old)) (forest pool.new) h
+        (IsLess (children_of (tree_of product pool.old)))) }
+    ensures within { IfOk result (λ h. at < count (children_of (tree_of h pool.new))) }
+    ensures front { KeepsFront (product ∷ []) (forest pool.old) (forest pool.new) }
+    ensures kept { OnOk result (KeepsRefusals pool.old pool.new) }
+    ensures faults { IfErr result (Faults pool.old pool.new) }
+    ensures caused { IfErr result (IsCaused pool.new) }
+    ensures stands { Stands pool.new }
+{
+    let joined = join_neighbours(pool, product, at)?;
+    reduce_joint(pool, joined, at)
 }
 
 /// The joint of two factors, reduced in its place: first the sum of the exponents, then the power.

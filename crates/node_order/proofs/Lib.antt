@@ -4,6 +4,7 @@ pub mod FrontLaws
 pub mod Pairs
 pub mod KeyLaws
 pub mod RankLaws
+pub mod Ties
 pub mod Places
 pub mod Inverses
 pub mod Listing

@@ -1,7 +1,7 @@
 -- Sorted children, from the order of their places.
 use Rattle.std.proofs.Common.{◌≡◌, ℕ, zero, suc, ◌+◌, ◌-◌, ◌<◌, ◌≤◌, List, [], ◌∷◌, ◌++◌, length, take, drop, get_or, map, refl, sym, ap, ◌∙◌, subst, arith, min, add-one, zero-add, All, IsPermutation, true}
 use Rattle.std.specs.List.{range_with_len}
-use Rattle.std.specs.List.Sorted.{IsSortedByKey}
+use Rattle.std.specs.List.Sorted.{IsSorted, IsSortedByKey, IsStableByKey}
 use Rattle.std.specs.Ordering.{is_lt}
 use Rattle.std.proofs.Math.Seq.{take-append_seam, drop-append_seam}
 use Rattle.std.proofs.lemmas.List.{get_or-map, length-map}
@@ -11,11 +11,12 @@ use Rattle.calc_algebra.specs.TreeOrder.{tree_cmp}
 use Rattle.calc_terms.specs.Trees.{Tree, Trees, none, more, append, undef}
 use Rattle.node_order.specs.declared.keys.Key.{Key}
 use Rattle.node_order.specs.Keys.{key_tree}
-use Rattle.node_order.specs.Ranking.{ranked_tree}
+use Rattle.node_order.specs.Ranking.{place_cmp, ranked_tree}
 use Rattle.node_order.specs.Picking.{picked, picked_behind}
-use Rattle.node_order.specs.Sorting.{list_of, IsSorting, SortsChildren}
+use Rattle.node_order.specs.Sorting.{list_of, IsSorting, KeepsTies, SortsChildren}
 use Rattle.node_order.proofs.Places.{range_inside, inside_range}
 use Rattle.node_order.proofs.Picks.{AreInside}
+use Rattle.node_order.proofs.Ties.{places_same, trees_rise, trees_stable}
 use Rattle.tree_handles.specs.Expressions.{plains, plain, nth, IsWhole, AllExpressions}
 use Rattle.tree_handles.specs.Forest.{Label, Forest, empty, tree, join, arity, first_trees, rest_trees, tree_nth, kids, AllNodes}
 use Rattle.tree_handles.specs.Handed.{IsOnce, AllOnce}
@@ -87,13 +88,6 @@ nth-rest zero j f = ap (λ k. nth k (plains f)) (zero-add j)
 nth-rest (suc n) j empty = nth_none (suc n + j) ∙ sym (nth_none j)
 nth-rest (suc n) j (tree l k r) = ap (λ i. nth i (plains (tree l k r))) (suc-add_left n j) ∙ nth-rest n j r
 
--- keys that are the same at each place rise alike
-pub sorted_same : (ranked other : ℕ → Tree) (ys : List ℕ) (m : ℕ) → IsSortedByKey ranked tree_cmp ys → All (λ j. j < m) ys → ((j : ℕ) → j < m → ranked j ≡ other j) → IsSortedByKey other tree_cmp ys
-sorted_same ranked other ys m sorted inside same = λ k d low high.
-    let first = same (get_or ys k d) (All-get_or (λ j. j < m) ys k d (omega arith) inside) in
-    let second = same (get_or ys (k + 1) d) (All-get_or (λ j. j < m) ys (k + 1) d high inside) in
-    (λ i. is_lt (tree_cmp (sym second i) (sym first i))) ∙ sorted k d low high
-
 sorted_map : (g : ℕ → Tree) (key : Tree → Tree) (ys : List ℕ) → IsSortedByKey (λ i. key (g i)) tree_cmp ys → IsSortedByKey key tree_cmp (map g ys)
 sorted_map g key ys sorted = λ k d low high.
     let room : k + 1 < length ys = omega (arith, length-map ys g) in
@@ -115,8 +109,8 @@ drop-front : (n : ℕ) (a b : Forest) → n ≡ arity a → drop n (listed (join
 drop-front n a b e = ap (drop n) (listed-join a b) ∙ ap (λ k. drop k (listed a ++ listed b)) (e ∙ sym (length-listed a)) ∙ drop-append_seam (listed a) (listed b)
 
 -- the trees at places that are in the order of their keys
-pub sorted_places : (n m : ℕ) (key : Tree → Tree) (ys : List ℕ) (f : Forest) → n + m ≡ arity f → IsPermutation (range_with_len 0 m) ys → IsSortedByKey (λ j. key (nth (n + j) (plains f))) tree_cmp ys
-    → IsSorting n key (plains f) (plains (picked_behind n ys f))
+pub sorted_places : (n m : ℕ) (key : Tree → Tree) (ys : List ℕ) (f : Forest) → n + m ≡ arity f → IsPermutation (range_with_len 0 m) ys → IsSorted (place_cmp (λ j. key (nth (n + j) (plains f)))) ys
+    → IsSorting n key (plains f) (plains (picked_behind n ys f)) × KeepsTies n key (plains f) (plains (picked_behind n ys f))
 sorted_places n m key ys f all moved sorted =
     let a = first_trees n f in
     let r = rest_trees n f in
@@ -124,26 +118,33 @@ sorted_places n m key ys f all moved sorted =
     let many : m ≡ arity r = omega (arith, arity-rest_trees n f) in
     let g : ℕ → Tree = λ i. nth i (plains r) in
     let below : All (λ j. j < m) ys = inside_range m ys moved in
+    let placed = places_same (λ j. key (nth (n + j) (plains f))) (λ j. key (g j)) ys m sorted below (λ j lt. ap key (nth-rest n j f)) in
     let whole : listed f ≡ listed (join a r) = ap listed (sym (first-rest n f)) in
     let old : drop n (listed f) ≡ map g (range_with_len 0 m) =
     ap (drop n) whole ∙ drop-front n a r count ∙ ap listed (sym (picked-range m r many)) ∙ listed-picked (range_with_len 0 m) r (subst (λ k. All (λ i. i < k) (range_with_len 0 m)) many (range_inside m)) in
-    let new : drop n (listed (picked_behind n ys f)) ≡ map g ys = drop-front n a (picked ys r) count ∙ listed-picked ys r (subst (λ k. All (λ i. i < k) ys) many below) in
-    record {
-      front = take-front n a (picked ys r) count ∙ sym (ap (take n) whole ∙ take-front n a r count);
-      moved = subst (λ xs. IsPermutation xs (drop n (listed (picked_behind n ys f)))) (sym old) (subst (IsPermutation (map g (range_with_len 0 m))) (sym new) (IsPermutation-map g (range_with_len 0 m) ys moved));
-      rising = subst (IsSortedByKey key tree_cmp) (sym new) (sorted_map g key ys (sorted_same (λ j. key (nth (n + j) (plains f))) (λ j. key (g j)) ys m sorted below (λ j lt. ap key (nth-rest n j f))));
-    }
+    let new : drop n (listed (picked_behind n ys f)) ≡ map g ys = drop-front n a (picked ys r) count ∙ listed-picked ys r (subst (λ k. All (λ i. i < k) ys) many below) in (
+      record {
+        front = take-front n a (picked ys r) count ∙ sym (ap (take n) whole ∙ take-front n a r count);
+        moved = subst (λ xs. IsPermutation xs (drop n (listed (picked_behind n ys f)))) (sym old) (subst (IsPermutation (map g (range_with_len 0 m))) (sym new) (IsPermutation-map g (range_with_len 0 m) ys moved));
+        rising = subst (IsSortedByKey key tree_cmp) (sym new) (sorted_map g key ys (trees_rise (λ j. key (g j)) ys placed));
+      },
+      subst (λ xs. IsStableByKey key tree_cmp xs (drop n (listed (picked_behind n ys f)))) (sym old)
+          (subst (IsStableByKey key tree_cmp (map g (range_with_len 0 m))) (sym new) (trees_stable g key m ys moved placed)),
+    )
 
 -- and so of a root's children
 pub sorted_children : (i n m : ℕ) (key : Tree → Tree) (ys : List ℕ) (f g : Forest) → AllOnce (kids (root_tree i f)) → AllExpressions (kids (root_tree i f)) → n + m ≡ arity (kids (root_tree i f)) → IsPermutation (range_with_len 0 m) ys
-    → IsSortedByKey (λ j. key (nth (n + j) (plains (kids (root_tree i f))))) tree_cmp ys → g ≡ put i (picked_behind n ys (kids (root_tree i f))) f → SortsChildren i n key f g
-sorted_children i n m key ys f g once whole all moved sorted e = record {
-  children = picked_behind n ys (kids (root_tree i f));
-  whole = e;
-  once = all-behind IsOnce n ys (kids (root_tree i f)) once;
-  expressions = all-behind IsWhole n ys (kids (root_tree i f)) whole;
-  sorted = sorted_places n m key ys (kids (root_tree i f)) all moved sorted;
-}
+    → IsSorted (place_cmp (λ j. key (nth (n + j) (plains (kids (root_tree i f)))))) ys → g ≡ put i (picked_behind n ys (kids (root_tree i f))) f → SortsChildren i n key f g
+sorted_children i n m key ys f g once whole all moved sorted e =
+    let places = sorted_places n m key ys (kids (root_tree i f)) all moved sorted in
+    record {
+      children = picked_behind n ys (kids (root_tree i f));
+      whole = e;
+      once = all-behind IsOnce n ys (kids (root_tree i f)) once;
+      expressions = all-behind IsWhole n ys (kids (root_tree i f)) whole;
+      sorted = places.0;
+      stable = places.1;
+    }
 
 -- the trees of listed keys
 pub ranked_is : (keys : List Key) (f : Forest) (j : ℕ) (t : Tree) → j < length keys → key_tree (get_or keys j (record { id = 0; behind = 0 })) f ≡ t → ranked_tree keys f j ≡ t

@@ -1,5 +1,6 @@
 -- Children that are put in order.
 use Rattle.std.specs.Prelude.{ℕ, ◌≡◌, List, [], ◌∷◌, take, drop, IsPermutation, IsSortedByKey}
+use Rattle.std.specs.List.Sorted.{IsStableByKey}
 use Rattle.calc_algebra.specs.TreeOrder.{tree_cmp}
 use Rattle.calc_terms.specs.Trees.{Tree, Trees, none, more}
 use Rattle.tree_handles.specs.Expressions.{plains, AllExpressions}
@@ -18,6 +19,10 @@ pub record IsSorting (n : ℕ) (key : Tree → Tree) (old new : Trees) : Type 0 
   pub moved : IsPermutation (drop n (list_of old)) (drop n (list_of new))
   pub rising : IsSortedByKey key tree_cmp (drop n (list_of new))
 
+-- those behind the first n that have one key keep their order
+abbrev pub KeepsTies : ℕ → (Tree → Tree) → Trees → Trees → Type 0
+KeepsTies n key old new = IsStableByKey key tree_cmp (drop n (list_of old)) (drop n (list_of new))
+
 -- a root's children are put in order, where the root stands
 pub record SortsChildren (i n : ℕ) (key : Tree → Tree) (old new : Forest) : Type 0 where
   pub children : Forest
@@ -25,3 +30,4 @@ pub record SortsChildren (i n : ℕ) (key : Tree → Tree) (old new : Forest) : 
   pub once : AllOnce children
   pub expressions : AllExpressions children
   pub sorted : IsSorting n key (plains (kids (root_tree i old))) (plains children)
+  pub stable : KeepsTies n key (plains (kids (root_tree i old))) (plains children)

@@ -1,9 +1,9 @@
 //! Children are put in order by their keys.
-ghost use Rattle.std.specs.Prelude.{◌≡◌, ◌<◌, ◌≤◌, ◌+◌, ◌^◌, All, IsPermutation, IsSortedByKey, ℕ, length, slice_index_or, true};
+ghost use Rattle.std.specs.Prelude.{◌≡◌, ◌<◌, ◌≤◌, ◌+◌, ◌^◌, All, IsPermutation, IsSorted, ℕ, length, slice_index_or, true};
 ghost use Rattle.std.specs.List.{range_with_len};
-ghost use Rattle.calc_algebra.specs.TreeOrder.{tree_cmp};
 ghost use Rattle.calc_terms.specs.Trees.{count};
 ghost use Rattle.node_order.specs.Keys.{IsKey, key_tree};
+ghost use Rattle.node_order.specs.Ranking.{place_cmp};
 ghost use Rattle.node_order.specs.Sorting.{SortsChildren};
 ghost use Rattle.tree_handles.specs.Expressions.{IsExpression, plain, plains, nth, children_of};
 ghost use Rattle.tree_handles.specs.Forest.{arity, kids};
@@ -51,7 +51,7 @@ pub trait Keys {
         ensures value { key_tree result (forest pool.now) ≡ key_of (plain (tree_at id (forest pool.now))) };
 }
 
-/// Puts a root's children from a place on in order, by their keys; children with one key stand in any order.
+/// Puts a root's children from a place on in order, by their keys; of two children with one key the first stays first.
 pub fn sort_children<K: Keys>(pool: &mut Pool, parent: &Handle, from: u16, keys: &K)
     requires stands { Stands pool.old }
     requires handed { IsHanded parent.now (forest pool.old) }
@@ -130,7 +130,7 @@ fn rank_children<K: Keys>(
     requires order { length order.old ≡ length listed.old }
     requires keyed { let ts = plains (kids_of parent (forest pool.now)) in (n : ℕ) → from ≤ n → n < count ts → K.has_key (nth n ts) }
     ensures places { IsPermutation (range_with_len 0 (length order.old)) order.new }
-    ensures rising { IsSortedByKey (λ i. K.key_of (nth (from + i) (plains (kids_of parent (forest pool.now))))) tree_cmp order.new }
+    ensures rising { IsSorted (place_cmp (λ i. K.key_of (nth (from + i) (plains (kids_of parent (forest pool.now)))))) order.new }
 {
     if listed.is_empty() {
         return;

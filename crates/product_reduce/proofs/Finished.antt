@@ -73,7 +73,7 @@ product_keeps c ts us h k = KeepsMeanings-trans (split_keeps c ts h) (KeepsMeani
 others_within : (ts : Trees) → Within (names_of ts) (names_of (others_in (opened ts)))
 others_within ts = within_trans (names_opened ts) (names_others (opened ts))
 
-product_within : (c : Tree) (ts us : Trees) → is_number c ≡ true → Within (names_of (others_in (opened ts))) (names_of us) → Within (names_of ts) (names_of (coefficient_before c us))
+pub product_within : (c : Tree) (ts us : Trees) → is_number c ≡ true → Within (names_of (others_in (opened ts))) (names_of us) → Within (names_of ts) (names_of (coefficient_before c us))
 product_within c ts us h k = within_trans (within_trans (others_within ts) k) (names_with_coefficient c us h)
 
 -- ---- Again

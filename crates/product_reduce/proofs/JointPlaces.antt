@@ -16,22 +16,22 @@ use Rattle.product_reduce.proofs.Pairs.{joined_at}
 
 -- ---- places in lists
 
-nth_inserted : (n : ℕ) (t : Tree) (ts : Trees) → n ≤ count ts → nth n (inserted n (more t none) ts) ≡ t
+pub nth_inserted : (n : ℕ) (t : Tree) (ts : Trees) → n ≤ count ts → nth n (inserted n (more t none) ts) ≡ t
 nth_inserted zero t ts l = refl
 nth_inserted (suc n) t none l = absurd (omega arith)
 nth_inserted (suc n) t (more u ts) l = nth_inserted n t ts (omega arith)
 
-removed_inserted : (n : ℕ) (t : Tree) (ts : Trees) → n ≤ count ts → removed n (inserted n (more t none) ts) ≡ ts
+pub removed_inserted : (n : ℕ) (t : Tree) (ts : Trees) → n ≤ count ts → removed n (inserted n (more t none) ts) ≡ ts
 removed_inserted zero t ts l = refl
 removed_inserted (suc n) t none l = absurd (omega arith)
 removed_inserted (suc n) t (more u ts) l = ap (more u) (removed_inserted n t ts (omega arith))
 
-count_inserted : (n : ℕ) (t : Tree) (ts : Trees) → n ≤ count ts → count (inserted n (more t none) ts) ≡ suc (count ts)
+pub count_inserted : (n : ℕ) (t : Tree) (ts : Trees) → n ≤ count ts → count (inserted n (more t none) ts) ≡ suc (count ts)
 count_inserted zero t ts l = refl
 count_inserted (suc n) t none l = absurd (omega arith)
 count_inserted (suc n) t (more u ts) l = ap suc (count_inserted n t ts (omega arith))
 
-nth_behind : (ps ts : Trees) (n k : ℕ) → k ≡ count ps + n → nth k (append ps ts) ≡ nth n ts
+pub nth_behind : (ps ts : Trees) (n k : ℕ) → k ≡ count ps + n → nth k (append ps ts) ≡ nth n ts
 nth_behind none ts n k e = ap (λ (m : ℕ). nth m ts) (omega (arith, e))
 nth_behind (more p ps) ts n zero e = absurd (omega (arith, e))
 nth_behind (more p ps) ts n (suc k) e = nth_behind ps ts n k (omega (arith, e))
@@ -41,18 +41,18 @@ removed_behind none ts n k e = ap (λ (m : ℕ). removed m ts) (omega (arith, e)
 removed_behind (more p ps) ts n zero e = absurd (omega (arith, e))
 removed_behind (more p ps) ts n (suc k) e = ap (more p) (removed_behind ps ts n k (omega (arith, e)))
 
-count-append : (ps ts : Trees) → count (append ps ts) ≡ count ps + count ts
+pub count-append : (ps ts : Trees) → count (append ps ts) ≡ count ps + count ts
 count-append none ts = omega arith
 count-append (more p ps) ts = omega (arith, count-append ps ts)
 
 -- ---- reduced factors
 
-reduced_removed : (n : ℕ) (ts : Trees) → are_reduced ts ≡ true → are_reduced (removed n ts) ≡ true
+pub reduced_removed : (n : ℕ) (ts : Trees) → are_reduced ts ≡ true → are_reduced (removed n ts) ≡ true
 reduced_removed n none r = refl
 reduced_removed zero (more t ts) r = (and_parts (is_reduced t) (are_reduced ts) r).1
 reduced_removed (suc n) (more t ts) r = let (a, b) = and_parts (is_reduced t) (are_reduced ts) r in and_from _ _ a (reduced_removed n ts b)
 
-reduced-append : (ps ts : Trees) → are_reduced ps ≡ true → are_reduced ts ≡ true → are_reduced (append ps ts) ≡ true
+pub reduced-append : (ps ts : Trees) → are_reduced ps ≡ true → are_reduced ts ≡ true → are_reduced (append ps ts) ≡ true
 reduced-append none ts p r = r
 reduced-append (more t ps) ts p r = let (a, b) = and_parts (is_reduced t) (are_reduced ps) p in and_from _ _ a (reduced-append ps ts b r)
 
@@ -62,10 +62,10 @@ formed_are_reduced (more t ts) h = and_from _ _ (formed_reduced t h.0) (formed_a
 
 -- ---- what stands in front
 
-in_front : Tree → Trees
+pub in_front : Tree → Trees
 in_front c = if is_num_one c then none else factors_of c
 
-before_is : (c : Tree) (ts : Trees) → coefficient_before c ts ≡ append (in_front c) ts
+pub before_is : (c : Tree) (ts : Trees) → coefficient_before c ts ≡ append (in_front c) ts
 unfolding in_front
 before_is c ts = by (is_num_one c)
   where
@@ -73,7 +73,7 @@ before_is c ts = by (is_num_one c)
     by true = refl
     by false = refl
 
-front_reduced : (c : Tree) → is_number c ≡ true → are_reduced (in_front c) ≡ true
+pub front_reduced : (c : Tree) → is_number c ≡ true → are_reduced (in_front c) ≡ true
 unfolding in_front
 front_reduced c h = by (is_num_one c)
   where

@@ -47,7 +47,7 @@ product_as {b = b} {c = c} o e f h = subst (λ (x : Tree). NamesProduct c x o) f
 
 -- ---- a coefficient and a sum
 
-permuted_one_is : {ts us : Trees} (x : Tree) → Permuted ts us → ts ≡ more x none → us ≡ more x none
+pub permuted_one_is : {ts us : Trees} (x : Tree) → Permuted ts us → ts ≡ more x none → us ≡ more x none
 permuted_one_is x permuted_none e = cc
 permuted_one_is x (permuted_more {t} {ts} {us} h) e =
     let n : us ≡ none = permuted_none_is h (rest e) in

@@ -233,10 +233,10 @@ overflowed n ts us d o l b g a q m =
     subst (λ (v : PlainValue). IsPlainOverflow v o) (sym (f.plain ∙ ap (λ (x : Trees). fold_values mul_op (rational_of d) (rationals_of x)) s.is))
     (fold_overflow (rational_of d) (rational_of s.first) (rationals_of s.rest) o (a (rational_of d) (rational_of s.first) (num_is d f.rational) (place ∙ num_is s.first s.rational)))
 
--- bytes are not lacking among rationals
-pub never_full : (n : ℕ) (ts us : Trees) (d : Tree) → n < count us → NoNumberBefore n us → IsProgress ts us d
-    → ((p q : Fraction) → d ≡ num p → nth n us ≡ num q → ⊥) → are_rationals ts ≡ true → 1 ≤ count ts → ⊥
-never_full n ts us d l b g a q m =
+-- what lacks bytes among rationals
+pub fold_full : {P : Type 0} (n : ℕ) (ts us : Trees) (d : Tree) → n < count us → NoNumberBefore n us → IsProgress ts us d
+    → ((p q : Fraction) → d ≡ num p → nth n us ≡ num q → P) → are_rationals ts ≡ true → 1 ≤ count ts → P
+fold_full n ts us d l b g a q m =
     let f = g.folded q m in
     let z = first_rational n us l f.rationals b in
     let s = split_first n us l f.rationals z in
@@ -272,7 +272,7 @@ completed n ts us d l b g =
 
 pub faulted : (n : ℕ) (ts us : Trees) (d : Tree) (new : State) (f : NumberFault) → n < count us → NoNumberBefore n us → IsProgress ts us d
     → ((p q : Fraction) → d ≡ num p → nth n us ≡ num q → AnswersRationals (calculated mul_op p q) new (Err f)) → are_rationals ts ≡ true → 1 ≤ count ts → AnswersRationals (plain_value (mult ts)) new (Err f)
-faulted n ts us d new (fault.Full full) l b g a q m = never_full n ts us d l b g a q m
+faulted n ts us d new (fault.Full full) l b g a q m = fold_full n ts us d l b g a q m
 faulted n ts us d new (fault.Overflow o) l b g a q m = overflowed n ts us d o l b g a q m
 
 -- rationals have a Number among them

@@ -3,10 +3,13 @@ use Rattle.std.proofs.Common.{ℕ, ◌≤◌, ◌≡◌, eqb, true, false, refl,
 use Rattle.calc_algebra.specs.Numbers.{is_number}
 use Rattle.calc_algebra.specs.Reduced.{is_reduced, product_tree, RisesBy, base_of}
 use Rattle.calc_terms.specs.Trees.{Tree, Trees, none, count}
-use Rattle.calc_algebra.proofs.MeaningRewrites.{Permuted, Permuted-sym}
+use Rattle.calc_algebra.proofs.MeaningRewrites.{Permuted, Permuted-refl, Permuted-sym}
 use Rattle.coefficients.specs.Coefficients.{with_coefficient}
 use Rattle.coefficients.proofs.Factors.{factors_monic}
-use Rattle.node_order.specs.Sorting.{IsSorting}
+use Rattle.std.specs.Prelude.{IsSortedByKey}
+use Rattle.std.proofs.lemmas.List.Sorted.{IsPermutation-refl}
+use Rattle.calc_algebra.specs.TreeOrder.{tree_cmp}
+use Rattle.node_order.specs.Sorting.{IsSorting, list_of}
 use Rattle.node_pool.specs.State.{State}
 use Rattle.tree_handles.specs.Expressions.{plain, children_of}
 use Rattle.tree_handles.specs.Forest.{Forest}
@@ -50,6 +53,21 @@ readied {s = s} i c ss st p h d n x = record {
   permuted = permuted_lists (factors_in i (forest s)) x.us x.sorted.moved;
   rising = sorted_rising (factors_in i (forest s)) x.us n x.sorted.moved x.sorted.rising;
 }
+
+-- and so where they stand sorted already
+pub readied_here : {f : Forest} (i c : ℕ) → IsProduct i f (factors_in i f) → IsHanded c f → have_partners (factors_in i f) ≡ false → IsSortedByKey base_of tree_cmp (list_of (factors_in i f)) → AreReadied i c f f
+readied_here {f = f} i c p h n o =
+    let ts = factors_in i f in
+    record {
+      us = ts;
+      product = p;
+      others = refl;
+      handed = h;
+      tree = refl;
+      sorted = record { front = refl; moved = IsPermutation-refl (list_of ts); rising = o };
+      permuted = Permuted-refl ts;
+      rising = sorted_rising ts ts n (IsPermutation-refl (list_of ts)) o;
+    }
 
 -- the other trees, where both are gone
 rest_readied : (i c : ℕ) (old now : Forest) → eqb c i ≡ false → AreReadied i c old now → without_root c (without_root i now) ≡ without_root i (without_root c old)

@@ -23,7 +23,7 @@ permuted_lists ts us h = subst (λ (x : Trees). Permuted x us) (same_trees ts) (
 
 -- ---- no two factors with one base
 
-abbrev AreApart : Trees → Type 0
+abbrev pub AreApart : Trees → Type 0
 AreApart none = ⊤
 AreApart (more t ts) = NoneIs (is_partner t) ts × AreApart ts
 
@@ -35,7 +35,7 @@ no_partner_words t (more u ts) h = by (no_partner_words t ts) (is_partner t u) r
     by go true e g = cc
     by go false e g = (e, go g)
 
-apart_words : (ts : Trees) → have_partners ts ≡ false → AreApart ts
+pub apart_words : (ts : Trees) → have_partners ts ≡ false → AreApart ts
 apart_words none h = tt
 apart_words (more t ts) h = by (apart_words ts) (has_partner t ts) refl h
   where
@@ -57,7 +57,7 @@ none_permuted p (permuted_more k) h = (h.0, none_permuted p k h.1)
 none_permuted p permuted_swap h = (h.1.0, (h.0, h.1.1))
 none_permuted p (permuted_trans k l) h = none_permuted p l (none_permuted p k h)
 
-apart_permuted : {ts us : Trees} → Permuted ts us → AreApart ts → AreApart us
+pub apart_permuted : {ts us : Trees} → Permuted ts us → AreApart ts → AreApart us
 apart_permuted permuted_none h = tt
 apart_permuted (permuted_more {t} k) h = (none_permuted (is_partner t) k h.0, apart_permuted k h.1)
 apart_permuted (permuted_swap {t} {u} {ts}) h = ((partner_turned u t ∙ h.0.0, h.1.0), (h.0.1, h.1.1))
@@ -65,7 +65,7 @@ apart_permuted (permuted_trans k l) h = apart_permuted l (apart_permuted k h)
 
 -- ---- rising strictly
 
-less_of : (o : Ordering) → is_eq o ≡ false → is_lt (ordering_reverse o) ≡ false → o ≡ Less
+pub less_of : (o : Ordering) → is_eq o ≡ false → is_lt (ordering_reverse o) ≡ false → o ≡ Less
 less_of Less h k = refl
 less_of Equal h k = cc
 less_of Greater h k = cc

@@ -101,7 +101,7 @@ answered v c new (Ok (joining.Joined h at)) p a = absurd a
 answered v c new (Err e) p a = absurd a
 
 pub refused : (v : PlainValue) (new : State) (e : NumberFault) → AnswersRationals v new (Err e) → AnswersRationalFactors v new (Err e)
-refused v new (fault.Full full) h = absurd h
+refused v new (fault.Full full) h = h
 refused v new (fault.Overflow o) h = h
 
 pub refused_as : (v : PlainValue) (new : State) (r : Result Joining NumberFault) (e : NumberFault) → IsErrAnd r (λ x. x ≡ e) → AnswersRationals v new (Err e) → AnswersRationalFactors v new r
@@ -109,7 +109,7 @@ refused_as v new (Ok x) e h k = absurd h
 refused_as v new (Err x) e h k = subst (λ (y : NumberFault). AnswersRationalFactors v new (Err y)) (sym h) (refused v new e k)
 
 pub as_step : (v : PlainValue) (new : State) (e : NumberFault) → AnswersRationalFactors v new (Err e) → AnswersRationalStep v new (Err e)
-as_step v new (fault.Full full) h = absurd h
+as_step v new (fault.Full full) h = h
 as_step v new (fault.Overflow o) h = h
 
 -- the opened rationals are the rationals

@@ -14,6 +14,7 @@ use Rattle.product_reduce.specs.declared.steps.Joining.{Joining}
 use Rattle.product_reduce.specs.declared.steps.Joining.TheVariants as joining
 use Rattle.calc_measures.specs.PlainTrees.{IsPlainAnswer, IsPlainOverflow}
 use Rattle.calc_algebra.specs.Rewritings.{Rewrites, Reduces}
+use Rattle.tree_handles.specs.Causes.{LacksLongForm}
 use Rattle.tree_handles.specs.Handed.{tree_of}
 use Rattle.tree_handles.specs.declared.fault.NumberFault.{NumberFault}
 use Rattle.tree_handles.specs.declared.fault.NumberFault.TheVariants as fault
@@ -65,11 +66,11 @@ abbrev pub IfJoined : Joining → (ℕ → ℕ → Type 0) → Type 0
 IfJoined (joining.Done h) P = ⊤
 IfJoined (joining.Joined product at) P = P product at
 
--- rationals: their product where it fits, its overflow where it does not, and bytes are never lacking
+-- rationals: their product where it fits, its overflow where it does not, and bytes are lacking only for a number in the long form
 abbrev pub AnswersRationalFactors : PlainValue → State → Result Joining NumberFault → Type 0
 AnswersRationalFactors v new (Ok (joining.Done h)) = IsPlainAnswer v (tree_of h new)
 AnswersRationalFactors v new (Ok (joining.Joined product at)) = ⊥
-AnswersRationalFactors v new (Err (fault.Full full)) = ⊥
+AnswersRationalFactors v new (Err (fault.Full full)) = LacksLongForm full
 AnswersRationalFactors v new (Err (fault.Overflow o)) = IsPlainOverflow v o
 
 -- ---- behind the coefficient

@@ -5,3 +5,5 @@ pub mod Multiplying
 pub mod Sorting
 pub mod Answers
 pub mod Misfits
+pub mod Neighbours
+pub mod Gathering

@@ -1,5 +1,5 @@
 //! The last part of a step: a product with a pair joined, or a reduced tree.
-ghost use Rattle.std.specs.Prelude.{◌≡◌, ◌==◌, true, false, IfOk, IfErr, OnOk, [], ◌∷◌};
+ghost use Rattle.std.specs.Prelude.{◌≡◌, ◌==◌, true, false, IfOk, IfErr, IsSortedByKey, OnOk, [], ◌∷◌};
 ghost use Rattle.calc_algebra.specs.Numbers.{is_number};
 ghost use Rattle.calc_terms.specs.Trees.{mult, none};
 ghost use Rattle.number_forms.specs.Readers.{is_zero};
@@ -11,7 +11,9 @@ ghost use Rattle.product_reduce.specs.Joining.{IsFirstPair, IsFirstJoint, IsJoin
 ghost use Rattle.product_reduce.specs.Products.{IsProduct, factors_in};
 ghost use Rattle.tree_handles.specs.Causes.{IsCaused};
 ghost use Rattle.tree_handles.specs.Standing.{LacksBytes, Stands, forest, KeepsRefusals, Refuses};
-ghost use Rattle.calc_algebra.specs.Reduced.{are_reduced};
+ghost use Rattle.calc_algebra.specs.Reduced.{are_reduced, base_of};
+ghost use Rattle.calc_algebra.specs.TreeOrder.{tree_cmp};
+ghost use Rattle.node_order.specs.Sorting.{list_of};
 ghost use Rattle.tree_handles.specs.Handed.{tree_of, IsHanded, Gives, KeepsFront};
 ghost use Rattle.tree_handles.specs.Expressions.{children_of};
 ghost use Rattle.tree_handles.specs.Roots.{without_root};
@@ -78,6 +80,34 @@ pub fn sorted(pool: &mut Pool, product: Handle, coefficient: Handle) -> Result<H
     ensures stands { Stands pool.new }
 {
     sort_factors(pool, &product);
+    finished(pool, product, coefficient)
+}
+
+/// Factors in the order of their bases, which differ, behind a coefficient.
+pub fn finished(
+    pool: &mut Pool,
+    product: Handle,
+    coefficient: Handle,
+) -> Result<Handle, NumberFault>
+    requires stands { Stands pool.old }
+    requires product { IsProduct product (forest pool.old) (factors_in product (forest pool.old)) }
+    requires others { AreOthers (factors_in product (forest pool.old)) }
+    requires order { IsSortedByKey base_of tree_cmp (list_of (factors_in product (forest pool.old))) }
+    requires differ { have_partners (factors_in product (forest pool.old)) ≡ false }
+    requires coefficient { IsHanded coefficient (forest pool.old) }
+    requires number { is_number (tree_of coefficient pool.old) ≡ true }
+    requires not_zero { is_zero (tree_of coefficient pool.old) ≡ false }
+    requires apart { (coefficient == product) ≡ false }
+    ensures ok { IfOk result (λ h. Gives (without_root product (without_root coefficient (forest pool.old))) (forest pool.new) h
+        (IsEnding (tree_of coefficient pool.old) (factors_in product (forest pool.old)))) }
+    ensures alone { factors_in product (forest pool.old) ≡ none → IsAlone (tree_of coefficient pool.old) pool.new result }
+    ensures overflow { IfErr result (OfOverflow (SpreadingOverflows (tree_of coefficient pool.old) (factors_in product (forest pool.old)))) }
+    ensures front { KeepsFront (product ∷ coefficient ∷ []) (forest pool.old) (forest pool.new) }
+    ensures kept { OnOk result (KeepsRefusals pool.old pool.new) }
+    ensures faults { IfErr result (Faults pool.old pool.new) }
+    ensures caused { IfErr result (IsCaused pool.new) }
+    ensures stands { Stands pool.new }
+{
     if factor_count(pool, &product) == 0 {
         release(pool, product);
         move_last(pool, &coefficient);

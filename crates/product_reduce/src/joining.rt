@@ -3,7 +3,8 @@ ghost use Rattle.std.specs.Prelude.{◌≡◌, ◌==◌, ◌<◌, true, false, I
 ghost use Rattle.number_forms.specs.Sums.{removed};
 ghost use Rattle.calc_algebra.specs.Reduced.{are_reduced, is_reduced, base_of};
 ghost use Rattle.calc_terms.specs.Trees.{add, power, count, none, more};
-ghost use Rattle.product_reduce.specs.Joining.{exponent_of, joined, IsFirstPair};
+ghost use Rattle.product_reduce.specs.Joining.{exponent_of};
+ghost use Rattle.product_reduce.specs.Neighbours.{joined_pair};
 ghost use Rattle.product_reduce.specs.Products.{IsProduct, IsTakenOut, IsSplit, Becomes, factors_in};
 ghost use Rattle.tree_handles.specs.Standing.{LacksBytes, Stands, forest, KeepsRefusals, Refuses};
 ghost use Rattle.tree_handles.specs.Handed.{tree_of, IsHanded, Gives, KeepsFront};
@@ -80,13 +81,14 @@ fn raise(pool: &mut Pool, factor: Handle, exponent: Handle) -> Result<Handle, Fu
     Ok(power)
 }
 
-/// The first pair becomes one power, in the place of its first factor.
+/// Two factors become one power, in the place of the first.
 pub fn join_pair(pool: &mut Pool, product: &Handle, first: u16, second: u16) -> Result<(), Full>
     requires stands { Stands pool.old }
     requires product { IsProduct product.now (forest pool.old) (factors_in product.now (forest pool.old)) }
     requires reduced { are_reduced (factors_in product.now (forest pool.old)) ≡ true }
-    requires pair { IsFirstPair first second (factors_in product.now (forest pool.old)) }
-    ensures ok { OnOk result (Becomes product.now (forest pool.old) (forest pool.new) (joined (factors_in product.now (forest pool.old)))) }
+    requires order { first < second }
+    requires within { second < count (factors_in product.now (forest pool.old)) }
+    ensures ok { OnOk result (Becomes product.now (forest pool.old) (forest pool.new) (joined_pair first second (factors_in product.now (forest pool.old)))) }
     ensures front { KeepsFront (product.now ∷ []) (forest pool.old) (forest pool.new) }
     ensures kept { OnOk result (KeepsRefusals pool.old pool.new) }
     ensures full { IfErr result (Refuses pool.old pool.new) }

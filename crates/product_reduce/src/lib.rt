@@ -5,6 +5,7 @@ mod endings;
 pub mod examples;
 mod factors;
 mod fronting;
+mod gathering;
 mod joining;
 pub mod laws;
 mod nodes;
@@ -13,6 +14,7 @@ mod partners;
 mod sorting;
 mod steps;
 
+pub use gathering::{gather_factors, join_neighbours, next_pair};
 pub use steps::{Joining, joining_step, product_step};
 
 #[cfg(test)]

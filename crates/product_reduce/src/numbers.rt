@@ -20,11 +20,11 @@ ghost use Rattle.tree_handles.specs.Handed.{tree_of, IsHanded, KeepsFront};
 ghost use Rattle.tree_handles.specs.Expressions.{nth};
 ghost use Rattle.tree_handles.specs.Roots.{without_root};
 
-use crate::factors::{factor, factor_count};
+use crate::factors::factor_count;
 use crate::nodes::one;
 use node_pool::{Full, Pool};
 use number_forms::{is_reduced_number, multiply_numbers};
-use tree_handles::{Handle, NumberFault, take_child};
+use tree_handles::{Handle, NumberFault, child_ids, take_child};
 
 /// The place of the first Number among the factors.
 fn first_number(pool: &Pool, product: &Handle) -> Option<u16>
@@ -34,8 +34,9 @@ fn first_number(pool: &Pool, product: &Handle) -> Option<u16>
     ensures { let ts = factors_in product.now (forest pool.now) in
         MatchOption result (NoNumberBefore (count ts) ts) (λ at. IsFirstNumber at ts) }
 {
+    let mut ids = child_ids(pool, product.id(), 0);
     for at in 0..factor_count(pool, product) {
-        if is_reduced_number(pool, factor(pool, product, at)) {
+        if is_reduced_number(pool, ids.next()?) {
             return Some(at);
         }
     }

@@ -436,7 +436,7 @@ fn a_missing_exponent_is_placed(rt: HostRuntime) -> Result<(), Fail> {
     let mut pool = opened(rt.alloc(), 64)?;
     match stepped(&mut pool, &[X, X]) {
         Ok(_) => panic!(rt; "joined"),
-        Err(NumberFault::Full(full)) => assert_eq!(rt; full.needed, 40),
+        Err(NumberFault::Full(full)) => assert_eq!(rt; full.needed, 16),
         Err(NumberFault::Overflow(_)) => panic!(rt; "an overflow"),
     }
     Ok(())

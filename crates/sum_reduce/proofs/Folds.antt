@@ -134,9 +134,9 @@ fold_overflowed v at us d o a h k =
     subst (λ (x : PlainValue). IsPlainOverflow x o) (sym (a.plain ∙ ap (fold_values add_op (rational_of d)) (rationals_first at us f)))
     (fold_overflow (rational_of d) (rational_of (nth at us)) (rationals_of f.rest) o (k (rational_of d) (rational_of (nth at us)) (num_is d a.rational) (num_is (nth at us) f.rational)))
 
--- bytes are not lacking among rationals
-pub fold_never_full : (v : PlainValue) (at : ℕ) (us : Trees) (d : Tree) → AreFolded v d us → IsFirstNumber at us → ((p q : Fraction) → d ≡ num p → nth at us ≡ num q → ⊥) → ⊥
-fold_never_full v at us d a h k =
+-- what lacks bytes among rationals
+pub fold_full : {P : Type 0} (v : PlainValue) (at : ℕ) (us : Trees) (d : Tree) → AreFolded v d us → IsFirstNumber at us → ((p q : Fraction) → d ≡ num p → nth at us ≡ num q → P) → P
+fold_full v at us d a h k =
     let f = first_of at us a.rationals h in
     k (rational_of d) (rational_of (nth at us)) (num_is d a.rational) (num_is (nth at us) f.rational)
 

@@ -23,7 +23,7 @@ use Rattle.sum_reduce.specs.Stages.{IsStage}
 use Rattle.sum_reduce.specs.Sums.{Takes}
 use Rattle.number_forms.specs.Sums.{removed}
 use Rattle.sum_reduce.specs.Terms.{AreFormed, IsFirstNumber, NoNumberBefore, is_loose}
-use Rattle.sum_reduce.proofs.Folds.{AreFolded, first_of, fold_overflowed, fold_never_full, no_numbers}
+use Rattle.sum_reduce.proofs.Folds.{AreFolded, first_of, fold_overflowed, fold_full, no_numbers}
 use Rattle.sum_reduce.proofs.Opened.{number_tight}
 use Rattle.sum_reduce.proofs.Places.{taken_permuted}
 use Rattle.sum_reduce.proofs.Stages.{none_permuted, formed_permuted, stage_after, stage_permuted, stage_same, stage_added}
@@ -42,7 +42,7 @@ flat_step us vs at h q s = subst (NoneIs is_loose) (sym q) (none_permuted is_loo
 -- what is answered where one of them does not fit
 pub fold_faulted : (v : PlainValue) (at : ℕ) (us vs : Trees) (d : Tree) (new : State) (f : NumberFault) → AreFolded v d us → IsFirstNumber at us
     → ((p q : Fraction) → d ≡ num p → nth at us ≡ num q → AnswersRationals (calculated add_op p q) new (Err f)) → AnswersTotal v new vs (Err f)
-fold_faulted v at us vs d new (fault.Full full) a h k = fold_never_full v at us d a h k
+fold_faulted v at us vs d new (fault.Full full) a h k = fold_full v at us d a h k
 fold_faulted v at us vs d new (fault.Overflow o) a h k = fold_overflowed v at us d o a h k
 
 pub formed_behind : (at : ℕ) (ts us : Trees) → at < count ts → AreFormed ts → us ≡ removed at ts → AreFormed us

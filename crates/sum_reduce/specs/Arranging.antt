@@ -9,6 +9,7 @@ use Rattle.calc_terms.specs.Trees.{Tree, num, Trees, none, more, append, count}
 use Rattle.node_order.specs.Sorting.{list_of}
 use Rattle.node_pool.specs.State.{State}
 use Rattle.calc_measures.specs.PlainTrees.{IsPlainOverflow}
+use Rattle.tree_handles.specs.Causes.{LacksLongForm}
 use Rattle.tree_handles.specs.Handed.{tree_of}
 use Rattle.tree_handles.specs.declared.fault.NumberFault.{NumberFault}
 use Rattle.tree_handles.specs.declared.fault.NumberFault.TheVariants as fault
@@ -70,14 +71,14 @@ pub record IsTotal (v : PlainValue) (t : Tree) (us : Trees) : Type 0 where
   pub is : t ≡ num q
   pub none_left : us ≡ none
 
--- a total is answered where rationals have one, and else the first overflow
+-- a total is answered where rationals have one, else the first overflow, or bytes are lacking for a number in the long form
 abbrev pub AnswersTotal : PlainValue → State → Trees → Result ℕ NumberFault → Type 0
 AnswersTotal v new us (Ok h) = IsTotal v (tree_of h new) us
-AnswersTotal v new us (Err (fault.Full full)) = ⊥
+AnswersTotal v new us (Err (fault.Full full)) = LacksLongForm full
 AnswersTotal v new us (Err (fault.Overflow o)) = IsPlainOverflow v o
 
--- terms are answered where rationals fold to one, and else the first overflow
+-- terms are answered where rationals fold to one, else the first overflow, or bytes are lacking for a number in the long form
 abbrev pub AnswersFold : PlainValue → Trees → Result Unit NumberFault → Type 0
 AnswersFold v ts (Ok u) = IsFolded v ts
-AnswersFold v ts (Err (fault.Full full)) = ⊥
+AnswersFold v ts (Err (fault.Full full)) = LacksLongForm full
 AnswersFold v ts (Err (fault.Overflow o)) = IsPlainOverflow v o

@@ -1,22 +1,23 @@
-use Rattle.std.proofs.Common.{◌≡◌, Bool, true, false, ap, ◌∙◌, refl, sym, subst, arith, OnOk, IfErr}
+use Rattle.std.proofs.Common.{◌≡◌, ◌<◌, ◌+◌, ◌^◌, ℕ, Bool, true, false, ap, ◌∙◌, refl, sym, subst, arith, Option, IfSome, OnOk, IfErr}
 use Rattle.calc_terms.specs.Trees.{Tree, Trees, add, count, is_mult, power as power_tree}
 use Rattle.coefficients.proofs.Places.{over_product}
 use Rattle.coefficients.proofs.Puttings.{on_ok_after, fault_after}
 use Rattle.coefficients.proofs.Rewritten.{given_back, over_back, apart_back, put_back, front_lost}
 use Rattle.coefficients.proofs.Steps.{live, children_at, children_in, kind_of_root, product_kind, no_product_kind, if_map, moved, moved_front}
 use Rattle.deep_reduce.specs.Answers.{IsReducedProduct, IsReducedPower}
-use Rattle.deep_reduce.specs.Unfinished.{IsSummed}
-use Rattle.deep_reduce.proofs.Arms.{is_finished, is_joined, is_at, is_done, is_again}
+use Rattle.deep_reduce.specs.Unfinished.{IsSummed, joins_none, joins_then}
+use Rattle.deep_reduce.proofs.Arms.{is_finished, is_gathered, is_at, is_few, is_done, is_again}
 use Rattle.deep_reduce.proofs.Chains.{gives_next, front_next}
 use Rattle.deep_reduce.proofs.Children.{over_power, exponent_taken, placed, factor_taken, factor_inserted, itself}
 use Rattle.deep_reduce.proofs.Nested.{exponent_seen, with_product, without_product, taken_falls}
-use Rattle.deep_reduce.proofs.Falls.{joint_falls, product_falls, power_falls, rewritten_falls, powers_fall, ready_product_falls, exponent_falls, ready_power_falls, one_power_falls}
+use Rattle.deep_reduce.proofs.Falls.{joint_falls, two_falls, next_two_falls, pairs_fall, product_falls, power_falls, rewritten_falls, powers_fall, ready_product_falls, exponent_falls, ready_power_falls, one_power_falls}
 use Rattle.deep_reduce.proofs.Finished.{product_of_powers, ready_product, transparent_children, ready_power, power_lifted, power_of_kind}
 use Rattle.deep_reduce.proofs.Measures.{few_factors}
 use Rattle.deep_reduce.proofs.Opened.{opened, power_after, power_finished}
 use Rattle.deep_reduce.proofs.Ranks.{below_measure}
 use Rattle.deep_reduce.proofs.Rows.{IsPowerOf, none_reduced, part_front, next_power, next_within, back_within, next_of, next_taken, next_reduced, all_reduced}
-use Rattle.deep_reduce.proofs.Settled.{joint_at, ready_joint, ready_summed, settled_less, joint_less, product_after, product_finished}
+use Rattle.deep_reduce.proofs.Settled.{joint_at, ready_joint, ready_summed, pair_joined, settled_less, settled_within, less_gathered, less_next, gathered_product, some_pair, product_after, product_finished}
+use Rattle.product_reduce.specs.Neighbours.{IsPairAt}
 use Rattle.power_reduce.specs.PowerAnswers.{base_in, exponent_in}
 use Rattle.calc_algebra.specs.Reduced.{are_reduced}
 use Rattle.calc_algebra.specs.Rewritings.{Rewrites}
@@ -31,45 +32,147 @@ use Rattle.deep_reduce.proofs.whole.+reduction.Goals as goal
 -- ---- reduce_product
 
 pub reduce_product-returns-in-Done-clause-ok : goal.reduce_product-returns-in-Done-clause-ok
-reduce_product-returns-in-Done-clause-ok t c = gives_as (is_finished c.args.product c.args.pool.now c.joining_step.new.pool c.in-Done.is c.in_ok-answer.ensures.done) refl (λ u f. product_finished _ u f)
+reduce_product-returns-in-Done-clause-ok t c = gives_as (is_finished c.args.product c.args.pool.now c.gather_factors.new.pool c.in-Done.is c.in_ok-answer.ensures.done) refl (λ u f. product_finished _ u f)
 
 pub reduce_product-returns-in-Done-clause-written : goal.reduce_product-returns-in-Done-clause-written
 reduce_product-returns-in-Done-clause-written t c = λ d n.
-    let f = given_told (is_finished c.args.product c.args.pool.now c.joining_step.new.pool c.in-Done.is c.in_ok-answer.ensures.done) in
+    let f = given_told (is_finished c.args.product c.args.pool.now c.gather_factors.new.pool c.in-Done.is c.in_ok-answer.ensures.done) in
     f.written d
 
-pub reduce_product-reduce_joint-requires : goal.reduce_product-reduce_joint-requires
-reduce_product-reduce_joint-requires t c =
-    let g = is_joined c.args.product c.args.pool.now c.joining_step.new.pool c.in-Joined.is c.in_ok-answer.ensures.joined in
-    let j = given_told g in
-    let place = is_at c.args.product c.args.pool.now c.joining_step.new.pool c.in-Joined.is c.in_ok-answer.ensures.place in
-    (below_measure c.decreases (joint_falls (tree_of c.args.product c.args.pool.now) (tree_of c.in-Joined.product c.joining_step.new.pool) c.in-Joined.at (joint_less _ _ _ c.requires.reduced j place)), (c.in_ok-answer.ensures.stands, (given_handed g, (ap is_mult j.is, place))))
+pub reduce_product-returns-in-Done-clause-joined : goal.reduce_product-returns-in-Done-clause-joined
+reduce_product-returns-in-Done-clause-joined t c =
+    let f = given_told (is_finished c.args.product c.args.pool.now c.gather_factors.new.pool c.in-Done.is c.in_ok-answer.ensures.done) in
+    record { us = children_of (tree_of c.args.product c.args.pool.now); joins = joins_none; finished = f }
 
-pub reduce_product-returns-in_err-settled-in-Joined-clause-front : goal.reduce_product-returns-in_err-settled-in-Joined-clause-front
-reduce_product-returns-in_err-settled-in-Joined-clause-front t c = front_next (is_joined c.args.product c.args.pool.now c.joining_step.new.pool c.in-Joined.is c.in_ok-answer.ensures.joined) c.joining_step.ensures.front c.reduce_joint.ensures.front
+pub reduce_product-join_pairs-requires : goal.reduce_product-join_pairs-requires
+reduce_product-join_pairs-requires t c =
+    let g = is_gathered c.args.product c.args.pool.now c.gather_factors.new.pool c.in-Joined.is c.in_ok-answer.ensures.gathered in
+    let j = given_told g in
+    let place = is_at c.args.product c.args.pool.now c.gather_factors.new.pool c.in-Joined.is c.in_ok-answer.ensures.pair in (
+      below_measure c.decreases (pairs_fall c.in-Joined.at (tree_of c.args.product c.args.pool.now) (tree_of c.in-Joined.product c.gather_factors.new.pool) j place),
+      (c.in_ok-answer.ensures.stands, (given_handed g, (gathered_product _ _ j, (j.reduced, (place, is_few c.args.product c.args.pool.now c.gather_factors.new.pool c.in-Joined.is c.in_ok-answer.ensures.fits))))),
+    )
+
+pub reduce_product-returns-in_err-joined-in-Joined-clause-front : goal.reduce_product-returns-in_err-joined-in-Joined-clause-front
+reduce_product-returns-in_err-joined-in-Joined-clause-front t c = front_next (is_gathered c.args.product c.args.pool.now c.gather_factors.new.pool c.in-Joined.is c.in_ok-answer.ensures.gathered) c.gather_factors.ensures.front c.join_pairs.ensures.front
 
 pub reduce_product-reduce_product-requires : goal.reduce_product-reduce_product-requires
 reduce_product-reduce_product-requires t c =
-    let g = c.in_ok-settled-in-Joined.ensures.ok in
-    let l = settled_less _ _ _ _ c.requires.reduced (given_told (is_joined c.args.product c.args.pool.now c.joining_step.new.pool c.in-Joined.is c.in_ok-answer.ensures.joined)) (is_at c.args.product c.args.pool.now c.joining_step.new.pool c.in-Joined.is c.in_ok-answer.ensures.place) (given_told g) in
-    (below_measure c.decreases (product_falls (tree_of c.args.product c.args.pool.now) _ l), (c.in_ok-settled-in-Joined.ensures.stands, (given_handed g, (ap is_mult l.is, (l.some, l.reduced)))))
+    let g = c.in_ok-joined-in-Joined.ensures.ok in
+    let l = less_gathered _ _ _ (given_told (is_gathered c.args.product c.args.pool.now c.gather_factors.new.pool c.in-Joined.is c.in_ok-answer.ensures.gathered)) (given_told g) in
+    (below_measure c.decreases (product_falls (tree_of c.args.product c.args.pool.now) _ l), (c.in_ok-joined-in-Joined.ensures.stands, (given_handed g, (ap is_mult l.is, (l.some, l.reduced)))))
 
-pub reduce_product-returns-in_ok-settled-in-Joined-clause-ok : goal.reduce_product-returns-in_ok-settled-in-Joined-clause-ok
-reduce_product-returns-in_ok-settled-in-Joined-clause-ok t c =
-    let g = c.in_ok-settled-in-Joined.ensures.ok in
-    let j = given_told (is_joined c.args.product c.args.pool.now c.joining_step.new.pool c.in-Joined.is c.in_ok-answer.ensures.joined) in
-    let l = settled_less _ _ _ _ c.requires.reduced j (is_at c.args.product c.args.pool.now c.joining_step.new.pool c.in-Joined.is c.in_ok-answer.ensures.place) (given_told g) in
-    if_map c.reduce_product.result _ _ c.reduce_product.ensures.ok (λ h x. gives_next (gives_next (is_joined c.args.product c.args.pool.now c.joining_step.new.pool c.in-Joined.is c.in_ok-answer.ensures.joined) g (λ u y. y)) x (λ r a. product_after _ _ _ r j l a))
+pub reduce_product-returns-in_ok-joined-in-Joined-clause-ok : goal.reduce_product-returns-in_ok-joined-in-Joined-clause-ok
+reduce_product-returns-in_ok-joined-in-Joined-clause-ok t c =
+    let g = c.in_ok-joined-in-Joined.ensures.ok in
+    let first = is_gathered c.args.product c.args.pool.now c.gather_factors.new.pool c.in-Joined.is c.in_ok-answer.ensures.gathered in
+    let j = given_told first in
+    let l = less_gathered _ _ _ j (given_told g) in
+    if_map c.reduce_product.result _ _ c.reduce_product.ensures.ok (λ h x. gives_next (gives_next first g (λ u y. y)) x (λ r a. product_after _ _ _ r j.joinable l a))
 
-pub reduce_product-returns-in_ok-settled-in-Joined-clause-written : goal.reduce_product-returns-in_ok-settled-in-Joined-clause-written
-reduce_product-returns-in_ok-settled-in-Joined-clause-written t c =
-    let j = given_told (is_joined c.args.product c.args.pool.now c.joining_step.new.pool c.in-Joined.is c.in_ok-answer.ensures.joined) in
+pub reduce_product-returns-in_ok-joined-in-Joined-clause-joined : goal.reduce_product-returns-in_ok-joined-in-Joined-clause-joined
+reduce_product-returns-in_ok-joined-in-Joined-clause-joined t c =
+    let l = less_gathered _ _ _ (given_told (is_gathered c.args.product c.args.pool.now c.gather_factors.new.pool c.in-Joined.is c.in_ok-answer.ensures.gathered)) (given_told c.in_ok-joined-in-Joined.ensures.ok) in
+    if_map c.reduce_product.result _ _ c.reduce_product.ensures.joined (λ h x. record { us = x.us; joins = joins_then l.joins x.joins; finished = x.finished })
+
+pub reduce_product-returns-in_ok-joined-in-Joined-clause-written : goal.reduce_product-returns-in_ok-joined-in-Joined-clause-written
+reduce_product-returns-in_ok-joined-in-Joined-clause-written t c =
+    let j = given_told (is_gathered c.args.product c.args.pool.now c.gather_factors.new.pool c.in-Joined.is c.in_ok-answer.ensures.gathered) in
     if_map c.reduce_product.result _ _ c.reduce_product.ensures.written (λ h x d n. absurd (n j.coefficient j.joinable))
 
-pub reduce_product-returns-in_ok-settled-in-Joined-clause-front : goal.reduce_product-returns-in_ok-settled-in-Joined-clause-front
-reduce_product-returns-in_ok-settled-in-Joined-clause-front t c =
-    let first = is_joined c.args.product c.args.pool.now c.joining_step.new.pool c.in-Joined.is c.in_ok-answer.ensures.joined in
-    front_next (gives_next first c.in_ok-settled-in-Joined.ensures.ok (λ u y. y)) (front_next first c.joining_step.ensures.front c.reduce_joint.ensures.front) c.reduce_product.ensures.front
+pub reduce_product-returns-in_ok-joined-in-Joined-clause-front : goal.reduce_product-returns-in_ok-joined-in-Joined-clause-front
+reduce_product-returns-in_ok-joined-in-Joined-clause-front t c =
+    let first = is_gathered c.args.product c.args.pool.now c.gather_factors.new.pool c.in-Joined.is c.in_ok-answer.ensures.gathered in
+    front_next (gives_next first c.in_ok-joined-in-Joined.ensures.ok (λ u y. y)) (front_next first c.gather_factors.ensures.front c.join_pairs.ensures.front) c.reduce_product.ensures.front
+
+-- ---- join_pairs
+
+pub join_pairs-join_two-requires : goal.join_pairs-join_two-requires
+join_pairs-join_two-requires t c = (
+  below_measure c.decreases (two_falls c.args.first (tree_of c.args.product c.args.pool.now) c.requires.reduced c.requires.pair),
+  (c.requires.stands, (c.requires.handed, (c.requires.product, (c.requires.reduced, (c.requires.pair, c.requires.fits))))),
+)
+
+pub join_pairs-next_pair-next-requires-clause-handed : goal.join_pairs-next_pair-next-requires-clause-handed
+join_pairs-next_pair-next-requires-clause-handed t c = given_handed c.in_ok-joined.ensures.ok
+
+pub join_pairs-next_pair-next-requires-clause-product : goal.join_pairs-next_pair-next-requires-clause-product
+join_pairs-next_pair-next-requires-clause-product t c = ap is_mult (given_told c.in_ok-joined.ensures.ok).is
+
+pub join_pairs-next_pair-next-requires-clause-reduced : goal.join_pairs-next_pair-next-requires-clause-reduced
+join_pairs-next_pair-next-requires-clause-reduced t c = (given_told c.in_ok-joined.ensures.ok).reduced
+
+pub join_pairs-loop-next-init : goal.join_pairs-loop-next-init
+join_pairs-loop-next-init t c = record {
+  stands = c.in_ok-joined.ensures.stands;
+  kept = c.in_ok-joined.ensures.kept;
+  given = c.in_ok-joined.ensures.ok;
+  pair = some_pair c.args.first _ c.next_pair-next.result c.next_pair-next.ensures.pair;
+  fits = c.next_pair-next.ensures.fits;
+  front = c.join_two.ensures.front;
+}
+
+pub join_pairs-join_two-requires-in-Some : goal.join_pairs-join_two-requires-in-Some
+join_pairs-join_two-requires-in-Some t c =
+    let i = c.loop-next.invariant in
+    let l = given_told i.given in
+    let pair = subst (λ (n : Option ℕ). IfSome n (λ at. IsPairAt at (children_of (tree_of c.loop-next.joined c.loop-next.pool)))) c.in-Some.is i.pair in
+    let fits = subst (λ (n : Option ℕ). IfSome n (λ at. at + 1 < 2 ^ 16)) c.in-Some.is i.fits in (
+      below_measure c.decreases (next_two_falls (tree_of c.args.product c.args.pool.now) _ l),
+      (i.stands, (given_handed i.given, (ap is_mult l.is, (l.reduced, (pair, fits))))),
+    )
+
+pub join_pairs-next_pair-next-requires-in-Some-clause-handed : goal.join_pairs-next_pair-next-requires-in-Some-clause-handed
+join_pairs-next_pair-next-requires-in-Some-clause-handed t c = given_handed c.in-Ok.ensures.ok
+
+pub join_pairs-next_pair-next-requires-in-Some-clause-product : goal.join_pairs-next_pair-next-requires-in-Some-clause-product
+join_pairs-next_pair-next-requires-in-Some-clause-product t c = ap is_mult (given_told c.in-Ok.ensures.ok).is
+
+pub join_pairs-next_pair-next-requires-in-Some-clause-reduced : goal.join_pairs-next_pair-next-requires-in-Some-clause-reduced
+join_pairs-next_pair-next-requires-in-Some-clause-reduced t c = (given_told c.in-Ok.ensures.ok).reduced
+
+pub join_pairs-loop-next-smaller : goal.join_pairs-loop-next-smaller
+join_pairs-loop-next-smaller t c = (given_told c.in-Ok.ensures.ok).loads
+
+pub join_pairs-loop-next-preserved : goal.join_pairs-loop-next-preserved
+join_pairs-loop-next-preserved t c =
+    let i = c.loop-next.invariant in
+    let g = i.given in
+    record {
+      stands = c.in-Ok.ensures.stands;
+      kept = keeps_after _ _ _ i.kept c.in-Ok.ensures.kept;
+      given = gives_next g c.in-Ok.ensures.ok (λ v s. less_next (children_of (tree_of c.args.product c.args.pool.now)) _ v (given_told g) s);
+      pair = some_pair c.in-Some.at _ c.next_pair-next-in-Some.result c.next_pair-next-in-Some.ensures.pair;
+      fits = c.next_pair-next-in-Some.ensures.fits;
+      front = front_next g i.front c.join_two-in-Some.ensures.front;
+    }
+
+pub join_pairs-returns-in-Err-clause-front : goal.join_pairs-returns-in-Err-clause-front
+join_pairs-returns-in-Err-clause-front t c = front_next c.loop-next.invariant.given c.loop-next.invariant.front c.join_two-in-Some.ensures.front
+
+-- ---- join_two
+
+pub join_two-reduce_joint-requires : goal.join_two-reduce_joint-requires
+join_two-reduce_joint-requires t c =
+    let g = c.in_ok-joined.ensures.ok in
+    let j = pair_joined c.args.at (children_of (tree_of c.args.product c.args.pool.now)) _ c.requires.reduced c.requires.pair (given_told g) in
+    (below_measure c.decreases (joint_falls (tree_of c.args.product c.args.pool.now) _ c.args.at j), (c.in_ok-joined.ensures.stands, (given_handed g, (ap is_mult j.is, j.joint))))
+
+pub join_two-returns-clause-ok : goal.join_two-returns-clause-ok
+join_two-returns-clause-ok t c =
+    let g = c.in_ok-joined.ensures.ok in
+    let ts = children_of (tree_of c.args.product c.args.pool.now) in
+    let j = pair_joined c.args.at ts _ c.requires.reduced c.requires.pair (given_told g) in
+    if_map c.reduce_joint.result _ _ c.reduce_joint.ensures.ok (λ h x. gives_next g x (λ r s. settled_less c.args.at ts _ r j s))
+
+pub join_two-returns-clause-within : goal.join_two-returns-clause-within
+join_two-returns-clause-within t c =
+    let g = c.in_ok-joined.ensures.ok in
+    let j = pair_joined c.args.at (children_of (tree_of c.args.product c.args.pool.now)) _ c.requires.reduced c.requires.pair (given_told g) in
+    if_map c.reduce_joint.result _ _ c.reduce_joint.ensures.ok (λ h x. settled_within c.args.at _ _ j.joint (given_told x))
+
+pub join_two-returns-clause-front : goal.join_two-returns-clause-front
+join_two-returns-clause-front t c = front_next c.in_ok-joined.ensures.ok c.join_neighbours.ensures.front c.reduce_joint.ensures.front
 
 -- ---- reduce_joint
 

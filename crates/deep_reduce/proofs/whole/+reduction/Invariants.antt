@@ -1,12 +1,36 @@
-use Rattle.deep_reduce.proofs.Measures.{of_product, of_power, of_joint, of_powers, of_exponent, of_rewritten}
+use Rattle.std.proofs.Common.{◌<◌, ◌+◌, ◌^◌, [], ◌∷◌, IfSome}
+use Rattle.calc_measures.specs.Loads.{load_of_factors}
+use Rattle.deep_reduce.specs.Unfinished.{IsLess}
+use Rattle.deep_reduce.proofs.Measures.{of_product, of_pairs, of_two, of_power, of_joint, of_powers, of_exponent, of_rewritten}
 use Rattle.deep_reduce.proofs.Rows.{IsPartReduced}
-use Rattle.tree_handles.specs.Handed.{tree_of}
+use Rattle.product_reduce.specs.Neighbours.{IsPairAt}
+use Rattle.tree_handles.specs.Handed.{tree_of, Gives, KeepsFront}
+use Rattle.tree_handles.specs.Roots.{without_root}
 use Rattle.tree_handles.specs.Expressions.{children_of}
 use Rattle.tree_handles.specs.Standing.{Stands, forest, KeepsRefusals}
 use Rattle.deep_reduce.proofs.whole.+reduction.Given as goal
 
 abbrev pub decreases-reduce_product : goal.decreases-reduce_product
 decreases-reduce_product l = of_product (tree_of l.product l.pool.now)
+
+abbrev pub decreases-join_pairs : goal.decreases-join_pairs
+decreases-join_pairs l = of_pairs (tree_of l.product l.pool.now)
+
+abbrev pub decreases-join_two : goal.decreases-join_two
+decreases-join_two l = of_two (tree_of l.product l.pool.now)
+
+abbrev pub invariant-join_pairs-loop-next : goal.invariant-join_pairs-loop-next
+invariant-join_pairs-loop-next l = record {
+  stands : Stands l.pool;
+  kept : KeepsRefusals l.fn.pool l.pool;
+  given : Gives (without_root l.fn.product (forest l.fn.pool)) (forest l.pool) l.joined (IsLess (children_of (tree_of l.fn.product l.fn.pool)));
+  pair : IfSome l.next (λ at. IsPairAt at (children_of (tree_of l.joined l.pool)));
+  fits : IfSome l.next (λ at. at + 1 < 2 ^ 16);
+  front : KeepsFront (l.fn.product ∷ []) (forest l.fn.pool) (forest l.pool);
+}
+
+abbrev pub decreases-join_pairs-loop-next : goal.decreases-join_pairs-loop-next
+decreases-join_pairs-loop-next l = load_of_factors (children_of (tree_of l.joined l.pool))
 
 abbrev pub decreases-reduce_joint : goal.decreases-reduce_joint
 decreases-reduce_joint l = of_joint l.at (tree_of l.product l.pool.now)

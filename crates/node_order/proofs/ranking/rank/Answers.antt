@@ -1,8 +1,11 @@
 use Rattle.std.proofs.Common.{rules}
-use Rattle.node_order.specs.Ranking.{ranked_tree}
-use Rattle.node_order.proofs.RankLaws.{sorted_by_trees}
+use Rattle.node_order.specs.Ranking.{place_cmp, ranked_tree}
+use Rattle.node_order.proofs.RankLaws.{sorted_by_calls}
+use Rattle.node_order.proofs.Ties.{place_total}
 use Rattle.tree_handles.specs.Standing.{forest}
 use Rattle.node_order.proofs.ranking.rank.Goals as goal
 
 pub returns-clause-rising : goal.returns-clause-rising
-returns-clause-rising c = sorted_by_trees (ranked_tree c.args.keys.now (forest c.args.pool.now)) _ c.sort_unstable_by.ensures.sorted (λ a r f' k. search rules)
+returns-clause-rising c =
+    let tree = ranked_tree c.args.keys.now (forest c.args.pool.now) in
+    sorted_by_calls (place_cmp tree) _ (place_total tree) c.sort_unstable_by.ensures.sorted (λ a r f' k. search rules)

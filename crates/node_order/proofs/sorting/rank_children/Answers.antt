@@ -1,7 +1,8 @@
 use Rattle.std.proofs.Common.{◌≡◌, ◌+◌, List, ℕ, length, subst, arith, IsPermutation}
 use Rattle.node_order.specs.Ranking.{ranked_tree}
 use Rattle.node_order.proofs.Places.{inside_range}
-use Rattle.node_order.proofs.SortLaws.{sorted_same, ranked_is}
+use Rattle.node_order.proofs.SortLaws.{ranked_is}
+use Rattle.node_order.proofs.Ties.{places_same}
 use Rattle.tree_handles.specs.Expressions.{plains, nth}
 use Rattle.tree_handles.specs.Inside.{kids_of}
 use Rattle.tree_handles.specs.Standing.{forest}
@@ -14,5 +15,5 @@ returns-clause-rising g c =
     let keys = c.list_keys.new.listed in
     let moved = subst (λ (xs : List ℕ). IsPermutation xs c.rank.new.order) c.list_places.ensures c.rank.ensures.moved in
     let long : length keys ≡ n = omega (arith, c.requires.order, c.list_keys.auto.listed) in
-    sorted_same (ranked_tree keys f) (λ j. g.K.Keys.key_of (nth (c.args.from + j) (plains (kids_of c.args.parent f)))) c.rank.new.order n c.rank.ensures.rising (inside_range n c.rank.new.order moved)
+    places_same (ranked_tree keys f) (λ j. g.K.Keys.key_of (nth (c.args.from + j) (plains (kids_of c.args.parent f)))) c.rank.new.order n c.rank.ensures.rising (inside_range n c.rank.new.order moved)
     (λ j lt. ranked_is keys f j _ (omega arith) (c.list_keys.ensures.trees j _ (omega arith)))

@@ -1,8 +1,8 @@
 use Rattle.std.proofs.Common.{◌+◌, ◌<◌, ◌≤◌, ℕ, sym, ap, subst, arith, replicate}
 use Rattle.std.proofs.lemmas.List.{length-take-le, length-replicate}
-use Rattle.std.specs.List.Sorted.{IsSortedByKey}
-use Rattle.calc_algebra.specs.TreeOrder.{tree_cmp}
+use Rattle.std.specs.List.Sorted.{IsSorted}
 use Rattle.calc_terms.specs.Trees.{count}
+use Rattle.node_order.specs.Ranking.{place_cmp}
 use Rattle.node_order.proofs.SortLaws.{sorted_children, handle_kids}
 use Rattle.tree_handles.specs.Expressions.{plains, nth, IsWhole, IsExpression}
 use Rattle.tree_handles.specs.Forest.{Forest, kids, arity}
@@ -33,5 +33,5 @@ returns-clause-sorts g c =
     let same = handle_kids i c.id.result c.args.pool.now c.requires.stands c.requires.handed.root c.id.ensures in
     sorted_children i n _ key c.rank_children.new.order f (forest c.arrange.new.pool) (all-kids IsOnce (root_tree i f) c.requires.handed.once) (all-kids IsWhole (root_tree i f) c.requires.handed.whole)
     (omega (arith, length-take-le {A = ℕ} c.children_from-len.result (replicate g.row.N 0) (omega (arith, length-replicate {A = ℕ} g.row.N 0, c.children_from-len.ensures.all, c.requires.room)), c.children_from-len.ensures.all)) c.rank_children.ensures.places
-    (subst (λ (ts : Forest). IsSortedByKey (λ j. key (nth (n + j) (plains ts))) tree_cmp c.rank_children.new.order) same c.rank_children.ensures.rising)
+    (subst (λ (ts : Forest). IsSorted (place_cmp (λ j. key (nth (n + j) (plains ts)))) c.rank_children.new.order) same c.rank_children.ensures.rising)
     c.arrange.ensures.forest

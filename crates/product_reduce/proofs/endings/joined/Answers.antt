@@ -14,7 +14,8 @@ use Rattle.product_reduce.specs.Factors.{coefficient_before}
 use Rattle.product_reduce.specs.Joining.{joined, IsFirstJoint, IsJointAt}
 use Rattle.product_reduce.specs.Products.{factors_in}
 use Rattle.product_reduce.proofs.Beside.{beside_becomes, tree_becomes}
-use Rattle.product_reduce.proofs.Products.{factors_are, product_at}
+use Rattle.product_reduce.proofs.Products.{becomes_as, factors_are, product_at}
+use Rattle.product_reduce.proofs.Pairs.{joined_at}
 use Rattle.product_reduce.proofs.JointPlaces.{joint_at, first_joint_at, joined_count, count_before}
 use Rattle.product_reduce.proofs.Readied.{factors_before}
 use Rattle.product_reduce.proofs.endings.joined.Goals as goal
@@ -24,18 +25,18 @@ pub returns-in_err-join_pair-clause-front : goal.returns-in_err-join_pair-clause
 returns-in_err-join_pair-clause-front c = front_after_one behind_first front_same c.join_pair.ensures.front
 
 pub put_in_front-requires-clause-product : goal.put_in_front-requires-clause-product
-put_in_front-requires-clause-product c = let b = c.in_ok-join_pair.ensures.ok in product_at b.product refl (sym (factors_are b.product))
+put_in_front-requires-clause-product c = let b = (becomes_as c.in_ok-join_pair.ensures.ok (sym (joined_at c.args.first c.args.second (factors_in c.args.product (forest c.args.pool.now)) c.requires.pair))) in product_at b.product refl (sym (factors_are b.product))
 
 pub put_in_front-requires-clause-handed : goal.put_in_front-requires-clause-handed
 put_in_front-requires-clause-handed c =
-    beside_becomes c.args.coefficient c.requires.stands c.in_ok-join_pair.ensures.stands c.requires.product c.in_ok-join_pair.ensures.ok c.requires.coefficient c.requires.apart
+    beside_becomes c.args.coefficient c.requires.stands c.in_ok-join_pair.ensures.stands c.requires.product (becomes_as c.in_ok-join_pair.ensures.ok (sym (joined_at c.args.first c.args.second (factors_in c.args.product (forest c.args.pool.now)) c.requires.pair))) c.requires.coefficient c.requires.apart
 
 pub move_last-requires-clause-root : goal.move_last-requires-clause-root
 move_last-requires-clause-root c = c.put_in_front.ensures.becomes.product.handed.root
 
 pub returns-clause-ok : goal.returns-clause-ok
 returns-clause-ok c =
-    let b = c.in_ok-join_pair.ensures.ok in
+    let b = (becomes_as c.in_ok-join_pair.ensures.ok (sym (joined_at c.args.first c.args.second (factors_in c.args.product (forest c.args.pool.now)) c.requires.pair))) in
     let d = c.put_in_front.ensures.becomes in
     let same = ap plain (tree_becomes c.args.coefficient c.requires.stands c.in_ok-join_pair.ensures.stands c.requires.product b c.requires.coefficient c.requires.apart) in
     let apart = eqb-sym c.args.coefficient c.args.product c.requires.apart in
@@ -49,7 +50,7 @@ returns-clause-front c =
     front_end c.move_last.ensures.last (front_without behind_first (front_after_one behind_first start c.put_in_front.ensures.becomes.front))
 
 pub factor_count-joined-requires-clause-product : goal.factor_count-joined-requires-clause-product
-factor_count-joined-requires-clause-product c = let b = c.in_ok-join_pair.ensures.ok in product_at b.product refl (sym (factors_are b.product))
+factor_count-joined-requires-clause-product c = let b = (becomes_as c.in_ok-join_pair.ensures.ok (sym (joined_at c.args.first c.args.second (factors_in c.args.product (forest c.args.pool.now)) c.requires.pair))) in product_at b.product refl (sym (factors_are b.product))
 
 pub factor_count-requires-clause-product : goal.factor_count-requires-clause-product
 factor_count-requires-clause-product c = let d = c.put_in_front.ensures.becomes in product_at d.product refl (sym (factors_are d.product))
@@ -58,8 +59,8 @@ pub overflow_sub-in_front : goal.overflow_sub-in_front
 overflow_sub-in_front c =
     let us = factors_in c.args.product (forest c.args.pool.now) in
     let k = tree_of c.args.coefficient c.args.pool.now in
-    let joints : factors_in c.args.product (forest c.join_pair.new.pool) ≡ joined us = factors_are c.in_ok-join_pair.ensures.ok.product in
-    let before = factors_before c.args.product c.args.coefficient us c.requires.stands c.in_ok-join_pair.ensures.stands c.requires.product c.in_ok-join_pair.ensures.ok c.requires.coefficient c.requires.apart c.put_in_front.ensures.becomes in
+    let joints : factors_in c.args.product (forest c.join_pair.new.pool) ≡ joined us = factors_are (becomes_as c.in_ok-join_pair.ensures.ok (sym (joined_at c.args.first c.args.second (factors_in c.args.product (forest c.args.pool.now)) c.requires.pair))).product in
+    let before = factors_before c.args.product c.args.coefficient us c.requires.stands c.in_ok-join_pair.ensures.stands c.requires.product (becomes_as c.in_ok-join_pair.ensures.ok (sym (joined_at c.args.first c.args.second (factors_in c.args.product (forest c.args.pool.now)) c.requires.pair))) c.requires.coefficient c.requires.apart c.put_in_front.ensures.becomes in
     let n : count (factors_in c.args.product (forest c.join_pair.new.pool)) ≡ count (joined us) = ap count joints in
     let m : count (factors_in c.args.product (forest c.put_in_front.new.pool)) ≡ count (coefficient_before k (joined us)) = ap count before in
     let least : count (joined us) ≤ count (coefficient_before k (joined us)) = count_before k (joined us) in
@@ -69,8 +70,8 @@ pub overflow_add-result : goal.overflow_add-result
 overflow_add-result c =
     let us = factors_in c.args.product (forest c.args.pool.now) in
     let k = tree_of c.args.coefficient c.args.pool.now in
-    let joints : factors_in c.args.product (forest c.join_pair.new.pool) ≡ joined us = factors_are c.in_ok-join_pair.ensures.ok.product in
-    let before = factors_before c.args.product c.args.coefficient us c.requires.stands c.in_ok-join_pair.ensures.stands c.requires.product c.in_ok-join_pair.ensures.ok c.requires.coefficient c.requires.apart c.put_in_front.ensures.becomes in
+    let joints : factors_in c.args.product (forest c.join_pair.new.pool) ≡ joined us = factors_are (becomes_as c.in_ok-join_pair.ensures.ok (sym (joined_at c.args.first c.args.second (factors_in c.args.product (forest c.args.pool.now)) c.requires.pair))).product in
+    let before = factors_before c.args.product c.args.coefficient us c.requires.stands c.in_ok-join_pair.ensures.stands c.requires.product (becomes_as c.in_ok-join_pair.ensures.ok (sym (joined_at c.args.first c.args.second (factors_in c.args.product (forest c.args.pool.now)) c.requires.pair))) c.requires.coefficient c.requires.apart c.put_in_front.ensures.becomes in
     let n : count (factors_in c.args.product (forest c.join_pair.new.pool)) ≡ count (joined us) = ap count joints in
     let m : count (factors_in c.args.product (forest c.put_in_front.new.pool)) ≡ count (coefficient_before k (joined us)) = ap count before in
     let least : count (joined us) ≤ count (coefficient_before k (joined us)) = count_before k (joined us) in
@@ -87,8 +88,8 @@ placed : (c : After-move_last) → IsPlaced c
 placed c =
     let us = factors_in c.args.product (forest c.args.pool.now) in
     let k = tree_of c.args.coefficient c.args.pool.now in
-    let joints : factors_in c.args.product (forest c.join_pair.new.pool) ≡ joined us = factors_are c.in_ok-join_pair.ensures.ok.product in
-    let before = factors_before c.args.product c.args.coefficient us c.requires.stands c.in_ok-join_pair.ensures.stands c.requires.product c.in_ok-join_pair.ensures.ok c.requires.coefficient c.requires.apart c.put_in_front.ensures.becomes in
+    let joints : factors_in c.args.product (forest c.join_pair.new.pool) ≡ joined us = factors_are (becomes_as c.in_ok-join_pair.ensures.ok (sym (joined_at c.args.first c.args.second (factors_in c.args.product (forest c.args.pool.now)) c.requires.pair))).product in
+    let before = factors_before c.args.product c.args.coefficient us c.requires.stands c.in_ok-join_pair.ensures.stands c.requires.product (becomes_as c.in_ok-join_pair.ensures.ok (sym (joined_at c.args.first c.args.second (factors_in c.args.product (forest c.args.pool.now)) c.requires.pair))) c.requires.coefficient c.requires.apart c.put_in_front.ensures.becomes in
     let n : count (factors_in c.args.product (forest c.join_pair.new.pool)) ≡ count (joined us) = ap count joints in
     let m : count (factors_in c.args.product (forest c.put_in_front.new.pool)) ≡ count (coefficient_before k (joined us)) = ap count before in
     let least : count (joined us) ≤ count (coefficient_before k (joined us)) = count_before k (joined us) in

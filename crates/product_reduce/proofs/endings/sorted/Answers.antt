@@ -1,94 +1,99 @@
-use Rattle.std.proofs.Common.{◌≡◌, ◌≤◌, ◌∙◌, ap, sym, refl, inl, arith}
-use Rattle.calc_algebra.specs.Reduced.{is_reduced}
-use Rattle.calc_terms.specs.Trees.{count}
+use Rattle.std.proofs.Common.{◌≡◌, ◌∙◌, ap, sym, refl, subst, false}
+use Rattle.std.specs.Prelude.{IsSortedByKey}
+use Rattle.calc_algebra.proofs.MeaningRewrites.{Permuted-sym}
+use Rattle.calc_algebra.specs.Numbers.{is_number}
+use Rattle.calc_algebra.specs.Reduced.{base_of}
+use Rattle.calc_algebra.specs.TreeOrder.{tree_cmp}
+use Rattle.calc_terms.specs.Trees.{Tree, Trees}
 use Rattle.coefficients.proofs.Steps.{if_map}
+use Rattle.node_order.specs.Sorting.{list_of}
+use Rattle.number_forms.specs.Readers.{is_zero}
 use Rattle.tree_handles.specs.Expressions.{plain}
-use Rattle.tree_handles.specs.Roots.{has_root, root_tree, without_root}
-use Rattle.tree_handles.proofs.Fronts.{behind_first, behind_later, behind_new, front_same, front_at, front_end, front_after_one, front_after_two, front_without}
+use Rattle.tree_handles.specs.Handed.{tree_of}
+use Rattle.tree_handles.specs.Roots.{without_root}
 use Rattle.tree_handles.specs.Standing.{forest}
-use Rattle.tree_handles.proofs.Given.{given_apart, given_handed, given_other, given_told, owned}
-use Rattle.tree_handles.proofs.Lasts.{ends_as, last_tree}
+use Rattle.tree_handles.proofs.Fronts.{behind_first, behind_later, front_same, front_after_one, front_after_two}
+use Rattle.tree_handles.proofs.Given.{gives_as}
 use Rattle.tree_handles.proofs.Outcomes.{eqb-sym}
+use Rattle.tree_handles.proofs.Roots.{without-swap}
+use Rattle.product_reduce.specs.Answers.{AreOthers, IsEnding}
+use Rattle.product_reduce.specs.Joining.{have_partners}
+use Rattle.product_reduce.specs.Misfits.{SpreadingOverflows}
 use Rattle.product_reduce.specs.Products.{factors_in}
-use Rattle.product_reduce.proofs.Misfits.{put_misfit, put_named}
-use Rattle.product_reduce.proofs.Products.{product_at, factors_are}
-use Rattle.product_reduce.proofs.Readied.{readied, alone_handed, alone_tree, alone_given, none_behind, part_reduced, part_given, put_given}
+use Rattle.product_reduce.proofs.Beside.{beside_becomes, tree_becomes}
+use Rattle.product_reduce.proofs.Gathered.{others_permuted, ending_before, spreading_before, alone_as}
+use Rattle.product_reduce.proofs.LastSteps.{permuted_none_is}
+use Rattle.product_reduce.proofs.Misfits.{put_named}
+use Rattle.product_reduce.proofs.Neighbours.{apart_before}
+use Rattle.product_reduce.proofs.Products.{factors_are, product_at}
+use Rattle.product_reduce.proofs.Sorted.{permuted_lists}
 use Rattle.product_reduce.proofs.endings.sorted.Goals as goal
 
-pub factor_count-requires-clause-product : goal.factor_count-requires-clause-product
-factor_count-requires-clause-product c = let b = c.sort_factors.ensures.sorts.becomes in product_at b.product refl (sym (factors_are b.product))
+pub finished-requires-clause-product : goal.finished-requires-clause-product
+finished-requires-clause-product c = let b = c.sort_factors.ensures.sorts.becomes in product_at b.product refl (sym (factors_are b.product))
 
-pub release-requires-clause-releasable : goal.release-requires-clause-releasable
-release-requires-clause-releasable c = inl c.sort_factors.ensures.sorts.becomes.product.handed.root
+pub finished-requires-clause-others : goal.finished-requires-clause-others
+finished-requires-clause-others c =
+    let s = c.sort_factors.ensures.sorts in
+    let own = factors_are s.becomes.product in
+    let m = permuted_lists (factors_in c.args.product (forest c.args.pool.now)) s.us s.sorted.moved in
+    subst AreOthers (sym own) (others_permuted m c.requires.others)
 
-pub move_last-requires-clause-root : goal.move_last-requires-clause-root
-move_last-requires-clause-root c =
-    let r = readied c.args.product c.args.coefficient c.requires.stands c.sort_factors.ensures.stands c.requires.product c.requires.coefficient c.requires.apart c.requires.differ c.sort_factors.ensures.sorts in
-    ap (has_root c.args.coefficient) (c.release.ensures.owned (owned r.product.handed)) ∙ (alone_handed c.args.product c.args.coefficient _ _ c.requires.apart r).root
+pub finished-requires-clause-order : goal.finished-requires-clause-order
+finished-requires-clause-order c =
+    let s = c.sort_factors.ensures.sorts in
+    let own = factors_are s.becomes.product in
+    let m = permuted_lists (factors_in c.args.product (forest c.args.pool.now)) s.us s.sorted.moved in
+    subst (λ (ts : Trees). IsSortedByKey base_of tree_cmp (list_of ts)) (sym own) s.sorted.rising
 
-pub returns-then-factor_count-eq0-clause-ok : goal.returns-then-factor_count-eq0-clause-ok
-returns-then-factor_count-eq0-clause-ok c =
-    let r = readied c.args.product c.args.coefficient c.requires.stands c.sort_factors.ensures.stands c.requires.product c.requires.coefficient c.requires.apart c.requires.differ c.sort_factors.ensures.sorts in
-    let gone = c.release.ensures.owned (owned r.product.handed) in
-    let k : count (factors_in c.args.product (forest c.sort_factors.new.pool)) ≡ count r.us = ap count (factors_are r.product) in
-    alone_given c.args.product c.args.coefficient _ _ _ c.requires.apart c.requires.number r (omega (arith, c.factor_count.ensures, c.if-factor_count-eq0.true, k))
-    (ends_as c.move_last.ensures.last (ap (root_tree c.args.coefficient) gone) (ap (without_root c.args.coefficient) gone))
+pub finished-requires-clause-differ : goal.finished-requires-clause-differ
+finished-requires-clause-differ c =
+    let s = c.sort_factors.ensures.sorts in
+    let own = factors_are s.becomes.product in
+    let m = permuted_lists (factors_in c.args.product (forest c.args.pool.now)) s.us s.sorted.moved in
+    ap have_partners own ∙ apart_before (Permuted-sym m) c.requires.differ
 
-pub returns-then-factor_count-eq0-clause-alone : goal.returns-then-factor_count-eq0-clause-alone
-returns-then-factor_count-eq0-clause-alone c = λ e.
-    let r = readied c.args.product c.args.coefficient c.requires.stands c.sort_factors.ensures.stands c.requires.product c.requires.coefficient c.requires.apart c.requires.differ c.sort_factors.ensures.sorts in
-    let gone = c.release.ensures.owned (owned r.product.handed) in
-    ap plain (last_tree c.move_last.ensures.last ∙ ap (root_tree c.args.coefficient) gone) ∙ alone_tree c.args.product c.args.coefficient _ _ c.requires.apart r
+pub finished-requires-clause-coefficient : goal.finished-requires-clause-coefficient
+finished-requires-clause-coefficient c = beside_becomes c.args.coefficient c.requires.stands c.sort_factors.ensures.stands c.requires.product c.sort_factors.ensures.sorts.becomes c.requires.coefficient c.requires.apart
 
-pub returns-then-factor_count-eq0-clause-front : goal.returns-then-factor_count-eq0-clause-front
-returns-then-factor_count-eq0-clause-front c =
-    let b = c.sort_factors.ensures.sorts.becomes in
-    let start = front_without behind_first (front_after_one behind_first front_same b.front) in
-    front_end c.move_last.ensures.last (front_without (behind_later behind_first) (front_at start (c.release.ensures.owned (owned b.product.handed))))
+pub finished-requires-clause-number : goal.finished-requires-clause-number
+finished-requires-clause-number c =
+    let same : tree_of c.args.coefficient c.sort_factors.new.pool ≡ tree_of c.args.coefficient c.args.pool.now = ap plain (tree_becomes c.args.coefficient c.requires.stands c.sort_factors.ensures.stands c.requires.product c.sort_factors.ensures.sorts.becomes c.requires.coefficient c.requires.apart) in
+    ap is_number same ∙ c.requires.number
 
-pub put_coefficient-requires-clause-first : goal.put_coefficient-requires-clause-first
-put_coefficient-requires-clause-first c =
-    let r = readied c.args.product c.args.coefficient c.requires.stands c.sort_factors.ensures.stands c.requires.product c.requires.coefficient c.requires.apart c.requires.differ c.sort_factors.ensures.sorts in
-    given_other c.unwrapped-part.ensures.tree (alone_handed c.args.product c.args.coefficient _ _ c.requires.apart r)
-
-pub put_coefficient-requires-clause-second : goal.put_coefficient-requires-clause-second
-put_coefficient-requires-clause-second c = given_handed c.unwrapped-part.ensures.tree
-
-pub put_coefficient-requires-clause-apart : goal.put_coefficient-requires-clause-apart
-put_coefficient-requires-clause-apart c =
-    let r = readied c.args.product c.args.coefficient c.requires.stands c.sort_factors.ensures.stands c.requires.product c.requires.coefficient c.requires.apart c.requires.differ c.sort_factors.ensures.sorts in
-    eqb-sym c.unwrapped-part.result c.args.coefficient (given_apart c.unwrapped-part.ensures.tree (alone_handed c.args.product c.args.coefficient _ _ c.requires.apart r))
-
-pub put_coefficient-requires-clause-reduced : goal.put_coefficient-requires-clause-reduced
-put_coefficient-requires-clause-reduced c =
-    let r = readied c.args.product c.args.coefficient c.requires.stands c.sort_factors.ensures.stands c.requires.product c.requires.coefficient c.requires.apart c.requires.differ c.sort_factors.ensures.sorts in
-    let k : count (factors_in c.args.product (forest c.sort_factors.new.pool)) ≡ count r.us = ap count (factors_are r.product) in
-    ap is_reduced (given_told (part_given c.args.product c.args.coefficient c.unwrapped-part.result _ _ _ r c.unwrapped-part.ensures.tree))
-    ∙ part_reduced c.args.product c.args.coefficient _ _ r c.requires.others (omega (arith, c.factor_count.ensures, c.if-factor_count-eq0.false, k))
+pub finished-requires-clause-not_zero : goal.finished-requires-clause-not_zero
+finished-requires-clause-not_zero c =
+    let same : tree_of c.args.coefficient c.sort_factors.new.pool ≡ tree_of c.args.coefficient c.args.pool.now = ap plain (tree_becomes c.args.coefficient c.requires.stands c.sort_factors.ensures.stands c.requires.product c.sort_factors.ensures.sorts.becomes c.requires.coefficient c.requires.apart) in
+    ap is_zero same ∙ c.requires.not_zero
 
 pub returns-clause-ok : goal.returns-clause-ok
 returns-clause-ok c =
-    let r = readied c.args.product c.args.coefficient c.requires.stands c.sort_factors.ensures.stands c.requires.product c.requires.coefficient c.requires.apart c.requires.differ c.sort_factors.ensures.sorts in
-    let k : count (factors_in c.args.product (forest c.sort_factors.new.pool)) ≡ count r.us = ap count (factors_are r.product) in
-    let some : 1 ≤ count r.us = omega (arith, c.factor_count.ensures, c.if-factor_count-eq0.false, k) in
-    if_map c.put_coefficient.result _ _ c.put_coefficient.ensures.ok
-    (λ h x. put_given c.args.product c.args.coefficient c.unwrapped-part.result h _ _ _ _ c.requires.apart c.requires.others c.requires.number r some
-    (part_given c.args.product c.args.coefficient c.unwrapped-part.result _ _ _ r c.unwrapped-part.ensures.tree) x)
+    let same : tree_of c.args.coefficient c.sort_factors.new.pool ≡ tree_of c.args.coefficient c.args.pool.now = ap plain (tree_becomes c.args.coefficient c.requires.stands c.sort_factors.ensures.stands c.requires.product c.sort_factors.ensures.sorts.becomes c.requires.coefficient c.requires.apart) in
+    let s = c.sort_factors.ensures.sorts in
+    let own = factors_are s.becomes.product in
+    let m = permuted_lists (factors_in c.args.product (forest c.args.pool.now)) s.us s.sorted.moved in
+    let apart = eqb-sym c.args.coefficient c.args.product c.requires.apart in
+    let others = without-swap c.args.product c.args.coefficient (forest c.sort_factors.new.pool) apart ∙ ap (without_root c.args.coefficient) s.becomes.others ∙ sym (without-swap c.args.product c.args.coefficient (forest c.args.pool.now) apart) in
+    let ts = factors_in c.args.product (forest c.args.pool.now) in
+    if_map c.finished.result _ _ c.finished.ensures.ok (λ h x. gives_as x others (λ t e.
+    ending_before (tree_of c.args.coefficient c.args.pool.now) ts s.us t s.sorted (subst (λ (y : Tree). IsEnding y s.us t) same (subst (λ (xs : Trees). IsEnding (tree_of c.args.coefficient c.sort_factors.new.pool) xs t) own e))))
 
 pub returns-clause-alone : goal.returns-clause-alone
 returns-clause-alone c = λ e.
-    let r = readied c.args.product c.args.coefficient c.requires.stands c.sort_factors.ensures.stands c.requires.product c.requires.coefficient c.requires.apart c.requires.differ c.sort_factors.ensures.sorts in
-    let k : count (factors_in c.args.product (forest c.sort_factors.new.pool)) ≡ count r.us = ap count (factors_are r.product) in
-    absurd (let z = none_behind c.args.product c.args.coefficient _ _ r e in omega (arith, c.factor_count.ensures, c.if-factor_count-eq0.false, k, z))
-
-pub returns-clause-front : goal.returns-clause-front
-returns-clause-front c =
-    let start = front_after_one behind_first front_same c.sort_factors.ensures.sorts.becomes.front in
-    front_after_two (behind_later behind_first) (behind_new c.unwrapped-part.ensures.tree.ends (front_without behind_first start))
-    (front_after_one behind_first start c.unwrapped-part.ensures.front) c.put_coefficient.ensures.front
+    let same : tree_of c.args.coefficient c.sort_factors.new.pool ≡ tree_of c.args.coefficient c.args.pool.now = ap plain (tree_becomes c.args.coefficient c.requires.stands c.sort_factors.ensures.stands c.requires.product c.sort_factors.ensures.sorts.becomes c.requires.coefficient c.requires.apart) in
+    let s = c.sort_factors.ensures.sorts in
+    let own = factors_are s.becomes.product in
+    let m = permuted_lists (factors_in c.args.product (forest c.args.pool.now)) s.us s.sorted.moved in
+    alone_as c.finished.new.pool c.finished.result same (c.finished.ensures.alone (own ∙ permuted_none_is m e))
 
 pub returns-clause-overflow : goal.returns-clause-overflow
 returns-clause-overflow c =
-    let r = readied c.args.product c.args.coefficient c.requires.stands c.sort_factors.ensures.stands c.requires.product c.requires.coefficient c.requires.apart c.requires.differ c.sort_factors.ensures.sorts in
-    put_named c.put_coefficient.result c.put_coefficient.ensures.named
-    (λ o h. put_misfit c.args.product c.args.coefficient c.unwrapped-part.result _ _ _ c.requires.apart r (part_given c.args.product c.args.coefficient c.unwrapped-part.result _ _ _ r c.unwrapped-part.ensures.tree) o h)
+    let same : tree_of c.args.coefficient c.sort_factors.new.pool ≡ tree_of c.args.coefficient c.args.pool.now = ap plain (tree_becomes c.args.coefficient c.requires.stands c.sort_factors.ensures.stands c.requires.product c.sort_factors.ensures.sorts.becomes c.requires.coefficient c.requires.apart) in
+    let s = c.sort_factors.ensures.sorts in
+    let own = factors_are s.becomes.product in
+    let m = permuted_lists (factors_in c.args.product (forest c.args.pool.now)) s.us s.sorted.moved in
+    put_named c.finished.result c.finished.ensures.overflow
+    (λ x h. spreading_before (tree_of c.args.coefficient c.args.pool.now) _ (factors_in c.args.product (forest c.args.pool.now)) s.us x same s.sorted (subst (λ (ts : Trees). SpreadingOverflows (tree_of c.args.coefficient c.sort_factors.new.pool) ts x) own h))
+
+pub returns-clause-front : goal.returns-clause-front
+returns-clause-front c = front_after_two behind_first (behind_later behind_first) (front_after_one behind_first front_same c.sort_factors.ensures.sorts.becomes.front) c.finished.ensures.front

@@ -1,0 +1,120 @@
+-- From a coefficient beside ordered factors to the gathered product.
+use Rattle.std.proofs.Common.{ℕ, ◌≤◌, ◌≡◌, Result, Ok, Err, Bool, true, false, ◌&&◌, eqb, refl, sym, ap, ◌∙◌, subst, arith}
+use Rattle.std.specs.Prelude.{IfErr, IsPermutation}
+use Rattle.std.proofs.lemmas.Bool.{and_parts, and_from}
+use Rattle.std.proofs.lemmas.List.Sorted.{IsPermutation-trans}
+use Rattle.calc_algebra.specs.Numbers.{is_number}
+use Rattle.calc_algebra.specs.Reduced.{base_of, is_reduced, are_reduced, NoneIs}
+use Rattle.calc_algebra.specs.Rewritings.{Rewrites}
+use Rattle.calc_algebra.proofs.MeaningRewrites.{KeepsMeanings-refl, KeepsMeanings-product_more, Permuted, permuted_none, permuted_more, permuted_swap, permuted_trans, Permuted-sym, permuted_product}
+use Rattle.calc_algebra.proofs.Names.{within_same, within_beside, names_permuted, no_new_name}
+use Rattle.calc_algebra.proofs.Rewritings.{keeps, reduces_after}
+use Rattle.calc_measures.specs.Loads.{nest_of, load_of_factors}
+use Rattle.calc_measures.proofs.Nests.{nest_permuted}
+use Rattle.calc_terms.specs.Trees.{Tree, mult, Trees, none, more, append, is_mult, is_undef, has_undef, names, names_of}
+use Rattle.node_order.specs.Sorting.{IsSorting, list_of}
+use Rattle.node_pool.specs.State.{State}
+use Rattle.tree_handles.specs.declared.fault.NumberFault.{NumberFault}
+use Rattle.rational128.specs.declared.overflow.Overflow.{Overflow}
+use Rattle.tree_handles.specs.Expressions.{plain, children_of}
+use Rattle.tree_handles.specs.Forest.{Forest}
+use Rattle.tree_handles.specs.Handed.{Gives}
+use Rattle.tree_handles.specs.Roots.{root_tree, without_root}
+use Rattle.tree_handles.proofs.Given.{gives_as}
+use Rattle.product_reduce.specs.Answers.{AreOthers, IsAlone, IsEnding}
+use Rattle.product_reduce.specs.Factors.{opened, others_in, IsCoefficient, coefficient_before}
+use Rattle.product_reduce.specs.Gathering.{IsGathered, IsOrdered}
+use Rattle.product_reduce.specs.Joining.{have_partners}
+use Rattle.product_reduce.specs.Misfits.{SpreadingOverflows}
+use Rattle.product_reduce.specs.Products.{factors_in}
+use Rattle.product_reduce.proofs.Bounds.{nest_with, nest_others, nest_opened, load_with, load_others, load_opened, load_permuted}
+use Rattle.product_reduce.proofs.Finished.{or_none, product_keeps, product_within}
+use Rattle.product_reduce.proofs.JointPlaces.{in_front, before_is, front_reduced, reduced-append}
+use Rattle.product_reduce.proofs.LastSteps.{permuted_none_is}
+use Rattle.product_reduce.proofs.Misfits.{permuted_one_is}
+use Rattle.product_reduce.proofs.Sorted.{none_permuted, permuted_lists}
+use Rattle.product_reduce.proofs.Stepped.{AreParted, others_are}
+
+-- ---- factors that changed places
+
+pub reduced_permuted : {ts us : Trees} → Permuted ts us → are_reduced ts ≡ true → are_reduced us ≡ true
+reduced_permuted permuted_none h = refl
+reduced_permuted (permuted_more {t} {ts} k) h = let (a, b) = and_parts (is_reduced t) (are_reduced ts) h in and_from _ _ a (reduced_permuted k b)
+reduced_permuted (permuted_swap {t} {u} {ts}) h =
+    let (a, b) = and_parts (is_reduced t) (is_reduced u && are_reduced ts) h in
+    let (c, d) = and_parts (is_reduced u) (are_reduced ts) b in
+    and_from (is_reduced u) (is_reduced t && are_reduced ts) c (and_from (is_reduced t) (are_reduced ts) a d)
+reduced_permuted (permuted_trans k l) h = reduced_permuted l (reduced_permuted k h)
+
+defined_words : (ts : Trees) → has_undef ts ≡ false → NoneIs is_undef ts
+defined_words none h = tt
+defined_words (more t ts) h = let (a, b) = or_none (is_undef t) (has_undef ts) h in (a, defined_words ts b)
+
+words_defined : (ts : Trees) → NoneIs is_undef ts → has_undef ts ≡ false
+words_defined none h = refl
+words_defined (more t ts) h = rw h.0 (words_defined ts h.1)
+
+pub others_permuted : {ts us : Trees} → Permuted ts us → AreOthers ts → AreOthers us
+others_permuted {ts = ts} {us = us} m o = record {
+  reduced = reduced_permuted m o.reduced;
+  defined = words_defined us (none_permuted is_undef m (defined_words ts o.defined));
+  no_number = none_permuted is_number m o.no_number;
+  no_product = none_permuted is_mult m o.no_product;
+}
+
+-- ---- an ending of sorted factors
+
+pub ending_before : (c : Tree) (ts us : Trees) (t : Tree) → IsSorting 0 base_of ts us → IsEnding c us t → IsEnding c ts t
+ending_before c ts us t s e =
+    let m = permuted_lists ts us s.moved in
+    record {
+      reduces = reduces_after (record {
+        no_new_name = no_new_name (within_beside (names c) (names c) (names_of ts) (names_of us) (within_same (names c)) (names_permuted m));
+        meanings = keeps (KeepsMeanings-product_more (KeepsMeanings-refl c) (permuted_product m));
+      }) e.reduces;
+      written = record {
+        us = e.written.us;
+        sorted = record { front = refl; moved = IsPermutation-trans (list_of ts) (list_of us) (list_of e.written.us) s.moved e.written.sorted.moved; rising = e.written.sorted.rising };
+        is = e.written.is;
+      };
+      defined = e.defined;
+      nest = omega (arith, e.nest, nest_permuted m);
+      load = omega (arith, e.load, load_permuted m);
+      number = λ x. e.number (permuted_none_is m x);
+    }
+
+pub spreading_before : (c d : Tree) (ts us : Trees) (o : Overflow) → d ≡ c → IsSorting 0 base_of ts us → SpreadingOverflows d us o → SpreadingOverflows c ts o
+spreading_before c d ts us o e s h = subst (λ (x : Tree). SpreadingOverflows x ts o) e (record { sum = h.sum; alone = permuted_one_is h.sum (Permuted-sym (permuted_lists ts us s.moved)) h.alone; named = h.named })
+
+pub alone_as : {c d : Tree} (new : State) (r : Result ℕ NumberFault) → d ≡ c → IsAlone d new r → IsAlone c new r
+alone_as new (Ok h) e a = a ∙ e
+alone_as new (Err f) e a = a
+
+-- ---- the gathered product
+
+pub gathered : (c : Tree) (ts us : Trees) (new : Tree) → are_reduced ts ≡ true → has_undef ts ≡ false → IsCoefficient c (opened ts) → us ≡ others_in (opened ts) → IsOrdered c us new → IsGathered ts new
+gathered c ts us new r d k e o =
+    let os = others_in (opened ts) in
+    let sorted : IsSorting 0 base_of os o.us = subst (λ (x : Trees). IsSorting 0 base_of x o.us) e o.sorted in
+    let m = permuted_lists os o.us sorted.moved in
+    let vs = coefficient_before c o.us in
+    let children : children_of new ≡ vs = ap children_of o.is in
+    let reduced : are_reduced vs ≡ true = ap are_reduced (before_is c o.us) ∙ reduced-append (in_front c) o.us (front_reduced c k.number) (reduced_permuted m (others_are ts r d).reduced) in
+    record {
+      coefficient = c;
+      joinable = record { defined = d; coefficient = k; not_zero = o.not_zero; partners = ap have_partners (sym e) ∙ o.partners };
+      others = o.us;
+      sorted = sorted;
+      is = o.is;
+      rewrites = subst (Rewrites (mult ts)) (sym o.is) (record {
+        no_new_name = no_new_name (product_within c ts o.us k.number (names_permuted m));
+        meanings = keeps (product_keeps c ts o.us k (permuted_product m));
+      });
+      reduced = ap are_reduced children ∙ reduced;
+      nest = omega (arith, ap nest_of children, nest_with c o.us k.number, nest_permuted m, nest_others (opened ts), nest_opened ts);
+      load = omega (arith, ap load_of_factors children, load_with c o.us k.number, load_permuted m, load_others (opened ts), load_opened ts);
+    }
+
+pub gathered_given : (i h g : ℕ) (ts : Trees) (old now new : Forest) → are_reduced ts ≡ true → has_undef ts ≡ false → (p : AreParted i h ts old now) → IsCoefficient (plain (root_tree h now)) (opened ts)
+    → Gives (without_root i (without_root h now)) new g (IsOrdered (plain (root_tree h now)) (factors_in i now)) → Gives (without_root i old) new g (IsGathered ts)
+gathered_given i h g ts old now new r d p k x = gives_as x p.rest (λ t e. gathered (plain (root_tree h now)) ts (factors_in i now) t r d k p.factors e)

@@ -1,0 +1,144 @@
+-- Neighbours among sorted factors, and what their bases tell of all factors.
+use Rattle.std.specs.declared.cmp.Ordering.{Ordering}
+use Rattle.std.specs.declared.cmp.Ordering.TheVariants.{Less, Equal, Greater}
+use Rattle.std.specs.Ordering.{is_eq, is_lt}
+use Rattle.std.specs.Prelude.{IsSortedByKey, IsPermutation}
+use Rattle.std.proofs.lemmas.Bool.{ltb-true, ltb-false, and_parts, and_from}
+use Rattle.std.proofs.Common.{◌⊎◌, inl, inr, nat_lt, ℕ, zero, suc, ◌<◌, ◌≤◌, ◌+◌, ◌≡◌, Bool, true, false, not, ◌&&◌, if◌then◌else◌, refl, sym, ap, ◌∙◌, subst, arith, add-one}
+use Rattle.calc_algebra.specs.Numbers.{is_number}
+use Rattle.calc_algebra.specs.Reduced.{base_of, NoneIs, RisesBy, is_reduced, are_reduced}
+use Rattle.calc_algebra.specs.TreeOrder.{tree_cmp}
+use Rattle.calc_algebra.proofs.MeaningRewrites.{Permuted, permuted_none, permuted_more, permuted_swap, permuted_trans, Permuted-sym}
+use Rattle.calc_algebra.proofs.TreeOrderLaws.{tree_cmp_total}
+use Rattle.calc_terms.specs.Trees.{Tree, Trees, none, more, append, count, is_mult}
+use Rattle.node_order.specs.Sorting.{list_of}
+use Rattle.number_forms.specs.Sums.{removed}
+use Rattle.tree_handles.specs.Expressions.{nth, inserted}
+use Rattle.tree_handles.proofs.Outcomes.{by_test}
+use Rattle.product_reduce.specs.Factors.{coefficient_before}
+use Rattle.product_reduce.specs.Joining.{is_partner, has_partner, have_partners, joint, IsJointAt}
+use Rattle.product_reduce.specs.Neighbours.{is_single, is_pair, IsPairAt, NoPairBetween, joined_pair}
+use Rattle.product_reduce.proofs.Finished.{reduced_nth}
+use Rattle.product_reduce.proofs.JointPlaces.{in_front, before_is, count-append, nth_behind, nth_inserted, removed_inserted, count_inserted, reduced_removed}
+use Rattle.product_reduce.proofs.Joins.{count_removed}
+use Rattle.product_reduce.proofs.Sorted.{AreApart, apart_words, apart_permuted, less_of, permuted_lists}
+
+-- ---- one place more
+
+pub no_pair_more : (from n : ℕ) (ts : Trees) → NoPairBetween from (suc n) ts → is_pair (nth n ts) (nth (suc n) ts) ≡ false → NoPairBetween from (suc (n + 1)) ts
+no_pair_more from n ts h q k f l = by (by_place k l)
+  where
+    by_place : (k : ℕ) → suc k < suc (n + 1) → (k < n) ⊎ (k ≡ n)
+    by_place k l = by_test (λ b. nat_lt k n ≡ b → (k < n) ⊎ (k ≡ n)) (nat_lt k n) (λ p x. inl (ltb-true k n x)) (λ p x. inr (omega (arith, ltb-false k n x, l))) refl
+
+    by : (k < n) ⊎ (k ≡ n) → is_pair (nth k ts) (nth (suc k) ts) ≡ false
+    by (inl m) = h k f (omega (arith, m))
+    by (inr x) = (λ i. is_pair (nth (x i) ts) (nth (suc (x i)) ts)) ∙ q
+
+-- ---- a pair tells that some factors have partners
+
+pub partners_of_pair : (t u : Tree) → is_pair t u ≡ true → is_partner t u ≡ true
+partners_of_pair t u h = (and_parts (is_single t && is_single u) (is_partner t u) h).1
+
+apart_at : (n : ℕ) (ts : Trees) → suc n < count ts → AreApart ts → is_partner (nth n ts) (nth (suc n) ts) ≡ false
+apart_at n none l h = absurd (omega arith)
+apart_at zero (more t none) l h = absurd (omega arith)
+apart_at zero (more t (more u ts)) l h = h.0.0
+apart_at (suc n) (more t ts) l h = apart_at n ts (omega arith) h.1
+
+clash : true ≡ false → ⊥
+clash e = cc
+
+pub pair_partners : (n : ℕ) (ts us : Trees) → IsPermutation (list_of ts) (list_of us) → IsPairAt n us → have_partners ts ≡ true
+pair_partners n ts us m p = by (have_partners ts) refl
+  where
+    by : (k : Bool) → have_partners ts ≡ k → k ≡ true
+    by true e = refl
+    by false e = absurd (clash (sym (partners_of_pair _ _ p.pair) ∙ apart_at n us p.within (apart_permuted (permuted_lists ts us m) (apart_words ts e))))
+
+-- ---- no pair tells that none has
+
+no_partner_back : (t : Tree) (ts : Trees) → NoneIs (is_partner t) ts → has_partner t ts ≡ false
+no_partner_back t none h = refl
+no_partner_back t (more u ts) h = ap (λ (k : Bool). if k then true else has_partner t ts) h.0 ∙ no_partner_back t ts h.1
+
+partners_back : (ts : Trees) → AreApart ts → have_partners ts ≡ false
+partners_back none h = refl
+partners_back (more t ts) h = ap (λ (k : Bool). if k then true else have_partners ts) (no_partner_back t ts h.0) ∙ partners_back ts h.1
+
+pub apart_before : {ts us : Trees} → Permuted ts us → have_partners us ≡ false → have_partners ts ≡ false
+apart_before {ts = ts} {us = us} m h = partners_back ts (apart_permuted (Permuted-sym m) (apart_words us h))
+
+single_words : (t : Tree) → is_number t ≡ false → is_mult t ≡ false → is_single t ≡ true
+single_words t n m = (λ i. not (n i) && not (m i))
+
+no_partner_of : (t u : Tree) → is_single t ≡ true → is_single u ≡ true → is_pair t u ≡ false → is_partner t u ≡ false
+no_partner_of t u a b h = sym (λ i. a i && b i && is_partner t u) ∙ h
+
+rising : (us : Trees) → NoneIs is_number us → NoneIs is_mult us → IsSortedByKey base_of tree_cmp (list_of us) → NoPairBetween 0 (count us) us → RisesBy base_of us
+rising none n m s h = tt
+rising (more t none) n m s h = tt
+rising (more t (more u us)) n m s h = (
+  less_of (tree_cmp (base_of t) (base_of u)) (no_partner_of t u (single_words t n.0 m.0) (single_words u n.1.0 m.1.0) (h 0 (omega arith) (omega arith)))
+      (ap is_lt (sym (tree_cmp_total.antisymm (base_of u) (base_of t))) ∙ s 0 t (omega arith) (omega arith)),
+  rising (more u us) n.1 m.1 (λ k d l w. rw add-one (rw add-one at (s (suc k) d (omega arith) (omega arith)))) (λ k l w. h (suc k) (omega arith) (omega arith)),
+)
+
+skipped : (t u : Tree) (us : Trees) → RisesBy base_of (more t (more u us)) → RisesBy base_of (more t us)
+skipped t u none r = tt
+skipped t u (more v us) r = (tree_cmp_total.trans (base_of t) (base_of u) (base_of v) r.0 r.1.0, r.1.1)
+
+rest_rises : (t : Tree) (us : Trees) → RisesBy base_of (more t us) → RisesBy base_of us
+rest_rises t none r = tt
+rest_rises t (more u us) r = r.1
+
+rising_alone : (t : Tree) (us : Trees) → RisesBy base_of (more t us) → NoneIs (is_partner t) us
+rising_alone t none r = tt
+rising_alone t (more u us) r = (ap is_eq r.0, rising_alone t us (skipped t u us r))
+
+rising_apart : (us : Trees) → RisesBy base_of us → AreApart us
+rising_apart none r = tt
+rising_apart (more t us) r = (rising_alone t us r, rising_apart us (rest_rises t us r))
+
+pub sorted_apart : (us : Trees) → NoneIs is_number us → NoneIs is_mult us → IsSortedByKey base_of tree_cmp (list_of us) → NoPairBetween 0 (count us) us → have_partners us ≡ false
+sorted_apart us n m s h = partners_back us (rising_apart us (rising us n m s h))
+
+-- ---- behind a coefficient
+
+pub pair_before : (n at : ℕ) (c : Tree) (us : Trees) → IsPairAt n us → at + count us ≡ count (coefficient_before c us) + n → IsPairAt at (coefficient_before c us)
+pair_before n at c us p e =
+    let ps = in_front c in
+    let whole = before_is c us in
+    let all : count (coefficient_before c us) ≡ count ps + count us = ap count whole ∙ count-append ps us in
+    let place : at ≡ count ps + n = omega (arith, e, all) in
+    record {
+      within = omega (arith, all, place, p.within);
+      pair = (λ i. is_pair (ap (nth at) whole i) (ap (nth (suc at)) whole i)) ∙ (λ i. is_pair (nth_behind ps us n at place i) (nth_behind ps us (suc n) (suc at) (omega (arith, place)) i)) ∙ p.pair;
+    }
+
+-- ---- two neighbours joined
+
+pub joint_there : (n : ℕ) (ts : Trees) → IsPairAt n ts → nth n (joined_pair n (suc n) ts) ≡ joint (nth n ts) (nth (suc n) ts)
+joint_there n ts p =
+    let rest = removed n (removed (suc n) ts) in
+    let a = count_removed (suc n) ts p.within in
+    let b = count_removed n (removed (suc n) ts) (omega (arith, a, p.within)) in
+    nth_inserted n (joint (nth n ts) (nth (suc n) ts)) rest (omega (arith, a, b, p.within))
+
+pub neighbours_joint : (n : ℕ) (ts : Trees) → are_reduced ts ≡ true → IsPairAt n ts → IsJointAt n (joined_pair n (suc n) ts)
+neighbours_joint n ts r p =
+    let rest = removed n (removed (suc n) ts) in
+    let t = joint (nth n ts) (nth (suc n) ts) in
+    let a = count_removed (suc n) ts p.within in
+    let b = count_removed n (removed (suc n) ts) (omega (arith, a, p.within)) in
+    let few : n ≤ count rest = omega (arith, a, b, p.within) in
+    record {
+      first = nth n ts;
+      second = nth (suc n) ts;
+      first_reduced = reduced_nth n ts (omega (arith, p.within)) r;
+      second_reduced = reduced_nth (suc n) ts p.within r;
+      partners = partners_of_pair _ _ p.pair;
+      within = omega (arith, count_inserted n t rest few, few);
+      is = joint_there n ts p;
+      others = ap are_reduced (removed_inserted n t rest few) ∙ reduced_removed n (removed (suc n) ts) (reduced_removed (suc n) ts r);
+    }

@@ -1,0 +1,89 @@
+use Rattle.std.proofs.Common.{◌≡◌, ◌≤◌, ◌∙◌, ap, sym, refl, inl, arith}
+use Rattle.calc_algebra.specs.Reduced.{is_reduced}
+use Rattle.calc_terms.specs.Trees.{count}
+use Rattle.coefficients.proofs.Steps.{if_map}
+use Rattle.tree_handles.specs.Expressions.{plain}
+use Rattle.tree_handles.specs.Roots.{has_root, root_tree, without_root}
+use Rattle.tree_handles.proofs.Fronts.{behind_first, behind_later, behind_new, front_same, front_at, front_end, front_after_one, front_after_two, front_without}
+use Rattle.tree_handles.specs.Standing.{forest}
+use Rattle.tree_handles.proofs.Given.{given_apart, given_handed, given_other, given_told, owned}
+use Rattle.tree_handles.proofs.Lasts.{ends_as, last_tree}
+use Rattle.tree_handles.proofs.Outcomes.{eqb-sym}
+use Rattle.product_reduce.specs.Products.{factors_in}
+use Rattle.product_reduce.proofs.Misfits.{put_misfit, put_named}
+use Rattle.product_reduce.proofs.Products.{factors_are}
+use Rattle.product_reduce.proofs.Readied.{readied_here, alone_handed, alone_tree, alone_given, none_behind, part_reduced, part_given, put_given}
+use Rattle.product_reduce.proofs.endings.finished.Goals as goal
+
+pub release-requires-clause-releasable : goal.release-requires-clause-releasable
+release-requires-clause-releasable c = inl c.requires.product.handed.root
+
+pub move_last-requires-clause-root : goal.move_last-requires-clause-root
+move_last-requires-clause-root c =
+    let r = readied_here c.args.product c.args.coefficient c.requires.product c.requires.coefficient c.requires.differ c.requires.order in
+    ap (has_root c.args.coefficient) (c.release.ensures.owned (owned r.product.handed)) ∙ (alone_handed c.args.product c.args.coefficient _ _ c.requires.apart r).root
+
+pub returns-then-factor_count-eq0-clause-ok : goal.returns-then-factor_count-eq0-clause-ok
+returns-then-factor_count-eq0-clause-ok c =
+    let r = readied_here c.args.product c.args.coefficient c.requires.product c.requires.coefficient c.requires.differ c.requires.order in
+    let gone = c.release.ensures.owned (owned r.product.handed) in
+    let k : count (factors_in c.args.product (forest c.args.pool.now)) ≡ count r.us = ap count (factors_are r.product) in
+    alone_given c.args.product c.args.coefficient _ _ _ c.requires.apart c.requires.number r (omega (arith, c.factor_count.ensures, c.if-factor_count-eq0.true, k))
+    (ends_as c.move_last.ensures.last (ap (root_tree c.args.coefficient) gone) (ap (without_root c.args.coefficient) gone))
+
+pub returns-then-factor_count-eq0-clause-alone : goal.returns-then-factor_count-eq0-clause-alone
+returns-then-factor_count-eq0-clause-alone c = λ e.
+    let r = readied_here c.args.product c.args.coefficient c.requires.product c.requires.coefficient c.requires.differ c.requires.order in
+    let gone = c.release.ensures.owned (owned r.product.handed) in
+    ap plain (last_tree c.move_last.ensures.last ∙ ap (root_tree c.args.coefficient) gone) ∙ alone_tree c.args.product c.args.coefficient _ _ c.requires.apart r
+
+pub returns-then-factor_count-eq0-clause-front : goal.returns-then-factor_count-eq0-clause-front
+returns-then-factor_count-eq0-clause-front c =
+    let start = front_without behind_first front_same in
+    front_end c.move_last.ensures.last (front_without (behind_later behind_first) (front_at start (c.release.ensures.owned (owned c.requires.product.handed))))
+
+pub put_coefficient-requires-clause-first : goal.put_coefficient-requires-clause-first
+put_coefficient-requires-clause-first c =
+    let r = readied_here c.args.product c.args.coefficient c.requires.product c.requires.coefficient c.requires.differ c.requires.order in
+    given_other c.unwrapped-part.ensures.tree (alone_handed c.args.product c.args.coefficient _ _ c.requires.apart r)
+
+pub put_coefficient-requires-clause-second : goal.put_coefficient-requires-clause-second
+put_coefficient-requires-clause-second c = given_handed c.unwrapped-part.ensures.tree
+
+pub put_coefficient-requires-clause-apart : goal.put_coefficient-requires-clause-apart
+put_coefficient-requires-clause-apart c =
+    let r = readied_here c.args.product c.args.coefficient c.requires.product c.requires.coefficient c.requires.differ c.requires.order in
+    eqb-sym c.unwrapped-part.result c.args.coefficient (given_apart c.unwrapped-part.ensures.tree (alone_handed c.args.product c.args.coefficient _ _ c.requires.apart r))
+
+pub put_coefficient-requires-clause-reduced : goal.put_coefficient-requires-clause-reduced
+put_coefficient-requires-clause-reduced c =
+    let r = readied_here c.args.product c.args.coefficient c.requires.product c.requires.coefficient c.requires.differ c.requires.order in
+    let k : count (factors_in c.args.product (forest c.args.pool.now)) ≡ count r.us = ap count (factors_are r.product) in
+    ap is_reduced (given_told (part_given c.args.product c.args.coefficient c.unwrapped-part.result _ _ _ r c.unwrapped-part.ensures.tree))
+    ∙ part_reduced c.args.product c.args.coefficient _ _ r c.requires.others (omega (arith, c.factor_count.ensures, c.if-factor_count-eq0.false, k))
+
+pub returns-clause-ok : goal.returns-clause-ok
+returns-clause-ok c =
+    let r = readied_here c.args.product c.args.coefficient c.requires.product c.requires.coefficient c.requires.differ c.requires.order in
+    let k : count (factors_in c.args.product (forest c.args.pool.now)) ≡ count r.us = ap count (factors_are r.product) in
+    let some : 1 ≤ count r.us = omega (arith, c.factor_count.ensures, c.if-factor_count-eq0.false, k) in
+    if_map c.put_coefficient.result _ _ c.put_coefficient.ensures.ok
+    (λ h x. put_given c.args.product c.args.coefficient c.unwrapped-part.result h _ _ _ _ c.requires.apart c.requires.others c.requires.number r some
+    (part_given c.args.product c.args.coefficient c.unwrapped-part.result _ _ _ r c.unwrapped-part.ensures.tree) x)
+
+pub returns-clause-alone : goal.returns-clause-alone
+returns-clause-alone c = λ e.
+    let r = readied_here c.args.product c.args.coefficient c.requires.product c.requires.coefficient c.requires.differ c.requires.order in
+    let k : count (factors_in c.args.product (forest c.args.pool.now)) ≡ count r.us = ap count (factors_are r.product) in
+    absurd (let z = none_behind c.args.product c.args.coefficient _ _ r e in omega (arith, c.factor_count.ensures, c.if-factor_count-eq0.false, k, z))
+
+pub returns-clause-front : goal.returns-clause-front
+returns-clause-front c =
+    front_after_two (behind_later behind_first) (behind_new c.unwrapped-part.ensures.tree.ends (front_without behind_first front_same))
+    (front_after_one behind_first front_same c.unwrapped-part.ensures.front) c.put_coefficient.ensures.front
+
+pub returns-clause-overflow : goal.returns-clause-overflow
+returns-clause-overflow c =
+    let r = readied_here c.args.product c.args.coefficient c.requires.product c.requires.coefficient c.requires.differ c.requires.order in
+    put_named c.put_coefficient.result c.put_coefficient.ensures.named
+    (λ o h. put_misfit c.args.product c.args.coefficient c.unwrapped-part.result _ _ _ c.requires.apart r (part_given c.args.product c.args.coefficient c.unwrapped-part.result _ _ _ r c.unwrapped-part.ensures.tree) o h)

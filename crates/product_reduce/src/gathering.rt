@@ -1,0 +1,159 @@
+//! Numbers of a product gathered, its other factors put in order, and neighbours of one base joined.
+ghost use Rattle.std.specs.Prelude.{◌≡◌, ◌==◌, ◌≤◌, ◌<◌, ◌+◌, ◌^◌, true, false, IfOk, IfErr, IfSome, MatchOption, OnOk, [], ◌∷◌};
+ghost use Rattle.calc_algebra.specs.Numbers.{is_number};
+ghost use Rattle.calc_algebra.specs.Reduced.{are_reduced};
+ghost use Rattle.calc_measures.specs.PlainValues.{plain_value};
+ghost use Rattle.calc_terms.specs.Trees.{count, is_mult, mult, none, are_rationals};
+ghost use Rattle.product_reduce.specs.Answers.{AreOthers, IfFinished, IfJoined, IsFinished, IsStop, IsAnswered, AnswersRationalFactors};
+ghost use Rattle.product_reduce.specs.Factors.{coefficient_before};
+ghost use Rattle.product_reduce.specs.Gathering.{IsGathered, IsOrdered};
+ghost use Rattle.product_reduce.specs.Misfits.{IsFactorMisfit, SpreadingOverflows};
+ghost use Rattle.product_reduce.specs.Neighbours.{IsPairAt, IsNextPair, NoPairBetween, joined_pair};
+ghost use Rattle.product_reduce.specs.Products.{IsProduct, factors_in};
+ghost use Rattle.tree_handles.specs.Causes.{IsCaused};
+ghost use Rattle.tree_handles.specs.Expressions.{children_of};
+ghost use Rattle.tree_handles.specs.Faults.{OfOverflow, Faults};
+ghost use Rattle.tree_handles.specs.Handed.{tree_of, IsHanded, Gives, KeepsFront};
+ghost use Rattle.tree_handles.specs.Roots.{without_root};
+ghost use Rattle.tree_handles.specs.Standing.{LacksBytes, Stands, forest, KeepsRefusals, Refuses};
+
+use crate::endings::finished;
+use crate::factors::{factor_count, has_undef_factor, open_products};
+use crate::fronting::put_in_front;
+use crate::joining::join_pair;
+use crate::numbers::take_coefficient;
+use crate::partners::next_pair_of;
+use crate::sorting::sort_factors;
+use crate::steps::Joining;
+use node_pool::{Full, Pool};
+use number_forms::is_zero;
+use tree_handles::{Handle, NumberFault, move_last, release, undefined};
+
+/// A product of reduced factors with its Numbers as one coefficient and its other factors in the order of their bases,
+/// and the place of the first that has the base of the next one; where there is none, the reduced tree.
+pub fn gather_factors(pool: &mut Pool, product: Handle) -> Result<Joining, NumberFault>
+    requires stands { Stands pool.old }
+    requires handed { IsHanded product (forest pool.old) }
+    requires product { is_mult (tree_of product pool.old) ≡ true }
+    requires some { 1 ≤ count (children_of (tree_of product pool.old)) }
+    requires reduced { are_reduced (children_of (tree_of product pool.old)) ≡ true }
+    ensures done { IfOk result (λ s. IfFinished s (λ h. Gives (without_root product (forest pool.old)) (forest pool.new) h
+        (IsFinished (children_of (tree_of product pool.old))))) }
+    ensures gathered { IfOk result (λ s. IfJoined s (λ h _. Gives (without_root product (forest pool.old)) (forest pool.new) h
+        (IsGathered (children_of (tree_of product pool.old))))) }
+    ensures pair { IfOk result (λ s. IfJoined s (λ h at. IsPairAt at (children_of (tree_of h pool.new)))) }
+    ensures fits { IfOk result (λ s. IfJoined s (λ h at. at + 1 < 2 ^ 16)) }
+    ensures rationals { are_rationals (children_of (tree_of product pool.old)) ≡ true
+        → AnswersRationalFactors (plain_value (tree_of product pool.old)) pool.new result }
+    ensures overflow { IfErr result (OfOverflow (IsFactorMisfit (children_of (tree_of product pool.old)))) }
+    ensures front { KeepsFront (product ∷ []) (forest pool.old) (forest pool.new) }
+    ensures kept { OnOk result (KeepsRefusals pool.old pool.new) }
+    ensures faults { IfErr result (Faults pool.old pool.new) }
+    ensures caused { IfErr result (IsCaused pool.new) }
+    ensures stands { Stands pool.new }
+{
+    if has_undef_factor(pool, &product) {
+        return Ok(Joining::Done(undefined(pool, product)));
+    }
+    open_products(pool, &product);
+    let coefficient = take_coefficient(pool, &product)?;
+    order_or_end(pool, product, coefficient)
+}
+
+/// A coefficient and the other factors, put in order.
+fn order_or_end(
+    pool: &mut Pool,
+    product: Handle,
+    coefficient: Handle,
+) -> Result<Joining, NumberFault>
+    requires stands { Stands pool.old }
+    requires product { IsProduct product (forest pool.old) (factors_in product (forest pool.old)) }
+    requires others { AreOthers (factors_in product (forest pool.old)) }
+    requires coefficient { IsHanded coefficient (forest pool.old) }
+    requires number { is_number (tree_of coefficient pool.old) ≡ true }
+    requires apart { (coefficient == product) ≡ false }
+    ensures done { IfOk result (λ s. IfFinished s (λ h. Gives (without_root product (without_root coefficient (forest pool.old))) (forest pool.new) h
+        (IsStop (tree_of coefficient pool.old) (factors_in product (forest pool.old))))) }
+    ensures ordered { IfOk result (λ s. IfJoined s (λ h _. Gives (without_root product (without_root coefficient (forest pool.old))) (forest pool.new) h
+        (IsOrdered (tree_of coefficient pool.old) (factors_in product (forest pool.old))))) }
+    ensures pair { IfOk result (λ s. IfJoined s (λ h at. IsPairAt at (children_of (tree_of h pool.new)))) }
+    ensures fits { IfOk result (λ s. IfJoined s (λ h at. at + 1 < 2 ^ 16)) }
+    ensures alone { factors_in product (forest pool.old) ≡ none → IsAnswered (tree_of coefficient pool.old) pool.new result }
+    ensures overflow { IfErr result (OfOverflow (SpreadingOverflows (tree_of coefficient pool.old) (factors_in product (forest pool.old)))) }
+    ensures front { KeepsFront (product ∷ coefficient ∷ []) (forest pool.old) (forest pool.new) }
+    ensures kept { OnOk result (KeepsRefusals pool.old pool.new) }
+    ensures faults { IfErr result (Faults pool.old pool.new) }
+    ensures caused { IfErr result (IsCaused pool.new) }
+    ensures stands { Stands pool.new }
+{
+    if is_zero(pool, coefficient.id()) {
+        release(pool, product);
+        move_last(pool, &coefficient);
+        return Ok(Joining::Done(coefficient));
+    }
+    sort_factors(pool, &product);
+    match next_pair_of(pool, &product, 0) {
+        Some(first) => {
+            let (product, at) = behind(pool, product, coefficient, first);
+            Ok(Joining::Joined { product, at })
+        }
+        None => Ok(Joining::Done(finished(pool, product, coefficient)?)),
+    }
+}
+
+/// The factors of a product behind a coefficient, and where a pair of them stands then.
+fn behind(pool: &mut Pool, product: Handle, coefficient: Handle, first: u16) -> (Handle, u16)
+    requires stands { Stands pool.old }
+    requires product { IsProduct product (forest pool.old) (factors_in product (forest pool.old)) }
+    requires pair { IsPairAt first (factors_in product (forest pool.old)) }
+    requires coefficient { IsHanded coefficient (forest pool.old) }
+    requires apart { (coefficient == product) ≡ false }
+    ensures ok { Gives (without_root product (without_root coefficient (forest pool.old))) (forest pool.new) result.0
+        (λ t. t ≡ mult (coefficient_before (tree_of coefficient pool.old) (factors_in product (forest pool.old)))) }
+    ensures pair { IsPairAt result.1 (children_of (tree_of result.0 pool.new)) }
+    ensures fits { result.1 + 1 < 2 ^ 16 }
+    ensures front { KeepsFront (product ∷ coefficient ∷ []) (forest pool.old) (forest pool.new) }
+    ensures kept { KeepsRefusals pool.old pool.new }
+    ensures stands { Stands pool.new }
+{
+    let others = factor_count(pool, &product);
+    put_in_front(pool, &product, coefficient);
+    let in_front = factor_count(pool, &product) - others;
+    move_last(pool, &product);
+    (product, in_front + first)
+}
+
+/// The pair at a place joined: its base to the sum of the two exponents stands there. That power alone is not reduced yet.
+pub fn join_neighbours(pool: &mut Pool, product: Handle, at: u16) -> Result<Handle, Full>
+    requires stands { Stands pool.old }
+    requires handed { IsHanded product (forest pool.old) }
+    requires product { is_mult (tree_of product pool.old) ≡ true }
+    requires reduced { are_reduced (children_of (tree_of product pool.old)) ≡ true }
+    requires pair { IsPairAt at (children_of (tree_of product pool.old)) }
+    requires fits { at + 1 < 2 ^ 16 }
+    ensures ok { IfOk result (λ h. Gives (without_root product (forest pool.old)) (forest pool.new) h
+        (λ t. t ≡ mult (joined_pair at (at + 1) (children_of (tree_of product pool.old))))) }
+    ensures front { KeepsFront (product ∷ []) (forest pool.old) (forest pool.new) }
+    ensures kept { OnOk result (KeepsRefusals pool.old pool.new) }
+    ensures full { IfErr result (Refuses pool.old pool.new) }
+    ensures caused { IfErr result (LacksBytes pool.new) }
+    ensures stands { Stands pool.new }
+{
+    join_pair(pool, &product, at, at + 1)?;
+    move_last(pool, &product);
+    Ok(product)
+}
+
+/// The first place from one on where a product of reduced factors has a pair.
+pub fn next_pair(pool: &Pool, product: &Handle, from: u16) -> Option<u16>
+    requires stands { Stands pool.now }
+    requires handed { IsHanded product.now (forest pool.now) }
+    requires product { is_mult (tree_of product.now pool.now) ≡ true }
+    requires reduced { are_reduced (children_of (tree_of product.now pool.now)) ≡ true }
+    requires within { from ≤ count (children_of (tree_of product.now pool.now)) }
+    ensures pair { let ts = children_of (tree_of product.now pool.now) in
+        MatchOption result (NoPairBetween from (count ts) ts) (λ at. IsNextPair from at ts) }
+    ensures fits { IfSome result (λ at. at + 1 < 2 ^ 16) }
+{
+    next_pair_of(pool, product, from)
+}
