@@ -1,0 +1,14 @@
+use Rattle.calc_algebra.specs.Numbers.{value}
+use Rattle.calc_algebra.proofs.NumberLaws.{number_words}
+use Rattle.calc_algebra.proofs.NumberClasses.{value_proper, value_rises}
+use Rattle.calc_bits.proofs.Parts.{mass_of_same, held_same, held_same_by_one}
+use Rattle.calc_bits.proofs.laws.same_numbers_are_held.Goals as goal
+
+pub returns-clause-mass : goal.returns-clause-mass
+returns-clause-mass c = λ m e t v a. mass_of_same m e (value t) v (value_proper t (number_words t a)) (value_rises t (number_words t a))
+
+pub returns-clause-held : goal.returns-clause-held
+returns-clause-held c = λ t v h l a. held_same (value t) v h l (value_proper t (number_words t a)) (value_rises t (number_words t a))
+
+pub returns-clause-by_one : goal.returns-clause-by_one
+returns-clause-by_one c = λ t v h l a. held_same_by_one (value t) v h l (value_proper t (number_words t a)) (value_rises t (number_words t a))

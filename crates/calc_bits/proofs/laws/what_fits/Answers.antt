@@ -1,0 +1,14 @@
+use Rattle.std.specs.Prelude.{nat_abs}
+use Rattle.calc_terms.specs.Fits.{fraction_power}
+use Rattle.calc_terms.specs.Fractions.{times}
+use Rattle.calc_bits.proofs.Fitting.{sum_fits_over, quotient_fits}
+use Rattle.calc_bits.proofs.laws.what_fits.Goals as goal
+
+pub returns-clause-sums : goal.returns-clause-sums
+returns-clause-sums c = sum_fits_over
+
+pub returns-clause-products : goal.returns-clause-products
+returns-clause-products c = λ a b n d. quotient_fits (times a b) n d
+
+pub returns-clause-powers : goal.returns-clause-powers
+returns-clause-powers c = λ a b n d. quotient_fits (fraction_power a (nat_abs b.num)) n d

@@ -1,0 +1,5 @@
+pub mod SpanLaws
+pub mod Classes
+pub mod NumberSpans
+pub mod NumberBytes
+pub mod TreeBytes

@@ -1,0 +1,6 @@
+use Rattle.calc_algebra.proofs.NumberLaws.{number_words}
+use Rattle.calc_room.proofs.NumberSpans.{spans_inverse}
+use Rattle.calc_room.proofs.laws.inverses_are_spanned.Goals as goal
+
+pub returns : goal.returns
+returns c = λ gs a t h k. spans_inverse gs a t (number_words a h) (number_words t k)

@@ -1,0 +1,6 @@
+use Rattle.calc_algebra.proofs.NumberLaws.{number_words}
+use Rattle.calc_room.proofs.NumberSpans.{root_spanned}
+use Rattle.calc_room.proofs.laws.roots_of_rationals_are_spanned.Goals as goal
+
+pub returns : goal.returns
+returns c = λ gs q t h. root_spanned gs q t (number_words t h)

@@ -1,0 +1,6 @@
+use Rattle.calc_algebra.proofs.NumberLaws.{number_words}
+use Rattle.calc_room.proofs.NumberSpans.{spans_same}
+use Rattle.calc_room.proofs.laws.same_numbers_are_spanned.Goals as goal
+
+pub returns : goal.returns
+returns c = λ gs t v h. spans_same gs t v (number_words t h)

@@ -1,0 +1,79 @@
+-- What is held says of magnitudes over one common denominator.
+use Rattle.std.proofs.Common.{◌≡◌, ◌≢◌, ℕ, zero, suc, ◌+◌, ◌*◌, ◌^◌, ◌≤◌, ◌<◌, false, ℤ, pos, negsuc, refl, ap, ◌∙◌, arith}
+use Rattle.std.specs.Prelude.{nat_abs}
+use Rattle.std.specs.Int.{◌∣◌}
+use Rattle.std.proofs.lemmas.Nat.{mul-le, pow-add}
+use Rattle.std.proofs.lemmas.Bool.{false_from_ne_true}
+use Rattle.std.proofs.Math.Nat.{pow-le-pow_right}
+use Rattle.calc_terms.specs.Fractions.{Fraction, times, whole_fraction, zero_fraction, mul_pos}
+use Rattle.calc_terms.specs.Integers.{int_is_zero}
+use Rattle.calc_terms.proofs.FractionFacts.{zero_is}
+use Rattle.calc_algebra.specs.Surds.{Term}
+use Rattle.calc_algebra.proofs.SquareRootLaws.{square_le}
+use Rattle.calc_bits.specs.Denominators.{magnitude_over}
+use Rattle.calc_bits.specs.Masses.{root_above}
+use Rattle.calc_bits.proofs.Quotients.{den_divides, abs_cross, magnitude_is, magnitude_times, magnitude_cross}
+use Rattle.calc_bits.proofs.RootsAbove.{root_enough}
+use Rattle.calc_bits.proofs.Held.{magnitudes_cross, square_held}
+
+-- ---- powers of 2
+
+-- d * 2 ^ h and its square, within 124 bits
+pub held_bound : (d h l : ℕ) → d ≤ 2 ^ l → d * 2 ^ h ≤ 2 ^ (h + l)
+held_bound d h l a = let b : d * 2 ^ h ≤ 2 ^ l * 2 ^ h = mul-le d (2 ^ h) (2 ^ l) (2 ^ h) a (omega arith) in omega (arith, pow-add 2 h l)
+
+below_power : (a k n : ℕ) → a ≤ 2 ^ k → k ≤ n → a ≤ 2 ^ n
+below_power a k n h l = let b : 2 ^ k ≤ 2 ^ n = pow-le-pow_right {n = 2} (omega arith) l in omega arith
+
+fits_below : (a : ℕ) → a ≤ 2 ^ 126 → a < 2 ^ 127
+fits_below a h = omega arith
+
+pub power_fits : (a k : ℕ) → a ≤ 2 ^ k → k ≤ 126 → a < 2 ^ 127
+power_fits a k h l = fits_below a (below_power a k 126 h l)
+
+pub square_bound : (d h l : ℕ) → d ≤ 2 ^ l → (d * 2 ^ h) * (d * 2 ^ h) ≤ 2 ^ ((h + l) + (h + l))
+square_bound d h l a =
+    let b : d * 2 ^ h ≤ 2 ^ (h + l) = held_bound d h l a in
+    let c : (d * 2 ^ h) * (d * 2 ^ h) ≤ 2 ^ (h + l) * 2 ^ (h + l) = mul-le (d * 2 ^ h) (d * 2 ^ h) (2 ^ (h + l)) (2 ^ (h + l)) b b in
+    omega (arith, pow-add 2 (h + l) (h + l))
+
+pub denominator_bound : (d h l : ℕ) → d ≤ 2 ^ l → d ≤ 2 ^ (h + l)
+denominator_bound d h l a = below_power d l (h + l) a (omega arith)
+
+-- ---- magnitudes
+
+pub magnitude_whole : (q : Fraction) (d n : ℕ) → q.den ∣ d → magnitude_over d (times q (whole_fraction (pos n))) ≡ magnitude_over d q * n
+magnitude_whole q d n h =
+    ap (λ k. magnitude_over k (times q (whole_fraction (pos n)))) (omega arith)
+    ∙ magnitude_times q (whole_fraction (pos n)) d 1 h (den_divides (pos n) 1 (omega arith))
+    ∙ ap (λ k. magnitude_over d q * k) (magnitude_is 1 (whole_fraction (pos n)) n 1 n (den_divides (pos n) 1 (omega arith)) (omega arith) (abs_cross (pos n) 1 (omega arith)) refl)
+
+abs_positive : (z : ℤ) → int_is_zero z ≡ false → 0 < nat_abs z
+abs_positive (pos zero) h = cc
+abs_positive (pos (suc n)) h = omega arith
+abs_positive (negsuc n) h = omega arith
+
+-- a multiple of what is not 0 is not 0
+pub magnitude_positive : (q : Fraction) (d : ℕ) → q ≢ zero_fraction → 0 < d → q.den ∣ d → 0 < magnitude_over d q
+magnitude_positive q d n p h = factor (magnitude_over d q) q.den (nat_abs q.num * d) (magnitude_cross d q h) (mul_pos (nat_abs q.num) d (abs_positive q.num (false_from_ne_true (int_is_zero q.num) (λ z. n (zero_is q z)))) p)
+  where
+    factor : (a b n : ℕ) → a * b ≡ n → 0 < n → 0 < a
+    factor zero b n e h = absurd (omega arith)
+    factor (suc a) b n e h = omega arith
+
+-- ---- one term
+
+-- its magnitude over d, squared and times the radicand
+pub one_held : (t : Term) (d e w h : ℕ) → 0 < e → t.coefficient.den ∣ d → t.coefficient.den ∣ e
+    → root_above (magnitude_over e t.coefficient * magnitude_over e t.coefficient * t.radicand) ≤ w → w ≤ e * 2 ^ h
+    → magnitude_over d t.coefficient * magnitude_over d t.coefficient * t.radicand ≤ (d * 2 ^ h) * (d * 2 ^ h)
+one_held t d e w h p a b r l =
+    let k : ℕ = magnitude_over e t.coefficient in
+    let x : root_above (k * k * t.radicand) * root_above (k * k * t.radicand) ≤ w * w = mul-le _ _ w w r r in
+    square_held (magnitude_over d t.coefficient) t.radicand d e k w h p (magnitudes_cross d e t.coefficient a b) (let y : k * k * t.radicand ≤ root_above (k * k * t.radicand) * root_above (k * k * t.radicand) = root_enough (k * k * t.radicand) in omega arith) l
+
+-- where n * n * r is at most the square of b, n is at most b
+pub root_at_most : (n r b : ℕ) → 0 < r → n * n * r ≤ b * b → n ≤ b
+root_at_most n r b h k =
+    let l : n * n * 1 ≤ n * n * r = mul-le (n * n) 1 (n * n) r (omega arith) h in
+    square_le n b (omega arith)

@@ -1,0 +1,121 @@
+-- Inverses of what is held: the calculations fit, and how large they are.
+use Rattle.std.proofs.Common.{◌≡◌, ◌≢◌, ℕ, zero, suc, ◌+◌, ◌*◌, ◌≤◌, ◌<◌, ℤ, pos, negsuc, ◌+ℤ◌, ◌*ℤ◌, neg_ℤ, refl, sym, ap, ◌∙◌, subst, arith}
+use Rattle.std.specs.Prelude.{nat_abs}
+use Rattle.std.specs.Int.{◌∣◌}
+use Rattle.std.proofs.lemmas.Int.{ints, unsigned_abs-mul}
+use Rattle.std.proofs.lemmas.Nat.Gcd.{dvd_trans}
+use Rattle.std.proofs.Math.Nat.{dvd-mul_left}
+use native.Mathlib.Nat.{mul_comm}
+use Rattle.calc_terms.specs.Fractions.{Fraction, lowest, plus, times, negative, inverse, zero_fraction, one_fraction, lowest_parts, times_lowest, mul_pos, den_pos}
+use Rattle.calc_terms.specs.Gcd.{gauss}
+use Rattle.calc_terms.proofs.FractionFacts.{cross_products}
+use Rattle.calc_algebra.specs.Surds.{Term}
+use Rattle.calc_algebra.proofs.InverseLaws.{inverse_times_itself}
+use Rattle.calc_bits.specs.Denominators.{magnitude_over}
+use Rattle.calc_bits.proofs.Quotients.{cancel_right, coprime, den_divides, magnitude_is, magnitude_lowest, magnitude_cross, magnitude_times, times_den, multiple_den, whole_over, whole_over-abs, over_multiple, plus_over}
+use Rattle.surd_terms.specs.Inverses.{square_of}
+use Rattle.surd_bits.proofs.Bounds.{magnitude_whole, magnitude_positive}
+
+-- ---- inverses of fractions
+
+-- where |x| is n/d, the denominator of x divides d
+den_from : (x : Fraction) (n d : ℕ) → nat_abs x.num * d ≡ n * x.den → x.den ∣ d
+den_from x n d e = gauss (nat_abs x.num) x.den d (coprime x) (subst (λ k. x.den ∣ k) (sym (mul_comm d (nat_abs x.num) ∙ e)) (dvd-mul_left x.den n))
+
+-- the inverse, over D times the magnitude of what is inverted
+pub record OverInverse (D : ℕ) (q : Fraction) : Type 0 where
+  pub whole : (inverse q).den ∣ magnitude_over D q
+  pub is : magnitude_over (magnitude_over D q) (inverse q) ≡ D
+
+pub over_inverse : (D : ℕ) (q : Fraction) → q ≢ zero_fraction → 0 < D → q.den ∣ D → OverInverse D q
+unfolding one_fraction
+over_inverse D q n p h = record { whole = den_from x D f cross; is = magnitude_is f x D f D (den_from x D f cross) positive cross refl }
+  where
+    x : Fraction
+    x = inverse q
+
+    f : ℕ
+    f = magnitude_over D q
+
+    positive : 0 < f
+    positive = magnitude_positive q D n p h
+
+    together : nat_abs x.num * nat_abs q.num * 1 ≡ 1 * (x.den * q.den)
+    together =
+        ap (λ z. z * 1) (sym (unsigned_abs-mul x.num q.num)) ∙ sym (unsigned_abs-mul (x.num *ℤ q.num) (pos 1))
+        ∙ ap nat_abs (cross_products (x.num *ℤ q.num) (pos 1) (x.den * q.den) 1 (mul_pos x.den q.den (den_pos x) (den_pos q)) (omega arith)
+        (sym (times_lowest x.num q.num x.den q.den (den_pos x) (den_pos q)) ∙ (λ i. times (sym (lowest_parts x) i) (sym (lowest_parts q) i)) ∙ inverse_times_itself q n))
+        ∙ unsigned_abs-mul (pos 1) (pos (x.den * q.den))
+
+    cross : nat_abs x.num * f ≡ D * x.den
+    cross = cancel_right (nat_abs x.num * f) (D * x.den) q.den (den_pos q) (chain (nat_abs x.num) f q.den (nat_abs q.num) D x.den (magnitude_cross D q h) together)
+      where
+        chain : (a f y b d z : ℕ) → f * y ≡ b * d → a * b * 1 ≡ 1 * (z * y) → (a * f) * y ≡ (d * z) * y
+        chain a f y b d z g k = omega (arith, ap (λ w. a * w) g, ap (λ w. w * d) k)
+
+-- ---- differences and squares
+
+pub negative_den : (q : Fraction) (d : ℕ) → q.den ∣ d → (negative q).den ∣ d
+unfolding negative
+negative_den q d h = dvd_trans (lowest (neg_ℤ q.num) q.den).den (den_divides (neg_ℤ q.num) q.den (den_pos q)) h
+
+abs_neg : (z : ℤ) → nat_abs (neg_ℤ z) ≡ nat_abs z
+abs_neg (pos zero) = refl
+abs_neg (pos (suc n)) = refl
+abs_neg (negsuc n) = refl
+
+pub magnitude_negative : (q : Fraction) (d : ℕ) → q.den ∣ d → magnitude_over d (negative q) ≡ magnitude_over d q
+unfolding negative
+magnitude_negative q d h = magnitude_lowest d (neg_ℤ q.num) q.den (magnitude_over d q) (den_pos q) (negative_den q d h) (magnitude_cross d q h ∙ ap (λ k. k * d) (sym (abs_neg q.num)))
+
+abs_plus : (x y : ℤ) → nat_abs (x +ℤ y) ≤ nat_abs x + nat_abs y
+abs_plus x y = omega (arith, ints)
+
+pub magnitude_plus : (p q : Fraction) (d : ℕ) → 0 < d → p.den ∣ d → q.den ∣ d → magnitude_over d (plus p q) ≤ magnitude_over d p + magnitude_over d q
+magnitude_plus p q d h a b =
+    let x : ℤ = whole_over d p in
+    let y : ℤ = whole_over d q in
+    let e : plus p q ≡ lowest (x +ℤ y) d = (λ i. plus (over_multiple d p h a i) (over_multiple d q h b i)) ∙ plus_over x y d h in
+    let f : magnitude_over d (lowest (x +ℤ y) d) ≡ nat_abs (x +ℤ y) = magnitude_lowest d (x +ℤ y) d (nat_abs (x +ℤ y)) h (den_divides (x +ℤ y) d h) refl in
+    subst (λ z. magnitude_over d z ≤ magnitude_over d p + magnitude_over d q) (sym e)
+    (at (magnitude_over d (lowest (x +ℤ y) d)) (nat_abs (x +ℤ y)) (nat_abs x) (nat_abs y) (magnitude_over d p) (magnitude_over d q) f (abs_plus x y) (whole_over-abs d p) (whole_over-abs d q))
+  where
+    at : (m n u w a b : ℕ) → m ≡ n → n ≤ u + w → u ≡ a → w ≡ b → m ≤ a + b
+    at m n u w a b e f g h = omega arith
+
+pub square_den : (t : Term) (d : ℕ) → t.coefficient.den ∣ d → (square_of t).den ∣ d * d
+square_den t d h = multiple_den (times t.coefficient t.coefficient) (pos t.radicand) (d * d) (times_den t.coefficient t.coefficient d d h h)
+
+pub square_magnitude : (t : Term) (d : ℕ) → t.coefficient.den ∣ d → magnitude_over (d * d) (square_of t) ≡ magnitude_over d t.coefficient * magnitude_over d t.coefficient * t.radicand
+square_magnitude t d h =
+    magnitude_whole (times t.coefficient t.coefficient) (d * d) t.radicand (times_den t.coefficient t.coefficient d d h h)
+    ∙ ap (λ k. k * t.radicand) (magnitude_times t.coefficient t.coefficient d d h h)
+
+-- ---- c over a fraction D * Δ = f
+
+-- c.coefficient times 1/Δ: a multiple of 1/f
+pub record OverDifference (d e f : ℕ) (c k : Fraction) : Type 0 where
+  pub whole : (times c k).den ∣ f
+  pub is : magnitude_over f (times c k) ≡ magnitude_over d c * d
+  pub scaled : (times c k).den ∣ e * f
+  pub scaled_is : magnitude_over (e * f) (times c k) ≡ magnitude_over e c * (d * d)
+
+pub over_difference : (d e f : ℕ) (c k : Fraction) → 0 < d → 0 < f → c.den ∣ d → c.den ∣ e → k.den ∣ f → magnitude_over f k ≡ d * d → OverDifference d e f c k
+over_difference d e f c k p q a b h g = record {
+  whole = den_from x (magnitude_over d c * d) f cross;
+  is = magnitude_is f x (magnitude_over d c * d) f (magnitude_over d c * d) (den_from x (magnitude_over d c * d) f cross) q cross refl;
+  scaled = times_den c k e f b h;
+  scaled_is = magnitude_times c k e f b h ∙ ap (λ z. magnitude_over e c * z) g;
+}
+  where
+    x : Fraction
+    x = times c k
+
+    over_both : magnitude_over (d * f) x ≡ magnitude_over d c * (d * d)
+    over_both = magnitude_times c k d f a h ∙ ap (λ z. magnitude_over d c * z) g
+
+    cross : nat_abs x.num * f ≡ (magnitude_over d c * d) * x.den
+    cross = cancel_right (nat_abs x.num * f) ((magnitude_over d c * d) * x.den) d p (chain (nat_abs x.num) f (magnitude_over d c) d x.den (magnitude_over (d * f) x) (magnitude_cross (d * f) x (times_den c k d f a h)) over_both)
+      where
+        chain : (a f n d y m : ℕ) → m * y ≡ a * (d * f) → m ≡ n * (d * d) → (a * f) * d ≡ ((n * d) * y) * d
+        chain a f n d y m r s = omega (arith, r, ap (λ z. z * y) s)

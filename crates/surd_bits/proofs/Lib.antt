@@ -1,0 +1,9 @@
+pub mod Bounds
+pub mod Passed
+pub mod JoinsFit
+pub mod ProductsFit
+pub mod Inverses
+pub mod InversesFit
+pub mod RootsFit
+pub mod InversesMeasured
+pub mod Steps
