@@ -1,23 +1,25 @@
 -- Lemmas on commands.
-use Rattle.std.proofs.Common.{◌≡◌, ◌∙◌, ℕ, zero, suc, List, [], ◌∷◌, ◌++◌, codes, Bool, true, false, if◌then◌else◌, Option, Some, None, refl, sym, ap, arith}
+use Rattle.std.proofs.Common.{◌≡◌, ◌∙◌, ℕ, zero, suc, List, [], ◌∷◌, ◌++◌, codes, Bool, true, false, if◌then◌else◌, Option, Some, None, Ok, Err, refl, sym, ap, arith}
 use Rattle.std.specs.Prelude.{IsNone}
 use Rattle.breakers.specs.Breakers.{TripsRose, armed_first}
 use Rattle.breakers.specs.State.{State as Breaker, armed_after, planned_after}
-use Rattle.calc_commands.specs.Commands.{IsCommandLine, forget, after}
+use Rattle.calc_commands.specs.Commands.{IsCommandLine, draw, forget, after, layout}
 use Rattle.calc_commands.specs.Reports.{after_report, forgot_report, unknown_report}
 use Rattle.line_text.specs.Content.{Content, extended}
 use Rattle.std.specs.Str.{bytes_eq}
 use Rattle.name_table.specs.Held.{IsHeld, held_by, holders_in}
 use Rattle.name_table.specs.Tables.{Entry, Table, has_entry, is_stored, without_entry, without_name}
 use Rattle.name_table.proofs.Counting.{counted-same}
+use Rattle.node_pool.specs.declared.full.Full.{Full}
 use Rattle.node_pool.specs.State.{State as PoolState}
 use Rattle.tree_handles.specs.Forest.{flatten}
 use Rattle.tree_handles.specs.Standing.{Stands, forest, KeepsRefusals}
 use Rattle.calc_session.specs.declared.answers.LineAnswer.TheVariants as answer
 use Rattle.calc_session.specs.Answers.{AnswersCommand}
 use Rattle.calc_session.specs.declared.answers.Refusal.TheVariants as refusal
-use Rattle.calc_session.specs.Commanding.{IsReplyToCommand, arms_a_breaker, can_arm, cannot_arm, finds_no_breaker, forgets, knows_no_name}
-use Rattle.calc_session.specs.Replies.{command, report, reserved, forgot, text_of}
+use Rattle.calc_session.specs.Commanding.{IsReplyToCommand, arms_a_breaker, can_arm, cannot_arm, finds_no_breaker, forgets, has_no_room, is_to_be_drawn, knows_no_name, tells_the_layout}
+use Rattle.calc_session.specs.Drawing.{serial_in}
+use Rattle.calc_session.specs.Replies.{command, drawn, full, report, reserved, forgot, text_of}
 use Rattle.calc_session.specs.States.{State, state_of}
 use Rattle.calc_session.proofs.EvaluationLemmas.{none_rose}
 
@@ -122,6 +124,19 @@ answers_no_command s before line text is empty = record { reply = command; reply
 
 pub answers_reserved : (s : State) (before : List Breaker) (line text : List ℕ) → IsReplyToCommand s before before line reserved → text ≡ [] → AnswersCommand s before line (answer.Refused refusal.Reserved) text s before
 answers_reserved s before line text is empty = record { reply = reserved; reply_is = is; state_is = refl; answer_is = refl; text_is = empty }
+
+pub answers_drawn : (s : State) (before : List Breaker) (line text : List ℕ) → IsCommandLine line draw → text ≡ [] → AnswersCommand s before line answer.Draw text s before
+answers_drawn s before line text asked empty = record { reply = drawn; reply_is = is_to_be_drawn asked refl; state_is = refl; answer_is = refl; text_is = empty }
+
+-- ---- layouts
+
+pub answers_layout : (s t : State) (before : List Breaker) (line text : List ℕ) → IsCommandLine line layout → serial_in s ≡ Ok text → t ≡ s → AnswersCommand s before line answer.Report text t before
+unfolding text_of
+answers_layout s t before line text asked is same = record { reply = report text; reply_is = tells_the_layout asked is refl; state_is = same; answer_is = (text, refl); text_is = refl }
+
+pub answers_no_room : (s t : State) (before : List Breaker) (line text : List ℕ) (lack : Full) → IsCommandLine line layout → serial_in s ≡ Err lack → t ≡ s → text ≡ []
+    → AnswersCommand s before line (answer.Refused (refusal.Full lack.needed lack.free)) text t before
+answers_no_room s t before line text lack asked is same empty = record { reply = full lack; reply_is = has_no_room asked is refl; state_is = same; answer_is = refl; text_is = empty }
 
 pub none_of : {X : Type 0} (r : Option X) → ((x : X) → r ≡ Some x → ⊥) → IsNone r
 none_of None h = refl

@@ -7,6 +7,7 @@ pub mod EvaluationLemmas
 pub mod ReplyLemmas
 pub mod SessionLemmas
 pub mod OpeningLemmas
+pub mod DrawingLemmas
 pub mod CommandLemmas
 pub mod MeaningLemmas
 pub mod CompletenessLemmas

@@ -17,7 +17,7 @@ use Rattle.calc_terms.specs.Trees.{Tree, num, symbol, undef, add, mult, power, r
 use Rattle.calc_tokens.specs.Placed.{Placed}
 use Rattle.beautify.proofs.FaceLaws.{reduced_face_means}
 use Rattle.name_table.specs.Filling.{values}
-use Rattle.calc_session.specs.Commanding.{IsReplyToCommand, tells_the_pool, tells_the_bytes, keeps_ans, forgets, knows_no_name, arms_a_breaker, finds_no_breaker, has_no_picture, has_no_layout, is_no_command}
+use Rattle.calc_session.specs.Commanding.{IsReplyToCommand, tells_the_pool, tells_the_bytes, keeps_ans, forgets, knows_no_name, arms_a_breaker, finds_no_breaker, is_to_be_drawn, tells_the_layout, has_no_room, is_no_command}
 use Rattle.calc_session.specs.Evaluations.{IsReplyWith, has_no_value, holds_its_name, is_shown, is_stored, IsReduction, is_interrupted, does_not_fit, lacks_bytes, is_answered, IsReplyTo, finds_no_room, becomes_too_deep, is_reduced}
 use Rattle.calc_session.specs.Meant.{Becomes, HasNoMeaning, HasSmallRadicands, MeanTheSame, MeansNothing, ShowsMeaning}
 use Rattle.name_table.specs.Tables.{Table}
@@ -104,8 +104,9 @@ command_not_displayed u (forgets a b d f) e = cc
 command_not_displayed u (knows_no_name a b d f) e = cc
 command_not_displayed u (arms_a_breaker a b d) e = cc
 command_not_displayed u (finds_no_breaker a b d) e = cc
-command_not_displayed u (has_no_picture a b) e = cc
-command_not_displayed u (has_no_layout a b) e = cc
+command_not_displayed u (is_to_be_drawn a b) e = cc
+command_not_displayed u (tells_the_layout a b d) e = cc
+command_not_displayed u (has_no_room a b d) e = cc
 command_not_displayed u (is_no_command a b) e = cc
 
 command_not_undefined : {s : State} {before after : List Breaker} {line : List ℕ} {reply : Reply} → IsReplyToCommand s before after line reply → reply ≡ undefined → ⊥
@@ -116,8 +117,9 @@ command_not_undefined (forgets a b d f) e = cc
 command_not_undefined (knows_no_name a b d f) e = cc
 command_not_undefined (arms_a_breaker a b d) e = cc
 command_not_undefined (finds_no_breaker a b d) e = cc
-command_not_undefined (has_no_picture a b) e = cc
-command_not_undefined (has_no_layout a b) e = cc
+command_not_undefined (is_to_be_drawn a b) e = cc
+command_not_undefined (tells_the_layout a b d) e = cc
+command_not_undefined (has_no_room a b d) e = cc
 command_not_undefined (is_no_command a b) e = cc
 
 module _ (room bits : Option (Tree → ℕ)) (before after : List Breaker) where

@@ -30,7 +30,7 @@ use Rattle.calc_session.specs.declared.answers.LineAnswer.{LineAnswer}
 use Rattle.calc_session.specs.declared.answers.LineAnswer.TheVariants as answer
 use Rattle.calc_session.specs.declared.answers.Refusal.{Refusal}
 use Rattle.calc_session.specs.declared.answers.Refusal.TheVariants as refusal
-use Rattle.calc_session.specs.Answers.{answer_to, Answers, AnswersCommand, AnswersUntold, IsAnswer, IsTextOf, reply_of}
+use Rattle.calc_session.specs.Answers.{answer_to, Answers, AnswersCommand, AnswersUntold, CountsRefusal, IsAnswer, IsTextOf, reply_of}
 use Rattle.calc_session.specs.Evaluations.{IsReplyTo}
 use Rattle.calc_session.specs.Pools.{after as undone}
 use Rattle.calc_session.specs.Reading.{IsReplyUnread, ReadsTree}
@@ -186,13 +186,17 @@ module _ (room bits : Option (Tree → ℕ)) (before after : List Breaker) (line
   told_other s t answer.Stored written other a = record { reply = a.reply; step = a.step; answer_is = a.answer_is; text_is = a.text_is }
   told_other s t answer.Undef written other a = record { reply = a.reply; step = a.step; answer_is = a.answer_is; text_is = a.text_is }
   told_other s t answer.Report written other a = record { reply = a.reply; step = a.step; answer_is = a.answer_is; text_is = a.text_is }
-  told_other s t answer.Draw written other a = absurd a.answer_is
+  told_other s t answer.Draw written other a = record { reply = a.reply; step = a.step; answer_is = a.answer_is; text_is = sym (ap text_of a.answer_is) }
   told_other s t (answer.Refused r) written other a = absurd (other r refl)
 
 -- ---- what the pool refused
 
 pub counts_kept : (old new : Seen) → KeepsRefusals (pool_of old) (pool_of new) → Counts None old new
 counts_kept old new k = (k.refusals, k.last_refused)
+
+pub counts_refusal : (refusal : Option Full) (old new : Seen) → CountsRefusal refusal (pool_of old) (pool_of new) → Counts refusal old new
+counts_refusal None old new k = (k.refusals, k.last_refused)
+counts_refusal (Some full) old new k = (k.refusals, k.last_refused)
 
 -- ---- the face before it is kept
 
@@ -231,6 +235,9 @@ calm_refusal r bs h place = calm_answer (answer.Refused r) bs place (λ e. h pla
 
 pub blank_text : (room bits : Option (Tree → ℕ)) (s t : State) (before after : List Breaker) (line written : List ℕ) (given : LineAnswer) → AnswersUntold room bits s before line given written t after → given ≡ answer.Blank → written ≡ []
 blank_text room bits s t before after line written given a e = subst (λ (x : LineAnswer). IsTextOf x written a.reply) e a.text_is
+
+pub draw_text : (room bits : Option (Tree → ℕ)) (s t : State) (before after : List Breaker) (line written : List ℕ) (given : LineAnswer) → AnswersUntold room bits s before line given written t after → given ≡ answer.Draw → written ≡ []
+draw_text room bits s t before after line written given a e = subst (λ (x : LineAnswer). IsTextOf x written a.reply) e a.text_is
 
 pub same_counts : (refusal : Option Full) (a b new : Seen) → a.refusals ≡ b.refusals → a.last_refused ≡ b.last_refused → Counts refusal a new → Counts refusal b new
 same_counts None a b new r l h = (h.0 ∙ r, h.1 ∙ l)

@@ -24,7 +24,7 @@ use Rattle.calc_session.specs.declared.answers.LineAnswer.TheVariants.{Blank, Sh
 use Rattle.calc_session.specs.declared.evaluating.Evaluation.{Evaluation}
 use Rattle.calc_session.specs.declared.evaluating.Evaluation.TheVariants as evaluation
 use Rattle.calc_session.specs.Commanding.{IsReplyToCommand}
-use Rattle.calc_session.specs.Replies.{Reply, blank, shown, stored, undefined, report, forgot, long, character_at, number_at, syntax, deep, reserved, names_full, full, overflow, interrupted, circular, command, displayed, text_of, refusal_in}
+use Rattle.calc_session.specs.Replies.{Reply, blank, shown, stored, undefined, report, forgot, drawn, long, character_at, number_at, syntax, deep, reserved, names_full, full, overflow, interrupted, circular, command, displayed, text_of, refusal_in}
 use Rattle.calc_session.specs.States.{State}
 use Rattle.calc_session.specs.Steps.{Leaves, Step}
 
@@ -62,14 +62,14 @@ IsReport told (report text) = told ≡ text
 IsReport told (forgot x) = told ≡ forgot_report x
 IsReport told reply = ⊥
 
--- no line is answered by a picture yet
+-- the reply that an answer stands for
 abbrev pub IsAnswer : LineAnswer → Reply → Type 0
 IsAnswer Blank reply = reply ≡ blank
 IsAnswer Shown reply = (t : Tree) × (reply ≡ shown t)
 IsAnswer Stored reply = (t : Tree) × (x : List ℕ) × (reply ≡ stored t x)
 IsAnswer Undef reply = reply ≡ undefined
 IsAnswer Report reply = (told : List ℕ) × IsReport told reply
-IsAnswer Draw reply = ⊥
+IsAnswer Draw reply = reply ≡ drawn
 IsAnswer (Refused refusal) reply = reply ≡ reply_of refusal
 
 -- the answer where a tree is displayed, and stored where there is a name
@@ -85,6 +85,7 @@ refusal_of_pool answer = None
 -- what is printed of an answer and its text
 abbrev pub printed : LineAnswer → List ℕ → Option (List ℕ)
 printed Blank text = None
+printed Draw text = None
 printed answer text = Some text
 
 -- From a state a line is answered so, with this text, and leaves a state.
@@ -97,6 +98,7 @@ pub record Answers (room bits : Option (Tree → ℕ)) (old : State) (before : L
 -- the text, where that of a refusal is still to be written
 abbrev pub IsTextOf : LineAnswer → List ℕ → Reply → Type 0
 IsTextOf Blank text reply = text ≡ []
+IsTextOf Draw text reply = text ≡ []
 IsTextOf (Refused refusal) text reply = text ≡ []
 IsTextOf answer text reply = Some text ≡ text_of reply
 

@@ -1,5 +1,6 @@
 pub mod Replies
 pub mod States
+pub mod Drawing
 pub mod Reading
 pub mod Evaluations
 pub mod Commanding

@@ -9,7 +9,7 @@ use Rattle.calc_language.specs.Tokens.{times_sign}
 use Rattle.calc_terms.specs.Trees.{Tree}
 use Rattle.node_pool.specs.declared.full.Full.{Full}
 
--- nothing; a tree as it is displayed, and the name under which it is stored; `undef`; what a command tells, and the name that it forgot; or a refusal
+-- nothing; a tree as it is displayed, and the name under which it is stored; `undef`; what a command tells, and the name that it forgot; that the last answer is to be drawn; or a refusal
 pub data Reply : Type 0 where
   blank : Reply
   shown : Tree → Reply
@@ -17,6 +17,7 @@ pub data Reply : Type 0 where
   undefined : Reply
   report : List ℕ → Reply
   forgot : List ℕ → Reply
+  drawn : Reply
   long : Reply
   character_at : ℕ → Reply
   number_at : ℕ → Reply
@@ -57,7 +58,7 @@ denominator_text d = if d == 1 then [] else codes "/" ++ count_text d
 abbrev pub operand_text : Fraction → List ℕ
 operand_text q = signed_decimal q.num ++ denominator_text q.den
 
--- nothing is for a blank line
+-- there is none for a blank line, nor where the last answer is to be drawn
 unfoldable pub text_of : Reply → Option (List ℕ)
 text_of blank = None
 text_of (shown t) = Some (text t)
@@ -65,6 +66,7 @@ text_of (stored t x) = Some (text t)
 text_of undefined = Some (codes "undef")
 text_of (report told) = Some told
 text_of (forgot x) = Some (forgot_report x)
+text_of drawn = None
 text_of long = Some (codes "! long")
 text_of (character_at at) = Some (codes "! character " ++ count_text at)
 text_of (number_at at) = Some (codes "! number " ++ count_text at)

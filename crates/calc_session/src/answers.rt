@@ -2,6 +2,7 @@
 ghost use Rattle.std.specs.Prelude.{◌≡◌};
 
 use calc_terms::{Name, Rat};
+use node_pool::Full;
 use rational128::Op;
 
 /// Why a line is not answered. `at` is the place of a byte in the line, counted from 1.
@@ -69,7 +70,16 @@ pub enum LineAnswer {
     Undef,
     /// The text is what a command tells.
     Report,
-    /// The last answer is to be drawn. No command asks for it yet.
+    /// The last answer is to be drawn.
     Draw,
     Refused(Refusal),
+}
+
+/// Why the last answer is not drawn, or not all of it.
+#[derive(Clone, Copy, Debug, PartialEq, Eq)]
+pub enum DrawFault {
+    /// Its layout finds no room in the pool.
+    Full(Full),
+    /// The sink failed.
+    Write,
 }

@@ -3,13 +3,15 @@ ghost use Rattle.std.specs.Prelude.{◌≡◌, ◌≤◌, ◌+◌, ◌*◌, ◌�
 ghost use Rattle.breakers.specs.Breakers.{TripsRose};
 ghost use Rattle.breakers.specs.State.{State as Breaker};
 ghost use Rattle.breakers.specs.Watch.{states};
-ghost use Rattle.calc_commands.specs.Commands.{IsCommandLine, forget as asks_to_forget, after as asks_to_arm};
+ghost use Rattle.calc_commands.specs.Commands.{IsCommandLine, forget as asks_to_forget, after as asks_to_arm, layout as asks_for_layout};
 ghost use Rattle.calc_terms.specs.Leaf.{name_of};
 ghost use Rattle.name_table.specs.Held.{IsHeld};
-ghost use Rattle.tree_handles.specs.Standing.{Stands, forest, KeepsRefusals};
-ghost use Rattle.calc_session.specs.Answers.{AnswersCommand};
+ghost use Rattle.tree_handles.specs.Standing.{Stands, forest};
+ghost use Rattle.calc_session.specs.Answers.{AnswersCommand, CountsRefusal, refusal_of_pool};
 ghost use Rattle.calc_session.specs.States.{State, state_of};
 
+use crate::drawing::write_layout;
+use crate::evaluating::refused;
 use crate::reading::is_ans;
 use crate::{LineAnswer, Refusal};
 use breakers::{Breaker, Watch};
@@ -37,7 +39,7 @@ pub fn answer_command<B: Breaker>(
     ensures answers { AnswersCommand (state_of pool.old table.old) (states B.state watch.old) line.now result text.new.bytes (state_of pool.new table.new) (states B.state watch.new) }
     ensures no_check { (place : ℕ) → TripsRose (states B.state watch.old) (states B.state watch.new) place → ⊥ }
     ensures no_interruption { (place : ℕ) → result ≡ LineAnswer.Refused (Refusal.Interrupted place) → ⊥ }
-    ensures refusals { KeepsRefusals pool.old pool.new }
+    ensures counted { CountsRefusal (refusal_of_pool result) pool.old pool.new }
     ensures held { IsHeld table.new (forest pool.new) }
     ensures capacity { text.new.capacity ≡ text.old.capacity }
     ensures stands { Stands pool.new }
@@ -59,8 +61,8 @@ pub fn answer_command<B: Breaker>(
             arm(watch, checks, text);
             LineAnswer::Report
         }
-        Command::Draw => LineAnswer::Refused(Refusal::Command),
-        Command::Layout => LineAnswer::Refused(Refusal::Command),
+        Command::Draw => LineAnswer::Draw,
+        Command::Layout => tell_layout(pool, table, text),
     }
 }
 
@@ -73,7 +75,7 @@ fn forget(pool: &mut Pool, table: &mut NameTable, text: &mut Text, name: Name) -
     ensures answers { (line : List ℕ) (breakers : List Breaker) → IsCommandLine line (asks_to_forget (name_of name))
         → AnswersCommand (state_of pool.old table.old) breakers line result text.new.bytes (state_of pool.new table.new) breakers }
     ensures no_interruption { (place : ℕ) → result ≡ LineAnswer.Refused (Refusal.Interrupted place) → ⊥ }
-    ensures refusals { KeepsRefusals pool.old pool.new }
+    ensures counted { CountsRefusal (refusal_of_pool result) pool.old pool.new }
     ensures held { IsHeld table.new (forest pool.new) }
     ensures capacity { text.new.capacity ≡ text.old.capacity }
     ensures stands { Stands pool.new }
@@ -87,6 +89,26 @@ fn forget(pool: &mut Pool, table: &mut NameTable, text: &mut Text, name: Name) -
         write_unknown(name, text);
     }
     LineAnswer::Report
+}
+
+/// Tells the serial text of the layout of the last answer.
+fn tell_layout(pool: &mut Pool, table: &NameTable, text: &mut Text) -> LineAnswer
+    requires stands { Stands pool.old }
+    requires held { IsHeld table.now (forest pool.old) }
+    requires empty { text.old.bytes ≡ [] }
+    requires room { text.old.capacity ≡ 3 * pool.old.size + 256 }
+    ensures answers { (line : List ℕ) (breakers : List Breaker) → IsCommandLine line asks_for_layout
+        → AnswersCommand (state_of pool.old table.now) breakers line result text.new.bytes (state_of pool.new table.now) breakers }
+    ensures no_interruption { (place : ℕ) → result ≡ LineAnswer.Refused (Refusal.Interrupted place) → ⊥ }
+    ensures counted { CountsRefusal (refusal_of_pool result) pool.old pool.new }
+    ensures held { IsHeld table.now (forest pool.new) }
+    ensures capacity { text.new.capacity ≡ text.old.capacity }
+    ensures stands { Stands pool.new }
+{
+    match write_layout(pool, table.ans(), text) {
+        Ok(()) => LineAnswer::Report,
+        Err(full) => LineAnswer::Refused(refused(full)),
+    }
 }
 
 /// Arms the first breaker that can be armed.

@@ -221,7 +221,8 @@ fn unfilled(fault: FillFault) -> Refusal
     }
 }
 
-fn refused(full: Full) -> Refusal
+/// The refusal that passes on that of the pool.
+pub fn refused(full: Full) -> Refusal
     ensures { result ≡ Refusal.Full full.needed full.free }
 {
     Refusal::Full {

@@ -3,15 +3,17 @@
 
 mod answers;
 mod commanding;
+mod drawing;
 mod evaluating;
 mod laws;
 mod reading;
 mod session;
 mod text;
 
-pub use answers::{LineAnswer, Refusal};
+pub use answers::{DrawFault, LineAnswer, Refusal};
 pub use laws::{
     answers_mean_their_lines, lines_that_read_are_evaluated, one_value_has_one_text,
     undef_has_no_meaning,
 };
 pub use session::Session;
+pub use text::write_refusal;

@@ -1,5 +1,5 @@
 //! A session, which answers line by line.
-ghost use Rattle.std.specs.Prelude.{◌≡◌, ◌<◌, ◌≤◌, ◌+◌, ◌↔◌, ℕ, [], length, slice_get, IfOk, Some};
+ghost use Rattle.std.specs.Prelude.{◌≡◌, ◌<◌, ◌≤◌, ◌+◌, ◌↔◌, ℕ, [], length, slice_get, IfOk, IfErr, OnOk, Some};
 ghost use Rattle.breakers.specs.Breakers.{TripsRose};
 ghost use Rattle.breakers.specs.Watch.{states};
 ghost use Rattle.calc_terms.specs.Leaf.{name_of};
@@ -11,12 +11,14 @@ ghost use Rattle.calc_session.specs.Answers.{answer_to};
 ghost use Rattle.calc_session.specs.Reading.{IsText};
 
 use crate::commanding::answer_command;
+use crate::drawing::draw_answer;
 use crate::evaluating::{Evaluation, evaluate};
 use crate::reading::{LINE_LIMIT, is_blank_line, read_line};
 use crate::text::{write_refusal, write_undef};
-use crate::{LineAnswer, Refusal};
+use crate::{DrawFault, LineAnswer, Refusal};
 use breakers::{Breaker, Watch};
 use calc_commands::is_command;
+use calc_edges::Sink;
 use calc_terms::{Name, Rat};
 use calc_tokens::Tokens;
 use line_text::{Text, write_text};
@@ -53,6 +55,7 @@ impl Session {
     ghost use Rattle.calc_session.specs.States.{first_state, trees};
     ghost use Rattle.calc_session.specs.Seen.{pool_of, Counts};
     ghost use Rattle.calc_session.specs.Answers.{Answers, AnswersUntold, refusal_of_pool};
+    ghost use Rattle.calc_session.specs.Drawing.{FailsToDraw, IsDrawn, StopsDrawing, lack_in, rows_in};
 
     /// A session with a pool of that many bytes, in which the last answer is 0 and no name is stored.
     /// All memory is taken here.
@@ -81,6 +84,7 @@ impl Session {
     ) -> LineAnswer
         ensures step { Answers R.room R.bits self.old.state (states B.state watch.old) line.now result self.new.text self.new.state (states B.state watch.new) }
         ensures blank { result ≡ LineAnswer.Blank → self.new.text ≡ [] }
+        ensures draw { result ≡ LineAnswer.Draw → self.new.text ≡ [] }
         ensures interrupted { (place : ℕ) → (result ≡ LineAnswer.Refused (Refusal.Interrupted place))
             ↔ TripsRose (states B.state watch.old) (states B.state watch.new) place }
 
@@ -160,7 +164,31 @@ impl Session {
         }
     }
 
-    /// What is to be printed of the last line, without a newline.
+    /// Draws the last answer: writes the rows of its picture, each with its newline as one piece. Its layout
+    /// stands in the pool for so long.
+    pub fn draw<K: Sink>(&mut self, sink: &mut K) -> Result<(), DrawFault>
+        ensures drawn { OnOk result (IsDrawn (rows_in self.old.state) (K.taken sink.old) (K.taken sink.new)) }
+        ensures calm { OnOk result (K.faults sink.new ≡ K.faults sink.old) }
+        ensures later { K.faults sink.old ≤ K.faults sink.new }
+
+        // The layout finds no room, and nothing was written; or the sink failed, nothing was written behind that, and a
+        // part of the rows before.
+        ensures fails { IfErr result (FailsToDraw (rows_in self.old.state) (K.taken sink.old) (K.taken sink.new)) }
+        ensures stops { IfErr result (StopsDrawing K.taken K.faults sink.old sink.new) }
+
+        // All is as before but for a refusal that was counted.
+        ensures state { self.new.state ≡ self.old.state }
+        ensures counted { Counts (lack_in (rows_in self.old.state)) self.old self.new }
+        ensures text { self.new.text ≡ [] }
+    {
+        self.text.clear();
+        let drawn = draw_answer(&mut self.pool, self.table.ans(), &mut self.text, sink);
+        self.text.clear();
+        drawn
+    }
+
+    /// What is to be printed of the last line, without a newline. There is nothing behind a blank line, nor when the
+    /// last answer is to be drawn or was.
     pub fn text(&self) -> &[u8]
         ensures { result.now ≡ self.now.text }
     {

@@ -14,7 +14,7 @@ use itoa::Buffer;
 use line_text::Text;
 use rational128::Op;
 
-/// Appends the text of a refusal: at most 256 bytes.
+/// Writes the text of a refusal: at most 256 bytes.
 #[tactic(auto, unfolding(crate::specs::Replies::text_of))]
 pub fn write_refusal(text: &mut Text, refusal: Refusal)
     requires empty { text.old.bytes ≡ [] }

@@ -49,6 +49,12 @@ decimal_small n = all_small is_digit digit_small (decimal n) (decimal_is n).all
 pub names_small : (x : List ℕ) → IsPayload (named x) → AreSmall x
 names_small x h = all_small is_name_byte name_small x (spelled x h).spelled
 
+pub decimal_black : (n : ℕ) → IsBlack (decimal n)
+decimal_black n = all_black is_digit digit_black (decimal n) (decimal_is n).all
+
+pub names_black : (x : List ℕ) → IsPayload (named x) → IsBlack x
+names_black x h = all_black is_name_byte name_black x (spelled x h).spelled
+
 leaf_encoded : (x : Payload) → IsPayload x → encode_utf8_all (leaf_characters x) ≡ leaf_serial x
 leaf_encoded (rational r) h = small_bytes (decimal (nat_abs r.num)) (decimal_small (nat_abs r.num))
 leaf_encoded (named x) h = small_bytes x (names_small x h)
@@ -58,8 +64,8 @@ leaf_encoded (bare kind.Times) h = times_encoded
 leaf_encoded (bare k) h = refl
 
 leaf_black : (x : Payload) → IsPayload x → IsBlack (leaf_characters x)
-leaf_black (rational r) h = all_black is_digit digit_black (decimal (nat_abs r.num)) (decimal_is (nat_abs r.num)).all
-leaf_black (named x) h = all_black is_name_byte name_black x (spelled x h).spelled
+leaf_black (rational r) h = decimal_black (nat_abs r.num)
+leaf_black (named x) h = names_black x h
 leaf_black (bare kind.Plus) h = (omega arith, tt)
 leaf_black (bare kind.Minus) h = (omega arith, tt)
 leaf_black (bare kind.Times) h = (omega arith, tt)

@@ -18,3 +18,5 @@ pub mod Inks
 pub mod Painted
 pub mod RowLines
 pub mod SerialTokens
+pub mod OneLines
+pub mod Columns

@@ -1,5 +1,5 @@
 -- The extents of layouts: what they are for each kind of node, and that they are small.
-use Rattle.std.proofs.Common.{◌≡◌, ◌∙◌, ℕ, suc, ◌+◌, ◌*◌, ◌<◌, ◌≤◌, ◌≢◌, max, ℤ, List, [], ◌∷◌, ◌++◌, length, drop, drop-cons, add-one, get_or, nat_abs, nat_eq, true, refl, sym, ap, subst, arith, append_assoc}
+use Rattle.std.proofs.Common.{◌≡◌, ◌∙◌, ℕ, suc, ◌+◌, ◌*◌, ◌^◌, ◌<◌, ◌≤◌, ◌≢◌, max, ℤ, List, [], ◌∷◌, ◌++◌, length, drop, drop-cons, add-one, get_or, nat_abs, nat_eq, true, refl, sym, ap, subst, arith, append_assoc}
 use Rattle.std.proofs.lemmas.Bool.{eqb-true}
 use Rattle.std.proofs.lemmas.List.{length-append, length-drop, drop-drop, drop_at}
 use Rattle.calc_terms.specs.declared.kind.Kind.{Kind}
@@ -9,7 +9,10 @@ use Rattle.calc_terms.specs.Name.{begins_with_letter}
 use Rattle.calc_terms.proofs.Names.{spelled}
 use Rattle.calc_language.proofs.Spelled.{decimal_is}
 use Rattle.calc_language.specs.Texts.{decimal}
-use Rattle.line_text.proofs.Decimals.{decimal_short}
+use Rattle.calc_terms.specs.Fractions.{lowest}
+use Rattle.calc_terms.specs.Ratio.{Ratio, IsRat}
+use Rattle.calc_terms.specs.Short.{is_short}
+use Rattle.line_text.proofs.Lengths.{number_text}
 use Rattle.line_text.proofs.Leaves.{numerator_is}
 use Rattle.node_pool.proofs.Sizes.{size_from}
 use Rattle.tree_handles.specs.Forest.{Label, Forest, empty, tree, join, arity, node_of, bytes_in, nodes_in}
@@ -44,22 +47,22 @@ bytes_nodes (tree l k r) = omega (arith, bytes_nodes k, bytes_nodes r, size_from
 -- ---- how large a picture is
 
 pub record IsBounded (b : Block) (nodes bytes : ℕ) : Type 0 where
-  pub width : b.width ≤ bytes
+  pub width : b.width ≤ 2 * bytes
   pub rows : b.above + 1 + b.below ≤ suc nodes
 
-fraction_bounded : (k : Forest) (ls : Layouts) → drawings k ≡ ls → nat_eq (arity k) 2 ≡ true → widths (blocks_of k) ≤ bytes_in k → heights (blocks_of k) ≤ nodes_in k → IsBounded (picture (composed kind.Fraction (drawings k))) (nodes_in k) (size_of_payload (bare kind.Fraction) + bytes_in k)
+fraction_bounded : (k : Forest) (ls : Layouts) → drawings k ≡ ls → nat_eq (arity k) 2 ≡ true → widths (blocks_of k) ≤ 2 * bytes_in k → heights (blocks_of k) ≤ nodes_in k → IsBounded (picture (composed kind.Fraction (drawings k))) (nodes_in k) (size_of_payload (bare kind.Fraction) + bytes_in k)
 fraction_bounded empty ls e h w n = absurd cc
 fraction_bounded (tree l a empty) ls e h w n = absurd cc
 fraction_bounded (tree l a (tree m b empty)) ls e h w n = record { width = omega (arith, w); rows = omega (arith, n) }
 fraction_bounded (tree l a (tree m b (tree o d r))) ls e h w n = absurd (omega (arith, eqb-true (arity (tree l a (tree m b (tree o d r)))) 2 h))
 
-one_bounded : (j : Kind) (k : Forest) (size : ℕ) → nat_eq (arity k) 1 ≡ true → widths (blocks_of k) ≤ bytes_in k → heights (blocks_of k) ≤ nodes_in k
-    → ((l : Layout) → (picture l).width + 0 ≤ bytes_in k → height (picture l) + 0 ≤ nodes_in k → IsBounded (picture (composed j (beside l nothing))) (nodes_in k) (size + bytes_in k)) → IsBounded (picture (composed j (drawings k))) (nodes_in k) (size + bytes_in k)
+one_bounded : (j : Kind) (k : Forest) (size : ℕ) → nat_eq (arity k) 1 ≡ true → widths (blocks_of k) ≤ 2 * bytes_in k → heights (blocks_of k) ≤ nodes_in k
+    → ((l : Layout) → (picture l).width + 0 ≤ 2 * bytes_in k → height (picture l) + 0 ≤ nodes_in k → IsBounded (picture (composed j (beside l nothing))) (nodes_in k) (size + bytes_in k)) → IsBounded (picture (composed j (drawings k))) (nodes_in k) (size + bytes_in k)
 one_bounded j empty size h w n e = absurd cc
 one_bounded j (tree l a empty) size h w n e = e (drawn l.payload (drawings a)) w n
 one_bounded j (tree l a (tree m b r)) size h w n e = absurd (omega (arith, eqb-true (arity (tree l a (tree m b r))) 1 h))
 
-composed_bounded : (j : Kind) (k : Forest) → composes_kind j (arity k) ≡ true → widths (blocks_of k) ≤ bytes_in k → heights (blocks_of k) ≤ nodes_in k → IsBounded (picture (composed j (drawings k))) (nodes_in k) (size_of_payload (bare j) + bytes_in k)
+composed_bounded : (j : Kind) (k : Forest) → composes_kind j (arity k) ≡ true → widths (blocks_of k) ≤ 2 * bytes_in k → heights (blocks_of k) ≤ nodes_in k → IsBounded (picture (composed j (drawings k))) (nodes_in k) (size_of_payload (bare j) + bytes_in k)
 composed_bounded kind.Plus k h w n = record { width = omega arith; rows = omega arith }
 composed_bounded kind.Minus k h w n = record { width = omega arith; rows = omega arith }
 composed_bounded kind.Times k h w n = record { width = omega arith; rows = omega arith }
@@ -70,13 +73,20 @@ composed_bounded kind.Radical k h w n = one_bounded kind.Radical k _ h w n (λ l
 composed_bounded kind.Paren k h w n = one_bounded kind.Paren k _ h w n (λ l a b. record { width = omega (arith, a); rows = omega (arith, b) })
 composed_bounded j k h w n = absurd cc
 
-pub drawn_bounded : (x : Payload) (k : Forest) → composes x (arity k) ≡ true → IsPayload x → widths (blocks_of k) ≤ bytes_in k → heights (blocks_of k) ≤ nodes_in k → IsBounded (block_of x k) (nodes_in k) (size_of_payload x + bytes_in k)
-drawn_bounded (rational r) k h p w n = record { width = omega (arith, ap (λ (z : ℤ). length (decimal (nat_abs z))) (numerator_is r p), decimal_short (nat_abs r.num) p.num_fits); rows = omega arith }
+-- the digits of a number, and its node
+pub digits_fit : (r : Ratio) → IsRat r → length (decimal (nat_abs (lowest r.num r.den).num)) ≤ 2 * size_of_payload (rational r)
+digits_fit r p =
+    let q = lowest r.num r.den in
+    let small : nat_abs q.num < 2 ^ 127 = rw (numerator_is r p) p.num_fits in
+    omega (arith, number_text (is_short q) q refl small)
+
+pub drawn_bounded : (x : Payload) (k : Forest) → composes x (arity k) ≡ true → IsPayload x → widths (blocks_of k) ≤ 2 * bytes_in k → heights (blocks_of k) ≤ nodes_in k → IsBounded (block_of x k) (nodes_in k) (size_of_payload x + bytes_in k)
+drawn_bounded (rational r) k h p w n = record { width = omega (arith, digits_fit r p); rows = omega arith }
 drawn_bounded (named y) k h p w n = record { width = omega (arith, (spelled y p).short); rows = omega arith }
 drawn_bounded (bare j) k h p w n = composed_bounded j k h w n
 
 pub record AreBounded (f : Forest) : Type 0 where
-  pub widths_are : widths (blocks_of f) ≤ bytes_in f
+  pub widths_are : widths (blocks_of f) ≤ 2 * bytes_in f
   pub heights_are : heights (blocks_of f) ≤ nodes_in f
 
 pub bounded : (f : Forest) → AllComposed f → AllValid f → AreBounded f

@@ -1,14 +1,11 @@
 -- A row of the picture of a layout tree.
-use Rattle.std.proofs.Common.{◌≡◌, ◌∙◌, nat_eq, nat_abs, ℤ, ℕ, zero, suc, ◌+◌, ◌*◌, ◌<◌, ◌≤◌, List, [], ◌∷◌, length, encode_utf8_all, true, sym, ap, subst, arith, append-nil}
+use Rattle.std.proofs.Common.{◌≡◌, ◌∙◌, nat_eq, ℕ, zero, suc, ◌+◌, ◌*◌, ◌<◌, ◌≤◌, List, [], ◌∷◌, length, encode_utf8_all, true, sym, ap, subst, arith, append-nil}
 use Rattle.std.proofs.lemmas.Bool.{eqb-true}
 use Rattle.calc_terms.specs.declared.kind.Kind.{Kind}
 use Rattle.calc_terms.specs.declared.kind.Kind.TheVariants as kind
 use Rattle.calc_terms.specs.Payload.{Payload, rational, named, bare, size_of_payload, IsPayload}
 use Rattle.calc_terms.proofs.Names.{spelled}
-use Rattle.calc_language.specs.Texts.{decimal}
 use Rattle.line_text.specs.Content.{Content, spare_of}
-use Rattle.line_text.proofs.Decimals.{decimal_short}
-use Rattle.line_text.proofs.Leaves.{numerator_is}
 use Rattle.node_pool.specs.State.{State}
 use Rattle.tree_handles.specs.Forest.{Forest, empty, tree, arity, nodes_in, bytes_in, AllNodes}
 use Rattle.tree_handles.specs.Inside.{tree_at}
@@ -25,7 +22,7 @@ use Rattle.pool_layouts.specs.Extents.{AllValid}
 use Rattle.pool_layouts.specs.Painting.{IsFound, IsLine, span_of}
 use Rattle.pool_layouts.specs.Pictures.{picture, height, widths}
 use Rattle.pool_layouts.proofs.Listing.{cells_length}
-use Rattle.pool_layouts.proofs.Measures.{blocks_of, block_of, drawn_bounded, bounded, first_small}
+use Rattle.pool_layouts.proofs.Measures.{blocks_of, block_of, digits_fit, drawn_bounded, bounded, first_small}
 use Rattle.pool_layouts.proofs.Measuring.{IsMeasured, alone}
 use Rattle.pool_layouts.proofs.Inks.{decimal_small, names_small}
 use Rattle.pool_layouts.proofs.Lines.{lines_long, lines_bytes, signs, all_signs, HasSmallLeaves, HaveSmallLeaves}
@@ -63,21 +60,21 @@ row_line s i cells es steps end y st x e m q h f =
 
 -- ---- its bytes
 
-fraction_fits : (k : Forest) → nat_eq (arity k) 2 ≡ true → widths (blocks_of k) + 2 * all_signs (drawings k) ≤ bytes_in k
-    → (picture (composed kind.Fraction (drawings k))).width + 2 * signs (composed kind.Fraction (drawings k)) ≤ size_of_payload (bare kind.Fraction) + bytes_in k
+fraction_fits : (k : Forest) → nat_eq (arity k) 2 ≡ true → widths (blocks_of k) + 2 * all_signs (drawings k) ≤ 2 * bytes_in k
+    → (picture (composed kind.Fraction (drawings k))).width + 2 * signs (composed kind.Fraction (drawings k)) ≤ 2 * (size_of_payload (bare kind.Fraction) + bytes_in k)
 fraction_fits empty h w = absurd cc
 fraction_fits (tree l a empty) h w = absurd cc
 fraction_fits (tree l a (tree m b empty)) h w = omega (arith, w)
 fraction_fits (tree l a (tree m b (tree o d r))) h w = absurd (omega (arith, eqb-true (arity (tree l a (tree m b (tree o d r)))) 2 h))
 
-one_fits : (j : Kind) (k : Forest) (size : ℕ) → nat_eq (arity k) 1 ≡ true → widths (blocks_of k) + 2 * all_signs (drawings k) ≤ bytes_in k
-    → ((l : Layout) → (picture l).width + 0 + 2 * (signs l + 0) ≤ bytes_in k → (picture (composed j (beside l nothing))).width + 2 * signs (composed j (beside l nothing)) ≤ size + bytes_in k)
-    → (picture (composed j (drawings k))).width + 2 * signs (composed j (drawings k)) ≤ size + bytes_in k
+one_fits : (j : Kind) (k : Forest) (size : ℕ) → nat_eq (arity k) 1 ≡ true → widths (blocks_of k) + 2 * all_signs (drawings k) ≤ 2 * bytes_in k
+    → ((l : Layout) → (picture l).width + 0 + 2 * (signs l + 0) ≤ 2 * bytes_in k → (picture (composed j (beside l nothing))).width + 2 * signs (composed j (beside l nothing)) ≤ 2 * (size + bytes_in k))
+    → (picture (composed j (drawings k))).width + 2 * signs (composed j (drawings k)) ≤ 2 * (size + bytes_in k)
 one_fits j empty size h w e = absurd cc
 one_fits j (tree l a empty) size h w e = e (drawn l.payload (drawings a)) w
 one_fits j (tree l a (tree m b r)) size h w e = absurd (omega (arith, eqb-true (arity (tree l a (tree m b r))) 1 h))
 
-composed_fits : (j : Kind) (k : Forest) → composes_kind j (arity k) ≡ true → widths (blocks_of k) + 2 * all_signs (drawings k) ≤ bytes_in k → (picture (composed j (drawings k))).width + 2 * signs (composed j (drawings k)) ≤ size_of_payload (bare j) + bytes_in k
+composed_fits : (j : Kind) (k : Forest) → composes_kind j (arity k) ≡ true → widths (blocks_of k) + 2 * all_signs (drawings k) ≤ 2 * bytes_in k → (picture (composed j (drawings k))).width + 2 * signs (composed j (drawings k)) ≤ 2 * (size_of_payload (bare j) + bytes_in k)
 composed_fits kind.Plus k h w = omega arith
 composed_fits kind.Minus k h w = omega arith
 composed_fits kind.Times k h w = omega arith
@@ -88,12 +85,12 @@ composed_fits kind.Radical k h w = one_fits kind.Radical k _ h w (λ l a. omega 
 composed_fits kind.Paren k h w = one_fits kind.Paren k _ h w (λ l a. omega (arith, a))
 composed_fits j k h w = absurd cc
 
-drawn_fits : (x : Payload) (k : Forest) → composes x (arity k) ≡ true → IsPayload x → widths (blocks_of k) + 2 * all_signs (drawings k) ≤ bytes_in k → (block_of x k).width + 2 * signs (drawn x (drawings k)) ≤ size_of_payload x + bytes_in k
-drawn_fits (rational r) k h p w = omega (arith, ap (λ (z : ℤ). length (decimal (nat_abs z))) (numerator_is r p), decimal_short (nat_abs r.num) p.num_fits)
+drawn_fits : (x : Payload) (k : Forest) → composes x (arity k) ≡ true → IsPayload x → widths (blocks_of k) + 2 * all_signs (drawings k) ≤ 2 * bytes_in k → (block_of x k).width + 2 * signs (drawn x (drawings k)) ≤ 2 * (size_of_payload x + bytes_in k)
+drawn_fits (rational r) k h p w = omega (arith, digits_fit r p)
 drawn_fits (named y) k h p w = omega (arith, (spelled y p).short)
 drawn_fits (bare j) k h p w = composed_fits j k h w
 
-signs_fit : (f : Forest) → AllComposed f → AllValid f → widths (blocks_of f) + 2 * all_signs (drawings f) ≤ bytes_in f
+signs_fit : (f : Forest) → AllComposed f → AllValid f → widths (blocks_of f) + 2 * all_signs (drawings f) ≤ 2 * bytes_in f
 signs_fit empty c v = omega arith
 signs_fit (tree l k r) c v = omega (arith, drawn_fits l.payload k c.0 v.0 (signs_fit k c.1 v.1), signs_fit r c.2 v.2)
 
@@ -122,7 +119,7 @@ small_leaves : (f : Forest) → AllValid f → HaveSmallLeaves (drawings f)
 small_leaves empty v = tt
 small_leaves (tree l k r) v = (drawn_leaves l.payload (drawings k) v.0 (small_leaves k v.1), small_leaves r v.2)
 
-pub row_room : (s : State) (i y : ℕ) (text : Content) → Stands s → IsLayout i (forest s) → bytes_in (tree_at i (forest s)) ≤ spare_of text → length (encode_utf8_all ((picture (drawing (tree_at i (forest s)))).line y)) ≤ spare_of text
+pub row_room : (s : State) (i y : ℕ) (text : Content) → Stands s → IsLayout i (forest s) → 2 * bytes_in (tree_at i (forest s)) ≤ spare_of text → length (encode_utf8_all ((picture (drawing (tree_at i (forest s)))).line y)) ≤ spare_of text
 row_room s i y text st x room =
     let t = tree_at i (forest s) in
     let v = valid s i st x.live in

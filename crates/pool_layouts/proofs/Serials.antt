@@ -1,5 +1,5 @@
 -- The serial text of a node is what is written of it, of its parts, and what closes it.
-use Rattle.std.proofs.Common.{◌≡◌, ◌∙◌, ℕ, suc, ◌+◌, ◌≤◌, ℤ, List, [], ◌++◌, length, nat_abs, nat_eq, codes, true, refl, sym, ap, arith, append_assoc, append-nil}
+use Rattle.std.proofs.Common.{◌*◌, ◌≡◌, ◌∙◌, ℕ, suc, ◌+◌, ◌≤◌, ℤ, List, [], ◌++◌, length, nat_abs, nat_eq, codes, true, refl, sym, ap, arith, append_assoc, append-nil}
 use Rattle.std.proofs.lemmas.Bool.{eqb-true}
 use Rattle.std.proofs.lemmas.List.{length-append}
 use Rattle.calc_terms.specs.declared.kind.Kind.{Kind}
@@ -8,9 +8,9 @@ use Rattle.calc_terms.specs.Payload.{Payload, rational, named, bare, kind_of_pay
 use Rattle.calc_terms.proofs.Names.{spelled}
 use Rattle.calc_language.specs.Texts.{decimal}
 use Rattle.calc_language.specs.Tokens.{root_sign}
-use Rattle.line_text.proofs.Decimals.{decimal_short}
 use Rattle.line_text.proofs.Leaves.{numerator_is}
 use Rattle.tree_handles.specs.Forest.{Forest, empty, tree, arity, bytes_in, AllNodes}
+use Rattle.pool_layouts.proofs.Measures.{digits_fit}
 use Rattle.pool_layouts.specs.Drawings.{composed, drawn, drawings, composes, composes_kind, AllComposed}
 use Rattle.pool_layouts.specs.Layouts.{Layout, Layouts, nothing, beside}
 use Rattle.pool_layouts.specs.Pending.{behind_parts, number_of, parts_text, owed_text, leaf_serial}
@@ -115,12 +115,12 @@ composed_short kind.Radical ls h = one_short kind.Radical ls _ h (radical_short 
 composed_short kind.Paren ls h = one_short kind.Paren ls _ h (paren_short ls)
 composed_short k ls h = absurd cc
 
-drawn_short : (x : Payload) (ls : Layouts) → composes x (number_of ls) ≡ true → IsPayload x → length (serial (drawn x ls)) ≤ length (serials ls) + size_of_payload x
-drawn_short (rational r) ls h p = leaf_short ls _ _ (omega (arith, ap (λ (z : ℤ). length (decimal (nat_abs z))) (numerator_is r p), decimal_short (nat_abs r.num) p.num_fits))
+drawn_short : (x : Payload) (ls : Layouts) → composes x (number_of ls) ≡ true → IsPayload x → length (serial (drawn x ls)) ≤ length (serials ls) + 2 * size_of_payload x
+drawn_short (rational r) ls h p = leaf_short ls _ _ (digits_fit r p)
 drawn_short (named y) ls h p = leaf_short ls _ _ (omega (arith, (spelled y p).short))
-drawn_short (bare k) ls h p = composed_short k ls h
+drawn_short (bare k) ls h p = omega (arith, composed_short k ls h)
 
-pub serials_short : (f : Forest) → AllComposed f → AllNodes IsValid f → length (serials (drawings f)) ≤ bytes_in f
+pub serials_short : (f : Forest) → AllComposed f → AllNodes IsValid f → length (serials (drawings f)) ≤ 2 * bytes_in f
 serials_short empty c v = omega arith
 serials_short (tree l k r) c v =
     omega (

@@ -1,6 +1,6 @@
 -- A walk over the nodes of a layout that knows what is still to be written.
 use Rattle.std.specs.Prelude.{IsSome, None, zero}
-use Rattle.std.proofs.Common.{◌≡◌, ◌∙◌, ℕ, suc, ◌+◌, ◌-◌, ◌<◌, ◌≤◌, List, [], ◌∷◌, ◌++◌, length, map, drop, get_or, true, refl, sym, ap, subst, arith, append_assoc, append-nil}
+use Rattle.std.proofs.Common.{◌*◌, ◌≡◌, ◌∙◌, ℕ, suc, ◌+◌, ◌-◌, ◌<◌, ◌≤◌, List, [], ◌∷◌, ◌++◌, length, map, drop, get_or, true, refl, sym, ap, subst, arith, append_assoc, append-nil}
 use Rattle.std.proofs.lemmas.List.{length-append}
 use Rattle.calc_terms.specs.declared.kind.Kind.TheVariants as kind
 use Rattle.calc_terms.specs.Node.{Node, size_of}
@@ -84,11 +84,11 @@ writing_start s i cells pendings bytes st x e p =
     }
 
 -- the text has room
-pub whole_short : (s : State) (i : ℕ) (bytes : List ℕ) (capacity : ℕ) → Stands s → IsLayout i (forest s) → bytes_in (tree_at i (forest s)) ≤ capacity - length bytes → length (bytes ++ serial (drawing (tree_at i (forest s)))) ≤ capacity
+pub whole_short : (s : State) (i : ℕ) (bytes : List ℕ) (capacity : ℕ) → Stands s → IsLayout i (forest s) → 2 * bytes_in (tree_at i (forest s)) ≤ capacity - length bytes → length (bytes ++ serial (drawing (tree_at i (forest s)))) ≤ capacity
 whole_short s i bytes capacity st x room =
     let t = tree_at i (forest s) in
     let one = one_at i (forest s) x.live in
-    let short : length (serials (drawings t)) ≤ bytes_in t = serials_short t x.composed_whole (valid s i st x.live) in
+    let short : length (serials (drawings t)) ≤ 2 * bytes_in t = serials_short t x.composed_whole (valid s i st x.live) in
     let p = live_at i s x.live in
     let some : bytes_in t ≡ size_of (node_of p.label (kids_of i (forest s))) + (bytes_in (kids_of i (forest s)) + 0) = ap bytes_in p.tree-is in
     omega (arith, room, some, size_from (node_of p.label (kids_of i (forest s))), short, ap (λ (ls : Layouts). length (serials ls)) (alone t one), length-append (serial (drawing t)) (serials nothing), length-append bytes (serial (drawing t)))

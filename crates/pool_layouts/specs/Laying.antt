@@ -1,7 +1,6 @@
 -- What is placed for a face's node, and how it may be refused.
 use Rattle.std.specs.Prelude.{ℕ, ◌≡◌, ◌≤◌, List, [], ◌∷◌, Option, Some, None, Err, Bool, true, false}
 use Rattle.calc_terms.specs.declared.kind.Kind.{Kind}
-use Rattle.calc_terms.specs.Kind.{size_of_kind}
 use Rattle.calc_terms.specs.Payload.{Payload, rational, named, bare, is_bare, size_of_payload}
 use Rattle.node_pool.specs.declared.full.Full.{Full}
 use Rattle.node_pool.specs.State.{State, free_of}
@@ -21,7 +20,7 @@ is_leaf (bare k) = false
 -- the bytes of what a part stands in
 abbrev pub around_sizes : Option Kind → List ℕ
 around_sizes None = []
-around_sizes (Some k) = size_of_kind k ∷ []
+around_sizes (Some k) = size_of_payload (bare k) ∷ []
 
 -- the bytes of a node and of what it stands in
 abbrev pub root_sizes : Payload → Option Kind → List ℕ

@@ -11,3 +11,4 @@ pub mod Pictures
 pub mod Extents
 pub mod Painting
 pub mod Faces
+pub mod Columns

@@ -190,4 +190,4 @@ pub record IsLine (base : Forest) (cells : List Cell) (es : List Extent) (steps 
   pub steps_are : steps ≡ only ∷ []
   pub shown : Shows base cells es only line
   pub fits : count only ≤ length cells
-  pub short : length line ≤ 524280
+  pub short : length line ≤ 2 ^ 20

@@ -1,8 +1,9 @@
 //! Laws of layouts, serial texts and pictures, each the contract of a function without a body.
-ghost use Rattle.std.specs.Prelude.{◌≡◌, ◌<◌, ◌≤◌, ℕ, length};
+ghost use Rattle.std.specs.Prelude.{◌≡◌, ◌<◌, ◌≤◌, ℕ, length, encode_utf8_all};
 ghost use Rattle.calc_language.specs.Reads.{Reads};
-ghost use Rattle.calc_language.specs.Texts.{IsWritable};
+ghost use Rattle.calc_language.specs.Texts.{IsWritable, text};
 ghost use Rattle.calc_terms.specs.Trees.{Tree, IsComplete};
+ghost use Rattle.pool_layouts.specs.Columns.{TakeOneColumnEach};
 ghost use Rattle.pool_layouts.specs.Faces.{IsDefined};
 ghost use Rattle.pool_layouts.specs.Layouts.{Layout, layout};
 ghost use Rattle.pool_layouts.specs.Pictures.{picture, height, cut};
@@ -20,7 +21,18 @@ pub fn rows_are_as_wide()
     ensures cut { (l : Layout) (y : ℕ) → length (cut ((picture l).line y)) ≤ (picture l).width }
 {}
 
+/// Each character of a face's picture takes one column, so that the characters of a row are as many
+/// as its columns.
+pub fn characters_take_one_column()
+    ensures { (u : Tree) → IsWritable u → (y : ℕ) → TakeOneColumnEach ((picture (layout u)).line y) }
+{}
+
 /// The base row of a picture is one of its rows.
 pub fn base_row_is_within()
     ensures { (l : Layout) → (picture l).above < height (picture l) }
+{}
+
+/// A picture of one line is the text of the face.
+pub fn one_line_is_the_text()
+    ensures { (u : Tree) → IsDefined u → IsWritable u → height (picture (layout u)) ≡ 1 → encode_utf8_all (cut ((picture (layout u)).line 0)) ≡ text u }
 {}

@@ -12,7 +12,10 @@ mod places;
 mod serial;
 mod steps;
 
-pub use laws::{base_row_is_within, rows_are_as_wide, serial_text_reads};
+pub use laws::{
+    base_row_is_within, characters_take_one_column, one_line_is_the_text, rows_are_as_wide,
+    serial_text_reads,
+};
 pub use laying::layout_of;
 pub use picture::{rows, write_row};
 pub use serial::write_serial;

@@ -1,5 +1,5 @@
 //! Pictures of layouts, row by row.
-ghost use Rattle.std.specs.Prelude.{◌≡◌, ◌<◌, ◌≤◌, ◌^◌, ℕ, List, encode_utf8_all, length, ◌++◌, option_to_list};
+ghost use Rattle.std.specs.Prelude.{◌≡◌, ◌<◌, ◌≤◌, ◌*◌, ◌^◌, ℕ, List, encode_utf8_all, length, ◌++◌, option_to_list};
 ghost use Rattle.arrayvec.specs.ArrayVec.{array_vec_len};
 ghost use Rattle.line_text.specs.Content.{spare_of, extended};
 ghost use Rattle.pool_layouts.specs.Drawings.{IsLayout, drawing};
@@ -57,7 +57,7 @@ pub fn write_row(pool: &Pool, layout: Id, row: u32, text: &mut Text)
     requires stands { Stands pool.now }
     requires layout { IsLayout layout (forest pool.now) }
     requires row { row < height (picture (drawing (tree_at layout (forest pool.now)))) }
-    requires room { bytes_in (tree_at layout (forest pool.now)) ≤ spare_of text.old }
+    requires room { 2 * bytes_in (tree_at layout (forest pool.now)) ≤ spare_of text.old }
     ensures { text.new ≡ extended text.old (encode_utf8_all (cut ((picture (drawing (tree_at layout (forest pool.now)))).line row))) }
 {
     let nodes = tree_nodes(pool, layout) as usize;
@@ -78,7 +78,7 @@ fn write_row_within<const N: usize>(pool: &Pool, layout: Id, row: u32, text: &mu
     requires stands { Stands pool.now }
     requires layout { IsLayout layout (forest pool.now) }
     requires row { row < height (picture (drawing (tree_at layout (forest pool.now)))) }
-    requires room { bytes_in (tree_at layout (forest pool.now)) ≤ spare_of text.old }
+    requires room { 2 * bytes_in (tree_at layout (forest pool.now)) ≤ spare_of text.old }
     requires listed { nodes_in (tree_at layout (forest pool.now)) < N }
     requires few { N ≤ 2 ^ 16 }
     ensures { text.new ≡ extended text.old (encode_utf8_all (cut ((picture (drawing (tree_at layout (forest pool.now)))).line row))) }

@@ -1,5 +1,5 @@
 //! Serial texts of layouts, in one walk over their nodes.
-ghost use Rattle.std.specs.Prelude.{◌≡◌, ◌<◌, ◌≤◌, ◌^◌, [], length, nat_abs, true};
+ghost use Rattle.std.specs.Prelude.{◌≡◌, ◌<◌, ◌≤◌, ◌*◌, ◌^◌, [], length, nat_abs, true};
 ghost use Rattle.calc_language.specs.Texts.{decimal};
 ghost use Rattle.calc_terms.specs.Rat.{ratio_of};
 ghost use Rattle.line_text.specs.Content.{spare_of, extended};
@@ -23,7 +23,7 @@ use tree_handles::{kind, name, rational, tree_nodes};
 pub fn write_serial(pool: &Pool, layout: Id, text: &mut Text)
     requires stands { Stands pool.now }
     requires layout { IsLayout layout (forest pool.now) }
-    requires room { bytes_in (tree_at layout (forest pool.now)) ≤ spare_of text.old }
+    requires room { 2 * bytes_in (tree_at layout (forest pool.now)) ≤ spare_of text.old }
     ensures { text.new ≡ extended text.old (serial (drawing (tree_at layout (forest pool.now)))) }
 {
     let nodes = tree_nodes(pool, layout) as usize;
@@ -43,7 +43,7 @@ pub fn write_serial(pool: &Pool, layout: Id, text: &mut Text)
 fn write_within<const N: usize>(pool: &Pool, layout: Id, text: &mut Text)
     requires stands { Stands pool.now }
     requires layout { IsLayout layout (forest pool.now) }
-    requires room { bytes_in (tree_at layout (forest pool.now)) ≤ spare_of text.old }
+    requires room { 2 * bytes_in (tree_at layout (forest pool.now)) ≤ spare_of text.old }
     requires listed { nodes_in (tree_at layout (forest pool.now)) < N }
     requires few { N ≤ 2 ^ 16 }
     ensures { text.new ≡ extended text.old (serial (drawing (tree_at layout (forest pool.now)))) }
@@ -85,7 +85,7 @@ fn write_nodes<const N: usize>(
     requires layout { IsLayout layout (forest pool.now) }
     requires cells { cells.now ≡ cells_of (tree_at layout (forest pool.now)) }
     requires none { pending.old.items ≡ [] }
-    requires room { bytes_in (tree_at layout (forest pool.now)) ≤ spare_of text.old }
+    requires room { 2 * bytes_in (tree_at layout (forest pool.now)) ≤ spare_of text.old }
     requires listed { nodes_in (tree_at layout (forest pool.now)) < N }
     requires few { N ≤ 2 ^ 16 }
     ensures { text.new ≡ extended text.old (serial (drawing (tree_at layout (forest pool.now)))) }

@@ -3,9 +3,9 @@ use Rattle.breakers.specs.Watch.{states}
 use Rattle.calc_commands.specs.Commands.{IsCommandLine, asked_of}
 use Rattle.calc_commands.specs.Reports.{pool_report, dump_of}
 use Rattle.calc_commands.specs.declared.command.Command.{Command}
-use Rattle.calc_session.specs.Commanding.{tells_the_pool, tells_the_bytes, has_no_picture, has_no_layout, is_no_command}
+use Rattle.calc_session.specs.Commanding.{tells_the_pool, tells_the_bytes, is_no_command}
 use Rattle.calc_session.specs.States.{state_of}
-use Rattle.calc_session.proofs.CommandLemmas.{answers_no_command, answers_told, none_of, written}
+use Rattle.calc_session.proofs.CommandLemmas.{answers_drawn, answers_no_command, answers_told, none_of, written}
 use Rattle.calc_session.proofs.EvaluationLemmas.{none_rose}
 use Rattle.calc_session.proofs.commanding.answer_command.Goals as goal
 
@@ -37,16 +37,15 @@ returns-in-Forget-clause-no_check g c = none_rose (states g.B.Breaker.state c.ar
 
 pub returns-in-Draw-clause-answers : goal.returns-in-Draw-clause-answers
 returns-in-Draw-clause-answers g c =
-    answers_no_command (state_of c.args.pool.now c.args.table.now) (states g.B.Breaker.state c.args.watch.now) c.args.line.now c.args.text.now.bytes
-    (has_no_picture (subst (λ (k : Command). IsCommandLine c.args.line.now (asked_of k)) c.in-Draw.is c.in-Some.ensures.some) refl) c.requires.empty
+    answers_drawn (state_of c.args.pool.now c.args.table.now) (states g.B.Breaker.state c.args.watch.now) c.args.line.now c.args.text.now.bytes
+    (subst (λ (k : Command). IsCommandLine c.args.line.now (asked_of k)) c.in-Draw.is c.in-Some.ensures.some) c.requires.empty
 
 pub returns-in-Draw-clause-no_check : goal.returns-in-Draw-clause-no_check
 returns-in-Draw-clause-no_check g c = none_rose (states g.B.Breaker.state c.args.watch.now)
 
-pub returns-in-Layout-clause-answers : goal.returns-in-Layout-clause-answers
-returns-in-Layout-clause-answers g c =
-    answers_no_command (state_of c.args.pool.now c.args.table.now) (states g.B.Breaker.state c.args.watch.now) c.args.line.now c.args.text.now.bytes
-    (has_no_layout (subst (λ (k : Command). IsCommandLine c.args.line.now (asked_of k)) c.in-Layout.is c.in-Some.ensures.some) refl) c.requires.empty
-
 pub returns-in-Layout-clause-no_check : goal.returns-in-Layout-clause-no_check
 returns-in-Layout-clause-no_check g c = none_rose (states g.B.Breaker.state c.args.watch.now)
+
+pub returns-in-Layout-clause-answers : goal.returns-in-Layout-clause-answers
+returns-in-Layout-clause-answers g c =
+    c.tell_layout.ensures.answers c.args.line.now (states g.B.Breaker.state c.args.watch.now) (subst (λ (k : Command). IsCommandLine c.args.line.now (asked_of k)) c.in-Layout.is c.in-Some.ensures.some)

@@ -4,7 +4,7 @@ use Rattle.name_table.specs.Held.{IsHeld}
 use Rattle.calc_session.specs.Answers.{AnswersUntold, refusal_of_pool}
 use Rattle.calc_session.specs.Seen.{Seen}
 use Rattle.calc_session.specs.States.{trees}
-use Rattle.calc_session.proofs.SessionLemmas.{blank_text, same_counts, told_other}
+use Rattle.calc_session.proofs.SessionLemmas.{blank_text, draw_text, same_counts, told_other}
 use Rattle.calc_session.proofs.session.Session.line.Goals as goal
 
 pub returns-in_default : goal.returns-in_default
@@ -16,6 +16,7 @@ returns-in_default g c =
     record {
       step = told_other g.R.Reducer.room g.R.Reducer.bits before after c.args.line.now c.args.self.now.state new.state c.answer-answer.result new.text c.in_default.not-Refused untold;
       blank = blank_text g.R.Reducer.room g.R.Reducer.bits c.args.self.now.state new.state before after c.args.line.now new.text c.answer-answer.result untold;
+      draw = draw_text g.R.Reducer.room g.R.Reducer.bits c.args.self.now.state new.state before after c.args.line.now new.text c.answer-answer.result untold;
       interrupted = c.answer-answer.ensures.interrupted;
       counted = same_counts (refusal_of_pool c.answer-answer.result) _ c.args.self.now new (ap (λ (o : Seen). o.refusals) c.self.view_is) (ap (λ (o : Seen). o.last_refused) c.self.view_is) c.answer-answer.ensures.counted;
       held = subst (λ (o : Seen). IsHeld o.state.table (trees o.state)) c.self-2.view_is c.self-2.invariant.held;

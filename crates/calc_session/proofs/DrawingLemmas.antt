@@ -1,0 +1,123 @@
+-- Lemmas on the layout of the last answer, and on the rows of its picture.
+use Rattle.std.proofs.Common.{◌*◌, ◌≡◌, ◌∙◌, ℕ, zero, suc, ◌+◌, ◌≤◌, ◌==◌, if◌then◌else◌, List, [], ◌∷◌, ◌++◌, length, encode_utf8_all, Bool, true, false, nat_le, Option, Some, None, Result, Ok, Err, refl, sym, ap, subst, arith, append_assoc, append-nil, length-append}
+use Rattle.std.proofs.KnownBytes.{Appends-trans}
+use Rattle.std.proofs.lemmas.Bool.{leb-true, leb-false}
+use Rattle.std.proofs.lemmas.Str.{encodes-append}
+use Rattle.std.specs.Io.KnownBytes.{Appends}
+use Rattle.calc_edges.specs.Taken.{AppendsPart}
+use Rattle.calc_edges.proofs.Parts.{AppendsPart-after, AppendsPart-more}
+use Rattle.name_table.specs.Held.{IsHeld}
+use Rattle.name_table.specs.Tables.{Table}
+use Rattle.node_pool.specs.declared.full.Full.{Full}
+use Rattle.node_pool.specs.State.{State as PoolState, free_of}
+use Rattle.pool_layouts.specs.Building.{laying}
+use Rattle.pool_layouts.specs.Drawings.{GivesLayout, IsLayout, drawing}
+use Rattle.pool_layouts.proofs.Given.{given_drawing}
+use Rattle.pool_layouts.specs.Layouts.{Layout, layout}
+use Rattle.pool_layouts.specs.Pictures.{Block, before_cut, cut, picture}
+use Rattle.pool_layouts.proofs.RowLines.{row_room}
+use Rattle.tree_handles.specs.Expressions.{AllExpressions, IsExpression, IsWhole, plain}
+use Rattle.tree_handles.specs.Forest.{bytes_in, forest_of}
+use Rattle.tree_handles.specs.Inside.{tree_at}
+use Rattle.tree_handles.specs.Roots.{has_root}
+use Rattle.tree_handles.specs.Standing.{KeepsRefusals, Refuses, Stands, forest}
+use Rattle.calc_session.specs.Answers.{CountsRefusal}
+use Rattle.tree_handles.proofs.Counted.{all-root_tree}
+use Rattle.tree_handles.proofs.Lasts.{tree_of_root}
+use Rattle.tree_handles.proofs.Roots.{root_held}
+use Rattle.line_text.specs.Content.{Content, extended}
+use Rattle.calc_session.specs.Pools.{after}
+use Rattle.calc_session.specs.Drawing.{IsDrawn, IsDrawnInPart, first_rows, lack_in, row_text, told_at}
+
+-- ---- the last answer
+
+pub answer_expression : {t : Table} {s : PoolState} → Stands s → IsHeld t (forest s) → IsExpression t.ans (forest s)
+answer_expression {t = t} {s = s} st h =
+    let root : has_root t.ans (forest s) ≡ true = h.roots.0 in
+    record { live = root_held t.ans (forest s) root; whole = subst AllExpressions (sym (tree_of_root t.ans st root)) (all-root_tree IsWhole t.ans (forest s) h.whole) }
+
+-- ---- what is told of a layout
+
+pub told_where : (told : Layout → List ℕ) (i : ℕ) (p : PoolState) (left : ℕ) → laying (free_of p) (layout (plain (tree_at i (forest p)))) ≡ Ok left → told_at told i p ≡ Ok (told (layout (plain (tree_at i (forest p)))))
+told_where told i p left e = ap (λ (r : Result ℕ Full). elim r [ Ok left ↦ Ok (told (layout (plain (tree_at i (forest p))))) | Err full ↦ Err full ]) e
+
+pub refused_where : (told : Layout → List ℕ) (i : ℕ) (p : PoolState) (full : Full) → laying (free_of p) (layout (plain (tree_at i (forest p)))) ≡ Err full → told_at told i p ≡ Err full
+refused_where told i p full e = ap (λ (r : Result ℕ Full). elim r [ Ok left ↦ Ok (told (layout (plain (tree_at i (forest p))))) | Err full ↦ Err full ]) e
+
+pub drawn_all : (r : Result (List ℕ) Full) (rows : List ℕ) (a b : Option (List ℕ)) → r ≡ Ok rows → Appends a b rows → IsDrawn r a b
+drawn_all r rows a b e h = subst (λ x. IsDrawn x a b) (sym e) h
+
+pub drawn_in_part : (r : Result (List ℕ) Full) (rows : List ℕ) (a b : Option (List ℕ)) → r ≡ Ok rows → AppendsPart a b rows → IsDrawnInPart r a b
+drawn_in_part r rows a b e h = subst (λ x. IsDrawnInPart x a b) (sym e) h
+
+-- ---- rows
+
+-- the first of more rows
+pub rows_front : (b : Block) (m n : ℕ) → m ≤ n → (rest : List ℕ) × (first_rows b n ≡ first_rows b m ++ rest)
+rows_front b m zero h = let none : m ≡ 0 = omega (arith, h) in ([], subst (λ k. [] ≡ first_rows b k ++ []) (sym none) refl)
+rows_front b m (suc n) h = by (nat_le m n) refl (rows_front b m n)
+  where
+    by : (t : Bool) → nat_le m n ≡ t → (m ≤ n → (rest : List ℕ) × (first_rows b n ≡ first_rows b m ++ rest)) → (rest : List ℕ) × (first_rows b (suc n) ≡ first_rows b m ++ rest)
+    by true e front = let (rest, is) = front (leb-true m n e) in (rest ++ row_text b n, ap (λ x. x ++ row_text b n) is ∙ append_assoc (first_rows b m) rest (row_text b n))
+    by false e front = let same : m ≡ suc n = omega (arith, h, leb-false m n e) in ([], subst (λ k. first_rows b (suc n) ≡ first_rows b k ++ []) (sym same) (sym (append-nil (first_rows b (suc n)))))
+
+-- one row more
+pub rows_more : (b : Block) (y : ℕ) (x u v : Option (List ℕ)) (written : List ℕ) → Appends x u (first_rows b y) → written ≡ row_text b y → Appends u v written → Appends x v (first_rows b (y + 1))
+rows_more b y x u v written before e h =
+    let next : suc y ≡ y + 1 = omega arith in
+    subst (λ n. Appends x v (first_rows b n)) next (Appends-trans x u v (first_rows b y) (row_text b y) before (subst (Appends u v) e h))
+
+-- a row is cut off
+pub rows_cut : (b : Block) (y n : ℕ) (x u v : Option (List ℕ)) (written : List ℕ) → suc y ≤ n → Appends x u (first_rows b y) → written ≡ row_text b y → AppendsPart u v written → AppendsPart x v (first_rows b n)
+rows_cut b y n x u v written more before e h =
+    let (rest, is) = rows_front b (suc y) n more in
+    subst (AppendsPart x v) (sym is) (AppendsPart-more x v (first_rows b (suc y)) rest (AppendsPart-after x u v (first_rows b y) (row_text b y) before (subst (AppendsPart u v) e h)))
+
+-- cutting takes no bytes in
+bytes_cons : (c : ℕ) (cs : List ℕ) → length (encode_utf8_all (c ∷ cs)) ≡ length (encode_utf8_all (c ∷ [])) + length (encode_utf8_all cs)
+bytes_cons c cs = ap length (encodes-append (c ∷ []) cs) ∙ length-append (encode_utf8_all (c ∷ [])) (encode_utf8_all cs)
+
+cut_before : (c : ℕ) (cs : List ℕ) → length (encode_utf8_all (before_cut c cs)) ≤ length (encode_utf8_all (c ∷ [])) + length (encode_utf8_all cs)
+cut_before c [] = by (c == 32)
+  where
+    by : (t : Bool) → length (encode_utf8_all (if t then [] else c ∷ [])) ≤ length (encode_utf8_all (c ∷ [])) + 0
+    by true = omega arith
+    by false = omega arith
+cut_before c (d ∷ ds) = omega (arith, bytes_cons c (d ∷ ds))
+
+cut_bytes : (cs : List ℕ) → length (encode_utf8_all (cut cs)) ≤ length (encode_utf8_all cs)
+cut_bytes [] = omega arith
+cut_bytes (c ∷ cs) = omega (arith, cut_before c (cut cs), cut_bytes cs, bytes_cons c cs)
+
+-- a row and its newline have room
+pub row_fits : (s : PoolState) (i y : ℕ) → Stands s → IsLayout i (forest s) → length (encode_utf8_all (cut ((picture (drawing (tree_at i (forest s)))).line y))) ≤ 2 * bytes_in (tree_at i (forest s))
+row_fits s i y st x =
+    let whole = row_room s i y (record { bytes = []; capacity = 2 * bytes_in (tree_at i (forest s)) }) st x (omega arith) in
+    omega (arith, whole, cut_bytes ((picture (drawing (tree_at i (forest s)))).line y))
+
+-- the text of a row: it was empty, the row was appended, and then a newline
+pub row_written : (old clear row new : Content) (line : List ℕ) (more : List ℕ) → clear ≡ record old { bytes = [] } → row ≡ extended clear line → new ≡ extended row more → new.bytes ≡ line ++ more
+row_written old clear row new line more e f h =
+    ap (λ (x : Content). x.bytes) h ∙ ap (λ (x : Content). x.bytes ++ more) f ∙ ap (λ (x : Content). (x.bytes ++ line) ++ more) e
+
+-- ---- the pool behind a rolling back
+
+pub nodes_kept : (lack : Option Full) (p q : PoolState) → q ≡ after lack p.nodes p → q.nodes ≡ p.nodes
+nodes_kept None p q e = ap (λ (s : PoolState). s.nodes) e
+nodes_kept (Some full) p q e = ap (λ (s : PoolState). s.nodes) e
+
+pub still_held : (lack : Option Full) (t : Table) (p q : PoolState) → q ≡ after lack p.nodes p → IsHeld t (forest p) → IsHeld t (forest q)
+still_held lack t p q e h = subst (λ ns. IsHeld t (forest_of ns)) (sym (nodes_kept lack p q e)) h
+
+-- ---- a layout that was given, or refused
+
+module _ (told : Layout → List ℕ) (i : ℕ) (p q : PoolState) where
+  pub given_told : (h j left : ℕ) → Stands q → GivesLayout (forest p) (forest q) h (layout (plain (tree_at i (forest p)))) → j ≡ h → laying (free_of p) (layout (plain (tree_at i (forest p)))) ≡ Ok left
+      → told_at told i p ≡ Ok (told (drawing (tree_at j (forest q))))
+  given_told h j left st g same fits = told_where told i p left fits ∙ ap (λ (l : Layout). Ok (told l)) (sym (ap (λ k. drawing (tree_at k (forest q))) same ∙ given_drawing st g))
+
+  pub given_counted : (left : ℕ) → laying (free_of p) (layout (plain (tree_at i (forest p)))) ≡ Ok left → KeepsRefusals p q → CountsRefusal (lack_in (told_at told i p)) p q
+  given_counted left fits k = subst (λ r. CountsRefusal (lack_in r) p q) (sym (told_where told i p left fits)) k
+
+  pub refused_counted : (full : Full) → laying (free_of p) (layout (plain (tree_at i (forest p)))) ≡ Err full → Refuses p q full → CountsRefusal (lack_in (told_at told i p)) p q
+  refused_counted full lacks k = subst (λ r. CountsRefusal (lack_in r) p q) (sym (refused_where told i p full lacks)) k

@@ -1,0 +1,136 @@
+//! The last answer, drawn or written in one line by its layout, which stands above a mark for so long.
+ghost use Rattle.std.specs.Prelude.{◌≡◌, ◌+◌, ◌*◌, ◌≤◌, IfErr, IfOk, OnErr, OnOk, Ok, Err, []};
+ghost use Rattle.std.specs.Io.KnownBytes.{Appends};
+ghost use Rattle.calc_edges.specs.Faults.{HasCause, StopsAtFailure};
+ghost use Rattle.calc_edges.specs.Taken.{AppendsPart};
+ghost use Rattle.pool_layouts.specs.Drawings.{IsLayout, drawing};
+ghost use Rattle.pool_layouts.specs.Serial.{serial};
+ghost use Rattle.tree_handles.specs.Expressions.{IsExpression};
+ghost use Rattle.tree_handles.specs.Forest.{bytes_in};
+ghost use Rattle.tree_handles.specs.Handed.{KeepsFront};
+ghost use Rattle.tree_handles.specs.Inside.{tree_at};
+ghost use Rattle.tree_handles.specs.Standing.{Stands, forest};
+ghost use Rattle.calc_session.specs.Answers.{CountsRefusal};
+ghost use Rattle.calc_session.specs.Drawing.{FailsToDraw, IsDrawn, StopsDrawing, lack_in, rows_text, told_at};
+ghost use Rattle.calc_session.specs.Pools.{after};
+
+use crate::DrawFault;
+use calc_edges::{Failed, Sink, write_all};
+use line_text::Text;
+use node_pool::{Full, Id, Pool};
+use pool_checkpoints::{open_mark, roll_back};
+use pool_layouts::{layout_of, rows, write_row, write_serial};
+
+/// Writes the rows of the picture of a tree.
+pub fn draw_answer<K: Sink>(
+    pool: &mut Pool,
+    answer: Id,
+    text: &mut Text,
+    sink: &mut K,
+) -> Result<(), DrawFault>
+    requires stands { Stands pool.old }
+    requires expression { IsExpression answer (forest pool.old) }
+    requires room { 2 * pool.old.size + 1 ≤ text.old.capacity }
+    ensures drawn { OnOk result (IsDrawn (told_at rows_text answer pool.old) (K.taken sink.old) (K.taken sink.new)) }
+    ensures calm { OnOk result (K.faults sink.new ≡ K.faults sink.old) }
+    ensures later { K.faults sink.old ≤ K.faults sink.new }
+    ensures fails { IfErr result (FailsToDraw (told_at rows_text answer pool.old) (K.taken sink.old) (K.taken sink.new)) }
+    ensures stops { IfErr result (StopsDrawing K.taken K.faults sink.old sink.new) }
+    ensures counted { CountsRefusal (lack_in (told_at rows_text answer pool.old)) pool.old pool.new }
+    ensures as_before { pool.new ≡ after (lack_in (told_at rows_text answer pool.old)) pool.old.nodes pool.old }
+    ensures capacity { text.new.capacity ≡ text.old.capacity }
+    ensures stands { Stands pool.new }
+{
+    let mark = open_mark(pool);
+    let drawn = draw_above(pool, answer, text, sink);
+    roll_back(pool, mark);
+    drawn
+}
+
+/// The same, but that the layout stays.
+fn draw_above<K: Sink>(
+    pool: &mut Pool,
+    answer: Id,
+    text: &mut Text,
+    sink: &mut K,
+) -> Result<(), DrawFault>
+    requires stands { Stands pool.old }
+    requires expression { IsExpression answer (forest pool.old) }
+    requires room { 2 * pool.old.size + 1 ≤ text.old.capacity }
+    ensures drawn { OnOk result (IsDrawn (told_at rows_text answer pool.old) (K.taken sink.old) (K.taken sink.new)) }
+    ensures calm { OnOk result (K.faults sink.new ≡ K.faults sink.old) }
+    ensures later { K.faults sink.old ≤ K.faults sink.new }
+    ensures fails { IfErr result (FailsToDraw (told_at rows_text answer pool.old) (K.taken sink.old) (K.taken sink.new)) }
+    ensures stops { IfErr result (StopsDrawing K.taken K.faults sink.old sink.new) }
+    ensures counted { CountsRefusal (lack_in (told_at rows_text answer pool.old)) pool.old pool.new }
+    ensures front { KeepsFront [] (forest pool.old) (forest pool.new) }
+    ensures capacity { text.new.capacity ≡ text.old.capacity }
+    ensures stands { Stands pool.new }
+{
+    match layout_of(pool, answer) {
+        Ok(layout) => match write_rows(pool, layout.id(), text, sink) {
+            Ok(()) => Ok(()),
+            Err(Failed) => Err(DrawFault::Write),
+        },
+        Err(full) => Err(DrawFault::Full(full)),
+    }
+}
+
+/// Writes the rows of the picture of a layout.
+fn write_rows<K: Sink>(pool: &Pool, layout: Id, text: &mut Text, sink: &mut K) -> Result<(), Failed>
+    requires stands { Stands pool.now }
+    requires layout { IsLayout layout (forest pool.now) }
+    requires room { 2 * bytes_in (tree_at layout (forest pool.now)) + 1 ≤ text.old.capacity }
+    ensures appended { OnOk result (Appends (K.taken sink.old) (K.taken sink.new) (rows_text (drawing (tree_at layout (forest pool.now))))) }
+    ensures part { OnErr result (AppendsPart (K.taken sink.old) (K.taken sink.new) (rows_text (drawing (tree_at layout (forest pool.now))))) }
+    ensures stops { OnErr result (StopsAtFailure K.taken K.faults sink.old sink.new) }
+    ensures cause { HasCause (K.faults sink.old) (K.faults sink.new) result }
+    ensures capacity { text.new.capacity ≡ text.old.capacity }
+{
+    for row in 0..rows(pool, layout) {
+        text.clear();
+        write_row(pool, layout, row, text);
+        text.push(b"\n");
+        write_all(sink, text.bytes())?;
+    }
+    Ok(())
+}
+
+/// Writes the serial text of the layout of a tree.
+pub fn write_layout(pool: &mut Pool, answer: Id, text: &mut Text) -> Result<(), Full>
+    requires stands { Stands pool.old }
+    requires expression { IsExpression answer (forest pool.old) }
+    requires empty { text.old.bytes ≡ [] }
+    requires room { 2 * pool.old.size ≤ text.old.capacity }
+    ensures told { OnOk result (told_at serial answer pool.old ≡ Ok text.new.bytes) }
+    ensures full { IfErr result (λ full. told_at serial answer pool.old ≡ Err full) }
+    ensures untold { OnErr result (text.new.bytes ≡ []) }
+    ensures counted { CountsRefusal (lack_in (told_at serial answer pool.old)) pool.old pool.new }
+    ensures as_before { pool.new ≡ after (lack_in (told_at serial answer pool.old)) pool.old.nodes pool.old }
+    ensures capacity { text.new.capacity ≡ text.old.capacity }
+    ensures stands { Stands pool.new }
+{
+    let mark = open_mark(pool);
+    let told = write_above(pool, answer, text);
+    roll_back(pool, mark);
+    told
+}
+
+/// The same, but that the layout stays.
+fn write_above(pool: &mut Pool, answer: Id, text: &mut Text) -> Result<(), Full>
+    requires stands { Stands pool.old }
+    requires expression { IsExpression answer (forest pool.old) }
+    requires empty { text.old.bytes ≡ [] }
+    requires room { 2 * pool.old.size ≤ text.old.capacity }
+    ensures told { OnOk result (told_at serial answer pool.old ≡ Ok text.new.bytes) }
+    ensures full { IfErr result (λ full. told_at serial answer pool.old ≡ Err full) }
+    ensures untold { OnErr result (text.new.bytes ≡ []) }
+    ensures counted { CountsRefusal (lack_in (told_at serial answer pool.old)) pool.old pool.new }
+    ensures front { KeepsFront [] (forest pool.old) (forest pool.new) }
+    ensures capacity { text.new.capacity ≡ text.old.capacity }
+    ensures stands { Stands pool.new }
+{
+    let layout = layout_of(pool, answer)?;
+    write_serial(pool, layout.id(), text);
+    Ok(())
+}
