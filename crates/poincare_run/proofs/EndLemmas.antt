@@ -6,7 +6,8 @@ use Rattle.poincare_run.specs.Steps.{Moment}
 use Rattle.poincare_run.specs.Buffer.{Holds}
 use Rattle.poincare_run.specs.Endings.{session_limit, Writes, WritesPart, ReadsAll, ReadsPart, ReadsLimit, WriteStops}
 use Rattle.poincare_run.specs.Progress.{Answered, Continues, Breaks, Goes, IsUnderWay, Place}
-use Rattle.poincare_run.proofs.ByteLemmas.{Appends-nil, Appends-trans, AppendsPart-after, Consumes-nil, Consumes-trans, Consumes-kept}
+use Rattle.std.proofs.KnownBytes.{Appends-nil, Appends-trans, Consumes-nil, Consumes-trans, Consumes-kept}
+use Rattle.calc_edges.proofs.Parts.{AppendsPart-after}
 
 pub begins : (dialog : Place) (t k : Option (List ℕ)) → Holds dialog.line [] → IsUnderWay dialog.now t t k k session_limit dialog
 unfolding whole_lines rest_of
@@ -15,7 +16,7 @@ begins dialog t k h = record {
   out = [];
   read = Consumes-nil t;
   limit = refl;
-  answered = record { steps = record { replies = []; chain = (refl, refl); out_is = refl }; rest = h };
+  answered = record { steps = record { turns = []; chain = (refl, refl); out_is = refl }; rest = h };
   appended = Appends-nil k;
 }
 

@@ -1,9 +1,8 @@
-pub mod DigitLemmas
-pub mod WordLemmas
+pub mod SettingLemmas
 pub mod BufferLemmas
-pub mod ByteLemmas
 pub mod LineLemmas
 pub mod StepLemmas
+pub mod PictureLemmas
 pub mod EndLemmas
 pub mod StatusLemmas
 pub mod TallyLemmas

@@ -1,5 +1,5 @@
 -- Lemmas on the status of the program, and what it says.
-use Rattle.std.proofs.Common.{◌≡◌, ◌≢◌, ◌∙◌, ◌⊎◌, ℕ, ◌≤◌, List, [], ◌∷◌, ◌++◌, length, Option, Some, None, IfSome, Contains, inl, inr, refl, sym, ap, subst, arith, length-append}
+use Rattle.std.proofs.Common.{◌≡◌, ◌≢◌, ◌∙◌, ◌⊎◌, ℕ, ◌≤◌, List, [], ◌∷◌, ◌++◌, length, Bool, Option, Some, None, IfSome, Contains, inl, inr, refl, sym, ap, subst, arith, length-append}
 use Rattle.std.proofs.lemmas.List.{append_cancel_right}
 use Rattle.std.specs.Io.KnownBytes.{Consumes}
 use Rattle.calc_edges.specs.Faults.{Rose, StopsAtFailure}
@@ -213,8 +213,10 @@ module _ (o : Option Beginning) (b : Beginning) (is : o ≡ Some b) (ending : En
       by (reads start) e = within_limit start t t' k k' ending e input rest before after
       by (generates start n) e = nothing_read t input rest (status ending) before (sym e.1 ∙ after)
 
-pub begins_at : (m : Moment) (s : State) (bs : List Breaker) → m.state ≡ s → m.breakers ≡ bs → record { state = s; breakers = bs } ≡ m
-begins_at m s bs e f = ap (λ (x : State). record { state = x; breakers = bs }) (sym e) ∙ ap (λ (ys : List Breaker). record { state = m.state; breakers = ys }) (sym f)
+pub begins_at : (m : Moment) (s : State) (bs : List Breaker) (draws : Bool) → m.state ≡ s → m.breakers ≡ bs → m.draws ≡ draws → record { state = s; breakers = bs; draws = draws } ≡ m
+begins_at m s bs draws e f g =
+    ap (λ (x : State). record { state = x; breakers = bs; draws = draws }) (sym e) ∙ ap (λ (ys : List Breaker). record { state = m.state; breakers = ys; draws = draws }) (sym f)
+    ∙ ap (λ (b : Bool). record { state = m.state; breakers = m.breakers; draws = b }) (sym g)
 
 pub never_early : (ending : Ending) (P : Type 0) → IfNoMemory ending ⊥ → IfNoMemory ending P
 never_early ReadToEnd P h = tt

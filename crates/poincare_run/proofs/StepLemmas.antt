@@ -1,23 +1,26 @@
 -- Lemmas on the steps of a session, and on how far it has come.
-use Rattle.std.proofs.Common.{◌≡◌, ◌∙◌, ℕ, List, [], ◌∷◌, ◌++◌, length, ◌<◌, Bool, true, false, nat_le, Option, Some, refl, sym, ap, subst, arith, append_assoc, append-nil}
+use Rattle.std.proofs.Common.{◌≡◌, ◌∙◌, ◌⊎◌, inl, inr, Some, None, ℕ, List, [], ◌∷◌, ◌++◌, length, map, ◌<◌, Bool, true, false, nat_le, Option, refl, sym, ap, subst, arith, append_assoc, append-nil}
 use Rattle.std.proofs.lemmas.Bool.{leb-true, leb-false}
 use Rattle.std.specs.Str.Lines.{strip_carriage_return}
 use Rattle.breakers.specs.Breakers.{kept}
 use Rattle.breakers.specs.State.{State as Breaker}
 use Rattle.calc_session.specs.declared.answers.LineAnswer.{LineAnswer}
 use Rattle.calc_session.specs.declared.answers.LineAnswer.TheVariants.{Blank, Shown, Stored, Undef, Report, Draw, Refused}
-use Rattle.calc_session.specs.Answers.{Answers, printed}
+use Rattle.calc_session.specs.declared.answers.Refusal.{Refusal}
+use Rattle.calc_session.specs.declared.answers.Refusal.TheVariants as refusal
+use Rattle.calc_session.specs.Answers.{Answers, IsAnswer, IsReport, printed, reply_of}
 use Rattle.calc_session.specs.Reading.{IsReplyUnread, is_long, is_nothing, has_no_token, has_a_wide_number, is_no_line, is_too_deep, stores_to_ans, finds_names_full}
-use Rattle.calc_session.specs.Replies.{Reply}
+use Rattle.calc_session.specs.Replies.{Reply, report, forgot, text_of}
 use Rattle.calc_session.specs.States.{State}
 use Rattle.calc_session.specs.Steps.{IsReply, is_unread, is_commanded, is_evaluated}
 use Rattle.name_table.specs.Tables.{Table}
 use Rattle.poincare_run.specs.declared.buffer.LineBuffer.{LineBuffer}
 use Rattle.poincare_run.specs.Lines.{is_newline, lines_of, line_of_rest, whole_lines, rest_of}
-use Rattle.poincare_run.specs.Steps.{all_written, bits, Chain, LineStep, Moment, room, Steps, with_newline, written}
+use Rattle.poincare_run.specs.Steps.{all_written, bits, Chain, LineStep, Moment, Turn, is_drawn, picture_if, picture_text, replies_of, room, Steps, with_newline, written}
 use Rattle.poincare_run.specs.Buffer.{Holds, StandsFor}
 use Rattle.poincare_run.specs.Progress.{Answered, AnswersLine, FailsAtLine, Continues, Breaks, Goes, TakesLine, Place}
-use Rattle.poincare_run.proofs.ByteLemmas.{Appends-nil, Appends-trans, AppendsPart-after}
+use Rattle.std.proofs.KnownBytes.{Appends-nil, Appends-trans}
+use Rattle.calc_edges.proofs.Parts.{AppendsPart-after}
 use Rattle.poincare_run.proofs.LineLemmas.{whole_lines-newline, rest_of-newline, whole_lines-other, rest_of-other, whole_lines-front}
 
 -- what is kept of a line is answered as the line is
@@ -54,63 +57,123 @@ step_of_line buffer bytes s t reply h step = record {
     state_is = step.step.state_is;
   };
   swept = step.swept;
+  same = step.same;
 }
-
--- an answer that is not blank is printed
-pub printed_text : (answer : LineAnswer) (text : List ℕ) → (answer ≡ Blank → ⊥) → printed answer text ≡ Some text
-printed_text Blank text other = absurd (other refl)
-printed_text Shown text other = refl
-printed_text Stored text other = refl
-printed_text Undef text other = refl
-printed_text Report text other = refl
-printed_text Draw text other = refl
-printed_text (Refused refusal) text other = refl
 
 -- a line was answered, and then the breakers were swept
 pub takes : (buffer : LineBuffer) (bytes : List ℕ) (old new : Place) (checked : List Breaker) (answer : LineAnswer) (text : List ℕ) → Holds buffer bytes
-    → Answers room bits old.now.state old.now.breakers buffer.kept.items answer text new.now.state checked → new.now.breakers ≡ kept checked → TakesLine old new bytes answer text
-takes buffer bytes old new checked answer text h a swept = record {
+    → Answers room bits old.now.state old.now.breakers buffer.kept.items answer text new.now.state checked → new.now.breakers ≡ kept checked → new.now.draws ≡ old.now.draws → TakesLine old new bytes answer text
+takes buffer bytes old new checked answer text h a swept same = record {
   reply = a.reply;
-  step = step_of_line buffer bytes old.now new.now a.reply h (record { checked = checked; step = a.step; swept = swept });
+  step = step_of_line buffer bytes old.now new.now a.reply h (record { checked = checked; step = a.step; swept = swept; same = same });
   answer_is = a.answer_is;
   text_is = a.text_is;
 }
 
--- what is written for a reply to a line
-pub written_text : (old new : Place) (bytes : List ℕ) (answer : LineAnswer) (text : List ℕ) → (answer ≡ Blank → ⊥) → (t : TakesLine old new bytes answer text) → written t.reply ≡ text ++ 10 ∷ []
-written_text old new bytes answer text other t = ap with_newline (sym t.text_is ∙ printed_text answer text other)
+-- ---- what is written for a line
 
-pub written_blank : (old new : Place) (bytes : List ℕ) (text : List ℕ) → (t : TakesLine old new bytes Blank text) → written t.reply ≡ []
-written_blank old new bytes text t = ap with_newline (sym t.text_is)
+-- whether the last answer is drawn for an answer
+abbrev draws_for : Bool → LineAnswer → Bool
+draws_for draws Shown = draws
+draws_for draws Stored = draws
+draws_for draws Draw = true
+draws_for draws answer = false
 
--- a chain goes on by one step
-pub chain_more : (s t u : Moment) (lines : List (List ℕ)) (replies : List Reply) (line : List ℕ) (reply : Reply)
-    → Chain s lines replies t → LineStep t line reply u → Chain s (lines ++ line ∷ []) (replies ++ reply ∷ []) u
-chain_more s t u [] replies line reply h step =
-    (reply, u, [], subst (λ m. LineStep m line reply u) h.1 step, ap (λ rs. rs ++ reply ∷ []) h.0, (refl, refl))
-chain_more s t u (l ∷ lines) replies line reply h step =
-    let (first, middle, rest, one, e, others) = h in
-    (first, middle, rest ++ reply ∷ [], one, ap (λ rs. rs ++ reply ∷ []) e, chain_more middle t u lines rest line reply others step)
+refusal_undrawn : (draws : Bool) (r : Refusal) → is_drawn draws (reply_of r) ≡ false
+refusal_undrawn draws refusal.Long = refl
+refusal_undrawn draws (refusal.Character at) = refl
+refusal_undrawn draws (refusal.Number at) = refl
+refusal_undrawn draws refusal.Syntax = refl
+refusal_undrawn draws refusal.Deep = refl
+refusal_undrawn draws refusal.Reserved = refl
+refusal_undrawn draws refusal.NamesFull = refl
+refusal_undrawn draws (refusal.Full needed free) = refl
+refusal_undrawn draws (refusal.Overflow op a b) = refl
+refusal_undrawn draws (refusal.Interrupted by) = refl
+refusal_undrawn draws (refusal.Circular name) = refl
+refusal_undrawn draws refusal.Command = refl
 
-all_written-more : (replies : List Reply) (reply : Reply) → all_written (replies ++ reply ∷ []) ≡ all_written replies ++ written reply
-all_written-more [] reply = append-nil (written reply)
-all_written-more (r ∷ rs) reply = ap (λ o. written r ++ o) (all_written-more rs reply) ∙ sym (append_assoc (written r) (all_written rs) (written reply))
+report_undrawn : (draws : Bool) (told : List ℕ) (reply : Reply) → IsReport told reply → is_drawn draws reply ≡ false
+report_undrawn draws told (report text) h = refl
+report_undrawn draws told (forgot x) h = refl
+report_undrawn draws told reply h = absurd h
+
+drawn_is : (draws : Bool) (answer : LineAnswer) (reply : Reply) → IsAnswer answer reply → is_drawn draws reply ≡ draws_for draws answer
+drawn_is draws Blank reply h = ap (is_drawn draws) h
+drawn_is draws Shown reply h = ap (is_drawn draws) h.1
+drawn_is draws Stored reply h = ap (is_drawn draws) h.2
+drawn_is draws Undef reply h = ap (is_drawn draws) h
+drawn_is draws Report reply h = report_undrawn draws h.0 reply h.1
+drawn_is draws Draw reply h = ap (is_drawn draws) h
+drawn_is draws (Refused r) reply h = ap (is_drawn draws) h ∙ refusal_undrawn draws r
+
+module _ (old new : Place) (bytes : List ℕ) (answer : LineAnswer) (text : List ℕ) (t : TakesLine old new bytes answer text) where
+  written_for : written t.reply new.now ≡ with_newline (printed answer text) ++ picture_if (draws_for new.now.draws answer) new.now.state
+  written_for =
+      ap (λ (told : Option (List ℕ)). with_newline told ++ picture_if (is_drawn new.now.draws t.reply) new.now.state) (sym t.text_is)
+      ∙ ap (λ (b : Bool). with_newline (printed answer text) ++ picture_if b new.now.state) (drawn_is new.now.draws answer t.reply t.answer_is)
+
+  as_for : (a : LineAnswer) → answer ≡ a → written t.reply new.now ≡ with_newline (printed a text) ++ picture_if (draws_for new.now.draws a) new.now.state
+  as_for a e = written_for ∙ ap (λ (x : LineAnswer). with_newline (printed x text) ++ picture_if (draws_for new.now.draws x) new.now.state) e
+
+  pub written_blank : answer ≡ Blank → written t.reply new.now ≡ []
+  written_blank e = as_for Blank e
+
+  pub written_drawn : answer ≡ Draw → written t.reply new.now ≡ picture_text new.now.state
+  written_drawn e = as_for Draw e
+
+  pub written_shown : (answer ≡ Shown) ⊎ (answer ≡ Stored) → written t.reply new.now ≡ (text ++ 10 ∷ []) ++ picture_if new.now.draws new.now.state
+  written_shown (inl e) = as_for Shown e
+  written_shown (inr e) = as_for Stored e
+
+-- another answer is written alone
+alone : (answer : LineAnswer) (draws : Bool) (s : State) (text : List ℕ) → (answer ≡ Blank → ⊥) → (answer ≡ Draw → ⊥) → (answer ≡ Shown → ⊥) → (answer ≡ Stored → ⊥)
+    → with_newline (printed answer text) ++ picture_if (draws_for draws answer) s ≡ text ++ 10 ∷ []
+alone Blank draws s text b d h k = absurd (b refl)
+alone Shown draws s text b d h k = absurd (h refl)
+alone Stored draws s text b d h k = absurd (k refl)
+alone Undef draws s text b d h k = append-nil (text ++ 10 ∷ [])
+alone Report draws s text b d h k = append-nil (text ++ 10 ∷ [])
+alone Draw draws s text b d h k = absurd (d refl)
+alone (Refused r) draws s text b d h k = append-nil (text ++ 10 ∷ [])
+
+pub written_text : (old new : Place) (bytes : List ℕ) (answer : LineAnswer) (text : List ℕ) → (t : TakesLine old new bytes answer text) → (answer ≡ Blank → ⊥) → (answer ≡ Draw → ⊥) → (answer ≡ Shown → ⊥) → (answer ≡ Stored → ⊥) → written t.reply new.now ≡ text ++ 10 ∷ []
+written_text old new bytes answer text t b d h k = written_for old new bytes answer text t ∙ alone answer new.now.draws new.now.state text b d h k
+
+-- ---- chains
+
+-- a chain goes on by one turn
+pub chain_more : (s t : Moment) (lines : List (List ℕ)) (turns : List Turn) (line : List ℕ) (turn : Turn)
+    → Chain s lines turns t → LineStep t line turn.reply turn.after → Chain s (lines ++ line ∷ []) (turns ++ turn ∷ []) turn.after
+chain_more s t [] turns line turn h step =
+    (turn, [], subst (λ m. LineStep m line turn.reply turn.after) h.1 step, ap (λ ts. ts ++ turn ∷ []) h.0, (refl, refl))
+chain_more s t (l ∷ lines) turns line turn h step =
+    let (first, rest, one, e, others) = h in
+    (first, rest ++ turn ∷ [], one, ap (λ ts. ts ++ turn ∷ []) e, chain_more first.after t lines rest line turn others step)
+
+all_written-more : (turns : List Turn) (turn : Turn) → all_written (turns ++ turn ∷ []) ≡ all_written turns ++ written turn.reply turn.after
+all_written-more [] turn = append-nil (written turn.reply turn.after)
+all_written-more (t ∷ ts) turn = ap (λ o. written t.reply t.after ++ o) (all_written-more ts turn) ∙ sym (append_assoc (written t.reply t.after) (all_written ts) (written turn.reply turn.after))
+
+pub replies-more : (turns : List Turn) (turn : Turn) → replies_of (turns ++ turn ∷ []) ≡ replies_of turns ++ turn.reply ∷ []
+replies-more [] turn = refl
+replies-more (t ∷ ts) turn = ap (λ (rs : List Reply). t.reply ∷ rs) (replies-more ts turn)
 
 pub steps_more : (s t u : Moment) (lines : List (List ℕ)) (out : List ℕ) (line : List ℕ) (reply : Reply)
-    → Steps s lines out t → LineStep t line reply u → Steps s (lines ++ line ∷ []) (out ++ written reply) u
+    → Steps s lines out t → LineStep t line reply u → Steps s (lines ++ line ∷ []) (out ++ written reply u) u
 steps_more s t u lines out line reply h step = record {
-  replies = h.replies ++ reply ∷ [];
-  chain = chain_more s t u lines h.replies line reply h.chain step;
-  out_is = ap (λ o. o ++ written reply) h.out_is ∙ sym (all_written-more h.replies reply);
+  turns = h.turns ++ record { reply = reply; after = u } ∷ [];
+  chain = chain_more s t lines h.turns line (record { reply = reply; after = u }) h.chain step;
+  out_is = ap (λ o. o ++ written reply u) h.out_is ∙ sym (all_written-more h.turns (record { reply = reply; after = u }));
 }
 
 module _ (start : Moment) (before out : List ℕ) (old : Place) (h : Answered start before out old) where
   -- a line that ends is answered
   pub goes_by_line : (new : Place) (a b : Option (List ℕ)) → AnswersLine old new (rest_of before) a b → Holds new.line [] → Goes start before (10 ∷ []) out new a b
   goes_by_line new a b line empty = record {
-    more = written line.reply;
+    more = written line.reply new.now;
     answered = record {
-      steps = subst (λ ls. Steps start ls (out ++ written line.reply) new.now) (sym (whole_lines-newline before))
+      steps = subst (λ ls. Steps start ls (out ++ written line.reply new.now) new.now) (sym (whole_lines-newline before))
           (steps_more start old.now new.now (whole_lines before) out _ line.reply h.steps line.step);
       rest = subst (Holds new.line) (sym (rest_of-newline before)) empty;
     };
@@ -122,7 +185,7 @@ module _ (start : Moment) (before out : List ℕ) (old : Place) (h : Answered st
     answered = whole_lines before ++ strip_carriage_return (rest_of before) ∷ [];
     others = [];
     lines_are = whole_lines-newline before ∙ sym (append-nil _);
-    out = written line.reply;
+    out = written line.reply line.next;
     transcript = (line.next, steps_more start old.now line.next (whole_lines before) out _ line.reply h.steps line.step);
     appended = line.appended;
   }
@@ -185,7 +248,7 @@ module _ (start : Moment) (input out : List ℕ) (old : Place) (h : Answered sta
 
   pub ends_in_line : (new : Place) (a b : Option (List ℕ)) → (rest_of input ≡ [] → ⊥) → AnswersLine old new (rest_of input) a b → Continues start (lines_of input) out a b
   ends_in_line new a b some line = record {
-    out = written line.reply;
+    out = written line.reply new.now;
     transcript = (new.now, rw (lines_with_rest some) (steps_more start old.now new.now (whole_lines input) out _ line.reply h.steps line.step));
     appended = line.appended;
   }
@@ -195,7 +258,7 @@ module _ (start : Moment) (input out : List ℕ) (old : Place) (h : Answered sta
     answered = whole_lines input ++ strip_carriage_return (rest_of input) ∷ [];
     others = [];
     lines_are = lines_with_rest some ∙ sym (append-nil _);
-    out = written line.reply;
+    out = written line.reply line.next;
     transcript = (line.next, steps_more start old.now line.next (whole_lines input) out _ line.reply h.steps line.step);
     appended = line.appended;
   }

@@ -10,11 +10,11 @@ use Rattle.calc_session.specs.Replies.{Reply, report, forgot}
 use Rattle.poincare_run.specs.Buffer.{Holds}
 use Rattle.poincare_run.specs.Lines.{is_newline, rest_of, whole_lines}
 use Rattle.poincare_run.specs.Progress.{Place, TakesLine, Tallied}
-use Rattle.poincare_run.specs.Steps.{Chain, Moment}
+use Rattle.poincare_run.specs.Steps.{Chain, Moment, Turn, replies_of}
 use Rattle.poincare_run.specs.Summaries.{Sort, as_shown, as_stored, as_undefined, as_refusal, as_other, sort_of, one_shown, one_stored, one_undefined, one_refusal, how_many, text_length, tally_of}
 use Rattle.poincare_run.specs.declared.tally.Tally.{Tally}
 use Rattle.poincare_run.proofs.LineLemmas.{whole_lines-newline, rest_of-newline, whole_lines-other, rest_of-other}
-use Rattle.poincare_run.proofs.StepLemmas.{chain_more}
+use Rattle.poincare_run.proofs.StepLemmas.{chain_more, replies-more}
 
 -- the sort that an answer tells
 abbrev pub sort_told : LineAnswer → Sort
@@ -51,7 +51,7 @@ sort_is Shown reply h = ap sort_of h.1
 sort_is Stored reply h = ap sort_of h.2
 sort_is Undef reply h = ap sort_of h
 sort_is Report reply h = report_sort h.0 reply h.1
-sort_is Draw reply h = absurd h
+sort_is Draw reply h = ap sort_of h
 sort_is (Refused r) reply h = ap sort_of h ∙ refusal_sort r
 
 pub other_told : (answer : LineAnswer) → (answer ≡ Blank) ⊎ ((answer ≡ Report) ⊎ (answer ≡ Draw)) → sort_told answer ≡ as_other
@@ -101,25 +101,25 @@ counted old new replies reply sort bytes e is many c =
 module _ (start : Moment) (before : List ℕ) (old new : Place) (tally : Tally) (h : Tallied start before tally old) where
   pub tallied_by_byte : (b : ℕ) → is_newline b ≡ false → new.now ≡ old.now → Holds new.line (rest_of before ++ b ∷ []) → Tallied start (before ++ b ∷ []) tally new
   tallied_by_byte b other same rest = record {
-    replies = h.replies;
+    turns = h.turns;
     chain = rw (same, whole_lines-other before b other) h.chain;
     tally_is = h.tally_is;
     rest = subst (Holds new.line) (sym (rest_of-other before b other)) rest;
   }
 
   pub tallied_by_line : (more : Tally) (answer : LineAnswer) (text : List ℕ) → (t : TakesLine old new (rest_of before) answer text) → Holds new.line []
-      → more ≡ tally_of (h.replies ++ t.reply ∷ []) → Tallied start (before ++ 10 ∷ []) more new
+      → more ≡ tally_of (replies_of h.turns ++ t.reply ∷ []) → Tallied start (before ++ 10 ∷ []) more new
   tallied_by_line more answer text t empty is = record {
-    replies = h.replies ++ t.reply ∷ [];
-    chain = subst (λ ls. Chain start ls (h.replies ++ t.reply ∷ []) new.now) (sym (whole_lines-newline before))
-        (chain_more start old.now new.now (whole_lines before) h.replies _ t.reply h.chain t.step);
-    tally_is = is;
+    turns = h.turns ++ record { reply = t.reply; after = new.now } ∷ [];
+    chain = subst (λ ls. Chain start ls (h.turns ++ record { reply = t.reply; after = new.now } ∷ []) new.now) (sym (whole_lines-newline before))
+        (chain_more start old.now (whole_lines before) h.turns _ (record { reply = t.reply; after = new.now }) h.chain t.step);
+    tally_is = is ∙ ap tally_of (sym (replies-more h.turns (record { reply = t.reply; after = new.now })));
     rest = subst (Holds new.line) (sym (rest_of-newline before)) empty;
   }
 
 pub no_tally : (place : Place) (tally : Tally) → tally ≡ tally_of [] → Holds place.line [] → Tallied place.now [] tally place
 unfolding whole_lines rest_of
-no_tally place tally e h = record { replies = []; chain = (refl, refl); tally_is = e; rest = h }
+no_tally place tally e h = record { turns = []; chain = (refl, refl); tally_is = e; rest = h }
 
 pub no_lines : (tally : Tally) → tally ≡ tally_of [] → tally.lines ≤ 0
 unfolding tally_of

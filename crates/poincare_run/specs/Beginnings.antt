@@ -1,5 +1,5 @@
 -- How the program begins, by its words and its breakers.
-use Rattle.std.specs.Prelude.{ℕ, List, Option, Some, None, ⊤}
+use Rattle.std.specs.Prelude.{ℕ, List, map, Option, Some, None, ⊤, String, string_bytes}
 use Rattle.std.specs.Option.{option_map}
 use Rattle.breakers.specs.Breakers.{armed_first}
 use Rattle.breakers.specs.State.{State as Breaker}
@@ -13,9 +13,9 @@ abbrev pub armed : Option ℕ → List Breaker → List Breaker
 armed None bs = bs
 armed (Some k) bs = armed_first k bs
 
--- a session begins with a pool of the named size
+-- a session begins with a pool of the named size, and what is shown is drawn where the words ask for it
 abbrev pub first_moment : Options → List Breaker → Moment
-first_moment o bs = record { state = first_state o.size; breakers = armed o.interrupt bs }
+first_moment o bs = record { state = first_state o.size; breakers = armed o.interrupt bs; draws = o.draw }
 
 -- a session whose lines are read, or one whose lines are those of this number
 pub data Beginning : Type 0 where
@@ -32,6 +32,10 @@ beginning_with bs o = begun (first_moment o bs) o.generated
 -- there is none where the words are no form of the command line
 abbrev pub beginning : List (List ℕ) → List Breaker → Option Beginning
 beginning words bs = option_map (beginning_with bs) (options_of words)
+
+-- how the program begins, by the words and the breakers that it is handed
+abbrev pub beginning_of : {Z B : Type 0} → (B → Breaker) → List (String Z) → List B → Option Beginning
+beginning_of state words breakers = beginning (map string_bytes words) (map state breakers)
 
 -- a fact of the moment from which lines are read
 abbrev pub IfReads : Option Beginning → (Moment → Type 0) → Type 0

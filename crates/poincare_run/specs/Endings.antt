@@ -4,10 +4,9 @@ use Rattle.std.specs.Prelude.{◌≡◌, ℕ, ◌<◌, ◌≤◌, List, [], ◌�
 use Rattle.std.specs.Io.KnownBytes.{Appends, Consumes, IsAtEnd}
 use Rattle.calc_edges.specs.Taken.{AppendsPart}
 use Rattle.poincare_run.specs.Lines.{lines_of, whole_lines}
-use Rattle.calc_session.specs.Replies.{Reply}
 use Rattle.poincare_run.specs.Generated.{session_text}
 use Rattle.poincare_run.specs.Summaries.{summary_text, tally_of}
-use Rattle.poincare_run.specs.Steps.{Chain, Moment, Transcript}
+use Rattle.poincare_run.specs.Steps.{Chain, Moment, Transcript, Turn, replies_of}
 
 -- the most bytes that are read
 abbrev pub session_limit : ℕ
@@ -59,14 +58,14 @@ pub record WriteStops (start : Moment) (told told' taken taken' : Option (List �
 
 -- the lines of the session of a number are answered from this moment on, and the summary is what is written
 pub record SumsUp (start : Moment) (number : ℕ) (taken taken' : Option (List ℕ)) : Type 0 where
-  pub replies : List Reply
+  pub turns : List Turn
   pub end : Moment
-  pub chain : Chain start (whole_lines (session_text number)) replies end
-  pub appended : Appends taken taken' (summary_text (tally_of replies) ++ 10 ∷ [])
+  pub chain : Chain start (whole_lines (session_text number)) turns end
+  pub appended : Appends taken taken' (summary_text (tally_of (replies_of turns)) ++ 10 ∷ [])
 
 -- the same, and a front of the summary is written
 pub record SumsUpInPart (start : Moment) (number : ℕ) (taken taken' : Option (List ℕ)) : Type 0 where
-  pub replies : List Reply
+  pub turns : List Turn
   pub end : Moment
-  pub chain : Chain start (whole_lines (session_text number)) replies end
-  pub appended : AppendsPart taken taken' (summary_text (tally_of replies) ++ 10 ∷ [])
+  pub chain : Chain start (whole_lines (session_text number)) turns end
+  pub appended : AppendsPart taken taken' (summary_text (tally_of (replies_of turns)) ++ 10 ∷ [])

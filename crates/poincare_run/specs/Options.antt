@@ -1,28 +1,19 @@
--- The words of the command line: `--pool N`, `--interrupt K` and `--gen N`, each at most once and in any order.
-use Rattle.std.specs.Prelude.{ℕ, ◌^◌, ◌%◌, List, [], ◌∷◌, length, drop, Bool, ◌&&◌, ◌==◌, eqb, nat_le, nat_lt, bytes_eq, is_some, true, if◌then◌else◌, Option, Some, None, codes}
-use Rattle.std.specs.List.{starts_with, list_all}
+-- The words of the command line: `--pool N`, `--interrupt K`, `--draw` and `--gen N`, each at most once and in any order.
+use Rattle.std.specs.Prelude.{ℕ, ◌^◌, ◌%◌, List, [], ◌∷◌, drop, Bool, ◌&&◌, ◌==◌, eqb, nat_le, nat_lt, bytes_eq, is_some, true, false, if◌then◌else◌, Option, Some, None, codes}
+use Rattle.std.specs.List.{starts_with}
 use Rattle.std.specs.Option.{option_and_then, option_map}
-use Rattle.std.specs.Str.Parse.{digits_value}
-use Rattle.std.specs.Char.{is_ascii_digit}
+use Rattle.calc_commands.specs.Numbers.{value_of}
 use Rattle.poincare_run.specs.declared.words.Key.{Key}
 use Rattle.poincare_run.specs.declared.words.Key.TheVariants.{Pool, Interrupt, Generated}
 use Rattle.poincare_run.specs.declared.words.Values.{Values}
 use Rattle.poincare_run.specs.declared.words.Reading.{Reading}
 use Rattle.poincare_run.specs.declared.words.Options.{Options}
 
--- one or more decimal digits
-abbrev pub is_digits : List ℕ → Bool
-is_digits text = nat_lt 0 (length text) && list_all is_ascii_digit text
-
--- the value of 1 to 20 decimal digits, where it is at most 2^64 - 1
-unfoldable pub value_of : List ℕ → Option ℕ
-value_of text = if is_digits text && nat_le (length text) 20 && nat_lt (digits_value 10 text) (2 ^ 64) then Some (digits_value 10 text) else None
-
 -- ---- what the words name
 
 -- no option is named
 abbrev pub no_values : Values
-no_values = record { pool = None; interrupt = None; generated = None }
+no_values = record { pool = None; interrupt = None; generated = None; draw = false }
 
 -- an option has this value, where it had none
 abbrev pub with_number : Key → ℕ → Values → Option Values
@@ -44,14 +35,21 @@ with_generated word v = if starts_with eqb word (codes "--gen=") then with_value
 abbrev pub with_interrupt : List ℕ → Values → Option Values
 with_interrupt word v = if starts_with eqb word (codes "--interrupt=") then with_value Interrupt (drop 12 word) v else with_generated word v
 
+abbrev pub with_pool : List ℕ → Values → Option Values
+with_pool word v = if starts_with eqb word (codes "--pool=") then with_value Pool (drop 7 word) v else with_interrupt word v
+
+-- the option that has no value, where it is not named yet
+abbrev pub with_draw : Values → Option Values
+with_draw v = if v.draw then None else Some (record v { draw = true })
+
 abbrev pub with_word : List ℕ → Values → Option Values
-with_word word v = if starts_with eqb word (codes "--pool=") then with_value Pool (drop 7 word) v else with_interrupt word v
+with_word word v = if bytes_eq word (codes "--draw") then with_draw v else with_pool word v
 
 -- what is read, and no option waits for its value
 abbrev pub settled : Values → Reading
 settled v = record { values = v; waiting = None }
 
--- One more word: the value of the option that waits for it, or the name of an option, or an option with its value.
+-- One more word: the value of the option that waits for it, or the name of an option, or an option with its value or without one.
 abbrev pub with_next : List ℕ → Reading → Option Reading
 with_next word r = elim r.waiting [ Some key ↦ option_map settled (with_value key word r.values) | None ↦ elim (key_of word) [ Some key ↦ Some (record { values = r.values; waiting = Some key }) | None ↦ option_map settled (with_word word r.values) ] ]
 
@@ -79,7 +77,7 @@ abbrev pub is_session_number : Option ℕ → Bool
 is_session_number number = elim number [ None ↦ true | Some n ↦ nat_lt n (2 ^ 32) ]
 
 abbrev pub options_with : Values → Option Options
-options_with v = if is_pool_size (size_in v) && is_session_number v.generated then Some (record { size = size_in v; interrupt = v.interrupt; generated = v.generated }) else None
+options_with v = if is_pool_size (size_in v) && is_session_number v.generated then Some (record { size = size_in v; interrupt = v.interrupt; generated = v.generated; draw = v.draw }) else None
 
 -- there are none where the words are no form of the command line
 unfoldable pub options_of : List (List ℕ) → Option Options

@@ -14,7 +14,7 @@ use Rattle.poincare_run.specs.declared.dialog.Dialog.{Dialog}
 use Rattle.poincare_run.specs.declared.dialog.Ending.{Ending}
 use Rattle.poincare_run.specs.declared.dialog.Ending.TheVariants.{ReadToEnd, ReadFailed, WriteFailed, LimitReached, NoMemory}
 use Rattle.poincare_run.specs.Lines.{whole_lines, rest_of}
-use Rattle.poincare_run.specs.Steps.{Chain, LineStep, Moment, Steps, Transcript, written}
+use Rattle.poincare_run.specs.Steps.{Chain, LineStep, Moment, Steps, Transcript, Turn, replies_of, written}
 use Rattle.poincare_run.specs.Beginnings.{Beginning, reads, generates}
 use Rattle.poincare_run.specs.Buffer.{Holds}
 use Rattle.poincare_run.specs.Summaries.{tally_of}
@@ -28,7 +28,7 @@ pub record Place : Type 0 where
 
 -- the place where a dialog stands
 abbrev pub place_of : {B : Type 0} → (B → Breaker) → Dialog B → Place
-place_of breaker dialog = record { now = record { state = dialog.session.state; breakers = states breaker dialog.watch }; line = dialog.line }
+place_of breaker dialog = record { now = record { state = dialog.session.state; breakers = states breaker dialog.watch; draws = dialog.draws }; line = dialog.line }
 
 -- the whole lines of the bytes are answered by out, and the buffer holds the rest
 pub record Answered (start : Moment) (bytes out : List ℕ) (place : Place) : Type 0 where
@@ -46,14 +46,14 @@ pub record TakesLine (old new : Place) (bytes : List ℕ) (answer : LineAnswer) 
 pub record AnswersLine (old new : Place) (bytes : List ℕ) (taken taken' : Option (List ℕ)) : Type 0 where
   pub reply : Reply
   pub step : LineStep old.now (strip_carriage_return bytes) reply new.now
-  pub appended : Appends taken taken' (written reply)
+  pub appended : Appends taken taken' (written reply new.now)
 
 -- a front of its answer is written
 pub record FailsAtLine (old : Place) (bytes : List ℕ) (taken taken' : Option (List ℕ)) : Type 0 where
   pub reply : Reply
   pub next : Moment
   pub step : LineStep old.now (strip_carriage_return bytes) reply next
-  pub appended : AppendsPart taken taken' (written reply)
+  pub appended : AppendsPart taken taken' (written reply next)
 
 -- these lines are answered by what was written before and now
 pub record Continues (start : Moment) (lines : List (List ℕ)) (before : List ℕ) (taken taken' : Option (List ℕ)) : Type 0 where
@@ -87,9 +87,9 @@ pub record IsUnderWay (start : Moment) (told told' taken taken' : Option (List �
 
 -- the whole lines of the bytes are answered by replies of this tally, and the buffer holds the rest
 pub record Tallied (start : Moment) (bytes : List ℕ) (tally : Tally) (place : Place) : Type 0 where
-  pub replies : List Reply
-  pub chain : Chain start (whole_lines bytes) replies place.now
-  pub tally_is : tally ≡ tally_of replies
+  pub turns : List Turn
+  pub chain : Chain start (whole_lines bytes) turns place.now
+  pub tally_is : tally ≡ tally_of (replies_of turns)
   pub rest : Holds place.line (rest_of bytes)
 
 -- how it ended, by the bytes that the source and the sink tell

@@ -1,16 +1,18 @@
 -- A session as a chain of steps, one for each line.
-use Rattle.std.specs.Prelude.{◌≡◌, ℕ, List, [], ◌∷◌, ◌++◌, Option, Some, None}
+use Rattle.std.specs.Prelude.{◌≡◌, ℕ, List, [], ◌∷◌, ◌++◌, map, Bool, true, false, if◌then◌else◌, Option, Some, None, Ok, Err}
 use Rattle.breakers.specs.Breakers.{kept}
 use Rattle.breakers.specs.State.{State as Breaker}
-use Rattle.calc_session.specs.Replies.{Reply, text_of}
+use Rattle.calc_session.specs.Drawing.{rows_in}
+use Rattle.calc_session.specs.Replies.{Reply, shown, stored, drawn, full, text_of}
 use Rattle.calc_session.specs.States.{State}
 use Rattle.calc_session.specs.Steps.{Step}
 use Rattle.calc_terms.specs.Trees.{Tree}
 
--- between two lines: what the session keeps, and the breakers that are watched
+-- between two lines: what the session keeps, the breakers that are watched, and whether what is shown is drawn too
 pub record Moment : Type 0 where
   pub state : State
   pub breakers : List Breaker
+  pub draws : Bool
 
 -- the room and the bits of trees, which the program's reducer does not tell
 abbrev pub room : Option (Tree → ℕ)
@@ -24,32 +26,56 @@ pub record LineStep (old : Moment) (line : List ℕ) (reply : Reply) (new : Mome
   pub checked : List Breaker
   pub step : Step room bits old.state old.breakers line reply new.state checked
   pub swept : new.breakers ≡ kept checked
+  pub same : new.draws ≡ old.draws
 
--- the lines are answered by these replies, one after the other from the old moment to the new one
-abbrev pub Chain : Moment → List (List ℕ) → List Reply → Moment → Type 0
-Chain old [] replies new = (replies ≡ []) × (new ≡ old)
-Chain old (line ∷ lines) replies new =
-    (reply : Reply) × (middle : Moment) × (rest : List Reply)
-    × LineStep old line reply middle × (replies ≡ reply ∷ rest) × Chain middle lines rest new
+-- a line's reply, and the moment behind it
+pub record Turn : Type 0 where
+  pub reply : Reply
+  pub after : Moment
+
+abbrev pub replies_of : List Turn → List Reply
+replies_of turns = map (λ t. t.reply) turns
+
+-- the lines are answered in these turns, one after the other from the old moment to the new one
+abbrev pub Chain : Moment → List (List ℕ) → List Turn → Moment → Type 0
+Chain old [] turns new = (turns ≡ []) × (new ≡ old)
+Chain old (line ∷ lines) turns new =
+    (turn : Turn) × (rest : List Turn) × LineStep old line turn.reply turn.after × (turns ≡ turn ∷ rest) × Chain turn.after lines rest new
+
+-- ---- what is written
 
 -- a text with a newline behind it
 abbrev pub with_newline : Option (List ℕ) → List ℕ
 with_newline None = []
 with_newline (Some text) = text ++ 10 ∷ []
 
--- what is written for a reply
-abbrev pub written : Reply → List ℕ
-written reply = with_newline (text_of reply)
+-- the picture of the last answer: its rows, or that its layout finds no room
+abbrev pub picture_text : State → List ℕ
+picture_text s = elim (rows_in s) [ Ok rows ↦ rows | Err refusal ↦ with_newline (text_of (full refusal)) ]
 
-abbrev pub all_written : List Reply → List ℕ
+abbrev pub picture_if : Bool → State → List ℕ
+picture_if draws s = if draws then picture_text s else []
+
+-- the last answer is drawn where a line asks for it, and below what is shown or stored where pictures are wanted
+abbrev pub is_drawn : Bool → Reply → Bool
+is_drawn draws (shown t) = draws
+is_drawn draws (stored t x) = draws
+is_drawn draws drawn = true
+is_drawn draws reply = false
+
+-- what is written for a reply, at the moment behind it
+abbrev pub written : Reply → Moment → List ℕ
+written reply now = with_newline (text_of reply) ++ picture_if (is_drawn now.draws reply) now.state
+
+abbrev pub all_written : List Turn → List ℕ
 all_written [] = []
-all_written (reply ∷ replies) = written reply ++ all_written replies
+all_written (turn ∷ turns) = written turn.reply turn.after ++ all_written turns
 
 -- the lines are answered from the old moment to the new one, and out is what is written
 pub record Steps (old : Moment) (lines : List (List ℕ)) (out : List ℕ) (new : Moment) : Type 0 where
-  pub replies : List Reply
-  pub chain : Chain old lines replies new
-  pub out_is : out ≡ all_written replies
+  pub turns : List Turn
+  pub chain : Chain old lines turns new
+  pub out_is : out ≡ all_written turns
 
 -- what is written for the lines of a session that begins at this moment
 abbrev pub Transcript : Moment → List (List ℕ) → List ℕ → Type 0

@@ -4,16 +4,17 @@ ghost use Rattle.std.specs.Io.KnownBytes.{Appends, Consumes, IsAtEnd, Keeps};
 ghost use Rattle.calc_edges.specs.Faults.{HasCause, StopsAtFailure};
 ghost use Rattle.calc_edges.specs.Taken.{AppendsPart};
 ghost use Rattle.poincare_run.specs.Lines.{lines_of, whole_lines};
-ghost use Rattle.poincare_run.specs.Steps.{Moment};
+ghost use Rattle.poincare_run.specs.Steps.{Moment, picture_if, picture_text};
 ghost use Rattle.poincare_run.specs.Summaries.{IsWithin};
 ghost use Rattle.poincare_run.specs.Buffer.{Holds};
 ghost use Rattle.poincare_run.specs.Progress.{Answered, AnswersLine, FailsAtLine, Continues, Breaks, Goes, EndsAs, IfNoMemory, StopsReading, StopsWriting, TakesLine, Tallied, place_of};
 
 use crate::buffer::LineBuffer;
+use crate::notice::Notice;
 use crate::tally::Tally;
 use breakers::{Breaker, Watch};
 use calc_edges::{Failed, Sink, Source, write_all};
-use calc_session::{LineAnswer, Session};
+use calc_session::{DrawFault, LineAnswer, Session};
 use deep_reduce::DeepReducer;
 
 /// The most bytes that are read in a session.
@@ -35,18 +36,24 @@ pub struct Dialog<B> {
     pub session: Session,
     pub watch: Watch<B>,
     pub line: LineBuffer,
+    pub notice: Notice,
+    /// What is shown is drawn too.
+    pub draws: bool,
 }
 
 impl<B: Breaker> Dialog<B> {
-    pub fn new(session: Session, watch: Watch<B>) -> Self
+    pub fn new(session: Session, watch: Watch<B>, notice: Notice, draws: bool) -> Self
         ensures session { result.session ≡ session }
         ensures watch { result.watch ≡ watch }
+        ensures draws { result.draws ≡ draws }
         ensures line { Holds result.line [] }
     {
         Dialog {
             session,
             watch,
             line: LineBuffer::new(),
+            notice,
+            draws,
         }
     }
 
@@ -139,10 +146,46 @@ impl<B: Breaker> Dialog<B> {
         ensures cleared { Holds self.new.line [] }
         ensures cause { HasCause (K.faults sink.old) (K.faults sink.new) result }
     {
-        if let LineAnswer::Blank = self.take_line() {
-            return Ok(());
+        match self.take_line() {
+            LineAnswer::Blank => Ok(()),
+            LineAnswer::Draw => self.draw(sink),
+            LineAnswer::Shown | LineAnswer::Stored => self.show(sink),
+            _ => write_line(sink, self.session.text()),
         }
-        write_line(sink, self.session.text())
+    }
+
+    /// Writes the text of the last answer, and draws it where pictures are wanted.
+    fn show<K: Sink>(&mut self, sink: &mut K) -> Result<(), Failed>
+        ensures ok { OnOk result (Appends (K.taken sink.old) (K.taken sink.new)
+            ((self.old.session.text ++ 10 ∷ []) ++ picture_if self.old.draws self.old.session.state)) }
+        ensures err { OnErr result (AppendsPart (K.taken sink.old) (K.taken sink.new)
+            ((self.old.session.text ++ 10 ∷ []) ++ picture_if self.old.draws self.old.session.state)) }
+        ensures stops { OnErr result (StopsAtFailure K.taken K.faults sink.old sink.new) }
+        ensures place { place_of B.state self.new ≡ place_of B.state self.old }
+        ensures cause { HasCause (K.faults sink.old) (K.faults sink.new) result }
+    {
+        write_line(sink, self.session.text())?;
+        if self.draws { self.draw(sink) } else { Ok(()) }
+    }
+
+    /// Draws the last answer, or writes that its layout finds no room.
+    fn draw<K: Sink>(&mut self, sink: &mut K) -> Result<(), Failed>
+        ensures ok { OnOk result (Appends (K.taken sink.old) (K.taken sink.new) (picture_text self.old.session.state)) }
+        ensures err { OnErr result (AppendsPart (K.taken sink.old) (K.taken sink.new) (picture_text self.old.session.state)) }
+        ensures stops { OnErr result (StopsAtFailure K.taken K.faults sink.old sink.new) }
+        ensures place { place_of B.state self.new ≡ place_of B.state self.old }
+        ensures cause { HasCause (K.faults sink.old) (K.faults sink.new) result }
+    {
+        match self.session.draw(sink) {
+            Ok(()) => Ok(()),
+            Err(fault) => match fault {
+                DrawFault::Write => Err(Failed),
+                DrawFault::Full(full) => {
+                    self.notice.put(full);
+                    write_line(sink, self.notice.bytes())
+                }
+            },
+        }
     }
 
     /// Answers the line that is kept, and begins the next one. Breakers that have tripped are dropped.

@@ -4,11 +4,14 @@
 mod buffer;
 mod dialog;
 mod generated;
+mod laws;
+mod notice;
 mod tally;
 mod top;
 mod words;
 
 pub use generated::session_from;
+pub use laws::words_ask_for_options;
 pub use top::run;
 
 #[cfg(test)]

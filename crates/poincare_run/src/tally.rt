@@ -83,7 +83,7 @@ fn length_of(answer: LineAnswer, text: &[u8]) -> u128
     ensures short { result < 2 ^ 64 }
 {
     match answer {
-        LineAnswer::Blank => 0,
+        LineAnswer::Blank | LineAnswer::Draw => 0,
         _ => text.len() as u128,
     }
 }

@@ -1,3 +1,6 @@
+mod edges;
+mod words;
+
 ghost use Rattle.std.specs.Prelude.{◌≡◌, ◌≤◌, vec_len, IfOk};
 
 use super::*;
@@ -40,6 +43,30 @@ fn converse(
     }
     let mut source = MemSource::new(input.to_vec(alloc)?, piece, failing.to_vec(alloc)?);
     let mut sink = MemSink::new(alloc, room, piece, Vec::new(alloc))?;
+    let status = run(
+        alloc,
+        texts.as_slice(),
+        &mut source,
+        &mut sink,
+        two_breakers(alloc)?,
+    );
+    let taken = sink.bytes().to_vec(alloc)?;
+    Ok(Outcome { status, taken })
+}
+
+/// Runs over these bytes with a sink whose write of a number fails.
+fn converse_failing(
+    alloc: Global,
+    words: &[&str],
+    input: &[u8],
+    failing: u64,
+) -> Result<Outcome, AllocError> {
+    let mut texts = Vec::new(alloc);
+    for word in words {
+        texts.push(String::from_str(alloc, word)?)?;
+    }
+    let mut source = CalmSource::new(input.to_vec(alloc)?);
+    let mut sink = MemSink::new(alloc, 1000, 1000, vec![in alloc; failing; 1]?)?;
     let status = run(
         alloc,
         texts.as_slice(),
@@ -196,11 +223,11 @@ fn words_and_failures_have_their_status(rt: HostRuntime) -> Result<(), Fail> {
         (&[], "1+1\n2", 100, &[1], 3, ""),
         (
             &["--pool=64"],
-            "1\n1",
-            28,
+            "1+1+1+1\n1+1+1+1",
+            27,
             &[],
             4,
-            "! full needed 40 free 24\n! f",
+            "! full needed 16 free 0\n! f",
         ),
         (&["x"], "1", 100, &[1], 2, ""),
         // The first breaker is armed once, and the second one trips at no poll.
@@ -238,12 +265,12 @@ fn words_and_failures_have_their_status(rt: HostRuntime) -> Result<(), Fail> {
         ),
         // A generated session reads nothing.
         (
-            &["--pool", "64", "--gen", "1"],
+            &["--pool", "1024", "--gen", "1"],
             "1",
             100,
             &[1],
             0,
-            "lines 2000 shown 0 stored 0 undef 0 refused 2000 bytes 47500\n",
+            "lines 2000 shown 1750 stored 250 undef 0 refused 0 bytes 27383\n",
         ),
         (&["--gen=1", "--pool=64"], "1", 10, &[1], 4, "lines 2000"),
     ];
@@ -260,69 +287,83 @@ fn words_and_failures_have_their_status(rt: HostRuntime) -> Result<(), Fail> {
 }
 
 #[test]
-fn the_words_name_the_size_of_the_pool(rt: HostRuntime) -> Result<(), Fail> {
-    let full = "! full needed 40 free 24\n";
+fn answers_are_drawn(rt: HostRuntime) -> Result<(), Fail> {
     // The words, the input and the output.
     let rows = [
-        (["--pool", "64"].as_slice(), "1+1", full),
-        (&["--pool=64"], "1", full),
-        (&["--pool", "104"], "1+1", full),
+        ([].as_slice(), "1/2\n:draw", "1/2\n1\n-\n2\n"),
+        (
+            &[],
+            "√(x)/2\n:layout\n:draw",
+            "√(x)/2\n((√(x))/(2))\n _\n√x\n--\n2\n",
+        ),
+        (&["--draw"], "x^2", "x^2\n 2\nx\n"),
+        (
+            &["--draw"],
+            "1/2\n1/0\n5→x\n2+\n:draw",
+            "1/2\n1\n-\n2\nundef\n5\n5\n! syntax\n5\n",
+        ),
+        (&["--pool=64"], ":layout\n:draw", "0\n0\n"),
+        // The answer stands where its layout finds no room.
+        (
+            &["--draw", "--pool=200"],
+            "x\na+b+c+d+e\n:layout\n:pool",
+            "x\nx\na+b+c+d+e\n! full needed 8 free 0\n! full needed 8 free 0\npool 88/200 nodes 6 trees 1\n",
+        ),
+        (
+            &["--draw", "--gen=1", "--pool=1024"],
+            "",
+            "lines 2000 shown 1750 stored 250 undef 0 refused 0 bytes 27383\n",
+        ),
+    ];
+    for (words, input, output) in rows {
+        let got = converse(rt.alloc(), words, input.as_bytes(), 4096, 1000, &[])?;
+        assert_eq!(rt; got.status, 0, "{words:?} with {input:?}");
+        assert_eq!(rt;
+            got.taken.as_slice(),
+            output.as_bytes(),
+            "{words:?} with {input:?}"
+        );
+    }
+    Ok(())
+}
+
+/// A row and its newline are one piece.
+#[test]
+fn a_failing_write_ends_a_picture(rt: HostRuntime) -> Result<(), Fail> {
+    let rows = [
+        (1, 4, ""),
+        (2, 4, "1/2"),
+        (3, 4, "1/2\n"),
+        (4, 4, "1/2\n1\n"),
+        (5, 4, "1/2\n1\n-\n"),
+        (6, 4, "1/2\n1\n-\n2\n"),
+        (9, 0, "1/2\n1\n-\n2\n1\n-\n2\n"),
+    ];
+    for (failing, status, output) in rows {
+        let got = converse_failing(rt.alloc(), &["--draw"], b"1/2\n:draw", failing)?;
+        assert_eq!(rt; got.status, status, "write {failing}");
+        assert_eq!(rt; got.taken.as_slice(), output.as_bytes(), "write {failing}");
+    }
+    Ok(())
+}
+
+#[test]
+fn the_words_name_the_size_of_the_pool(rt: HostRuntime) -> Result<(), Fail> {
+    let full = "! full needed 16 free 0\n";
+    // The words, the input and the output.
+    let rows = [
+        (["--pool", "64"].as_slice(), "1+1+1+1", full),
+        (&["--pool=64"], "9+9", "18\n"),
+        (&["--pool", "104"], "1+1+1+1", "4\n"),
         (&["--pool=128"], "9", "9\n"),
-        (&["--pool=0064"], "1", full),
-        (&["--pool", "00000000000000000064"], "1", full),
+        (&["--pool=0064"], "1+1+1+1", full),
+        (&["--pool", "00000000000000000064"], "1+1+1+1", full),
         (&["--pool=524280"], "1+1", "2\n"),
     ];
     for (words, input, output) in rows {
         let got = converse(rt.alloc(), words, input.as_bytes(), 4096, 100, &[])?;
         assert_eq!(rt; got.status, 0, "{words:?}");
         assert_eq!(rt; got.taken.as_slice(), output.as_bytes(), "{words:?}");
-    }
-    Ok(())
-}
-
-#[test]
-fn other_words_are_refused(rt: HostRuntime) -> Result<(), Fail> {
-    let rows = [
-        ["x"].as_slice(),
-        &[""],
-        &["--"],
-        &["64"],
-        &["--pool"],
-        &["--pool="],
-        &["--pool", ""],
-        &["--pool", "+64"],
-        &["--pool=-64"],
-        &["--pool", "64 "],
-        &["--pool=6x4"],
-        &["--pool", "=64"],
-        &["--Pool", "64"],
-        &["-pool=64"],
-        &["pool", "64"],
-        &["--pools", "64"],
-        &["--pool", "56"],
-        &["--pool", "65"],
-        &["--pool=68"],
-        &["--pool", "524288"],
-        &["--pool=18446744073709551616"],
-        &["--pool=18446744073709551680"],
-        &["--pool=000000000000000000064"],
-        &["--pool", "64", "--pool", "64"],
-        &["--pool=64", "--pool=64"],
-        &["--pool", "64", "x"],
-        &["x", "--pool=64"],
-        &["64", "--pool"],
-        &["--interrupt"],
-        &["--interrupt=18446744073709551616"],
-        &["--interrupt", "--pool", "64"],
-        &["--interrupt=1", "--pool=64", "--interrupt=1"],
-        &["--gen=4294967296"],
-        &["--gen", "1", "--gen=2"],
-        &["--gen=1", "--pool=65"],
-    ];
-    for words in rows {
-        let got = converse(rt.alloc(), words, b"1", 4096, 100, &[1])?;
-        assert_eq!(rt; got.status, 2, "{words:?}");
-        assert!(rt; got.taken.is_empty(), "{words:?}");
     }
     Ok(())
 }

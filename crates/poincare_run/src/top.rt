@@ -1,13 +1,14 @@
-ghost use Rattle.std.specs.Prelude.{◌≡◌, ◌≢◌, ℕ, ◌≤◌, ◌<◌, ◌^◌, ◌⊎◌, ◌↔◌, List, [], ◌∷◌, ◌++◌, length, map, vec_len, Contains, None, Some, string_bytes};
+ghost use Rattle.std.specs.Prelude.{◌≡◌, ◌≢◌, ℕ, ◌≤◌, ◌<◌, ◌^◌, ◌⊎◌, ◌↔◌, List, [], ◌∷◌, ◌++◌, length, map, vec_len, Contains, None, Some};
 ghost use Rattle.breakers.specs.Watch.{states};
 ghost use Rattle.calc_edges.specs.Faults.{Rose, StopsAtFailure};
-ghost use Rattle.poincare_run.specs.Beginnings.{armed as armed_by, beginning, begun, IfReads, IfGenerates};
+ghost use Rattle.poincare_run.specs.Beginnings.{armed as armed_by, beginning_of, begun, IfReads, IfGenerates};
 ghost use Rattle.poincare_run.specs.Buffer.{Holds};
 ghost use Rattle.poincare_run.specs.Endings.{session_limit, ReadsAll, ReadsPart, ReadsLimit, WriteStops, SumsUp, SumsUpInPart};
 ghost use Rattle.poincare_run.specs.Progress.{status, EndsAs, EndsFrom, IfNoMemory, IsSummed, StopsReading, StopsWriting, SumsUpAs, place_of};
 
 use crate::dialog::{Dialog, Ending, write_line};
 use crate::generated::session_from;
+use crate::notice::Notice;
 use crate::tally::{SUMMARY_LIMIT, write_summary};
 use crate::words::options_in;
 use breakers::{Breaker, Watch};
@@ -34,11 +35,11 @@ pub fn run<S: Source, K: Sink, B: Breaker>(
     ensures status { Contains (0 ∷ 2 ∷ 3 ∷ 4 ∷ 5 ∷ 6 ∷ []) result }
 
     // Status 2: the words are no form of the command line. Status 5: there was no memory to begin with.
-    ensures usage { (result ≡ 2) ↔ (beginning (map string_bytes words.now) (map B.state breakers.items) ≡ None) }
+    ensures usage { (result ≡ 2) ↔ (beginning_of B.state words.now breakers.items ≡ None) }
     ensures untouched { (result ≡ 2) ⊎ (result ≡ 5) → (source.new ≡ source.old) × (sink.new ≡ sink.old) }
 
     // Status 0: the input was read to its end, and the answers to all its lines were written.
-    ensures answered { result ≡ 0 → IfReads (beginning (map string_bytes words.now) (map B.state breakers.items)) (λ start.
+    ensures answered { result ≡ 0 → IfReads (beginning_of B.state words.now breakers.items) (λ start.
         ReadsAll start (S.told source.old) (S.told source.new) (K.taken sink.old) (K.taken sink.new)) }
 
     // Status 3: the source failed, and nothing was read behind that. The answers to the lines that were whole were
@@ -46,7 +47,7 @@ pub fn run<S: Source, K: Sink, B: Breaker>(
     ensures read_failed { result ≡ 3 → Rose (S.faults source.old) (S.faults source.new) }
     ensures read_stops { result ≡ 3 → StopsAtFailure S.told S.faults source.old source.new }
     ensures reads_calm { result ≢ 3 → S.faults source.new ≡ S.faults source.old }
-    ensures read_in_part { result ≡ 3 → IfReads (beginning (map string_bytes words.now) (map B.state breakers.items)) (λ start.
+    ensures read_in_part { result ≡ 3 → IfReads (beginning_of B.state words.now breakers.items) (λ start.
         ReadsPart start (S.told source.old) (S.told source.new) (K.taken sink.old) (K.taken sink.new)) }
 
     // Status 4: the sink failed, and nothing was written behind that. A part of the answers was written.
@@ -54,22 +55,22 @@ pub fn run<S: Source, K: Sink, B: Breaker>(
     ensures write_failed { result ≡ 4 → Rose (K.faults sink.old) (K.faults sink.new) }
     ensures write_stops { result ≡ 4 → StopsAtFailure K.taken K.faults sink.old sink.new }
     ensures writes_calm { result ≢ 4 → K.faults sink.new ≡ K.faults sink.old }
-    ensures written_in_part { result ≡ 4 → IfReads (beginning (map string_bytes words.now) (map B.state breakers.items)) (λ start.
+    ensures written_in_part { result ≡ 4 → IfReads (beginning_of B.state words.now breakers.items) (λ start.
         WriteStops start (S.told source.old) (S.told source.new) (K.taken sink.old) (K.taken sink.new)) }
 
     // Status 6: the limit was reached. The answers to the lines that were whole were written.
-    ensures limit_reached { result ≡ 6 → IfReads (beginning (map string_bytes words.now) (map B.state breakers.items)) (λ start.
+    ensures limit_reached { result ≡ 6 → IfReads (beginning_of B.state words.now breakers.items) (λ start.
         ReadsLimit start (S.told source.old) (S.told source.new) (K.taken sink.old) (K.taken sink.new)) }
     // No more is ever read, and so much only at status 6 or where a write failed.
     ensures limit { (input rest : List ℕ) → S.told source.old ≡ Some (input ++ rest) → S.told source.new ≡ Some rest
         → (length input ≤ session_limit) × (length input ≡ session_limit → (result ≡ 6) ⊎ (result ≡ 4)) }
 
     // A generated session reads nothing, and its summary is written, or a part of it where the sink failed.
-    ensures unread { IfGenerates (beginning (map string_bytes words.now) (map B.state breakers.items)) (λ start number.
+    ensures unread { IfGenerates (beginning_of B.state words.now breakers.items) (λ start number.
         (source.new ≡ source.old) × (result ≢ 3) × (result ≢ 6)) }
-    ensures summed_up { result ≡ 0 → IfGenerates (beginning (map string_bytes words.now) (map B.state breakers.items)) (λ start number.
+    ensures summed_up { result ≡ 0 → IfGenerates (beginning_of B.state words.now breakers.items) (λ start number.
         SumsUp start number (K.taken sink.old) (K.taken sink.new)) }
-    ensures summed_up_in_part { result ≡ 4 → IfGenerates (beginning (map string_bytes words.now) (map B.state breakers.items)) (λ start number.
+    ensures summed_up_in_part { result ≡ 4 → IfGenerates (beginning_of B.state words.now breakers.items) (λ start number.
         SumsUpInPart start number (K.taken sink.old) (K.taken sink.new)) }
 {
     let Some(options) = options_in(words) else {
@@ -78,8 +79,11 @@ pub fn run<S: Source, K: Sink, B: Breaker>(
     let Ok(session) = Session::open(alloc, options.size) else {
         return 5;
     };
+    let Ok(notice) = Notice::open(alloc) else {
+        return 5;
+    };
     let watch = armed(breakers, options.interrupt);
-    let dialog = Dialog::new(session, watch);
+    let dialog = Dialog::new(session, watch, notice, options.draw);
     status_of(answer(alloc, dialog, options.generated, source, sink))
 }
 

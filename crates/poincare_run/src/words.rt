@@ -1,19 +1,14 @@
 //! The words of the command line.
 ghost use Rattle.std.specs.Prelude.{◌≡◌, ◌<◌, ◌^◌, map, string_bytes, IfSome, Some, None};
-ghost use Rattle.std.specs.Char.{is_ascii_digit};
-ghost use Rattle.std.specs.List.{list_all};
 ghost use Rattle.node_pool.specs.State.{IsPoolSize};
-ghost use Rattle.poincare_run.specs.Options.{is_pool_size as is_pool_size_of, is_session_number as is_session_number_of, key_of as key_named, named_in as all_named, no_values, options_of, options_with as options_named, read as all_read, settled, value_of, with_number as number_named, with_value as value_named, with_generated as generated_named, with_interrupt as interrupt_named, with_next, with_word as word_named};
+ghost use Rattle.poincare_run.specs.Options.{is_pool_size as is_pool_size_of, is_session_number as is_session_number_of, key_of as key_named, named_in as all_named, no_values, options_of, options_with as options_named, read as all_read, settled, with_number as number_named, with_value as value_named, with_generated as generated_named, with_interrupt as interrupt_named, with_pool as pool_named, with_draw as draw_named, with_next, with_word as word_named};
 
-use std::str;
+use calc_commands::read_number;
 
 /// The bytes of a pool whose size no word names.
 const DEFAULT_SIZE: u64 = 32_768;
 
-/// The most digits of a value.
-const DIGIT_LIMIT: usize = 20;
-
-/// An option of the command line.
+/// An option of the command line that has a value.
 #[derive(Clone, Copy)]
 pub enum Key {
     Pool,
@@ -21,12 +16,13 @@ pub enum Key {
     Generated,
 }
 
-/// The numbers that are named so far.
+/// What is named so far.
 #[derive(Clone, Copy)]
 pub struct Values {
     pub pool: Option<u64>,
     pub interrupt: Option<u64>,
     pub generated: Option<u64>,
+    pub draw: bool,
 }
 
 /// What is named so far, and the option whose value the next word is.
@@ -45,6 +41,8 @@ pub struct Options {
     pub interrupt: Option<u64>,
     /// The number of a generated session, which is answered in place of what is read.
     pub generated: Option<u32>,
+    /// What is shown is drawn too.
+    pub draw: bool,
 }
 
 /// What the words ask for, where they are a form of the command line.
@@ -65,6 +63,7 @@ fn read(words: &[String]) -> Option<Reading>
             pool: None,
             interrupt: None,
             generated: None,
+            draw: false,
         },
         waiting: None,
     };
@@ -128,9 +127,31 @@ fn key_of(word: &[u8]) -> Option<Key>
     }
 }
 
-/// The numbers, with that of an option whose value stands in the word.
+/// What is named, with the option that is the word, or whose value stands in it.
 fn with_word(values: Values, word: &[u8]) -> Option<Values>
     ensures { result ≡ word_named word.now values }
+{
+    if word == b"--draw".as_slice() {
+        return with_draw(values);
+    }
+    with_pool(values, word)
+}
+
+/// The same with the option that has no value, where it is not named yet.
+fn with_draw(values: Values) -> Option<Values>
+    ensures { result ≡ draw_named values }
+{
+    if values.draw {
+        return None;
+    }
+    Some(Values {
+        draw: true,
+        ..values
+    })
+}
+
+fn with_pool(values: Values, word: &[u8]) -> Option<Values>
+    ensures { result ≡ pool_named word.now values }
 {
     if let Some(text) = word.strip_prefix(b"--pool=") {
         return with_value(values, Key::Pool, text);
@@ -156,7 +177,7 @@ fn with_generated(values: Values, word: &[u8]) -> Option<Values>
 fn with_value(values: Values, key: Key, text: &[u8]) -> Option<Values>
     ensures { result ≡ value_named key text.now values }
 {
-    with_number(values, key, value_in(text)?)
+    with_number(values, key, read_number(text)?)
 }
 
 /// The numbers, with that of an option that had none.
@@ -202,6 +223,7 @@ fn options_with(values: Values) -> Option<Options>
         size: size as u32,
         interrupt: values.interrupt,
         generated: values.generated.map(|number| number as u32),
+        draw: values.draw,
     })
 }
 
@@ -219,21 +241,4 @@ fn is_session_number(number: Option<u64>) -> bool
         Some(number) => number <= u64::from(u32::MAX),
         None => true,
     }
-}
-
-/// The value of decimal digits.
-fn value_in(text: &[u8]) -> Option<u64>
-    ensures { result ≡ value_of text.now }
-{
-    if text.len() > DIGIT_LIMIT || !all_digits(text) {
-        return None;
-    }
-    str::from_utf8(text).ok()?.parse::<u64>().ok()
-}
-
-/// Whether there is nothing but digits.
-fn all_digits(text: &[u8]) -> bool
-    ensures { result ≡ list_all is_ascii_digit text.now }
-{
-    text.iter().all(|byte| byte.is_ascii_digit())
 }

@@ -1,6 +1,6 @@
 use Rattle.std.proofs.Common.{◌∷◌, []}
 use Rattle.std.proofs.lemmas.Result.{on_err_weaker}
-use Rattle.poincare_run.proofs.ByteLemmas.{AppendsPart-after}
+use Rattle.calc_edges.proofs.Parts.{AppendsPart-after}
 use Rattle.calc_edges.proofs.Stops.{stops_later}
 use Rattle.poincare_run.proofs.dialog.write_line.Goals as goal
 

@@ -1,8 +1,8 @@
-use Rattle.std.proofs.Common.{◌≡◌, ◌∙◌, ◌⊎◌, [], ◌∷◌, Contains, Some, map, string_bytes, sym, ap, subst}
+use Rattle.std.proofs.Common.{◌≡◌, ◌∙◌, ◌⊎◌, [], ◌∷◌, Contains, Some, map, sym, ap, subst}
 use Rattle.std.specs.Option.{option_map}
 use Rattle.breakers.specs.Watch.{states}
 use Rattle.calc_session.specs.Seen.{Seen}
-use Rattle.poincare_run.specs.Beginnings.{beginning, beginning_with, begun}
+use Rattle.poincare_run.specs.Beginnings.{beginning_of, beginning_with, begun}
 use Rattle.poincare_run.specs.Progress.{place_of}
 use Rattle.poincare_run.proofs.StatusLemmas.{nothing_read, not_there, begins_at, is_status, is_no_memory, no_usage, early, all_read_if, read_in_part_if, written_in_part_if, limit_reached_if, summed_up_if, summed_up_in_part_if, unread_if, within_limit_if, read_stops, reads_calm, write_stops, writes_calm, stopped_rose}
 use Rattle.poincare_run.proofs.top.run.Goals as goal
@@ -16,13 +16,19 @@ returns-in_default-open-clause-status g c = is_no_memory
 pub returns-in_default-open-clause-limit : goal.returns-in_default-open-clause-limit
 returns-in_default-open-clause-limit g c = λ input rest before after. nothing_read _ input rest 5 before after
 
+pub returns-in_default-open-2-clause-status : goal.returns-in_default-open-2-clause-status
+returns-in_default-open-2-clause-status g c = is_no_memory
+
+pub returns-in_default-open-2-clause-limit : goal.returns-in_default-open-2-clause-limit
+returns-in_default-open-2-clause-limit g c = λ input rest before after. nothing_read _ input rest 5 before after
+
 -- the program begins as the words say
-start_is : (g : _) (c : goal.After-status_of g) → beginning (map string_bytes c.args.words.now) (map g.B.Breaker.state c.args.breakers.items) ≡ Some (begun (place_of g.B.Breaker.state c.new-dialog.result).now c.in-Some.options.generated)
+start_is : (g : _) (c : goal.After-status_of g) → beginning_of g.B.Breaker.state c.args.words.now c.args.breakers.items ≡ Some (begun (place_of g.B.Breaker.state c.new-dialog.result).now c.in-Some.options.generated)
 start_is g c =
     ap (option_map (beginning_with (map g.B.Breaker.state c.args.breakers.items))) (sym c.in-Some.ensures.value)
     ∙ ap (λ m. Some (begun m c.in-Some.options.generated))
-    (begins_at (place_of g.B.Breaker.state c.new-dialog.result).now _ _ (ap (λ (s : Seen). s.state) (c.new-dialog.ensures.session ∙ c.in-Ok.ensures))
-    (ap (states g.B.Breaker.state) c.new-dialog.ensures.watch ∙ c.armed-watch.ensures))
+    (begins_at (place_of g.B.Breaker.state c.new-dialog.result).now _ _ _ (ap (λ (s : Seen). s.state) (c.new-dialog.ensures.session ∙ c.in-Ok.ensures))
+    (ap (states g.B.Breaker.state) c.new-dialog.ensures.watch ∙ c.armed-watch.ensures) c.new-dialog.ensures.draws)
 
 pub returns-clause-status : goal.returns-clause-status
 returns-clause-status g c = subst (Contains (0 ∷ 2 ∷ 3 ∷ 4 ∷ 5 ∷ 6 ∷ [])) (sym c.status_of.ensures) (is_status c.answer.result)

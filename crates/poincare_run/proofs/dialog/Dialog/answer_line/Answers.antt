@@ -1,31 +1,41 @@
-use Rattle.std.proofs.Common.{sym, subst}
+use Rattle.std.proofs.Common.{◌∷◌, ◌++◌, [], sym, ap, subst, refl}
 use Rattle.std.specs.Io.KnownBytes.{Appends}
+use Rattle.std.proofs.KnownBytes.{Appends-nil}
 use Rattle.std.proofs.lemmas.Result.{on_ok_weaker, on_err_weaker}
-use Rattle.calc_edges.specs.Taken.{AppendsPart}
-use Rattle.poincare_run.proofs.StepLemmas.{written_text, written_blank}
-use Rattle.poincare_run.proofs.ByteLemmas.{Appends-nil}
+use Rattle.poincare_run.specs.Buffer.{Holds}
+use Rattle.poincare_run.specs.Progress.{Place}
+use Rattle.poincare_run.proofs.PictureLemmas.{answers_so, fails_so}
+use Rattle.poincare_run.proofs.StepLemmas.{written_blank, written_drawn, written_shown, written_text}
 use Rattle.poincare_run.proofs.dialog.Dialog.answer_line.Goals as goal
 
 pub returns-in-Blank-clause-ok : goal.returns-in-Blank-clause-ok
-returns-in-Blank-clause-ok g c = λ bytes h. let t = c.in-Blank.ensures.takes bytes h in record {
-  reply = t.reply;
-  step = t.step;
-  appended = subst (Appends _ _) (sym (written_blank _ _ bytes _ t)) (Appends-nil _);
+returns-in-Blank-clause-ok g c = λ bytes h. let t = c.take_line.ensures.takes bytes h in
+    answers_so _ _ bytes _ _ t _ _ _ (written_blank _ _ bytes _ _ t c.in-Blank.is) _ refl (Appends-nil _)
+
+pub returns-in-Draw : goal.returns-in-Draw
+returns-in-Draw g c = record {
+  ok = on_ok_weaker c.draw.result (λ all bytes h. let t = c.take_line.ensures.takes bytes h in answers_so _ _ bytes _ _ t _ _ _ (written_drawn _ _ bytes _ _ t c.in-Draw.is) _ c.draw.ensures.place all) c.draw.ensures.ok;
+  err = on_err_weaker c.draw.result (λ part bytes h. let t = c.take_line.ensures.takes bytes h in fails_so _ _ bytes _ _ t _ _ _ (written_drawn _ _ bytes _ _ t c.in-Draw.is) part) c.draw.ensures.err;
+  stops = c.draw.ensures.stops;
+  cleared = subst (λ l. Holds l []) (sym (ap (λ (p : Place). p.line) c.draw.ensures.place)) c.take_line.ensures.cleared;
+  cause = c.draw.ensures.cause;
 }
 
-pub returns : goal.returns
-returns g c = record {
-  ok = on_ok_weaker c.write_line.result (λ all bytes h. let t = c.take_line.ensures.takes bytes h in record {
-    reply = t.reply;
-    step = t.step;
-    appended = subst (Appends _ _) (sym (written_text _ _ bytes _ _ c.in_default.not-Blank t)) (rw c.text.ensures at all);
-  }) c.write_line.ensures.appended;
-  err = on_err_weaker c.write_line.result (λ part bytes h. let t = c.take_line.ensures.takes bytes h in record {
-    reply = t.reply;
-    next = _;
-    step = t.step;
-    appended = subst (AppendsPart _ _) (sym (written_text _ _ bytes _ _ c.in_default.not-Blank t)) (rw c.text.ensures at part);
-  }) c.write_line.ensures.part;
+pub returns-in-Shown : goal.returns-in-Shown
+returns-in-Shown g c = record {
+  ok = on_ok_weaker c.show.result (λ all bytes h. let t = c.take_line.ensures.takes bytes h in answers_so _ _ bytes _ _ t _ _ _ (written_shown _ _ bytes _ _ t c.in-Shown.is) _ c.show.ensures.place all) c.show.ensures.ok;
+  err = on_err_weaker c.show.result (λ part bytes h. let t = c.take_line.ensures.takes bytes h in fails_so _ _ bytes _ _ t _ _ _ (written_shown _ _ bytes _ _ t c.in-Shown.is) part) c.show.ensures.err;
+  stops = c.show.ensures.stops;
+  cleared = subst (λ l. Holds l []) (sym (ap (λ (p : Place). p.line) c.show.ensures.place)) c.take_line.ensures.cleared;
+  cause = c.show.ensures.cause;
+}
+
+pub returns-in_default : goal.returns-in_default
+returns-in_default g c = record {
+  ok = on_ok_weaker c.write_line.result (λ all bytes h. let t = c.take_line.ensures.takes bytes h in
+      answers_so _ _ bytes _ _ t _ _ _ (written_text _ _ bytes _ _ t c.in_default.not-Blank c.in_default.not-Draw c.in_default.not-Shown c.in_default.not-Stored) _ refl (rw c.text.ensures at all)) c.write_line.ensures.appended;
+  err = on_err_weaker c.write_line.result (λ part bytes h. let t = c.take_line.ensures.takes bytes h in
+      fails_so _ _ bytes _ _ t _ _ _ (written_text _ _ bytes _ _ t c.in_default.not-Blank c.in_default.not-Draw c.in_default.not-Shown c.in_default.not-Stored) (rw c.text.ensures at part)) c.write_line.ensures.part;
   stops = c.write_line.ensures.stops;
   cleared = c.take_line.ensures.cleared;
   cause = c.write_line.ensures.cause;

@@ -1,6 +1,7 @@
 use Rattle.std.proofs.Common.{refl}
 use Rattle.std.proofs.lemmas.Bool.{ne_eqb}
 use Rattle.poincare_run.specs.Lines.{rest_of}
+use Rattle.poincare_run.specs.Steps.{replies_of}
 use Rattle.poincare_run.proofs.TallyLemmas.{tallied_by_byte, tallied_by_line}
 use Rattle.poincare_run.proofs.dialog.Dialog.tally_byte.Goals as goal
 
@@ -13,4 +14,4 @@ returns-clause-tallied g c = λ start before h.
     let t = c.take_line-answer.ensures.takes (rest_of before) h.rest in
     rw c.if-byte-ne10.false
     (tallied_by_line start before _ _ c.args.tally h c.count.result c.take_line-answer.result _ t c.take_line-answer.ensures.cleared
-    (c.count.ensures.value h.replies t.reply h.tally_is t.answer_is (rw c.text.ensures t.text_is)))
+    (c.count.ensures.value (replies_of h.turns) t.reply h.tally_is t.answer_is (rw c.text.ensures t.text_is)))

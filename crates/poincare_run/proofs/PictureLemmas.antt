@@ -1,0 +1,51 @@
+-- Lemmas on what is written of pictures.
+use Rattle.std.proofs.Common.{◌≡◌, ◌∙◌, ◌++◌, ◌∷◌, ℕ, List, [], Bool, true, false, Option, Some, Result, Ok, Err, sym, ap, subst, append-nil}
+use Rattle.std.specs.Io.KnownBytes.{Appends}
+use Rattle.calc_edges.specs.Taken.{AppendsPart}
+use Rattle.calc_session.specs.Drawing.{IsDrawn, IsDrawnInPart, rows_in}
+use Rattle.calc_session.specs.Replies.{full, text_of}
+use Rattle.calc_session.specs.States.{State}
+use Rattle.node_pool.specs.declared.full.Full.{Full}
+use Rattle.poincare_run.specs.Progress.{AnswersLine, FailsAtLine, Place, TakesLine}
+use Rattle.poincare_run.specs.Steps.{picture_if, picture_text, with_newline, written}
+use Rattle.calc_session.specs.declared.answers.LineAnswer.{LineAnswer}
+
+abbrev text_for : Result (List ℕ) Full → List ℕ
+text_for r = elim r [ Ok rows ↦ rows | Err refusal ↦ with_newline (text_of (full refusal)) ]
+
+pub drawn_whole : (s : State) (a b : Option (List ℕ)) → IsDrawn (rows_in s) a b → Appends a b (picture_text s)
+drawn_whole s a b h = by (rows_in s) h
+  where
+    by : (r : Result (List ℕ) Full) → IsDrawn r a b → Appends a b (text_for r)
+    by (Ok rows) h = h
+    by (Err lack) h = absurd h
+
+pub drawn_part : (s : State) (a b : Option (List ℕ)) → IsDrawnInPart (rows_in s) a b → AppendsPart a b (picture_text s)
+drawn_part s a b h = by (rows_in s) h
+  where
+    by : (r : Result (List ℕ) Full) → IsDrawnInPart r a b → AppendsPart a b (text_for r)
+    by (Ok rows) h = h
+    by (Err lack) h = absurd h
+
+-- in place of a picture that finds no room
+pub not_drawn : (s : State) (lack : Full) (text : List ℕ) → rows_in s ≡ Err lack → Some text ≡ text_of (full lack) → picture_text s ≡ text ++ 10 ∷ []
+not_drawn s lack text e is = ap text_for e ∙ ap with_newline (sym is)
+
+module _ (old mid : Place) (bytes : List ℕ) (answer : LineAnswer) (text : List ℕ) (t : TakesLine old mid bytes answer text) (a b : Option (List ℕ)) (out : List ℕ) (is : written t.reply mid.now ≡ out) where
+  pub answers_so : (new : Place) → new ≡ mid → Appends a b out → AnswersLine old new bytes a b
+  answers_so new same all = subst (λ (p : Place). AnswersLine old p bytes a b) (sym same) (record { reply = t.reply; step = t.step; appended = subst (Appends a b) (sym is) all })
+
+  pub fails_so : AppendsPart a b out → FailsAtLine old bytes a b
+  fails_so part = record { reply = t.reply; next = mid.now; step = t.step; appended = subst (AppendsPart a b) (sym is) part }
+
+-- drawing leaves the place as it was
+pub same_place : (p : Place) (s : State) → s ≡ p.now.state → (let q : Place = record { now = record { state = s; breakers = p.now.breakers; draws = p.now.draws }; line = p.line } in q) ≡ p
+same_place p s e = ap (λ (x : State). let q : Place = record { now = record { state = x; breakers = p.now.breakers; draws = p.now.draws }; line = p.line } in q) e
+
+-- ---- pictures where they are wanted
+
+pub picture_wanted : (draws : Bool) (s : State) → draws ≡ true → picture_if draws s ≡ picture_text s
+picture_wanted draws s e = ap (λ (b : Bool). picture_if b s) e
+
+pub picture_unwanted : (draws : Bool) (s : State) (out : List ℕ) → draws ≡ false → out ++ picture_if draws s ≡ out
+picture_unwanted draws s out e = ap (λ (b : Bool). out ++ picture_if b s) e ∙ append-nil out
