@@ -40,11 +40,11 @@ answered() {
 
 # refused WORD..
 refused() {
-    run 2 '1\n' '' 'usage: poincare [--pool N] [--interrupt K] [--gen N]\n' "$@"
+    run 2 '1\n' '' 'usage: poincare [--pool N] [--interrupt K] [--draw] [--gen N]\n' "$@"
 }
 
 greatest=170141183460469231731687303715884105727
-full='! full needed 40 free 24\n'
+full='! full needed 16 free 0\n'
 
 answered '1+2+3' '6\n'
 answered '1+1\r\n\n007' '2\n7\n'
@@ -61,11 +61,12 @@ answered "$(printf '%01024d' 0 | tr 0 1)\n$(printf '%01025d' 0 | tr 0 1)\n" '! n
 answered "$(printf '%1024s')\n$(printf '%1025s')\n" '! long\n'
 answered "$greatest\n$greatest+1\n" "$greatest\n! overflow $greatest+1\n"
 answered '170141183460469231731687303715884105728\n' '! number 1\n'
-answered '1+1\n1\n' "$full$full" --pool 64
-answered '1+1\n' "$full" --pool 104
-answered '1+1\n' "$full" --pool=104
+answered '1+1+1+1\n1+1\n' "${full}2\n" --pool 64
+answered '1+1+1+1\n' '4\n' --pool 104
+answered '1/2/3\n:pool\n' '! full needed 16 free 8\npool 16/64 nodes 1 trees 1\n' --pool=64
+answered '9223372036854775807+9223372036854775808\n' '! full needed 40 free 32\n' --pool 64
 answered '9\n' '9\n' --pool 128
-answered '1\n' "$full" --pool=0064
+answered '1+1+1+1\n' "$full" --pool=0064
 answered '1+2+3\n' '6\n' --pool 524280
 
 # The worked rows.
@@ -80,17 +81,17 @@ answered '(x+1)-(x+1)\n(x×y)^2/x\n1/2x\n√(x)×√(x)\n2x(x+1)-2x^2\n' '0\nx×
 answered '0.1+0.2\n2^(1/2)\n√(1+√(2))\n' '3/10\n√(2)\n√(1+√(2))\n'
 
 # Stores and commands.
-answered '5→x\nx+1\n7→x\nx+ans\n:pool\n' '5\n6\n7\n14\npool 80/32768 nodes 2 trees 2\n'
+answered '5→x\nx+1\n7→x\nx+ans\n:pool\n' '5\n6\n7\n14\npool 32/32768 nodes 2 trees 2\n'
 answered 'x+1→y\n5→x\ny\n5→ans\n' '1+x\n5\n6\n! reserved\n'
-answered 'x+1→x\n:pool\n' '! circular x\npool 40/32768 nodes 1 trees 1\n'
-first='pool 40/32768 nodes 1 trees 1\n'
-second='pool 80/32768 nodes 2 trees 2\n'
+answered 'x+1→x\n:pool\n' '! circular x\npool 16/32768 nodes 1 trees 1\n'
+first='pool 16/32768 nodes 1 trees 1\n'
+second='pool 32/32768 nodes 2 trees 2\n'
 answered ':pool\n5→x\n:pool\n5→y\n:pool\n' "${first}5\n${first}5\n${second}"
-answered '5→x\n5→y\n7\n:pool\n:forget x\n:pool\n:forget x\n' "5\n5\n7\npool 120/32768 nodes 3 trees 3\nforgot x\n${second}no x\n"
-answered '1/2\n:pool\n' '1/2\npool 88/32768 nodes 3 trees 1\n'
+answered '5→x\n5→y\n7\n:pool\n:forget x\n:pool\n:forget x\n' "5\n5\n7\npool 48/32768 nodes 3 trees 3\nforgot x\n${second}no x\n"
+answered '1/2\n:pool\n' '1/2\npool 40/32768 nodes 3 trees 1\n'
 zeros='00 00 00 00 00 00 00 00\n'
-answered ':dump\n' "01 00 00 00 01 00 00 00\n${zeros}${zeros}01 00 00 00 00 00 00 00\n${zeros}"
-answered '7\n:pool\n' "${full}pool 40/64 nodes 1 trees 1\n" --pool 64
+answered ':dump\n' "01 01 00 00 01 00 00 00\n${zeros}"
+answered '7\n:pool\n' '7\npool 16/64 nodes 1 trees 1\n' --pool 64
 answered ':POOL\n:pool x\n:forget\n:forget 1\n:forget sqrt\n :pool \n:forget ans\n' \
     "! command\n! command\n! command\n! command\n! command\n${first}! reserved\n"
 
@@ -102,8 +103,20 @@ answered ':after 18446744073709551616\n:after 007\n' '! command\nafter 7\n'
 answered '1\n1\n' '! interrupted\n1\n' --interrupt 0
 answered '1+2+3\n7\n7\n' '6\n! interrupted\n7\n' --interrupt=4 --pool=64000
 
+# Layouts and pictures.
+answered '1/2\n:draw\n' '1/2\n1\n-\n2\n'
+answered '√(x)/2\n:layout\n:draw\n' '√(x)/2\n((√(x))/(2))\n _\n√x\n--\n2\n'
+answered 'x^2\n' 'x^2\n 2\nx\n' --draw
+answered ':layout\n:draw\n' '0\n0\n' --pool 64
+answered '1/2\n1/0\n5→x\n2+\n' '1/2\n1\n-\n2\nundef\n5\n5\n! syntax\n' --draw --pool 2000
+answered 'x\n:draw\n' 'x\nx\nx\n' --draw
+short='! full needed 8 free 0\n'
+answered 'x\na+b+c+d+e\n:draw\n:layout\n:pool\n' \
+    "x\nx\na+b+c+d+e\n${short}${short}${short}pool 88/200 nodes 6 trees 1\n" --draw --pool 200
+answered '1\n' 'lines 2000 shown 1750 stored 250 undef 0 refused 0 bytes 27383\n' --draw --gen 1
+
 # Generated sessions.
-answered '1\n' 'lines 2000 shown 0 stored 0 undef 0 refused 2000 bytes 47500\n' --pool 64 --gen 1
+answered '1\n' 'lines 2000 shown 1750 stored 250 undef 0 refused 0 bytes 27383\n' --pool 1024 --gen 1
 answered '1\n' 'lines 2000 shown 1750 stored 250 undef 0 refused 0 bytes 27383\n' --gen 1
 
 # A hundred lines of all kinds.
@@ -132,6 +145,8 @@ refused --interrupt
 refused --interrupt=18446744073709551616
 refused --interrupt 1 --interrupt=1
 refused --interrupt --pool 64
+refused --draw --draw
+refused --draw=1
 refused --gen 4294967296
 refused --gen 1 --pool 65
 refused --

@@ -1,5 +1,5 @@
 //! Faces of a name, of its multiples and powers, and of sums, worked by hand: 16 bytes for the name, 8 for a sign, a
-//! line, a sum, a product, a power or a root, and 40 for each whole number.
+//! line, a sum, a product, a power or a root, and 16 for each whole number.
 ghost use Rattle.tree_handles.specs.Standing.{Stands};
 
 use super::fixtures::{SIZE, answer, armed, opened, read};
@@ -14,28 +14,28 @@ use std::test::Fail;
 const BYTES: &str = "\
 x = 16\n\
 -x = 24\n\
-2×x = 64\n\
--2×x = 72\n\
-x/2 = 64\n\
--x/2 = 72\n\
-3×x/2 = 112\n\
--3×x/2 = 120\n\
-x^2 = 64\n\
-x^-1 = 64\n\
-x^-2 = 112\n\
+2×x = 40\n\
+-2×x = 48\n\
+x/2 = 40\n\
+-x/2 = 48\n\
+3×x/2 = 64\n\
+-3×x/2 = 72\n\
+x^2 = 40\n\
+x^-1 = 40\n\
+x^-2 = 64\n\
 x^(1/2) = 24\n\
-x^(-1/2) = 72\n\
-x^(1/3) = 112\n\
-x^(-1/3) = 120\n\
--x^-1 = 72\n\
-1/2×x^-1 = 112\n\
-2×x^-1 = 64\n\
-3×x^2 = 112\n\
--3/2×x^-2 = 168\n\
--1/2+2×x = 168\n\
--3+2×x = 120\n\
-2-x = 64\n\
-2-x/2 = 112";
+x^(-1/2) = 48\n\
+x^(1/3) = 64\n\
+x^(-1/3) = 72\n\
+-x^-1 = 48\n\
+1/2×x^-1 = 64\n\
+2×x^-1 = 40\n\
+3×x^2 = 64\n\
+-3/2×x^-2 = 96\n\
+-1/2+2×x = 96\n\
+-3+2×x = 72\n\
+2-x = 40\n\
+2-x/2 = 64";
 
 /// The bytes that are used when the face of a line's answer stands alone, or none where it was refused.
 fn bytes_of_face<R: Reducer>(

@@ -9,7 +9,7 @@ use calc_session::{LineAnswer, Refusal, Session};
 use deep_reduce::DeepReducer;
 use std::alloc::{AllocError, Global};
 use std::test::Fail;
-use tables::{REDUCED, SHOWN};
+use tables::{JOINED, REDUCED, SHOWN};
 
 /// What became of a line in a pool.
 #[derive(Clone, Copy, Debug, PartialEq, Eq)]
@@ -77,7 +77,7 @@ fn first_other(alloc: Global, table: &str) -> Result<Option<usize>, AllocError> 
 
 #[test]
 fn small_pools_are_full(rt: HostRuntime) -> Result<(), Fail> {
-    for table in [REDUCED, SHOWN] {
+    for table in [REDUCED, SHOWN, JOINED] {
         let other = first_other(rt.alloc(), table)?;
         assert_eq!(rt; other, None, "{table}");
     }

@@ -1,0 +1,224 @@
+/// Sessions, which an empty row ends. A row that begins with `$` has the words. Another row is a line, with its
+/// answer behind an equals sign where it has one; a row that begins with `|` is one more row of the output.
+pub const ROWS: &str = "\
+1+2+3 = 6
+
+1 + 2 = 3
+(1+2)+3 = 6
+((1)) = 1
+0.5+1 = 3/2
+1.0+2 = 3
+
+2×3 = 6
+1+ = ! syntax
+1 + 1 = 2
+
++1 = ! syntax
+1++1 = ! syntax
+1a = a
+(1)(2) = 2
+-1 = -1
+
+:nothing = ! command
+ : = ! command
+1->x = 1
+
+1. = ! character 2
+2$3 = ! character 2
+2+ = ! syntax
+abcdefgh = ! character 1
+
+1.000000000000000000000000000000000000001 = ! number 1
+
+170141183460469231731687303715884105727 = 170141183460469231731687303715884105727
+170141183460469231731687303715884105727+1 = ! overflow 170141183460469231731687303715884105727+1
+170141183460469231731687303715884105728 = ! number 1
+
+$ --pool 64
+1+1+1+1 = ! full needed 16 free 0
+1+1 = 2
+
+$ --pool 104
+1+1+1+1 = 4
+
+$ --pool=64
+1/2/3 = ! full needed 16 free 8
+:pool = pool 16/64 nodes 1 trees 1
+
+$ --pool 64
+9223372036854775807+9223372036854775808 = ! full needed 40 free 32
+
+$ --pool 128
+9 = 9
+
+$ --pool=0064
+1+1+1+1 = ! full needed 16 free 0
+
+$ --pool 524280
+1+2+3 = 6
+
+1/3+1/6 = 1/2
+
+√(8)+√(18) = 5×√(2)
+1/(√(2)+√(3)) = -√(2)+√(3)
+
+x/x = 1
+0^0 = undef
+1/0 = undef
+√(-1) = undef
+x^2×x^-2 = 1
+√(0) = 0
+
+2^126 = 85070591730234615865843651857942052864
+2^127 = ! overflow 2^127
+2^-3 = 1/8
+-2^2 = -4
+2^3^2 = 512
+
+√(200280098) = 10007×√(2)
+1/(1+√(2)+√(3)) = 1/(1+√(2)+√(3))
+x+√(2)×x = (1+√(2))×x
+
+(-3+√(17))/4 = -3/4+√(17)/4
+(√(2)+√(3))^2 = 5+2×√(6)
+√(2)×√(3) = √(6)
+√(1/2) = √(2)/2
+
+(x+√(2))^-1×(x+√(3))^-1 = 1/((√(2)+x)×(√(3)+x))
+
+(x+1)-(x+1) = 0
+(x×y)^2/x = x×y^2
+1/2x = 1/(2×x)
+√(x)×√(x) = x
+2x(x+1)-2x^2 = 2×x×(1+x)-2×x^2
+
+0.1+0.2 = 3/10
+2^(1/2) = √(2)
+√(1+√(2)) = √(1+√(2))
+
+5→x = 5
+x+1 = 6
+7→x = 7
+x+ans = 14
+:pool = pool 32/32768 nodes 2 trees 2
+
+x+1→y = 1+x
+5→x = 5
+y = 6
+5→ans = ! reserved
+
+x+1→x = ! circular x
+:pool = pool 16/32768 nodes 1 trees 1
+
+:pool = pool 16/32768 nodes 1 trees 1
+5→x = 5
+:pool = pool 16/32768 nodes 1 trees 1
+5→y = 5
+:pool = pool 32/32768 nodes 2 trees 2
+
+5→x = 5
+5→y = 5
+7 = 7
+:pool = pool 48/32768 nodes 3 trees 3
+:forget x = forgot x
+:pool = pool 32/32768 nodes 2 trees 2
+:forget x = no x
+
+1/2 = 1/2
+:pool = pool 40/32768 nodes 3 trees 1
+
+:dump = 01 01 00 00 01 00 00 00
+| 00 00 00 00 00 00 00 00
+
+$ --pool 64
+7 = 7
+:pool = pool 16/64 nodes 1 trees 1
+
+:POOL = ! command
+:pool x = ! command
+:forget = ! command
+:forget 1 = ! command
+:forget sqrt = ! command
+ :pool  = pool 16/32768 nodes 1 trees 1
+:forget ans = ! reserved
+
+:after 3 = after 3
+1+2+3 = ! interrupted
+:after 4 = after 4
+1+2+3 = 6
+7 = ! interrupted
+:after 0 = no breaker
+
+:after 0 = after 0
+:pool = pool 16/32768 nodes 1 trees 1
+1 = ! interrupted
+
+:after 18446744073709551616 = ! command
+:after 007 = after 7
+
+$ --interrupt 0
+1 = ! interrupted
+1 = 1
+
+$ --interrupt=4 --pool=64000
+1+2+3 = 6
+7 = ! interrupted
+7 = 7
+
+1/2 = 1/2
+:draw = 1
+| -
+| 2
+
+√(x)/2 = √(x)/2
+:layout = ((√(x))/(2))
+:draw =  _
+| √x
+| --
+| 2
+
+$ --draw
+x^2 = x^2
+|  2
+| x
+
+$ --pool 64
+:layout = 0
+:draw = 0
+
+$ --draw --pool 2000
+1/2 = 1/2
+| 1
+| -
+| 2
+1/0 = undef
+5→x = 5
+| 5
+2+ = ! syntax
+
+$ --draw
+x = x
+| x
+:draw = x
+
+$ --draw --pool 200
+x = x
+| x
+a+b+c+d+e = a+b+c+d+e
+| ! full needed 8 free 0
+:draw = ! full needed 8 free 0
+:layout = ! full needed 8 free 0
+:pool = pool 88/200 nodes 6 trees 1
+
+";
+
+/// Generated sessions, and their summaries.
+pub const GENERATED: &str = "\
+$ --pool 1024 --gen 1
+1
+| lines 2000 shown 1750 stored 250 undef 0 refused 0 bytes 27383
+
+$ --draw --gen 1
+| lines 2000 shown 1750 stored 250 undef 0 refused 0 bytes 27383
+
+";
