@@ -150,18 +150,3 @@ whole_found r positive fits = record {
 
 pub nothing_below_two : (n : ℕ) → HasNoDivisorBelow 2 n
 nothing_below_two n = record { none = λ e two lt en. absurd (omega arith) }
-
--- 4 and 6 are multiples of 2
-pub beyond_four : (n : ℕ) → HasNoDivisorBelow 4 n → HasNoDivisorBelow 5 n
-beyond_four n none = record { none = λ e two lt en. by e two lt en (cases_lt e 4) }
-  where
-    by : (e : ℕ) → 2 ≤ e → e < 5 → e ∣ n → (e < 4) ⊎ (4 ≤ e) → ⊥
-    by e two lt en (inl below) = none.none e two below en
-    by e two lt en (inr at) = let same : e ≡ 2 * 2 = omega arith in none.none 2 (omega arith) (omega arith) (dvd_trans 2 (subst (λ m. 2 ∣ m) (sym same) (dvd-mul_right 2 2)) en)
-
-pub beyond_six : (n : ℕ) → HasNoDivisorBelow 6 n → HasNoDivisorBelow 7 n
-beyond_six n none = record { none = λ e two lt en. by e two lt en (cases_lt e 6) }
-  where
-    by : (e : ℕ) → 2 ≤ e → e < 7 → e ∣ n → (e < 6) ⊎ (6 ≤ e) → ⊥
-    by e two lt en (inl below) = none.none e two below en
-    by e two lt en (inr at) = let same : e ≡ 2 * 3 = omega arith in none.none 2 (omega arith) (omega arith) (dvd_trans 2 (subst (λ m. 2 ∣ m) (sym same) (dvd-mul_right 2 3)) en)

@@ -1,5 +1,5 @@
 -- Which divisors a number has.
-use Rattle.std.specs.Prelude.{ℕ, ◌*◌, ◌%◌, ◌≡◌, ◌≢◌, ◌≤◌, ◌<◌, ◌⊎◌}
+use Rattle.std.specs.Prelude.{ℕ, ◌*◌, ◌≡◌, ◌≤◌, ◌<◌}
 use Prim.Native.Nat.{◌∣◌}
 use Rattle.calc_algebra.specs.Clean.{trial_limit}
 
@@ -18,13 +18,3 @@ pub record IsSmooth (n : ℕ) : Type 0 where
 -- a number from 2 to the trial limit that divides n is n
 pub record HasNoOtherDivisor (n : ℕ) : Type 0 where
   pub whole : (e : ℕ) → 2 ≤ e → e ≤ trial_limit → e ∣ n → e ≡ n
-
--- d is no multiple of 2, 3 or 5
-pub record IsCandidate (d : ℕ) : Type 0 where
-  pub no_two : d % 2 ≢ 0
-  pub no_three : d % 3 ≢ 0
-  pub no_five : d % 5 ≢ 0
-
--- n is a multiple of 2, 3 or 5
-abbrev pub IsSkipped : ℕ → Type 0
-IsSkipped n = (n % 2 ≡ 0) ⊎ (n % 3 ≡ 0) ⊎ (n % 5 ≡ 0)

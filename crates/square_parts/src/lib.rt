@@ -4,6 +4,7 @@
 mod classes;
 mod division;
 pub mod laws;
+mod primes;
 mod splitting;
 
 pub use classes::alike;

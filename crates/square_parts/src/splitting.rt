@@ -5,6 +5,7 @@ ghost use Rattle.square_parts.specs.Divisors.{HasNoOtherDivisor};
 ghost use Rattle.square_parts.specs.Found.{number_of, IsFound};
 
 use crate::division::Found;
+use crate::primes::odd_primes;
 use rational128::isqrt;
 
 /// The square of the trial limit.
@@ -25,13 +26,8 @@ pub fn split(r: u128) -> (u128, u128)
         clean: 1,
         rest: r,
     };
-    parts_of(
-        whole
-            .divided_by(2)
-            .divided_by(3)
-            .divided_by(5)
-            .divided_by_candidates(),
-    )
+    let primes = odd_primes();
+    parts_of(whole.divided_by(2).divided_by_primes(primes))
 }
 
 /// The square part and the clean part, once the numbers up to the trial limit are divided out.

@@ -1,14 +1,17 @@
-use Rattle.square_parts.proofs.CleanParts.{whole_found, nothing_below_two, beyond_four, beyond_six}
+use Rattle.std.proofs.Common.{◌≡◌, ◌∷◌, arith, rules}
+use Rattle.square_parts.specs.Primes.{IsDividedBelow}
+use Rattle.square_parts.proofs.CleanParts.{whole_found, nothing_below_two}
 use Rattle.square_parts.proofs.splitting.split.Goals as goal
 
 pub divided_by-requires-clause-found : goal.divided_by-requires-clause-found
 divided_by-requires-clause-found c = whole_found c.args.r c.requires.positive c.requires.fits
 
-pub divided_by-requires-clause-below : goal.divided_by-requires-clause-below
-divided_by-requires-clause-below c = nothing_below_two c.args.r
+pub divided_by-requires-clause-next : goal.divided_by-requires-clause-next
+divided_by-requires-clause-next c = (c.odd_primes-primes.result.now, record { from = 2; two = omega arith; below = nothing_below_two c.args.r; primes = c.odd_primes-primes.ensures.all })
 
-pub divided_by-requires-3-clause-below : goal.divided_by-requires-3-clause-below
-divided_by-requires-3-clause-below c = beyond_four c.divided_by-2.result.rest c.divided_by-2.ensures.below
+pub divided_by_primes-requires-clause-next : goal.divided_by_primes-requires-clause-next
+divided_by_primes-requires-clause-next c =
+    c.divided_by.ensures.next c.odd_primes-primes.result.now (record { from = 2; two = omega arith; below = nothing_below_two c.args.r; primes = c.odd_primes-primes.ensures.all })
 
-pub divided_by_candidates-requires-clause-below : goal.divided_by_candidates-requires-clause-below
-divided_by_candidates-requires-clause-below c = beyond_six c.divided_by-3.result.rest c.divided_by-3.ensures.below
+pub divided_by_primes-requires-clause-fours : goal.divided_by_primes-requires-clause-fours
+divided_by_primes-requires-clause-fours c = omega (arith, c.odd_primes-primes.ensures.fours)

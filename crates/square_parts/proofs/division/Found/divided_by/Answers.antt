@@ -1,6 +1,11 @@
-use Rattle.std.proofs.Common.{◌≡◌, true, false}
+use Rattle.std.proofs.Common.{◌≡◌, refl, true, false}
 use Rattle.square_parts.proofs.Steps.{done_with}
+use Rattle.square_parts.proofs.Ends.{next_prime, behind_prime}
 use Rattle.square_parts.proofs.division.Found.divided_by.Goals as goal
 
-pub returns-clause-below : goal.returns-clause-below
-returns-clause-below c = done_with c.args.d c.loop-found.found.rest c.loop-found.invariant.below (λ z. let is : false ≡ true = c.loop-found-test.ensures.1 z in cc)
+pub loop-found-init : goal.loop-found-init
+loop-found-init c = record { same = refl; found = c.requires.found; below = (next_prime _ c.requires.next.0 _ c.requires.next.1).below }
+
+pub returns-clause-next : goal.returns-clause-next
+returns-clause-next c = λ primes d.
+    behind_prime _ primes _ _ (next_prime _ primes _ d) (done_with c.args.prime c.loop-found.found.rest c.loop-found.invariant.below (λ z. let is : false ≡ true = c.loop-found-test.ensures.1 z in cc))

@@ -1,0 +1,7 @@
+use Rattle.std.proofs.Common.{◌≡◌, subst, sym}
+use Rattle.std.specs.Int.{◌∣◌}
+use Rattle.std.proofs.Math.Nat.{mod-mod_of_dvd}
+use Rattle.square_parts.proofs.division.remainder.Goals as goal
+
+pub returns-else-n : goal.returns-else-n
+returns-else-n c = λ m h. mod-mod_of_dvd m c.args.n (subst (λ d. m ∣ d) (sym c.from.ensures) h)
