@@ -19,7 +19,7 @@ parts_one : Parts 1 surd_one
 unfolding one_fraction
 parts_one = record { positive = omega arith; whole = (den_divides (pos 1) 1 (omega arith), tt) }
 
-power_once : (d : ℕ) → d ^ 1 ≡ d
+pub power_once : (d : ℕ) → d ^ 1 ≡ d
 power_once d = pow-suc d 0 ∙ ap (λ k. k * d) (pow-zero d) ∙ omega arith
 
 pub parts_power : (d : ℕ) (v : Surd) (n : ℕ) → Parts d v → Parts (d ^ n) (surd_power v n)

@@ -6,3 +6,4 @@ pub mod Fitting
 pub mod Held
 pub mod Parts
 pub mod HeldByOne
+pub mod NoLarger

@@ -14,6 +14,10 @@ pub record Parts (d : ℕ) (v : Surd) : Type 0 where
   pub positive : 0 < d
   pub whole : AreWholeOver d v
 
+-- each common denominator of v is one of w
+abbrev pub SharesDenominators : Surd → Surd → Type 0
+SharesDenominators v w = (d : ℕ) → Parts d v → Parts d w
+
 -- the magnitude of d * q, where that is whole
 abbrev pub magnitude_over : ℕ → Fraction → ℕ
 magnitude_over d q = nat_abs q.num * (d / q.den)

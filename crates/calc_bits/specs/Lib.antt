@@ -1,2 +1,3 @@
 pub mod Denominators
 pub mod Masses
+pub mod Bounds

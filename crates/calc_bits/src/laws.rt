@@ -8,7 +8,8 @@ ghost use Rattle.calc_terms.specs.Trees.{Tree, Trees};
 ghost use Rattle.calc_algebra.specs.Numbers.{AreTerms, Rises, is_number, terms_of, value};
 ghost use Rattle.calc_algebra.specs.SquareClasses.{Same};
 ghost use Rattle.calc_algebra.specs.Surds.{Term, Surd, surd_times, surd_power};
-ghost use Rattle.calc_bits.specs.Denominators.{Parts, magnitude_over};
+ghost use Rattle.calc_bits.specs.Bounds.{IsNoLarger, IsNoLargerThanPower, SharesPowers};
+ghost use Rattle.calc_bits.specs.Denominators.{Parts, SharesDenominators, magnitude_over};
 ghost use Rattle.calc_bits.specs.Masses.{root_above, mass_from, IsHeld, IsHeldByOne};
 
 /// The number that its definition computes is the least whose square is at least n.
@@ -97,6 +98,20 @@ pub fn same_numbers_are_held()
         → ((d : ℕ) → Parts d v → Parts d (value t)) → IsHeld v h l → IsHeld (value t) h l }
     ensures by_one { (t : Tree) (v : Surd) (h l : ℕ) → is_number t ≡ true → Same (value t) v
         → ((d : ℕ) → Parts d v → Parts d (value t)) → IsHeldByOne v h l → IsHeldByOne (value t) h l }
+{}
+
+/// Numbers that are the same as a list, or as a power of one, over its common denominators or their powers, are no larger.
+pub fn same_numbers_are_no_larger()
+    ensures lists { (t : Tree) (v : Surd) → is_number t ≡ true → Same (value t) v → SharesDenominators v (value t) → IsNoLarger v (value t) }
+    ensures powers { (t : Tree) (v : Surd) (n : ℕ) → 1 ≤ n → is_number t ≡ true → Same (value t) (surd_power v n) → SharesPowers v n (value t)
+        → IsNoLargerThanPower v n (value t) }
+{}
+
+/// Terms that rise, and with more terms behind are the same as a whole over its common denominators: with these they are held
+/// as the whole is.
+pub fn sums_so_far_are_held()
+    ensures { (ts : Trees) (v w : Surd) (h l : ℕ) → AreTerms ts → Rises (terms_of ts) → Same (terms_of ts ++ w) (v ++ w)
+        → SharesDenominators (v ++ w) (terms_of ts ++ w) → IsHeld (v ++ w) h l → IsHeld (terms_of ts ++ w) h l }
 {}
 
 /// Parts of what is held are held as it is: its front, its end, and a term of each.

@@ -30,7 +30,7 @@ pub spans_scale : (gs : List ℕ) (c : Fraction) (v : Surd) → Spans gs v → S
 spans_scale gs c [] h = tt
 spans_scale gs c (t ∷ v) (h, hs) = (h, spans_scale gs c v hs)
 
-spans_row : (gs : List ℕ) (t : Term) (w : Surd) → IsSpanned gs t.radicand → Spans gs w → Spans gs (map (term_times t) w)
+pub spans_row : (gs : List ℕ) (t : Term) (w : Surd) → IsSpanned gs t.radicand → Spans gs w → Spans gs (map (term_times t) w)
 spans_row gs t [] h k = tt
 spans_row gs t (u ∷ w) h (k, ks) = (spanned_times gs t.radicand u.radicand h k, spans_row gs t w h ks)
 

@@ -22,7 +22,7 @@ term_is_number (root a) h = h
 term_is_number (mult ts) h = h
 term_is_number _ h = cc
 
-term_counts : (t : Tree) → IsTerm t → is_number t ≡ true
+pub term_counts : (t : Tree) → IsTerm t → is_number t ≡ true
 unfolding is_number
 term_counts (num q) h = refl
 term_counts (root a) h = number_test (root a) h
@@ -30,18 +30,18 @@ term_counts (mult ts) h = number_test (mult ts) h
 term_counts t h = absurd h
 
 -- a Number counts nothing among children, and another tree what it counts
-counted_number : (t : Tree) (ts : Trees) → is_number t ≡ true → counted_among (more t ts) ≡ counted_among ts
+pub counted_number : (t : Tree) (ts : Trees) → is_number t ≡ true → counted_among (more t ts) ≡ counted_among ts
 counted_number t ts e = ap (λ b. (if b then 0 else counted t) + counted_among ts) e ∙ omega arith
 
-counted_other : (t : Tree) (ts : Trees) → is_number t ≡ false → counted_among (more t ts) ≡ counted t + counted_among ts
+pub counted_other : (t : Tree) (ts : Trees) → is_number t ≡ false → counted_among (more t ts) ≡ counted t + counted_among ts
 counted_other t ts e = ap (λ b. (if b then 0 else counted t) + counted_among ts) e
 
-none_counted : (ts : Trees) → AreTerms ts → counted_among ts ≡ 0
+pub none_counted : (ts : Trees) → AreTerms ts → counted_among ts ≡ 0
 none_counted none h = refl
 none_counted (more t ts) (h, hs) = counted_number t ts (term_counts t h) ∙ none_counted ts hs
 
 -- a Number counts once
-number_counts : (t : Tree) → IsNumber t → counted t ≡ 1
+pub number_counts : (t : Tree) → IsNumber t → counted t ≡ 1
 unfolding is_number
 number_counts (num q) h = refl
 number_counts (add ts) h = ap suc (none_counted ts h.1)

@@ -1,2 +1,4 @@
 pub mod Spans
 pub mod Counts
+pub mod Needs
+pub mod Powers

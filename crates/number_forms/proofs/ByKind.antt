@@ -80,4 +80,4 @@ sum_classes t e = let s : t ≡ add (children_of t) = add_by_kind t e in ap clas
 pub sum_of_number : (t : Tree) → is_number t ≡ true → root_kind t ≡ kind.Add → IsSumOf (value t) t
 sum_of_number t h e =
     let s : t ≡ add (children_of t) = add_by_kind t e in
-    record { sum = subst IsSum (sym s) (added_number (children_of t) (subst (λ (u : Tree). is_number u ≡ true) s h)); worth = Same-refl (value t) }
+    record { sum = subst IsSum (sym s) (added_number (children_of t) (subst (λ (u : Tree). is_number u ≡ true) s h)); worth = Same-refl (value t); parts = λ d p. p }

@@ -10,7 +10,7 @@ use Rattle.calc_algebra.proofs.NumberClasses.{value_rises}
 use Rattle.calc_algebra.proofs.NumberLaws.{number_words, term_words}
 use Rattle.calc_algebra.proofs.SquareClassLaws.{Same-trans}
 use Rattle.calc_algebra.proofs.TermLaws.{Same-eq}
-use Rattle.number_forms.specs.Answers.{IsNumberOf}
+use Rattle.number_forms.specs.Answers.{IsNumberOf, IsNumberOver}
 use Rattle.node_pool.specs.declared.full.Full.{Full}
 use Rattle.number_forms.specs.Inverses.{inverse_trees, IsInverseOf, HasInverse, LacksInverse}
 use Rattle.number_forms.specs.Overflows.{inverting_calculations}
@@ -19,6 +19,7 @@ use Rattle.surd_terms.specs.Calculations.{Calculation, first_misfit}
 use Rattle.surd_terms.specs.Inverses.{inverse_of, first_of_inverse, second_of_inverse}
 use Rattle.tree_handles.specs.Building.{building, node_sizes, nodes_sizes, taking}
 use Rattle.number_forms.proofs.Placings.{lacking_on}
+use Rattle.number_forms.proofs.Over.{of_over}
 use Rattle.number_forms.proofs.Shaped.{single_number, sum_number}
 use Rattle.number_forms.proofs.Worth.{Same-sym}
 
@@ -44,7 +45,7 @@ apart_terms t x y h e = by (value t) e (value_rises t (number_words t h))
 
 pub inverse_term : (v : Surd) (t : Tree) (x y : Term) → v ≡ x ∷ [] → Inverts (y ∷ []) (x ∷ []) → is_term t ≡ true → term_of t ≡ y → inverse_trees v ≡ more t none → IsInverseOf v t
 inverse_term v t x y e i h f w =
-    let n : IsNumberOf (term_of t ∷ []) t = single_number t (term_words t h) in
+    let n : IsNumberOver (term_of t ∷ []) t = single_number t (term_words t h) in
     record { number = n.number; inverts = Inverts-Same (Same-sym (Same-trans n.worth (Same-eq (ap (λ (z : Term). z ∷ []) f)))) (Same-eq (sym e)) i; written = w }
 
 pub inverse_number : (v w : Surd) (t : Tree) (u : Surd) → v ≡ w → Inverts u w → IsNumberOf u t → inverse_trees v ≡ more t none → IsInverseOf v t
@@ -62,7 +63,7 @@ placed_two t u x a b e h f k g r =
     let these : term_of u ∷ term_of x ∷ [] ≡ a ∷ b ∷ [] = λ i. f i ∷ g i ∷ [] in
     subst (λ (s : Tree). IsNumberOf (a ∷ b ∷ []) s) (sym e)
     (subst (λ (v : Surd). IsNumberOf v (add (more u (more x none)))) these
-    (sum_number (more u (more x none)) (omega arith) (term_words u h, (term_words x k, tt)) (subst Rises (sym these) r)))
+    (of_over (sum_number (more u (more x none)) (omega arith) (term_words u h, (term_words x k, tt)) (subst Rises (sym these) r))))
 
 -- ---- the new tree, and whether its bytes suffice
 

@@ -3,6 +3,7 @@ pub mod Children
 pub mod Joined
 pub mod LastSums
 pub mod Worth
+pub mod Denominators
 pub mod Shaped
 pub mod ReducedNumbers
 pub mod CodeTests
@@ -19,3 +20,9 @@ pub mod SquareFreeSums
 pub mod Overflows
 pub mod Placings
 pub mod ListedTerms
+pub mod FreeBytes
+pub mod Rooms
+pub mod Over
+pub mod WithinBits
+pub mod RationalBits
+pub mod InverseBits

@@ -4,13 +4,14 @@ use Rattle.std.specs.Prelude.{slice_get}
 use Rattle.calc_algebra.specs.Numbers.{value}
 use Rattle.calc_algebra.specs.SquareClasses.{Same}
 use Rattle.calc_algebra.specs.Surds.{Term, Surd, term_times, surd_times}
+use Rattle.calc_bits.specs.Denominators.{SharesDenominators}
 use Rattle.calc_terms.specs.Trees.{Tree}
 use Rattle.calc_algebra.proofs.SquareClassLaws.{Same-trans}
 use Rattle.calc_algebra.proofs.TermLaws.{Same-refl}
 use Rattle.node_pool.specs.declared.full.Full.{Full}
 use Rattle.node_pool.specs.State.{State}
-use Rattle.number_forms.specs.Answers.{IsNumberOf}
 use Rattle.number_forms.specs.Sums.{IsSum, IsSumOf}
+use Rattle.number_forms.proofs.Denominators.{shares_eq, parts_step, parts_end, parts_row}
 use Rattle.number_forms.proofs.Worth.{terms_from, join_step, join_end, row_step}
 use Rattle.tree_handles.specs.declared.fault.NumberFault.{NumberFault}
 use Rattle.tree_handles.specs.declared.fault.NumberFault.TheVariants as fault
@@ -25,10 +26,11 @@ use Rattle.tree_handles.proofs.Fronts.{behind_first, front_after_one, front_same
 use Rattle.tree_handles.proofs.Given.{given_told, given_rest, given_other, given_same, gives_as}
 use Rattle.tree_handles.proofs.Lasts.{last_tree, ends_at, ends_without, expression_root, plain_root}
 
--- a sum, and with what is left of a list it is worth the whole
+-- a sum, and with what is left of a list it is worth the whole, over the common denominators of the whole
 pub record IsSumWith (left whole : Surd) (t : Tree) : Type 0 where
   pub sum : IsSum t
   pub worth : Same (value t ++ left) whole
+  pub parts : SharesDenominators whole (value t ++ left)
 
 -- a sum to which terms were joined, with what is left to join
 pub record IsJoined (i : ℕ) (left whole : Surd) (old now : State) : Type 0 where
@@ -49,16 +51,20 @@ kept_after h k = record { size = k.size ∙ h.size; refusals = k.refusals ∙ h.
 
 pub joined_none : (i : ℕ) (v : Surd) (s : State) → Stands s → Gives (without_root i (forest s)) (forest s) i IsSum → IsJoined i v (value (plain (root_tree i (forest s))) ++ v) s s
 joined_none i v s st e = record {
-  gives = gives_as (gives_itself e) refl (λ t h. record { sum = h.0; worth = subst (λ (u : Tree). Same (value u ++ v) (value (plain (root_tree i (forest s))) ++ v)) (sym h.1) (Same-refl (value (plain (root_tree i (forest s))) ++ v)) });
+  gives = gives_as (gives_itself e) refl (λ t h. record { sum = h.0; worth = subst (λ (u : Tree). Same (value u ++ v) (value (plain (root_tree i (forest s))) ++ v)) (sym h.1) (Same-refl (value (plain (root_tree i (forest s))) ++ v)); parts = shares_eq (ap (λ (u : Tree). value u ++ v) (sym h.1)) });
   front = front_same;
   kept = kept_same s;
   stands = st;
 }
 
-pub joined_more : (i : ℕ) (left rest whole w : Surd) (y : Term) (old now new : State) → IsJoined i left whole old now → left ≡ y ∷ rest → Same w (y ∷ value (plain (root_tree i (forest now))))
+pub joined_more : (i : ℕ) (left rest whole w : Surd) (y : Term) (old now new : State) → IsJoined i left whole old now → left ≡ y ∷ rest → Same w (y ∷ value (plain (root_tree i (forest now)))) → SharesDenominators (y ∷ value (plain (root_tree i (forest now)))) w
     → Gives (without_root i (forest now)) (forest new) i (IsSumOf w) → KeepsFront (i ∷ []) (forest now) (forest new) → KeepsRefusals now new → Stands new → IsJoined i rest whole old new
-joined_more i left rest whole w y old now new j e s g f k st = record {
-  gives = gives_as g (given_rest j.gives) (λ t h. record { sum = h.sum; worth = join_step (value (plain (root_tree i (forest now)))) (value t) left rest whole y e (Same-trans h.worth s) (given_told j.gives).worth });
+joined_more i left rest whole w y old now new j e s p g f k st = record {
+  gives = gives_as g (given_rest j.gives) (λ t h. record {
+    sum = h.sum;
+    worth = join_step (value (plain (root_tree i (forest now)))) (value t) left rest whole y e (Same-trans h.worth s) (given_told j.gives).worth;
+    parts = parts_step (value (plain (root_tree i (forest now)))) (value t) left rest whole y e (λ d q. h.parts d (p d q)) (given_told j.gives).parts;
+  });
   front = front_after_one behind_first j.front f;
   kept = kept_after j.kept k;
   stands = st;
@@ -68,14 +74,18 @@ pub joined_row : (i n : ℕ) (v u whole : Surd) (x : Term) (old now new : State)
     → Gives (without_root i (forest now)) (forest new) i (IsSumOf (value (plain (root_tree i (forest now))) ++ map (term_times x) u)) → KeepsFront (i ∷ []) (forest now) (forest new) → KeepsRefusals now new → Stands new
     → IsJoined i (surd_times (terms_from (suc n) v) u) whole old new
 joined_row i n v u whole x old now new j e g f k st = record {
-  gives = gives_as g (given_rest j.gives) (λ t h. record { sum = h.sum; worth = row_step (value (plain (root_tree i (forest now)))) (value t) v u n x whole e h.worth (given_told j.gives).worth });
+  gives = gives_as g (given_rest j.gives) (λ t h. record {
+    sum = h.sum;
+    worth = row_step (value (plain (root_tree i (forest now)))) (value t) v u n x whole e h.worth (given_told j.gives).worth;
+    parts = parts_row (value (plain (root_tree i (forest now)))) (value t) v u n x whole e h.parts (given_told j.gives).parts;
+  });
   front = front_after_one behind_first j.front f;
   kept = kept_after j.kept k;
   stands = st;
 }
 
 pub joined_all : {i : ℕ} {left whole : Surd} {old now : State} → IsJoined i left whole old now → left ≡ [] → Gives (without_root i (forest old)) (forest now) i (IsSumOf whole)
-joined_all {left = left} {whole = whole} j e = gives_as j.gives refl (λ t h. record { sum = h.sum; worth = join_end (value t) left whole e h.worth })
+joined_all {left = left} {whole = whole} j e = gives_as j.gives refl (λ t h. record { sum = h.sum; worth = join_end (value t) left whole e h.worth; parts = parts_end (value t) left whole h.parts })
 
 pub from_all : (v : Surd) (n : ℕ) → length v ≤ n → terms_from n v ≡ []
 from_all [] zero l = refl
@@ -89,9 +99,6 @@ gives_without j e r q = record { tree = e.tree; ends = ends_at (ends_without j e
 
 pub gives_rest : {g f : Forest} {i : ℕ} {P Q : Tree → Type 0} → Gives g f i P → ((t : Tree) → P t → Q t) → Gives (without_root i f) f i Q
 gives_rest e k = gives_as e (sym (given_rest e)) k
-
-pub number_as : {v w : Surd} {t : Tree} → IsNumberOf v t → Same v w → IsNumberOf w t
-number_as n s = record { number = n.number; worth = Same-trans n.worth s }
 
 -- ---- another root
 

@@ -3,12 +3,13 @@ use Rattle.std.proofs.Common.{◌≡◌, ℕ, ◌+◌, ◌*◌, ◌/◌, ◌<◌
 use Rattle.std.specs.Prelude.{IfErr, IsErr, IsErrAnd}
 use Rattle.calc_algebra.specs.Numbers.{term_of, value}
 use Rattle.calc_algebra.specs.SquareClasses.{Same}
-use Rattle.calc_algebra.specs.Surds.{Term, Surd, surd_times, surd_power}
+use Rattle.calc_algebra.specs.Surds.{Term, Surd, surd_times}
 use Rattle.calc_terms.specs.Trees.{Tree, count}
-use Rattle.calc_algebra.proofs.PowerLaws.{surd_power-squared}
 use Rattle.calc_algebra.proofs.SquareClassLaws.{Same-trans}
 use Rattle.calc_algebra.proofs.TermLaws.{Same-append, Same-refl}
-use Rattle.number_forms.specs.Answers.{IsNumberOf}
+use Rattle.calc_bits.specs.Denominators.{SharesDenominators}
+use Rattle.number_forms.specs.Answers.{IsNumberOver, IsPowerOver}
+use Rattle.number_forms.proofs.Over.{shares_append, squared_power}
 use Rattle.number_forms.specs.Overflows.{JoinOverflows, SumOverflows, ProductOverflows, PowerOverflows}
 use Rattle.tree_handles.specs.Faults.{OfOverflow}
 use Rattle.rational128.specs.declared.overflow.Overflow.{Overflow}
@@ -35,9 +36,18 @@ join_overflow sum at x t o l e m = record { at = at; within = l; misfit = m ∙ 
 
 -- ---- sums
 
-pub sum_overflows_as : (v v' w w' : Surd) (o : Overflow) → Same v v' → w ≡ w' → SumOverflows v w o → SumOverflows v' w' o
-sum_overflows_as v v' w w' o h e s =
-    subst (λ x. SumOverflows v' x o) e (record { at = s.at; next = s.next; here = s.here; partial = s.partial; sum = s.sum; worth = Same-trans s.worth (Same-append h (Same-refl w)); joined = s.joined })
+pub sum_overflows_as : (v v' w w' : Surd) (o : Overflow) → Same v v' → SharesDenominators v' v → w ≡ w' → SumOverflows v w o → SumOverflows v' w' o
+sum_overflows_as v v' w w' o h f e s =
+    subst (λ x. SumOverflows v' x o) e (record {
+      at = s.at;
+      next = s.next;
+      here = s.here;
+      partial = s.partial;
+      sum = s.sum;
+      worth = Same-trans s.worth (Same-append h (Same-refl w));
+      parts = λ d p. s.parts d (shares_append f (λ e q. q) d p);
+      joined = s.joined;
+    })
 
 -- ---- powers
 
@@ -55,7 +65,7 @@ power_overflows_more v m n o l p = record {
   product = p.product;
 }
 
-pub square_overflows : (v : Surd) (h : Tree) (n : ℕ) (o : Overflow) → 1 ≤ n / 2 → IsNumberOf (surd_power v (n / 2)) h → ProductOverflows (value h) (value h) o → PowerOverflows v n o
+pub square_overflows : (v : Surd) (h : Tree) (n : ℕ) (o : Overflow) → 1 ≤ n / 2 → IsPowerOver v (n / 2) h → ProductOverflows (value h) (value h) o → PowerOverflows v n o
 square_overflows v h n o l i p = record {
   low = n / 2;
   high = n / 2;
@@ -69,7 +79,7 @@ square_overflows v h n o l i p = record {
   product = p;
 }
 
-pub last_overflows : (h q a : Tree) (n : ℕ) (o : Overflow) → 1 ≤ n / 2 → 2 * (n / 2) + 1 ≤ n → Same (value h) (surd_power (value a) (n / 2)) → IsNumberOf (surd_times (value h) (value h)) q → IsNumberOf (value a) a
+pub last_overflows : (h q a : Tree) (n : ℕ) (o : Overflow) → 1 ≤ n / 2 → 2 * (n / 2) + 1 ≤ n → IsPowerOver (value a) (n / 2) h → IsNumberOver (surd_times (value h) (value h)) q → IsPowerOver (value a) 1 a
     → ProductOverflows (value q) (value a) o → PowerOverflows (value a) n o
 last_overflows h q a n o l w s i j p = record {
   low = 2 * (n / 2);
@@ -79,7 +89,7 @@ last_overflows h q a n o l w s i j p = record {
   high_positive = omega arith;
   first = q;
   second = a;
-  first_power = record { number = i.number; worth = Same-trans i.worth (surd_power-squared (value a) (value h) (n / 2) s) };
+  first_power = squared_power (value a) h q (n / 2) s i;
   second_power = j;
   product = p;
 }

@@ -1,7 +1,7 @@
 -- Whether the bytes of a term's tree suffice.
 use Rattle.std.proofs.Common.{◌≡◌, ◌≢◌, ◌↔◌, ℕ, ◌+◌, ◌-◌, ◌==◌, ◌<◌, ◌≤◌, true, false, Bool, pos, List, length, [], ◌∷◌, ◌++◌, Result, Ok, Err, refl, sym, ap, ◌∙◌, subst, arith}
 use Rattle.std.specs.Prelude.{IsOk, IsErr, IfOk, IfErr, nat_le, if◌then◌else◌}
-use Rattle.std.proofs.lemmas.Bool.{eqb-true, eq-eqb, le-leb, lt-leb}
+use Rattle.std.proofs.lemmas.Bool.{eqb-true, eq-eqb, le-leb, lt-leb, leb-false}
 use Rattle.calc_terms.specs.Fractions.{Fraction, lowest, one_fraction, is_one_fraction, is_zero_fraction, whole_fraction}
 use Rattle.calc_terms.specs.Gcd.{gcd}
 use Rattle.calc_terms.specs.declared.kind.Kind.TheVariants as kind
@@ -96,6 +96,18 @@ mutual
 -- a tree for which there is room, before other nodes
 pub built : (free left : ℕ) (t : Tree) (ms : List ℕ) → free ≡ left + size t → taking free (node_sizes t ++ ms) ≡ taking left ms
 built free left t ms e = past free left (node_sizes t) ms (omega (arith, total-node_sizes t))
+
+lacking_total : (free : ℕ) (ns : List ℕ) (full : Full) → taking free ns ≡ Err full → free < total ns
+lacking_total free [] full e = cc
+lacking_total free (n ∷ ns) full e = by (nat_le n free) refl e (lacking_total (free - n) ns full)
+  where
+    by : (b : Bool) → nat_le n free ≡ b → (if b then taking (free - n) ns else Err (record { needed = n; free = free })) ≡ Err full → (taking (free - n) ns ≡ Err full → free - n < total ns) → free < n + total ns
+    by true k h l = let left : free - n < total ns = l h in omega arith
+    by false k h l = let least : free < n = leb-false n free k in omega arith
+
+-- trees that lack bytes
+pub lacking_below : (free : ℕ) (ts : Trees) (full : Full) → taking free (nodes_sizes ts) ≡ Err full → free < sizes ts
+lacking_below free ts full e = omega (arith, lacking_total free (nodes_sizes ts) full e, total-nodes_sizes ts)
 
 -- two trees for which there is room, before other nodes
 pub placed_before : (free mid left : ℕ) (x y : Tree) (ms : List ℕ) → free ≡ mid + size x → mid ≡ left + size y → taking free (nodes_sizes (more x (more y none)) ++ ms) ≡ taking left ms

@@ -1,15 +1,14 @@
 -- Powers by squares.
-use Rattle.std.proofs.Common.{◌≡◌, ◌≢◌, ℕ, suc, ◌+◌, ◌*◌, ◌/◌, ◌%◌, ◌≤◌, ◌<◌, sym, ap, subst, arith}
+use Rattle.std.proofs.Common.{◌≡◌, ◌≢◌, ℕ, suc, ◌+◌, ◌*◌, ◌/◌, ◌%◌, ◌≤◌, ◌<◌, subst, arith}
 use Rattle.calc_algebra.specs.SquareClasses.{Same}
 use Rattle.calc_algebra.specs.Surds.{Surd, surd_times, surd_power}
 use Rattle.calc_algebra.proofs.PowerLaws.{surd_power-squared, surd_power-multiplied}
 use Rattle.calc_algebra.proofs.SquareClassLaws.{Same-trans}
-use Rattle.calc_algebra.proofs.TermLaws.{Same-eq}
 
-half_even : (n : ℕ) → n % 2 ≡ 0 → 2 * (n / 2) ≡ n
+pub half_even : (n : ℕ) → n % 2 ≡ 0 → 2 * (n / 2) ≡ n
 half_even n e = omega arith
 
-half_odd : (n : ℕ) → n % 2 ≢ 0 → suc (2 * (n / 2)) ≡ n
+pub half_odd : (n : ℕ) → n % 2 ≢ 0 → suc (2 * (n / 2)) ≡ n
 half_odd n e = omega arith
 
 pub half_below : (n : ℕ) → n / 2 ≤ n
@@ -22,17 +21,11 @@ pub half_twice : (n : ℕ) → 2 ≤ n → 1 ≤ n / 2
 half_twice n h = omega arith
 
 -- the exponents 2 and 3
-half_one : (n : ℕ) → 2 ≤ n → n < 4 → n / 2 ≡ 1
+pub half_one : (n : ℕ) → 2 ≤ n → n < 4 → n / 2 ≡ 1
 half_one n h k = omega arith
-
-pub power_half : (v : Surd) (n : ℕ) → 2 ≤ n → n < 4 → Same v (surd_power v (n / 2))
-power_half v n h k = Same-eq (ap (surd_power v) (sym (half_one n h k)))
 
 pub three_odd : (n : ℕ) → 2 ≤ n → n < 4 → n ≢ 2 → n % 2 ≢ 0
 three_odd n h k e = omega arith
-
-pub power_even : (v h t : Surd) (n : ℕ) → n % 2 ≡ 0 → Same h (surd_power v (n / 2)) → Same t (surd_times h h) → Same t (surd_power v n)
-power_even v h t n e k s = Same-trans s (subst (λ (m : ℕ). Same (surd_times h h) (surd_power v m)) (half_even n e) (surd_power-squared v h (n / 2) k))
 
 pub power_odd : (v h q t : Surd) (n : ℕ) → n % 2 ≢ 0 → Same h (surd_power v (n / 2)) → Same q (surd_times h h) → Same t (surd_times q v) → Same t (surd_power v n)
 power_odd v h q t n e k r s = Same-trans s (subst (λ (m : ℕ). Same (surd_times q v) (surd_power v m)) (half_odd n e) (surd_power-multiplied v q (2 * (n / 2)) (Same-trans r (surd_power-squared v h (n / 2) k))))

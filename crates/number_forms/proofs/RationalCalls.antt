@@ -9,7 +9,9 @@ use Rattle.calc_algebra.proofs.NumberLaws.{number_test}
 use Rattle.calc_algebra.proofs.PowerLaws.{zero_surd_of, surd_power-surd_of}
 use Rattle.calc_algebra.proofs.SquareClassLaws.{Same-trans}
 use Rattle.calc_algebra.proofs.TermLaws.{Same-refl, Same-eq, Same-append, Same-surd_times, Same-surd_power, joined_radicand, surd_times-terms}
-use Rattle.number_forms.specs.Answers.{IsNumberOf, AnswersRationals}
+use Rattle.calc_bits.specs.Bounds.{SharesPowers}
+use Rattle.calc_bits.specs.Denominators.{SharesDenominators}
+use Rattle.number_forms.specs.Answers.{IsNumberOver, IsPowerOver, AnswersRationals}
 use Rattle.number_forms.proofs.Worth.{Same-sym}
 use Rattle.tree_handles.specs.declared.fault.NumberFault.{NumberFault}
 use Rattle.calc_terms.specs.Fractions.{Fraction, plus, times, is_zero_fraction}
@@ -68,11 +70,14 @@ rational_is t p e = ap is_num e
 rational_value : (q : Fraction) → Same (value (num q)) (surd_of q)
 rational_value q = by_test (λ b. is_zero_fraction q ≡ b → Same (if b then [] else surd_of q) (surd_of q)) (is_zero_fraction q) (λ e f. Same-sym (zero_surd_of q (zero_is q f))) (λ e f. Same-refl (surd_of q)) refl
 
-pub rational_number : (q : Fraction) → IsNumberOf (surd_of q) (num q)
-rational_number q = record { number = number_test (num q) tt; worth = rational_value q }
+-- the rational that an operation gives
+pub rational_over : (x q : Fraction) (t : Tree) (v : Surd) → x ≡ q → t ≡ num x → Same (surd_of q) v → SharesDenominators v (value (num q)) → IsNumberOver v t
+rational_over x q t v e f s p =
+    subst (IsNumberOver v) (sym (f ∙ ap num e)) (record { number = number_test (num q) tt; worth = Same-trans (rational_value q) s; parts = p })
 
-pub rational_of : (x q : Fraction) (t : Tree) (v : Surd) → x ≡ q → t ≡ num x → Same (surd_of q) v → IsNumberOf v t
-rational_of x q t v e f s = let h : IsNumberOf (surd_of q) t = subst (IsNumberOf (surd_of q)) (sym (f ∙ ap num e)) (rational_number q) in record { number = h.number; worth = Same-trans h.worth s }
+pub rational_power_over : (x q : Fraction) (t : Tree) (v : Surd) (n : ℕ) → x ≡ q → t ≡ num x → Same (surd_of q) (surd_power v n) → SharesPowers v n (value (num q)) → IsPowerOver v n t
+rational_power_over x q t v n e f s p =
+    subst (IsPowerOver v n) (sym (f ∙ ap num e)) (record { number = number_test (num q) tt; worth = Same-trans (rational_value q) s; parts = p })
 
 pub rational_sum : (p q : Fraction) (a b : Tree) → a ≡ num p → b ≡ num q → Same (surd_of (plus p q)) (value a ++ value b)
 rational_sum p q a b e f =

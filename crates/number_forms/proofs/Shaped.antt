@@ -9,8 +9,9 @@ use Rattle.calc_terms.specs.Trees.{Tree, num, symbol, undef, add, mult, power, r
 use Rattle.calc_terms.proofs.FractionFacts.{zero_test, whole_numerator}
 use Rattle.calc_algebra.proofs.NumberLaws.{number_test, number_words}
 use Rattle.calc_algebra.proofs.TermLaws.{Same-refl, Same-eq}
-use Rattle.number_forms.specs.Answers.{IsNumberOf}
+use Rattle.number_forms.specs.Answers.{IsNumberOver}
 use Rattle.number_forms.specs.Sums.{IsSum, IsSumOf}
+use Rattle.number_forms.proofs.Denominators.{shares_eq}
 use Rattle.tree_handles.specs.Expressions.{nth, children_of}
 
 pub length-terms_of : (ts : Trees) → length (terms_of ts) ≡ count ts
@@ -19,8 +20,11 @@ length-terms_of (more t ts) = ap suc (length-terms_of ts)
 
 -- ---- from a sum
 
-pub zero_number : IsNumberOf [] (num (lowest (pos 0) 1))
-zero_number = record { number = number_test (num (lowest (pos 0) 1)) tt; worth = Same-eq (ap (λ (b : Bool). if b then [] else surd_of (lowest (pos 0) 1)) (ap int_is_zero (whole_numerator (pos 0)))) }
+none_value : value (num (lowest (pos 0) 1)) ≡ []
+none_value = ap (λ (b : Bool). if b then [] else surd_of (lowest (pos 0) 1)) (ap int_is_zero (whole_numerator (pos 0)))
+
+pub zero_number : IsNumberOver [] (num (lowest (pos 0) 1))
+zero_number = record { number = number_test (num (lowest (pos 0) 1)) tt; worth = Same-eq none_value; parts = shares_eq (sym none_value) }
 
 pub term_number : (t : Tree) → IsTerm t → IsNumber t
 term_number (num q) h = tt
@@ -46,13 +50,14 @@ term_value (neg a) h = absurd h
 term_value (sub a b) h = absurd h
 term_value (div a b) h = absurd h
 
-pub single_number : (t : Tree) → IsTerm t → IsNumberOf (term_of t ∷ []) t
-single_number t h = record { number = number_test t (term_number t h); worth = Same-eq (term_value t h) }
+pub single_number : (t : Tree) → IsTerm t → IsNumberOver (term_of t ∷ []) t
+single_number t h = record { number = number_test t (term_number t h); worth = Same-eq (term_value t h); parts = shares_eq (sym (term_value t h)) }
 
-pub sum_number : (ts : Trees) → 2 ≤ count ts → AreTerms ts → Rises (terms_of ts) → IsNumberOf (terms_of ts) (add ts)
+pub sum_number : (ts : Trees) → 2 ≤ count ts → AreTerms ts → Rises (terms_of ts) → IsNumberOver (terms_of ts) (add ts)
 sum_number ts l a r = record {
   number = number_test (add ts) (subst (λ (n : ℕ). 2 ≤ n) (sym (length-terms_of ts)) l, a, r);
   worth = Same-refl (terms_of ts);
+  parts = λ d p. p;
 }
 
 -- ---- from a Number
@@ -61,10 +66,10 @@ pub added_number : (ts : Trees) → is_number (add ts) ≡ true → IsSum (add t
 added_number ts h = let w = number_words (add ts) h in (w.1, w.2)
 
 pub no_term_sum : IsSumOf [] (add none)
-no_term_sum = record { sum = (tt, tt); worth = Same-refl [] }
+no_term_sum = record { sum = (tt, tt); worth = Same-refl []; parts = λ d p. p }
 
 pub one_term_sum : (t : Tree) → IsTerm t → IsSumOf (value t) (add (more t none))
-one_term_sum t h = record { sum = ((h, tt), (tt, tt)); worth = Same-eq (sym (term_value t h)) }
+one_term_sum t h = record { sum = ((h, tt), (tt, tt)); worth = Same-eq (sym (term_value t h)); parts = shares_eq (term_value t h) }
 
 -- ---- by place
 
@@ -103,23 +108,23 @@ zero_sum (neg a) h e = absurd h
 zero_sum (sub a b) h e = absurd h
 zero_sum (div a b) h e = absurd h
 
-one_of_sum : (ts : Trees) → AreTerms ts → count ts ≡ 1 → IsNumberOf (terms_of ts) (nth 0 ts)
+one_of_sum : (ts : Trees) → AreTerms ts → count ts ≡ 1 → IsNumberOver (terms_of ts) (nth 0 ts)
 one_of_sum (more t none) (h, a) e = single_number t h
 one_of_sum none a e = absurd (omega arith)
 one_of_sum (more t (more u us)) a e = absurd (omega arith)
 
-pub one_sum : (t : Tree) (ts : Trees) → IsSum t → t ≡ add ts → count ts ≡ 1 → IsNumberOf (value t) (nth 0 ts)
+pub one_sum : (t : Tree) (ts : Trees) → IsSum t → t ≡ add ts → count ts ≡ 1 → IsNumberOver (value t) (nth 0 ts)
 one_sum t ts h e l =
     let parts : IsSum (add ts) = subst IsSum e h in
-    subst (λ (v : Surd). IsNumberOf v (nth 0 ts)) (sym (ap value e)) (one_of_sum ts parts.0 l)
+    subst (λ (v : Surd). IsNumberOver v (nth 0 ts)) (sym (ap value e)) (one_of_sum ts parts.0 l)
 
-pub more_sum : (t : Tree) (ts : Trees) → IsSum t → t ≡ add ts → 2 ≤ count ts → IsNumberOf (value t) t
+pub more_sum : (t : Tree) (ts : Trees) → IsSum t → t ≡ add ts → 2 ≤ count ts → IsNumberOver (value t) t
 more_sum t ts h e l =
     let parts : IsSum (add ts) = subst IsSum e h in
-    subst (λ (u : Tree). IsNumberOf (value u) u) (sym e) (sum_number ts l parts.0 parts.1)
+    subst (λ (u : Tree). IsNumberOver (value u) u) (sym e) (sum_number ts l parts.0 parts.1)
 
-pub zero_number_of : (v : Surd) (t : Tree) (q : Fraction) → v ≡ [] → t ≡ num q → q ≡ lowest (pos 0) 1 → IsNumberOf v t
-zero_number_of v t q e f g = subst (λ (w : Surd). IsNumberOf w t) (sym e) (subst (IsNumberOf []) (sym (f ∙ ap num g)) zero_number)
+pub zero_number_of : (v : Surd) (t : Tree) (q : Fraction) → v ≡ [] → t ≡ num q → q ≡ lowest (pos 0) 1 → IsNumberOver v t
+zero_number_of v t q e f g = subst (λ (w : Surd). IsNumberOver w t) (sym e) (subst (IsNumberOver []) (sym (f ∙ ap num g)) zero_number)
 
 pub no_term_sum_of : (v : Surd) (t : Tree) → v ≡ [] → t ≡ add none → IsSumOf v t
 no_term_sum_of v t e f = subst (λ (w : Surd). IsSumOf w t) (sym e) (subst (IsSumOf []) (sym f) no_term_sum)

@@ -1,10 +1,11 @@
 -- Sums of terms whose radicands are so small that each class has one.
-use Rattle.std.proofs.Common.{◌≡◌, ℕ, zero, suc, ◌-◌, ◌<◌, ◌≤◌, ◌^◌, ◌⊎◌, inl, inr, false, refl, sym, ap, ◌∙◌, subst, arith}
+use Rattle.std.proofs.Common.{◌∷◌, [], ◌≡◌, ℕ, zero, suc, ◌-◌, ◌<◌, ◌≤◌, ◌^◌, ◌⊎◌, inl, inr, false, refl, sym, ap, ◌∙◌, subst, arith}
 use Rattle.std.proofs.lemmas.Bool.{false_from_ne_true}
 use Rattle.calc_algebra.specs.Clean.{IsClean}
 use Rattle.calc_algebra.specs.Numbers.{IsBelowAll, Rises, term_of, terms_of}
 use Rattle.calc_algebra.specs.SquareClasses.{are_alike}
 use Rattle.calc_algebra.specs.Surds.{Term}
+use Rattle.calc_bits.specs.Denominators.{SharesDenominators}
 use Rattle.calc_terms.specs.Trees.{Tree, Trees, none, more, add, count}
 use Rattle.calc_algebra.proofs.CleanLaws.{IsSquareFree, clean_square_free, alike_square_free}
 use Rattle.calc_algebra.proofs.NumberUniqueness.{term_simplest}
@@ -12,7 +13,10 @@ use Rattle.number_forms.specs.Sums.{IsSum, IsApart, IsPlace, AreBelow}
 use Rattle.number_forms.proofs.Joined.{apart_each, apart_turned}
 use Rattle.number_forms.proofs.LastSums.{sum_is}
 use Rattle.number_forms.proofs.Shaped.{nth_is_term}
-use Rattle.surd_terms.specs.Sums.{Joins}
+use Rattle.surd_bits.proofs.Steps.{joined_den}
+use Rattle.surd_terms.specs.Sums.{Joins, IfTerm, IsSum as IsSumOfTwo}
+use Rattle.surd_terms.specs.Terms.{term_of as term_of_code}
+use Rattle.surd_terms.specs.declared.term.Term.{Term as CodeTerm}
 use Rattle.surd_terms.specs.declared.sums.Joined.{Joined}
 use Rattle.surd_terms.specs.declared.sums.Joined.TheVariants as joined
 use Rattle.tree_handles.specs.Expressions.{nth, children_of}
@@ -30,6 +34,12 @@ read_apart j s x u v e h f g =
 
 pub read_joined : (j k : Joined) (s x : Term) (u v : Tree) → j ≡ k → Joins j s x → s ≡ term_of u → u ≡ v → Joins k (term_of v) x
 read_joined j k s x u v e h f g = subst (λ (i : Joined). Joins i (term_of v) x) e (subst (λ (t : Term). Joins j t x) (f ∙ ap term_of g) h)
+
+-- the one term that two make is over their common denominators
+pub read_parts : (j : Joined) (t : CodeTerm) (s x : Term) (u v : Tree) → j ≡ joined.Term t → IfTerm j (λ y. IsSumOfTwo y s x) → s ≡ term_of u → u ≡ v → SharesDenominators (term_of v ∷ x ∷ []) (term_of_code t ∷ [])
+read_parts j t s x u v e h f g = λ d p.
+    let sum : IsSumOfTwo (term_of_code t) (term_of v) x = subst (λ (y : Term). IsSumOfTwo (term_of_code t) y x) (f ∙ ap term_of g) (subst (λ (k : Joined). IfTerm k (λ y. IsSumOfTwo y s x)) e h) in
+    record { positive = p.positive; whole = (joined_den (term_of_code t) (term_of v) x d sum p, tt) }
 
 -- ---- radicands by place
 

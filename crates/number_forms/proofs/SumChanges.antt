@@ -3,6 +3,7 @@ use Rattle.std.proofs.Common.{◌≡◌, ℕ, ◌<◌, [], ◌∷◌, ◌++◌, 
 use Rattle.calc_algebra.specs.Numbers.{IsTerm, AreTerms, Rises, is_term, term_of, terms_of, value}
 use Rattle.calc_algebra.specs.SquareClasses.{Same, are_alike}
 use Rattle.calc_algebra.specs.Surds.{Term, Surd}
+use Rattle.calc_bits.specs.Denominators.{AreWholeOver, Parts, SharesDenominators}
 use Rattle.calc_terms.specs.Trees.{Tree, Trees, none, more, add, count}
 use Rattle.calc_algebra.proofs.NumberClasses.{IsProper}
 use Rattle.calc_algebra.proofs.NumberLaws.{term_words}
@@ -13,6 +14,7 @@ use Rattle.number_forms.specs.Sums.{IsSum, IsSumOf, IsApart, IsPlace, removed}
 use Rattle.number_forms.specs.Joins.{IsMatch}
 use Rattle.number_forms.specs.declared.joining.Match.{Match}
 use Rattle.number_forms.proofs.ByKind.{children_number}
+use Rattle.number_forms.proofs.Denominators.{whole_inserted, whole_removed, whole_nth}
 use Rattle.number_forms.proofs.Joined.{are_inserted, rises_inserted, same_inserted, are_removed, rises_removed, same_removed, apart_removed, alike_sum}
 use Rattle.number_forms.proofs.LastSums.{kids_represented, represents_without, sum_is, resum, gives_at}
 use Rattle.number_forms.proofs.Shaped.{nth_is_term}
@@ -61,6 +63,7 @@ inserted_of n t u ts v w e q o a p are rises =
     record {
       sum = (are_inserted n u ts w are, rises_inserted n u ts positive apart place rises);
       worth = Same-trans (same_inserted n u ts) (Same-eq (λ i. e i ∷ sym q i));
+      parts = λ d p. record { positive = p.positive; whole = whole_inserted d n u ts (subst (AreWholeOver d) (λ i. sym e i ∷ q i) p.whole) };
     }
 
 pub inserted_sum : {i h at : ℕ} {g f f1 f2 : Forest} (t : Term) (e : Gives g f i IsSum) (p : Gives f f1 h (λ u. (is_term u ≡ true) × (term_of u ≡ t)))
@@ -106,17 +109,27 @@ joined_rest n ts v t l h =
     let two : Same (term_of (nth n ts) ∷ t ∷ rest) (t ∷ term_of (nth n ts) ∷ rest) = Same-to_front (term_of (nth n ts) ∷ []) t rest in
     Same-trans one (Same-trans two (Same-cons t (same_removed n ts l)))
 
+whole_left : (d n : ℕ) (t u : Tree) → IsSum t → u ≡ add (removed n (children_of t)) → AreWholeOver d (value t) → AreWholeOver d (value u)
+whole_left d n t u h e a = subst (AreWholeOver d) (sym (ap value e)) (whole_removed d n (children_of t) (subst (AreWholeOver d) (sum_value t h) a))
+
 -- the two terms cancelled
 pub cancelled : (n : ℕ) (t u : Tree) (s : Term) → IsSum t → n < count (children_of t) → Same [] (term_of (nth n (children_of t)) ∷ s ∷ []) → u ≡ add (removed n (children_of t)) → IsSumOf (s ∷ value t) u
 cancelled n t u s h l k e = record {
   sum = removed_is_sum n t u h e;
+  parts = λ d p. record { positive = p.positive; whole = whole_left d n t u h e p.whole.1 };
   worth = Same-trans (Same-eq (ap value e)) (Same-trans (joined_rest n (children_of t) [] s l k) (Same-eq (ap (λ (v : Surd). s ∷ v) (sym (sum_value t h)))));
 }
 
 -- a term of the two took their place
-pub made_one : (n : ℕ) (t u x : Tree) (s j : Term) → IsSum t → n < count (children_of t) → Same (j ∷ []) (term_of (nth n (children_of t)) ∷ s ∷ []) → u ≡ add (removed n (children_of t)) → IsSumOf (j ∷ value u) x → IsSumOf (s ∷ value t) x
-made_one n t u x s j h l k e w = record {
+pub made_one : (n : ℕ) (t u x : Tree) (s j : Term) → IsSum t → n < count (children_of t) → Same (j ∷ []) (term_of (nth n (children_of t)) ∷ s ∷ []) → SharesDenominators (term_of (nth n (children_of t)) ∷ s ∷ []) (j ∷ [])
+    → u ≡ add (removed n (children_of t)) → IsSumOf (j ∷ value u) x → IsSumOf (s ∷ value t) x
+made_one n t u x s j h l k f e w = record {
   sum = w.sum;
+  parts = λ d p.
+      let whole : AreWholeOver d (value t) = p.whole.1 in
+      let nth-whole = whole_nth d n (children_of t) l (subst (AreWholeOver d) (sum_value t h) whole) in
+      let one : Parts d (j ∷ []) = f d (record { positive = p.positive; whole = (nth-whole, (p.whole.0, tt)) }) in
+      w.parts d (record { positive = p.positive; whole = (one.whole.0, whole_left d n t u h e whole) });
   worth = Same-trans w.worth (Same-trans (Same-eq (ap (λ (v : Tree). j ∷ value v) e)) (Same-trans (joined_rest n (children_of t) (j ∷ []) s l k) (Same-eq (ap (λ (v : Surd). s ∷ v) (sym (sum_value t h))))));
 }
 

@@ -1,5 +1,5 @@
 -- What inverting a Number comes to.
-use Rattle.std.specs.Prelude.{ℕ, ◌≡◌, ◌≤◌, true, None, Err, [], ◌∷◌}
+use Rattle.std.specs.Prelude.{ℕ, ⊤, ◌≡◌, ◌≤◌, true, None, Err, [], ◌∷◌}
 use Rattle.calc_algebra.specs.Numbers.{is_number, value, classes}
 use Rattle.calc_algebra.specs.SquareClasses.{Inverts}
 use Rattle.calc_algebra.specs.Surds.{Surd}
@@ -27,6 +27,12 @@ pub record IsInverseOf (v : Surd) (t : Tree) : Type 0 where
   pub number : is_number t ≡ true
   pub inverts : Inverts (value t) v
   pub written : inverse_trees v ≡ more t none
+
+-- a fact of the inverse
+abbrev pub IfValue : Inverse → (ℕ → Type 0) → Type 0
+IfValue (inverse.Value h) P = P h
+IfValue inverse.Zero P = ⊤
+IfValue (inverse.Wide h) P = ⊤
 
 -- each calculation fits, and so does the new tree in the free bytes
 pub record HasInverse (v : Surd) (free : ℕ) : Type 0 where

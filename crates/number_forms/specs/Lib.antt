@@ -6,4 +6,5 @@ pub mod Joins
 pub mod Inverses
 pub mod Overflows
 pub mod Lacks
+pub mod Rooms
 pub mod Listings

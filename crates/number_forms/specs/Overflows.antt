@@ -2,9 +2,10 @@
 use Rattle.std.specs.Prelude.{ℕ, zero, suc, ◌+◌, ◌≡◌, ◌<◌, ◌≤◌, ◌⊎◌, List, [], ◌∷◌, ◌++◌, map, Some, slice_get}
 use Rattle.calc_algebra.specs.Numbers.{term_of, value}
 use Rattle.calc_algebra.specs.SquareClasses.{Same}
-use Rattle.calc_algebra.specs.Surds.{Term, Surd, term_times, surd_times, surd_power}
+use Rattle.calc_algebra.specs.Surds.{Term, Surd, term_times, surd_times}
+use Rattle.calc_bits.specs.Denominators.{SharesDenominators}
 use Rattle.calc_terms.specs.Trees.{Tree, count}
-use Rattle.number_forms.specs.Answers.{IsNumberOf}
+use Rattle.number_forms.specs.Answers.{IsPowerOver}
 use Rattle.number_forms.specs.Sums.{IsSum}
 use Rattle.rational128.specs.declared.overflow.Overflow.{Overflow}
 use Rattle.surd_terms.specs.Calculations.{Calculation, calculation_of, first_misfit, joining_calculations, inverse_calculations, inverse_of_sum_calculations, IsProductMisfit}
@@ -23,8 +24,8 @@ pub record JoinOverflows (sum : Tree) (t : Term) (o : Overflow) : Type 0 where
   pub within : at < count (children_of sum)
   pub misfit : Some (calculation_of o) ≡ first_misfit (joining_calculations (term_of (nth at (children_of sum))) t)
 
--- the terms of w are joined to v one after another; the sum so far, which with those that are left is worth the whole, has a term with which the next
--- one cannot be joined
+-- the terms of w are joined to v one after another; the sum so far, which with those that are left is worth the whole and over its common denominators,
+-- has a term with which the next one cannot be joined
 pub record SumOverflows (v w : Surd) (o : Overflow) : Type 0 where
   pub at : ℕ
   pub next : Term
@@ -32,6 +33,7 @@ pub record SumOverflows (v w : Surd) (o : Overflow) : Type 0 where
   pub partial : Tree
   pub sum : IsSum partial
   pub worth : Same (value partial ++ terms_from at w) (v ++ w)
+  pub parts : SharesDenominators (v ++ w) (value partial ++ terms_from at w)
   pub joined : JoinOverflows partial next o
 
 -- the products of x and the terms of w are joined to v one after another; the sum so far has a term with which the product of x and y, the term of w at
@@ -42,6 +44,7 @@ pub record ProductJoinOverflows (v : Surd) (x : Term) (w : Surd) (at : ℕ) (y :
   pub partial : Tree
   pub sum : IsSum partial
   pub worth : Same (value partial ++ map (term_times x) (terms_from at w)) (v ++ map (term_times x) w)
+  pub parts : SharesDenominators (v ++ map (term_times x) w) (value partial ++ map (term_times x) (terms_from at w))
   pub joined : JoinOverflows partial product o
 
 -- the product of x and a term of w cannot be made, or not be joined
@@ -51,8 +54,8 @@ pub record RowOverflows (v : Surd) (x : Term) (w : Surd) (o : Overflow) : Type 0
   pub here : slice_get w at ≡ Some other
   pub cause : IsProductMisfit x other (Some (calculation_of o)) ⊎ ProductJoinOverflows v x w at other o
 
--- each term of v is multiplied by those of w; at one of them the sum of the products so far is worth, with those that are left, the whole, and a product
--- cannot be made or joined
+-- each term of v is multiplied by those of w; at one of them the sum of the products so far is worth, with those that are left, the whole, over its
+-- common denominators, and a product cannot be made or joined
 pub record ProductOverflows (v w : Surd) (o : Overflow) : Type 0 where
   pub at : ℕ
   pub factor : Term
@@ -60,6 +63,7 @@ pub record ProductOverflows (v w : Surd) (o : Overflow) : Type 0 where
   pub partial : Tree
   pub sum : IsSum partial
   pub worth : Same (value partial ++ surd_times (terms_from at v) w) (surd_times v w)
+  pub parts : SharesDenominators (surd_times v w) (value partial ++ surd_times (terms_from at v) w)
   pub row : RowOverflows (value partial) factor w o
 
 -- the product of two powers cannot be made, whose exponents are at most n together
@@ -71,8 +75,8 @@ pub record PowerOverflows (v : Surd) (n : ℕ) (o : Overflow) : Type 0 where
   pub high_positive : 1 ≤ high
   pub first : Tree
   pub second : Tree
-  pub first_power : IsNumberOf (surd_power v low) first
-  pub second_power : IsNumberOf (surd_power v high) second
+  pub first_power : IsPowerOver v low first
+  pub second_power : IsPowerOver v high second
   pub product : ProductOverflows (value first) (value second) o
 
 -- the calculations of the inverse of one term, or of two

@@ -3,6 +3,7 @@ use Rattle.std.specs.Prelude.{ℕ, zero, suc, ◌≡◌, ◌<◌, ◌≤◌, [],
 use Rattle.calc_algebra.specs.Numbers.{AreTerms, Rises, term_of, terms_of, value}
 use Rattle.calc_algebra.specs.SquareClasses.{are_alike, Same}
 use Rattle.calc_algebra.specs.Surds.{Surd}
+use Rattle.calc_bits.specs.Denominators.{SharesDenominators}
 use Rattle.calc_terms.specs.Trees.{Tree, add, Trees, none, more, count}
 use Rattle.tree_handles.specs.Expressions.{nth}
 
@@ -11,10 +12,11 @@ abbrev pub IsSum : Tree → Type 0
 IsSum (add ts) = AreTerms ts × Rises (terms_of ts)
 IsSum _ = ⊥
 
--- such a sum that is worth v
+-- such a sum that is worth v, over the common denominators of v
 pub record IsSumOf (v : Surd) (t : Tree) : Type 0 where
   pub sum : IsSum t
   pub worth : Same (value t) v
+  pub parts : SharesDenominators v (value t)
 
 -- trees without the one at a place, counted from 0
 abbrev pub removed : ℕ → Trees → Trees

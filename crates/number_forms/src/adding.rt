@@ -1,13 +1,18 @@
 //! Sums of Numbers.
-ghost use Rattle.std.specs.Prelude.{◌≡◌, ◌<◌, ◌^◌, ◌==◌, ◌&&◌, ◌∷◌, ◌++◌, [], true, false, IfOk, IfErr, OnOk};
+ghost use Rattle.std.specs.Prelude.{ℕ, List, ◌+◌, ◌≡◌, ◌<◌, ◌^◌, ◌==◌, ◌&&◌, ◌∷◌, ◌++◌, [], true, false, IfOk, IfErr, OnOk};
 ghost use Rattle.calc_terms.specs.Fits.{add_op};
 ghost use Rattle.calc_terms.specs.Fractions.{Fraction};
 ghost use Rattle.calc_algebra.specs.Numbers.{is_number, value};
+ghost use Rattle.calc_bits.specs.Bounds.{HasFewBits, IsNoLarger};
 ghost use Rattle.calc_measures.specs.PlainValues.{calculated};
-ghost use Rattle.calc_terms.specs.Trees.{num, is_num, is_add};
-ghost use Rattle.number_forms.specs.Answers.{IsNumberOf, AnswersRationals};
+ghost use Rattle.calc_room.specs.Needs.{sum_need};
+ghost use Rattle.calc_room.specs.Spans.{Spans, SpansTree};
+ghost use Rattle.calc_terms.specs.Trees.{num, is_num, is_add, size};
+ghost use Rattle.node_pool.specs.State.{free_of};
+ghost use Rattle.number_forms.specs.Answers.{IsNumberOf, AnswersRationals, IsNumberOver};
 ghost use Rattle.number_forms.specs.Listings.{Lists};
 ghost use Rattle.number_forms.specs.Overflows.{SumOverflows};
+ghost use Rattle.number_forms.specs.Rooms.{LacksRoom, joining_need};
 ghost use Rattle.number_forms.specs.Sums.{IsSum, IsSumOf};
 ghost use Rattle.tree_handles.specs.Standing.{LacksBytes, Stands, forest, KeepsRefusals, Refuses};
 ghost use Rattle.tree_handles.specs.Causes.{IsCaused};
@@ -27,7 +32,7 @@ use tree_handles::{
     Handle, NumberFault, add_child, children, kind, move_last, node, number, release, take_child,
 };
 
-/// The sum of two Numbers, which go.
+/// The sum of two Numbers, which are consumed.
 pub fn add_numbers(pool: &mut Pool, a: Handle, b: Handle) -> Result<Handle, NumberFault>
     requires stands { Stands pool.old }
     requires first { IsHanded a (forest pool.old) }
@@ -41,7 +46,11 @@ pub fn add_numbers(pool: &mut Pool, a: Handle, b: Handle) -> Result<Handle, Numb
     ensures kept { OnOk result (KeepsRefusals pool.old pool.new) }
     ensures faults { IfErr result (Faults pool.old pool.new) }
     ensures overflow { (is_num (tree_of a pool.old) && is_num (tree_of b pool.old)) ≡ false → IfErr result (OfOverflow (SumOverflows (value (tree_of a pool.old)) (value (tree_of b pool.old)))) }
+    ensures measured { IfOk result (λ h. IsNoLarger (value (tree_of a pool.old) ++ value (tree_of b pool.old)) (value (tree_of h pool.new))) }
+    ensures bits { HasFewBits (value (tree_of a pool.old) ++ value (tree_of b pool.old)) → IfErr result (OfOverflow (λ o. ⊥)) }
     ensures caused { IfErr result (IsCaused pool.new) }
+    ensures room { (gs : List ℕ) → SpansTree gs (tree_of a pool.old) → SpansTree gs (tree_of b pool.old) → IfErr result (LacksRoom sum_need (free_of pool.old + size (tree_of a pool.old) + size (tree_of b pool.old)) gs) }
+    ensures spanned { (gs : List ℕ) → SpansTree gs (tree_of a pool.old) → SpansTree gs (tree_of b pool.old) → IfOk result (λ h. SpansTree gs (tree_of h pool.new)) }
     ensures stands { Stands pool.new }
 {
     if is_rational(pool, a.id()) && is_rational(pool, b.id()) {
@@ -51,7 +60,7 @@ pub fn add_numbers(pool: &mut Pool, a: Handle, b: Handle) -> Result<Handle, Numb
     }
 }
 
-/// The sum of two rationals, which go.
+/// The sum of two rationals, which are consumed.
 fn add_rationals(pool: &mut Pool, a: Handle, b: Handle) -> Result<Handle, NumberFault>
     requires stands { Stands pool.old }
     requires first { IsHanded a (forest pool.old) }
@@ -59,12 +68,13 @@ fn add_rationals(pool: &mut Pool, a: Handle, b: Handle) -> Result<Handle, Number
     requires apart { (a == b) ≡ false }
     requires first_rational { is_num (tree_of a pool.old) ≡ true }
     requires second_rational { is_num (tree_of b pool.old) ≡ true }
-    ensures ok { IfOk result (λ h. Gives (without_root b (without_root a (forest pool.old))) (forest pool.new) h (IsNumberOf (value (tree_of a pool.old) ++ value (tree_of b pool.old)))) }
+    ensures ok { IfOk result (λ h. Gives (without_root b (without_root a (forest pool.old))) (forest pool.new) h (IsNumberOver (value (tree_of a pool.old) ++ value (tree_of b pool.old)))) }
     ensures rationals { (p q : Fraction) → tree_of a pool.old ≡ num p → tree_of b pool.old ≡ num q → AnswersRationals (calculated add_op p q) pool.new result }
     ensures front { KeepsFront (a ∷ b ∷ []) (forest pool.old) (forest pool.new) }
     ensures kept { OnOk result (KeepsRefusals pool.old pool.new) }
     ensures faults { IfErr result (Faults pool.old pool.new) }
     ensures caused { IfErr result (IsCaused pool.new) }
+    ensures room { (gs : List ℕ) → IfErr result (LacksRoom sum_need (free_of pool.old + size (tree_of a pool.old) + size (tree_of b pool.old)) gs) }
     ensures stands { Stands pool.new }
 {
     let (p, q) = take_rationals(pool, a, b);
@@ -80,12 +90,13 @@ fn add_terms(pool: &mut Pool, a: Handle, b: Handle) -> Result<Handle, NumberFaul
     requires apart { (a == b) ≡ false }
     requires first_number { is_number (tree_of a pool.old) ≡ true }
     requires second_number { is_number (tree_of b pool.old) ≡ true }
-    ensures ok { IfOk result (λ h. Gives (without_root b (without_root a (forest pool.old))) (forest pool.new) h (IsNumberOf (value (tree_of a pool.old) ++ value (tree_of b pool.old)))) }
+    ensures ok { IfOk result (λ h. Gives (without_root b (without_root a (forest pool.old))) (forest pool.new) h (IsNumberOver (value (tree_of a pool.old) ++ value (tree_of b pool.old)))) }
     ensures front { KeepsFront (a ∷ b ∷ []) (forest pool.old) (forest pool.new) }
     ensures kept { OnOk result (KeepsRefusals pool.old pool.new) }
     ensures faults { IfErr result (Faults pool.old pool.new) }
     ensures overflow { IfErr result (OfOverflow (SumOverflows (value (tree_of a pool.old)) (value (tree_of b pool.old)))) }
     ensures caused { IfErr result (IsCaused pool.new) }
+    ensures room { (gs : List ℕ) → SpansTree gs (tree_of a pool.old) → SpansTree gs (tree_of b pool.old) → IfErr result (LacksRoom sum_need (free_of pool.old + size (tree_of a pool.old) + size (tree_of b pool.old)) gs) }
     ensures stands { Stands pool.new }
 {
     let terms = term_count(pool, a.id()).saturating_add(term_count(pool, b.id()));
@@ -109,12 +120,13 @@ fn add_within<const N: usize>(pool: &mut Pool, a: Handle, b: Handle) -> Result<H
     requires apart { (a == b) ≡ false }
     requires first_number { is_number (tree_of a pool.old) ≡ true }
     requires second_number { is_number (tree_of b pool.old) ≡ true }
-    ensures ok { IfOk result (λ h. Gives (without_root b (without_root a (forest pool.old))) (forest pool.new) h (IsNumberOf (value (tree_of a pool.old) ++ value (tree_of b pool.old)))) }
+    ensures ok { IfOk result (λ h. Gives (without_root b (without_root a (forest pool.old))) (forest pool.new) h (IsNumberOver (value (tree_of a pool.old) ++ value (tree_of b pool.old)))) }
     ensures front { KeepsFront (a ∷ b ∷ []) (forest pool.old) (forest pool.new) }
     ensures kept { OnOk result (KeepsRefusals pool.old pool.new) }
     ensures faults { IfErr result (Faults pool.old pool.new) }
     ensures overflow { IfErr result (OfOverflow (SumOverflows (value (tree_of a pool.old)) (value (tree_of b pool.old)))) }
     ensures caused { IfErr result (IsCaused pool.new) }
+    ensures room { (gs : List ℕ) → SpansTree gs (tree_of a pool.old) → SpansTree gs (tree_of b pool.old) → IfErr result (LacksRoom sum_need (free_of pool.old + size (tree_of a pool.old) + size (tree_of b pool.old)) gs) }
     ensures stands { Stands pool.new }
 {
     let sum = sum_over(pool, a)?;
@@ -134,6 +146,7 @@ fn sum_over(pool: &mut Pool, a: Handle) -> Result<Handle, Full>
     ensures kept { OnOk result (KeepsRefusals pool.old pool.new) }
     ensures full { IfErr result (Refuses pool.old pool.new) }
     ensures caused { IfErr result (LacksBytes pool.new) }
+    ensures room { IfErr result (λ full. free_of pool.old < 8) }
     ensures stands { Stands pool.new }
 {
     match kind(pool, a.id()) {
@@ -156,6 +169,7 @@ fn sum_over_term(pool: &mut Pool, a: Handle) -> Result<Handle, Full>
     ensures kept { OnOk result (KeepsRefusals pool.old pool.new) }
     ensures full { IfErr result (Refuses pool.old pool.new) }
     ensures caused { IfErr result (LacksBytes pool.new) }
+    ensures room { IfErr result (λ full. free_of pool.old < 8) }
     ensures stands { Stands pool.new }
 {
     if is_zero(pool, a.id()) {
@@ -187,6 +201,7 @@ pub(crate) fn join_terms<const N: usize>(
     ensures faults { IfErr result (Faults pool.old pool.new) }
     ensures overflow { IfErr result (OfOverflow (SumOverflows (value (tree_of sum.now pool.old)) (value (tree_of number pool.old)))) }
     ensures caused { IfErr result (IsCaused pool.new) }
+    ensures room { (gs : List ℕ) → Spans gs (value (tree_of sum.now pool.old)) → Spans gs (value (tree_of number pool.old)) → IfErr result (LacksRoom joining_need (free_of pool.old + size (tree_of sum.now pool.old)) gs) }
     ensures stands { Stands pool.new }
 {
     let terms: Listing<N> = Listing::of(pool, number);
@@ -201,11 +216,12 @@ pub(crate) fn join_terms<const N: usize>(
 pub(crate) fn number_of(pool: &mut Pool, sum: Handle) -> Result<Handle, Full>
     requires stands { Stands pool.old }
     requires sum { Gives (without_root sum (forest pool.old)) (forest pool.old) sum IsSum }
-    ensures ok { IfOk result (λ h. Gives (without_root sum (forest pool.old)) (forest pool.new) h (IsNumberOf (value (tree_of sum pool.old)))) }
+    ensures ok { IfOk result (λ h. Gives (without_root sum (forest pool.old)) (forest pool.new) h (IsNumberOver (value (tree_of sum pool.old)))) }
     ensures front { KeepsFront (sum ∷ []) (forest pool.old) (forest pool.new) }
     ensures kept { OnOk result (KeepsRefusals pool.old pool.new) }
     ensures full { IfErr result (Refuses pool.old pool.new) }
     ensures caused { IfErr result (LacksBytes pool.new) }
+    ensures room { IfErr result (λ full. free_of pool.old + size (tree_of sum pool.old) < 40) }
     ensures stands { Stands pool.new }
 {
     let terms = children(pool, sum.id());

@@ -1,17 +1,22 @@
 //! Inverses of Numbers.
-ghost use Rattle.std.specs.Prelude.{◌≡◌, ◌↔◌, ◌≤◌, ◌+◌, ◌∷◌, [], true, Err, IfOk, IfErr, IsOk, OnOk};
+ghost use Rattle.std.specs.Prelude.{ℕ, List, ◌≡◌, ◌↔◌, ◌≤◌, ◌+◌, ◌∷◌, [], true, Err, IfOk, IfErr, IsOk, OnOk};
 ghost use Rattle.calc_terms.specs.Fractions.{Fraction};
+ghost use Rattle.calc_room.specs.Needs.{inverse_need};
+ghost use Rattle.calc_room.specs.Spans.{SpansTree};
 ghost use Rattle.calc_terms.specs.Trees.{num, size};
 ghost use Rattle.calc_algebra.specs.Numbers.{is_number, value, classes, Rises};
+ghost use Rattle.calc_bits.specs.Bounds.{HasFewBits};
 ghost use Rattle.number_forms.specs.Answers.{IsNumberOf};
 ghost use Rattle.node_pool.specs.State.{free_of};
-ghost use Rattle.number_forms.specs.Inverses.{AnswersInverse, HasInverse, IsInverseOf, LacksInverse};
+ghost use Rattle.number_forms.specs.Inverses.{AnswersInverse, HasInverse, IfValue, IsInverseOf, LacksInverse};
 ghost use Rattle.number_forms.specs.Lacks.{OfFull};
 ghost use Rattle.number_forms.specs.Overflows.{InverseOverflows};
+ghost use Rattle.number_forms.specs.Rooms.{LacksRoom, SpansInverse};
 ghost use Rattle.number_forms.specs.Shapes.{sum_of_terms};
 ghost use Rattle.tree_handles.specs.Building.{building};
 ghost use Rattle.tree_handles.specs.Causes.{IsCaused, OnlyLacksLongForm};
 ghost use Rattle.tree_handles.specs.Handed.{tree_of, IsHanded, Gives, KeepsFront};
+ghost use Rattle.surd_bits.specs.Inverted.{IsNoLargerThanInverse};
 ghost use Rattle.surd_terms.specs.Terms.{term_of};
 ghost use Rattle.tree_handles.specs.Faults.{Faults, OfOverflow};
 ghost use Rattle.tree_handles.specs.Roots.{without_root};
@@ -49,8 +54,12 @@ pub fn invert_number(pool: &mut Pool, a: Handle) -> Result<Inverse, NumberFault>
     ensures rational { (q : Fraction) → tree_of a pool.old ≡ num q → IfErr result OnlyLacksLongForm }
     ensures exactly { IsOk result ↔ HasInverse (value (tree_of a pool.old)) (free_of pool.old + size (tree_of a pool.old)) }
     ensures overflow { IfErr result (OfOverflow (InverseOverflows (value (tree_of a pool.old)))) }
+    ensures measured { IfOk result (λ i. IfValue i (λ h. IsNoLargerThanInverse (value (tree_of a pool.old)) (value (tree_of h pool.new)))) }
+    ensures bits { HasFewBits (value (tree_of a pool.old)) → IfErr result (OfOverflow (λ o. ⊥)) }
     ensures first_lack { IfErr result (OfFull (LacksInverse (value (tree_of a pool.old)) (free_of pool.old + size (tree_of a pool.old)))) }
     ensures caused { IfErr result (IsCaused pool.new) }
+    ensures room { (gs : List ℕ) → IfErr result (LacksRoom inverse_need (free_of pool.old + size (tree_of a pool.old)) gs) }
+    ensures spanned { (gs : List ℕ) → SpansTree gs (tree_of a pool.old) → IfOk result (SpansInverse gs pool.new) }
     ensures stands { Stands pool.new }
 {
     let terms = term_count(pool, a.id());
@@ -66,7 +75,7 @@ pub fn invert_number(pool: &mut Pool, a: Handle) -> Result<Inverse, NumberFault>
     }
 }
 
-/// The inverse of a Number of one class, which goes.
+/// The inverse of a Number of one class, which is consumed.
 fn invert_one(pool: &mut Pool, a: Handle) -> Result<Handle, NumberFault>
     requires stands { Stands pool.old }
     requires handed { IsHanded a (forest pool.old) }
@@ -88,7 +97,7 @@ fn invert_one(pool: &mut Pool, a: Handle) -> Result<Handle, NumberFault>
     Ok(place_term(pool, inverse)?)
 }
 
-/// The inverse of a Number of two classes, which goes.
+/// The inverse of a Number of two classes, which is consumed.
 fn invert_two(pool: &mut Pool, a: Handle) -> Result<Handle, NumberFault>
     requires stands { Stands pool.old }
     requires handed { IsHanded a (forest pool.old) }

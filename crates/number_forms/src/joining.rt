@@ -3,8 +3,10 @@ ghost use Rattle.std.specs.Prelude.{◌≡◌, ◌<◌, ◌≤◌, ◌-◌, ◌^
 ghost use Rattle.calc_algebra.specs.Clean.{IsClean};
 ghost use Rattle.calc_algebra.specs.Numbers.{value, term_of as term_of_tree};
 ghost use Rattle.calc_terms.specs.Trees.{add, count};
+ghost use Rattle.node_pool.specs.State.{free_of};
 ghost use Rattle.number_forms.specs.Sums.{IsSum, IsSumOf, IsApart, IsPlace, AreBelow, removed};
 ghost use Rattle.number_forms.specs.Joins.{IsMatch};
+ghost use Rattle.number_forms.specs.Lacks.{OfFull};
 ghost use Rattle.number_forms.specs.Listings.{Lists};
 ghost use Rattle.number_forms.specs.Overflows.{JoinOverflows};
 ghost use Rattle.tree_handles.specs.Standing.{LacksBytes, Stands, forest, KeepsRefusals, Refuses};
@@ -53,6 +55,7 @@ pub(crate) fn join_term<const N: usize>(
     ensures faults { IfErr result (Faults pool.old pool.new) }
     ensures overflow { IfErr result (OfOverflow (JoinOverflows (tree_of sum.now pool.old) (term_of term))) }
     ensures caused { IfErr result (IsCaused pool.new) }
+    ensures room { IfErr result (OfFull (λ full. free_of pool.old < 96)) }
     ensures stands { Stands pool.new }
 {
     match match_in(pool, sum.id(), list, term)? {
@@ -216,6 +219,7 @@ fn insert<const N: usize>(
     ensures kept { OnOk result (KeepsRefusals pool.old pool.new) }
     ensures full { IfErr result (Refuses pool.old pool.new) }
     ensures caused { IfErr result (LacksBytes pool.new) }
+    ensures room { IfErr result (λ full. free_of pool.old < 96) }
     ensures stands { Stands pool.new }
 {
     let child = place_term(pool, term)?;
@@ -293,6 +297,7 @@ fn remove<const N: usize>(pool: &mut Pool, sum: &Handle, list: &mut Listing<N>, 
     ensures lists { Lists list.new sum.now (forest pool.new) }
     ensures front { KeepsFront (sum.now ∷ []) (forest pool.old) (forest pool.new) }
     ensures kept { KeepsRefusals pool.old pool.new }
+    ensures room { free_of pool.old ≤ free_of pool.new }
     ensures stands { Stands pool.new }
 {
     let child = take_child(pool, sum, at);

@@ -84,7 +84,7 @@ impl<const N: usize> Listing<N> {
         }
     }
 
-    /// The term at a place went.
+    /// The term at a place was removed.
     pub(crate) fn remove(&mut self, at: u16)
         ensures { self.new.whole ≡ true → (self.old.whole ≡ true) × (self.new.ids.items ≡ remove self.old.ids.items at) }
     {

@@ -1,14 +1,19 @@
 //! Products of Numbers.
-ghost use Rattle.std.specs.Prelude.{◌≡◌, ◌<◌, ◌^◌, ◌==◌, ◌&&◌, ◌∷◌, ◌++◌, [], true, false, map, IfOk, IfErr, OnOk};
+ghost use Rattle.std.specs.Prelude.{ℕ, List, ◌+◌, ◌≡◌, ◌<◌, ◌^◌, ◌==◌, ◌&&◌, ◌∷◌, ◌++◌, [], true, false, map, IfOk, IfErr, OnOk};
 ghost use Rattle.calc_terms.specs.Fits.{mul_op};
 ghost use Rattle.calc_terms.specs.Fractions.{Fraction};
 ghost use Rattle.calc_algebra.specs.Numbers.{is_number, value};
+ghost use Rattle.calc_bits.specs.Bounds.{HasFewBits, IsNoLarger};
 ghost use Rattle.calc_measures.specs.PlainValues.{calculated};
 ghost use Rattle.calc_algebra.specs.Surds.{term_times, surd_times};
-ghost use Rattle.calc_terms.specs.Trees.{num, is_num};
-ghost use Rattle.number_forms.specs.Answers.{IsNumberOf, AnswersRationals};
+ghost use Rattle.calc_room.specs.Needs.{product_need};
+ghost use Rattle.calc_room.specs.Spans.{IsSpanned, Spans, SpansTree};
+ghost use Rattle.calc_terms.specs.Trees.{num, is_num, size};
+ghost use Rattle.node_pool.specs.State.{free_of};
+ghost use Rattle.number_forms.specs.Answers.{IsNumberOf, AnswersRationals, IsNumberOver};
 ghost use Rattle.number_forms.specs.Listings.{Lists};
 ghost use Rattle.number_forms.specs.Overflows.{RowOverflows, ProductOverflows};
+ghost use Rattle.number_forms.specs.Rooms.{LacksRoom, joining_need};
 ghost use Rattle.number_forms.specs.Sums.{IsSum, IsSumOf};
 ghost use Rattle.tree_handles.specs.Causes.{IsCaused};
 ghost use Rattle.tree_handles.specs.Handed.{tree_of, IsHanded, Gives, KeepsFront};
@@ -29,7 +34,7 @@ use rational128::mul;
 use surd_terms::{Term, product_with};
 use tree_handles::{Handle, NumberFault, node, number, release};
 
-/// The product of two Numbers, which go.
+/// The product of two Numbers, which are consumed.
 pub fn multiply_numbers(pool: &mut Pool, a: Handle, b: Handle) -> Result<Handle, NumberFault>
     requires stands { Stands pool.old }
     requires first { IsHanded a (forest pool.old) }
@@ -43,7 +48,11 @@ pub fn multiply_numbers(pool: &mut Pool, a: Handle, b: Handle) -> Result<Handle,
     ensures kept { OnOk result (KeepsRefusals pool.old pool.new) }
     ensures faults { IfErr result (Faults pool.old pool.new) }
     ensures overflow { (is_num (tree_of a pool.old) && is_num (tree_of b pool.old)) ≡ false → IfErr result (OfOverflow (ProductOverflows (value (tree_of a pool.old)) (value (tree_of b pool.old)))) }
+    ensures measured { IfOk result (λ h. IsNoLarger (surd_times (value (tree_of a pool.old)) (value (tree_of b pool.old))) (value (tree_of h pool.new))) }
+    ensures bits { HasFewBits (surd_times (value (tree_of a pool.old)) (value (tree_of b pool.old))) → IfErr result (OfOverflow (λ o. ⊥)) }
     ensures caused { IfErr result (IsCaused pool.new) }
+    ensures room { (gs : List ℕ) → SpansTree gs (tree_of a pool.old) → SpansTree gs (tree_of b pool.old) → IfErr result (LacksRoom product_need (free_of pool.old + size (tree_of a pool.old) + size (tree_of b pool.old)) gs) }
+    ensures spanned { (gs : List ℕ) → SpansTree gs (tree_of a pool.old) → SpansTree gs (tree_of b pool.old) → IfOk result (λ h. SpansTree gs (tree_of h pool.new)) }
     ensures stands { Stands pool.new }
 {
     if is_rational(pool, a.id()) && is_rational(pool, b.id()) {
@@ -53,7 +62,7 @@ pub fn multiply_numbers(pool: &mut Pool, a: Handle, b: Handle) -> Result<Handle,
     }
 }
 
-/// The product of two rationals, which go.
+/// The product of two rationals, which are consumed.
 fn multiply_rationals(pool: &mut Pool, a: Handle, b: Handle) -> Result<Handle, NumberFault>
     requires stands { Stands pool.old }
     requires first { IsHanded a (forest pool.old) }
@@ -61,12 +70,13 @@ fn multiply_rationals(pool: &mut Pool, a: Handle, b: Handle) -> Result<Handle, N
     requires apart { (a == b) ≡ false }
     requires first_rational { is_num (tree_of a pool.old) ≡ true }
     requires second_rational { is_num (tree_of b pool.old) ≡ true }
-    ensures ok { IfOk result (λ h. Gives (without_root b (without_root a (forest pool.old))) (forest pool.new) h (IsNumberOf (surd_times (value (tree_of a pool.old)) (value (tree_of b pool.old))))) }
+    ensures ok { IfOk result (λ h. Gives (without_root b (without_root a (forest pool.old))) (forest pool.new) h (IsNumberOver (surd_times (value (tree_of a pool.old)) (value (tree_of b pool.old))))) }
     ensures rationals { (p q : Fraction) → tree_of a pool.old ≡ num p → tree_of b pool.old ≡ num q → AnswersRationals (calculated mul_op p q) pool.new result }
     ensures front { KeepsFront (a ∷ b ∷ []) (forest pool.old) (forest pool.new) }
     ensures kept { OnOk result (KeepsRefusals pool.old pool.new) }
     ensures faults { IfErr result (Faults pool.old pool.new) }
     ensures caused { IfErr result (IsCaused pool.new) }
+    ensures room { (gs : List ℕ) → IfErr result (LacksRoom product_need (free_of pool.old + size (tree_of a pool.old) + size (tree_of b pool.old)) gs) }
     ensures stands { Stands pool.new }
 {
     let (p, q) = take_rationals(pool, a, b);
@@ -82,12 +92,13 @@ fn multiply_terms(pool: &mut Pool, a: Handle, b: Handle) -> Result<Handle, Numbe
     requires apart { (a == b) ≡ false }
     requires first_number { is_number (tree_of a pool.old) ≡ true }
     requires second_number { is_number (tree_of b pool.old) ≡ true }
-    ensures ok { IfOk result (λ h. Gives (without_root b (without_root a (forest pool.old))) (forest pool.new) h (IsNumberOf (surd_times (value (tree_of a pool.old)) (value (tree_of b pool.old))))) }
+    ensures ok { IfOk result (λ h. Gives (without_root b (without_root a (forest pool.old))) (forest pool.new) h (IsNumberOver (surd_times (value (tree_of a pool.old)) (value (tree_of b pool.old))))) }
     ensures front { KeepsFront (a ∷ b ∷ []) (forest pool.old) (forest pool.new) }
     ensures kept { OnOk result (KeepsRefusals pool.old pool.new) }
     ensures faults { IfErr result (Faults pool.old pool.new) }
     ensures overflow { IfErr result (OfOverflow (ProductOverflows (value (tree_of a pool.old)) (value (tree_of b pool.old)))) }
     ensures caused { IfErr result (IsCaused pool.new) }
+    ensures room { (gs : List ℕ) → SpansTree gs (tree_of a pool.old) → SpansTree gs (tree_of b pool.old) → IfErr result (LacksRoom product_need (free_of pool.old + size (tree_of a pool.old) + size (tree_of b pool.old)) gs) }
     ensures stands { Stands pool.new }
 {
     let product = product_of(pool, &a, &b)?;
@@ -103,12 +114,13 @@ pub(crate) fn product_of(pool: &mut Pool, a: &Handle, b: &Handle) -> Result<Hand
     requires second { IsHanded b.now (forest pool.old) }
     requires first_number { is_number (tree_of a.now pool.old) ≡ true }
     requires second_number { is_number (tree_of b.now pool.old) ≡ true }
-    ensures ok { IfOk result (λ h. Gives (forest pool.old) (forest pool.new) h (IsNumberOf (surd_times (value (tree_of a.now pool.old)) (value (tree_of b.now pool.old))))) }
+    ensures ok { IfOk result (λ h. Gives (forest pool.old) (forest pool.new) h (IsNumberOver (surd_times (value (tree_of a.now pool.old)) (value (tree_of b.now pool.old))))) }
     ensures front { KeepsFront [] (forest pool.old) (forest pool.new) }
     ensures kept { OnOk result (KeepsRefusals pool.old pool.new) }
     ensures faults { IfErr result (Faults pool.old pool.new) }
     ensures overflow { IfErr result (OfOverflow (ProductOverflows (value (tree_of a.now pool.old)) (value (tree_of b.now pool.old)))) }
     ensures caused { IfErr result (IsCaused pool.new) }
+    ensures room { (gs : List ℕ) → SpansTree gs (tree_of a.now pool.old) → SpansTree gs (tree_of b.now pool.old) → IfErr result (LacksRoom joining_need (free_of pool.old) gs) }
     ensures stands { Stands pool.new }
 {
     let terms = term_count(pool, a.id()).saturating_mul(term_count(pool, b.id()));
@@ -135,12 +147,13 @@ fn product_within<const N: usize>(
     requires second { IsHanded b.now (forest pool.old) }
     requires first_number { is_number (tree_of a.now pool.old) ≡ true }
     requires second_number { is_number (tree_of b.now pool.old) ≡ true }
-    ensures ok { IfOk result (λ h. Gives (forest pool.old) (forest pool.new) h (IsNumberOf (surd_times (value (tree_of a.now pool.old)) (value (tree_of b.now pool.old))))) }
+    ensures ok { IfOk result (λ h. Gives (forest pool.old) (forest pool.new) h (IsNumberOver (surd_times (value (tree_of a.now pool.old)) (value (tree_of b.now pool.old))))) }
     ensures front { KeepsFront [] (forest pool.old) (forest pool.new) }
     ensures kept { OnOk result (KeepsRefusals pool.old pool.new) }
     ensures faults { IfErr result (Faults pool.old pool.new) }
     ensures overflow { IfErr result (OfOverflow (ProductOverflows (value (tree_of a.now pool.old)) (value (tree_of b.now pool.old)))) }
     ensures caused { IfErr result (IsCaused pool.new) }
+    ensures room { (gs : List ℕ) → SpansTree gs (tree_of a.now pool.old) → SpansTree gs (tree_of b.now pool.old) → IfErr result (LacksRoom joining_need (free_of pool.old) gs) }
     ensures stands { Stands pool.new }
 {
     let sum = node(pool, Kind::Add)?;
@@ -175,6 +188,7 @@ fn join_rows<const N: usize>(
     ensures faults { IfErr result (Faults pool.old pool.new) }
     ensures overflow { value (tree_of sum.now pool.old) ≡ [] → IfErr result (OfOverflow (ProductOverflows (value (tree_of a pool.old)) (value (tree_of b pool.old)))) }
     ensures caused { IfErr result (IsCaused pool.new) }
+    ensures room { (gs : List ℕ) → Spans gs (value (tree_of sum.now pool.old)) → Spans gs (value (tree_of a pool.old)) → Spans gs (value (tree_of b pool.old)) → IfErr result (LacksRoom joining_need (free_of pool.old + size (tree_of sum.now pool.old)) gs) }
     ensures stands { Stands pool.new }
 {
     for at in 0..term_count(pool, a) {
@@ -206,6 +220,7 @@ fn join_products<const N: usize>(
     ensures faults { IfErr result (Faults pool.old pool.new) }
     ensures overflow { IfErr result (OfOverflow (RowOverflows (value (tree_of sum.now pool.old)) (term_of term) (value (tree_of number pool.old)))) }
     ensures caused { IfErr result (IsCaused pool.new) }
+    ensures room { (gs : List ℕ) → Spans gs (value (tree_of sum.now pool.old)) → IsSpanned gs (term_of term).radicand → Spans gs (value (tree_of number pool.old)) → IfErr result (LacksRoom joining_need (free_of pool.old + size (tree_of sum.now pool.old)) gs) }
     ensures stands { Stands pool.new }
 {
     for at in 0..term_count(pool, number) {

@@ -1,13 +1,19 @@
 //! Powers of Numbers.
-ghost use Rattle.std.specs.Prelude.{◌≡◌, ◌∷◌, ◌≤◌, ◌<◌, ◌≤ℤ◌, pos, nat_abs, [], true, false, IfOk, IfErr, OnOk};
+ghost use Rattle.std.specs.Prelude.{ℕ, List, ◌+◌, ◌≡◌, ◌∷◌, ◌≤◌, ◌<◌, ◌≤ℤ◌, pos, nat_abs, [], true, false, IfOk, IfErr, OnOk, ◌*◌};
 ghost use Rattle.calc_terms.specs.Fits.{pow_op};
 ghost use Rattle.calc_terms.specs.Fractions.{Fraction, whole_fraction};
 ghost use Rattle.calc_algebra.specs.Numbers.{is_number, value};
+ghost use Rattle.calc_bits.specs.Bounds.{IsNoLargerThanPower};
+ghost use Rattle.calc_bits.specs.Masses.{IsHeld};
 ghost use Rattle.calc_measures.specs.PlainValues.{calculated};
 ghost use Rattle.calc_algebra.specs.Surds.{surd_times, surd_power};
-ghost use Rattle.calc_terms.specs.Trees.{num, is_num};
-ghost use Rattle.number_forms.specs.Answers.{IsNumberOf, AnswersRationals};
+ghost use Rattle.calc_room.specs.Needs.{power_need};
+ghost use Rattle.calc_room.specs.Spans.{SpansTree};
+ghost use Rattle.calc_terms.specs.Trees.{num, is_num, size};
+ghost use Rattle.node_pool.specs.State.{free_of};
+ghost use Rattle.number_forms.specs.Answers.{IsNumberOf, AnswersRationals, IsNumberOver, IsPowerOver};
 ghost use Rattle.number_forms.specs.Overflows.{ProductOverflows, PowerOverflows};
+ghost use Rattle.number_forms.specs.Rooms.{LacksRoom, joining_need, raising_need};
 ghost use Rattle.tree_handles.specs.Causes.{IsCaused};
 ghost use Rattle.tree_handles.specs.Handed.{tree_of, IsHanded, Gives, KeepsFront};
 ghost use Rattle.tree_handles.specs.Faults.{Faults, OfOverflow};
@@ -20,7 +26,7 @@ use node_pool::Pool;
 use rational128::pow;
 use tree_handles::{Handle, NumberFault, move_last, number, release};
 
-/// A Number, which goes, to a power.
+/// A Number, which is consumed, to a power.
 pub fn power_number(pool: &mut Pool, a: Handle, n: i128) -> Result<Handle, NumberFault>
     requires stands { Stands pool.old }
     requires handed { IsHanded a (forest pool.old) }
@@ -32,7 +38,11 @@ pub fn power_number(pool: &mut Pool, a: Handle, n: i128) -> Result<Handle, Numbe
     ensures kept { OnOk result (KeepsRefusals pool.old pool.new) }
     ensures faults { IfErr result (Faults pool.old pool.new) }
     ensures overflow { is_num (tree_of a pool.old) ≡ false → IfErr result (OfOverflow (PowerOverflows (value (tree_of a pool.old)) (nat_abs n))) }
+    ensures measured { IfOk result (λ h. IsNoLargerThanPower (value (tree_of a pool.old)) (nat_abs n) (value (tree_of h pool.new))) }
+    ensures bits { (h l : ℕ) → IsHeld (value (tree_of a pool.old)) h l → nat_abs n * (2 * h + 4 * l) ≤ 124 → IfErr result (OfOverflow (λ o. ⊥)) }
     ensures caused { IfErr result (IsCaused pool.new) }
+    ensures room { (gs : List ℕ) → SpansTree gs (tree_of a pool.old) → IfErr result (LacksRoom power_need (free_of pool.old + size (tree_of a pool.old)) gs) }
+    ensures spanned { (gs : List ℕ) → SpansTree gs (tree_of a pool.old) → IfOk result (λ h. SpansTree gs (tree_of h pool.new)) }
     ensures stands { Stands pool.new }
 {
     if is_rational(pool, a.id()) {
@@ -47,18 +57,19 @@ pub fn power_number(pool: &mut Pool, a: Handle, n: i128) -> Result<Handle, Numbe
     }
 }
 
-/// A rational, which goes, to a power.
+/// A rational, which is consumed, to a power.
 fn power_rational(pool: &mut Pool, a: Handle, n: i128) -> Result<Handle, NumberFault>
     requires stands { Stands pool.old }
     requires handed { IsHanded a (forest pool.old) }
     requires rational { is_num (tree_of a pool.old) ≡ true }
     requires positive { pos 1 ≤ℤ n }
-    ensures ok { IfOk result (λ h. Gives (without_root a (forest pool.old)) (forest pool.new) h (IsNumberOf (surd_power (value (tree_of a pool.old)) (nat_abs n)))) }
+    ensures ok { IfOk result (λ h. Gives (without_root a (forest pool.old)) (forest pool.new) h (IsPowerOver (value (tree_of a pool.old)) (nat_abs n))) }
     ensures rational { (q : Fraction) → tree_of a pool.old ≡ num q → AnswersRationals (calculated pow_op q (whole_fraction n)) pool.new result }
     ensures front { KeepsFront (a ∷ []) (forest pool.old) (forest pool.new) }
     ensures kept { OnOk result (KeepsRefusals pool.old pool.new) }
     ensures faults { IfErr result (Faults pool.old pool.new) }
     ensures caused { IfErr result (IsCaused pool.new) }
+    ensures room { (gs : List ℕ) → IfErr result (LacksRoom power_need (free_of pool.old + size (tree_of a pool.old)) gs) }
     ensures stands { Stands pool.new }
 {
     let q = take_rational(pool, a);
@@ -73,12 +84,13 @@ fn power_of(pool: &mut Pool, a: &Handle, n: u128) -> Result<Handle, NumberFault>
     requires handed { IsHanded a.now (forest pool.old) }
     requires number { is_number (tree_of a.now pool.old) ≡ true }
     requires twice { 2 ≤ n }
-    ensures ok { IfOk result (λ h. Gives (forest pool.old) (forest pool.new) h (IsNumberOf (surd_power (value (tree_of a.now pool.old)) n))) }
+    ensures ok { IfOk result (λ h. Gives (forest pool.old) (forest pool.new) h (IsPowerOver (value (tree_of a.now pool.old)) n)) }
     ensures front { KeepsFront [] (forest pool.old) (forest pool.new) }
     ensures kept { OnOk result (KeepsRefusals pool.old pool.new) }
     ensures faults { IfErr result (Faults pool.old pool.new) }
     ensures overflow { IfErr result (OfOverflow (PowerOverflows (value (tree_of a.now pool.old)) n)) }
     ensures caused { IfErr result (IsCaused pool.new) }
+    ensures room { (gs : List ℕ) → SpansTree gs (tree_of a.now pool.old) → IfErr result (LacksRoom raising_need (free_of pool.old) gs) }
     ensures stands { Stands pool.new }
 {
     if n < 4 {
@@ -100,12 +112,13 @@ fn square_or_cube(pool: &mut Pool, a: &Handle, n: u128) -> Result<Handle, Number
     requires number { is_number (tree_of a.now pool.old) ≡ true }
     requires twice { 2 ≤ n }
     requires few { n < 4 }
-    ensures ok { IfOk result (λ h. Gives (forest pool.old) (forest pool.new) h (IsNumberOf (surd_power (value (tree_of a.now pool.old)) n))) }
+    ensures ok { IfOk result (λ h. Gives (forest pool.old) (forest pool.new) h (IsPowerOver (value (tree_of a.now pool.old)) n)) }
     ensures front { KeepsFront [] (forest pool.old) (forest pool.new) }
     ensures kept { OnOk result (KeepsRefusals pool.old pool.new) }
     ensures faults { IfErr result (Faults pool.old pool.new) }
     ensures overflow { IfErr result (OfOverflow (PowerOverflows (value (tree_of a.now pool.old)) n)) }
     ensures caused { IfErr result (IsCaused pool.new) }
+    ensures room { (gs : List ℕ) → SpansTree gs (tree_of a.now pool.old) → IfErr result (LacksRoom raising_need (free_of pool.old) gs) }
     ensures stands { Stands pool.new }
 {
     let square = product_of(pool, a, a)?;
@@ -116,17 +129,18 @@ fn square_or_cube(pool: &mut Pool, a: &Handle, n: u128) -> Result<Handle, Number
     }
 }
 
-/// A Number, which goes, times itself.
+/// A Number, which is consumed, times itself.
 fn squared(pool: &mut Pool, a: Handle) -> Result<Handle, NumberFault>
     requires stands { Stands pool.old }
     requires handed { IsHanded a (forest pool.old) }
     requires number { is_number (tree_of a pool.old) ≡ true }
-    ensures ok { IfOk result (λ h. Gives (without_root a (forest pool.old)) (forest pool.new) h (IsNumberOf (surd_times (value (tree_of a pool.old)) (value (tree_of a pool.old))))) }
+    ensures ok { IfOk result (λ h. Gives (without_root a (forest pool.old)) (forest pool.new) h (IsNumberOver (surd_times (value (tree_of a pool.old)) (value (tree_of a pool.old))))) }
     ensures front { KeepsFront (a ∷ []) (forest pool.old) (forest pool.new) }
     ensures kept { OnOk result (KeepsRefusals pool.old pool.new) }
     ensures faults { IfErr result (Faults pool.old pool.new) }
     ensures overflow { IfErr result (OfOverflow (ProductOverflows (value (tree_of a pool.old)) (value (tree_of a pool.old)))) }
     ensures caused { IfErr result (IsCaused pool.new) }
+    ensures room { (gs : List ℕ) → SpansTree gs (tree_of a pool.old) → IfErr result (LacksRoom joining_need (free_of pool.old) gs) }
     ensures stands { Stands pool.new }
 {
     let square = product_of(pool, &a, &a)?;
@@ -134,19 +148,20 @@ fn squared(pool: &mut Pool, a: Handle) -> Result<Handle, NumberFault>
     Ok(square)
 }
 
-/// A Number, which goes, times another.
+/// A Number, which is consumed, times another.
 fn multiplied(pool: &mut Pool, a: Handle, b: &Handle) -> Result<Handle, NumberFault>
     requires stands { Stands pool.old }
     requires first { IsHanded a (forest pool.old) }
     requires second { IsHanded b.now (forest pool.old) }
     requires first_number { is_number (tree_of a pool.old) ≡ true }
     requires second_number { is_number (tree_of b.now pool.old) ≡ true }
-    ensures ok { IfOk result (λ h. Gives (without_root a (forest pool.old)) (forest pool.new) h (IsNumberOf (surd_times (value (tree_of a pool.old)) (value (tree_of b.now pool.old))))) }
+    ensures ok { IfOk result (λ h. Gives (without_root a (forest pool.old)) (forest pool.new) h (IsNumberOver (surd_times (value (tree_of a pool.old)) (value (tree_of b.now pool.old))))) }
     ensures front { KeepsFront (a ∷ []) (forest pool.old) (forest pool.new) }
     ensures kept { OnOk result (KeepsRefusals pool.old pool.new) }
     ensures faults { IfErr result (Faults pool.old pool.new) }
     ensures overflow { IfErr result (OfOverflow (ProductOverflows (value (tree_of a pool.old)) (value (tree_of b.now pool.old)))) }
     ensures caused { IfErr result (IsCaused pool.new) }
+    ensures room { (gs : List ℕ) → SpansTree gs (tree_of a pool.old) → SpansTree gs (tree_of b.now pool.old) → IfErr result (LacksRoom joining_need (free_of pool.old) gs) }
     ensures stands { Stands pool.new }
 {
     let product = product_of(pool, &a, b)?;

@@ -25,7 +25,7 @@ pub(crate) fn is_rational(pool: &Pool, id: Id) -> bool
     }
 }
 
-/// The rational that a tree is, which goes.
+/// The rational that a tree is, which is consumed.
 pub(crate) fn take_rational(pool: &mut Pool, a: Handle) -> Rat
     requires stands { Stands pool.old }
     requires handed { IsHanded a (forest pool.old) }
@@ -41,7 +41,7 @@ pub(crate) fn take_rational(pool: &mut Pool, a: Handle) -> Rat
     value
 }
 
-/// The rationals that two trees are, which go.
+/// The rationals that two trees are, which are consumed.
 pub(crate) fn take_rationals(pool: &mut Pool, a: Handle, b: Handle) -> (Rat, Rat)
     requires stands { Stands pool.old }
     requires first { IsHanded a (forest pool.old) }

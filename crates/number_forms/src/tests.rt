@@ -1,8 +1,10 @@
 //! Numbers with expected values from exact arithmetic on maps from square-free radicands to fractions, apart
 //! from this code.
 
+mod bounds;
 mod building;
 mod pools;
 mod recognized;
+mod rooms;
 mod values;
 mod wide;

@@ -1,2 +1,4 @@
 pub mod RootLaws
 pub mod Handed
+pub mod Spanned
+pub mod RootBits

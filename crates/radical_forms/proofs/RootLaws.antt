@@ -89,7 +89,7 @@ number_answer q t n h f v = record {
 root_of_zero : (z : ℤ) (d : ℕ) (v : Surd) → z ≡ pos 0 → Same v [] → IsRootOf z d v
 root_of_zero z d v e h = subst (λ x. IsRootOf x d v) (sym e) h
 
-zero_value : (q : Fraction) → q.num ≡ pos 0 → value (num q) ≡ []
+pub zero_value : (q : Fraction) → q.num ≡ pos 0 → value (num q) ≡ []
 zero_value q e = ap (λ (b : Bool). if b then [] else surd_of q) (ap int_is_zero e)
 
 -- the root of 0 is 0

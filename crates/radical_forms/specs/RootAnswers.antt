@@ -1,5 +1,6 @@
 -- What the root of a reduced tree reduces to.
-use Rattle.std.specs.Prelude.{◌≡◌, ◌≤◌, Bool, true, false}
+use Rattle.std.specs.Prelude.{◌≡◌, ◌≤◌, Bool, true, false, ⊤}
+use Rattle.calc_terms.specs.Fractions.{Fraction}
 use Rattle.calc_terms.specs.Integers.{int_is_negative}
 use Rattle.calc_measures.specs.Loads.{nest, load}
 use Rattle.calc_algebra.specs.Numbers.{is_number}
@@ -10,6 +11,11 @@ use Rattle.calc_algebra.specs.Rewritings.{Reduces}
 abbrev pub argument_of : Tree → Tree
 argument_of (root a) = a
 argument_of t = undef
+
+-- a fact of a rational
+abbrev pub IfRational : Tree → (Fraction → Type 0) → Type 0
+IfRational (num q) P = P q
+IfRational t P = ⊤
 
 -- Undef, or a rational below 0
 abbrev pub has_no_root : Tree → Bool

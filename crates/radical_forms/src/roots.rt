@@ -1,15 +1,21 @@
 //! The root of a reduced tree.
-ghost use Rattle.std.specs.Prelude.{◌≡◌, ◌↔◌, ◌<◌, ◌≤◌, ◌+◌, true, IfOk, IfErr, OnOk, [], ◌∷◌};
+ghost use Rattle.std.specs.Prelude.{ℕ, List, ◌≡◌, ◌↔◌, ◌<◌, ◌≤◌, ◌<ℤ◌, ◌+◌, ◌*◌, pos, true, IfOk, IfErr, OnOk, [], ◌∷◌, false};
+ghost use Rattle.calc_terms.specs.Fractions.{Fraction};
 ghost use Rattle.calc_terms.specs.Rat.{value_of};
+ghost use Rattle.calc_algebra.specs.Numbers.{natural_of, value};
 ghost use Rattle.calc_algebra.specs.Reduced.{is_reduced};
+ghost use Rattle.calc_room.specs.Spans.{SpansTree};
+ghost use Rattle.calc_terms.specs.Integers.{int_is_negative};
+ghost use Rattle.calc_bits.specs.Bounds.{HasFewBits};
 ghost use Rattle.calc_terms.specs.Trees.{num, root as root_tree_of, is_root, is_num, size};
 ghost use Rattle.node_pool.specs.State.{free_of};
 ghost use Rattle.number_forms.specs.Lacks.{OfFull};
 ghost use Rattle.radical_forms.specs.Refusals.{HasWideRoot, LacksRoot, NamesProduct, IsOverflow, IsFull};
-ghost use Rattle.radical_forms.specs.RootAnswers.{argument_of, IsRootAnswer};
+ghost use Rattle.radical_forms.specs.RootAnswers.{argument_of, IfRational, IsRootAnswer};
+ghost use Rattle.surd_bits.specs.Rooted.{IsNoLargerThanRoot};
 ghost use Rattle.tree_handles.specs.Causes.{IsCaused};
 ghost use Rattle.tree_handles.specs.Handed.{tree_of, IsHanded, Gives, KeepsFront};
-ghost use Rattle.tree_handles.specs.Faults.{Faults, IfOverflow};
+ghost use Rattle.tree_handles.specs.Faults.{Faults, IfOverflow, OfOverflow};
 ghost use Rattle.tree_handles.specs.Roots.{without_root};
 ghost use Rattle.tree_handles.specs.Standing.{Stands, forest, KeepsRefusals};
 
@@ -36,6 +42,10 @@ pub fn reduce_root(pool: &mut Pool, root: Handle) -> Result<Handle, NumberFault>
     ensures overflows { IsOverflow result ↔ HasWideRoot (argument_of (tree_of root pool.old)) }
     ensures named { IfOverflow result (NamesProduct (argument_of (tree_of root pool.old))) }
 
+    // The root of a rational is no larger than the rational.
+    ensures measured { IfRational (argument_of (tree_of root pool.old)) (λ q. int_is_negative q.num ≡ false → IfOk result (λ h. IsNoLargerThanRoot q (value (tree_of h pool.new)))) }
+    ensures bits { HasFewBits (value (argument_of (tree_of root pool.old))) → IfErr result (OfOverflow (λ o. ⊥)) }
+
     // The answer has room in the free bytes and those of the handed tree. Bytes are lacking exactly where it has
     // none: for a rational argument at most, and only where fewer than 96 are free.
     ensures room { IfOk result (λ h. size (tree_of h pool.new) ≤ free_of pool.old + size (tree_of root pool.old)) }
@@ -47,6 +57,11 @@ pub fn reduce_root(pool: &mut Pool, root: Handle) -> Result<Handle, NumberFault>
     ensures kept { OnOk result (KeepsRefusals pool.old pool.new) }
     ensures faults { IfErr result (Faults pool.old pool.new) }
     ensures caused { IfErr result (IsCaused pool.new) }
+
+    // What spans the root spans the answer; for a rational p/q above 0, p * q does.
+    ensures spanned { (gs : List ℕ) → SpansTree gs (tree_of root pool.old) → IfOk result (λ h. SpansTree gs (tree_of h pool.new)) }
+    ensures spanned_alone { (q : Fraction) → argument_of (tree_of root pool.old) ≡ num q → pos 0 <ℤ q.num → IfOk result (λ h. SpansTree (natural_of q.num * q.den ∷ []) (tree_of h pool.new)) }
+
     ensures stands { Stands pool.new }
 {
     let argument = child_id(pool, root.id(), 0);
@@ -71,6 +86,7 @@ fn root_of_rational(pool: &mut Pool, root: Handle, q: Rat) -> Result<Handle, Num
     ensures ok { IfOk result (λ h. Gives (without_root root (forest pool.old)) (forest pool.new) h (IsRootAnswer (num (value_of q)))) }
     ensures overflows { IsOverflow result ↔ HasWideRoot (num (value_of q)) }
     ensures named { IfOverflow result (NamesProduct (num (value_of q))) }
+    ensures measured { int_is_negative (value_of q).num ≡ false → IfOk result (λ h. IsNoLargerThanRoot (value_of q) (value (tree_of h pool.new))) }
     ensures room { IfOk result (λ h. size (tree_of h pool.new) ≤ free_of pool.old + size (tree_of root pool.old)) }
     ensures first_lack { IfErr result (OfFull (LacksRoot (num (value_of q)) (free_of pool.old + size (tree_of root pool.old)))) }
     ensures full_below_96_bytes { IsFull result → free_of pool.old < 96 }

@@ -60,7 +60,7 @@ fn outcome(pool: &Pool, reduced: &Result<Handle, NumberFault>) -> u32 {
 
 // p, q and the bytes of √(p/q): 8 for Undef, 16 for a short number, 24 for its root, 48 for a short multiple of one,
 // and 24 more for each number in the long form.
-const ROOTS: [[i128; 3]; 12] = [
+const ROOTS: [[i128; 3]; 14] = [
     [8, 9, 72],
     [-1, 1, 8],
     [-1, 4, 8],
@@ -71,6 +71,8 @@ const ROOTS: [[i128; 3]; 12] = [
     [18, 1, 48],
     [1, 2, 72],
     [2, 9, 72],
+    [4_611_686_018_427_387_847, 1, 24],
+    [4_398_046_511_093, 1_048_576, 72],
     [i128::MAX, 1, 48],
     [i128::MAX, 2, 2],
 ];

@@ -23,3 +23,7 @@ pub mod Tested
 pub mod Collected
 pub mod OneOrder
 pub mod Hindered
+pub mod CollectedParts
+pub mod CollectedCounts
+pub mod CollectedSpans
+pub mod CollectedPowers

@@ -24,7 +24,7 @@ fn is_sum(pool: &Pool, id: Id) -> bool
     matches!(kind(pool, id), Kind::Add)
 }
 
-/// A Number that stands first goes where it is 0, and stands as its terms where it has two or more.
+/// A Number that stands first is released where it is 0, and stands as its terms where it has two or more.
 fn spread_number(pool: &mut Pool, sum: &Handle)
     requires stands { Stands pool.old }
     requires sum { IsSum sum.now (forest pool.old) }

@@ -50,7 +50,7 @@ fn take_coefficient_at(pool: &mut Pool, sum: &Handle, at: u16) -> Result<Handle,
     Ok(coefficient)
 }
 
-/// The coefficient of a term, which goes.
+/// The coefficient of a term, which is released.
 fn coefficient_alone(pool: &mut Pool, term: Handle) -> Result<Handle, Full>
     requires stands { Stands pool.old }
     requires handed { IsHanded term (forest pool.old) }
@@ -69,7 +69,7 @@ fn coefficient_alone(pool: &mut Pool, term: Handle) -> Result<Handle, Full>
     Ok(coefficient)
 }
 
-/// The coefficient of the term at a place, which goes, is added to those before it.
+/// The coefficient of the term at a place, which is released, is added to those before it.
 fn add_partner(
     pool: &mut Pool,
     sum: &Handle,
@@ -101,7 +101,7 @@ fn add_partner(
     add_numbers(pool, so_far, coefficient)
 }
 
-/// The coefficients of the partners behind a part are added to a coefficient, and they go.
+/// The coefficients of the partners behind a part are added to a coefficient, and the partners are released.
 fn add_partners(
     pool: &mut Pool,
     sum: &Handle,

@@ -1,6 +1,9 @@
 //! A sum becomes one reduced tree.
-ghost use Rattle.std.specs.Prelude.{◌≡◌, ◌≤◌, true, false, IfOk, IfErr, OnOk, [], ◌∷◌};
+ghost use Rattle.std.specs.Prelude.{ℕ, List, ◌+◌, ◌≡◌, ◌≤◌, true, false, IfOk, IfErr, OnOk, [], ◌∷◌};
 ghost use Rattle.calc_measures.specs.PlainValues.{plain_value};
+ghost use Rattle.calc_room.specs.Counts.{counted, counted_among};
+ghost use Rattle.calc_room.specs.Powers.{HasPowersOf};
+ghost use Rattle.calc_room.specs.Spans.{SpansTree};
 ghost use Rattle.calc_terms.specs.Trees.{count, is_add, are_rationals, has_undef};
 ghost use Rattle.number_forms.specs.Answers.{AnswersRationals};
 ghost use Rattle.sum_reduce.specs.Overflows.{Overflows};
@@ -23,7 +26,7 @@ use tree_handles::{Handle, NumberFault, undefined};
 
 /// A sum of reduced terms, at least one, becomes one reduced tree. Sums in it are opened, Numbers are
 /// added from left to right, and the coefficients of terms with identical parts, all before their sum
-/// is put back; a term whose coefficient is 0 goes. The Number's terms come first, then the others in
+/// is put back; a term whose coefficient is 0 is dropped. The Number's terms come first, then the others in
 /// the order of their parts. A sum with Undef in it is Undef.
 pub fn reduce_sum(pool: &mut Pool, sum: Handle) -> Result<Handle, NumberFault>
     requires stands { Stands pool.old }
@@ -45,6 +48,12 @@ pub fn reduce_sum(pool: &mut Pool, sum: Handle) -> Result<Handle, NumberFault>
     ensures faults { IfErr result (Faults pool.old pool.new) }
     ensures caused { IfErr result (IsCaused pool.new) }
     ensures overflow { IfErr result (OfOverflow (Overflows (children_of (tree_of sum pool.old)))) }
+
+    // The answer counts 1 more at most than the terms that are no Numbers, has no new powers, and is spanned by what spans the sum.
+    ensures counted { IfOk result (λ h. counted (tree_of h pool.new) ≤ 1 + counted_among (children_of (tree_of sum pool.old))) }
+    ensures powers { IfOk result (λ h. HasPowersOf (children_of (tree_of sum pool.old)) (tree_of h pool.new)) }
+    ensures spanned { (gs : List ℕ) → SpansTree gs (tree_of sum pool.old) → IfOk result (λ h. SpansTree gs (tree_of h pool.new)) }
+
     ensures stands { Stands pool.new }
 {
     if has_undef_term(pool, &sum) {

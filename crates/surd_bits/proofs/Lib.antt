@@ -7,3 +7,5 @@ pub mod InversesFit
 pub mod RootsFit
 pub mod InversesMeasured
 pub mod Steps
+pub mod Inverted
+pub mod Rooted

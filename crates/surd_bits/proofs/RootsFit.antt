@@ -66,7 +66,7 @@ root_fits q h l k bits =
 pub root_parts : (q : Fraction) (t : Term) → IsRootTerm t (parts_of q) → t.coefficient.den ∣ q.den
 root_parts q t r = subst (λ z. z.den ∣ q.den) (sym r.coefficient) (den_divides (pos r.root) q.den (den_pos q))
 
-root_magnitude : (q : Fraction) (t : Term) (r : IsRootTerm t (parts_of q)) → magnitude_over q.den t.coefficient ≡ r.root
+pub root_magnitude : (q : Fraction) (t : Term) (r : IsRootTerm t (parts_of q)) → magnitude_over q.den t.coefficient ≡ r.root
 root_magnitude q t r = ap (magnitude_over q.den) r.coefficient ∙ magnitude_lowest q.den (pos r.root) q.den r.root (den_pos q) (den_divides (pos r.root) q.den (den_pos q)) refl
 
 pub root_mass : (q : Fraction) (t : Term) → IsRootTerm t (parts_of q) → mass q.den (t ∷ []) ≡ max q.den (root_above (nat_abs q.num * q.den))

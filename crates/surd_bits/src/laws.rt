@@ -1,8 +1,8 @@
 //! Laws of the calculations on terms, each the contract of a function without a body.
 
-ghost use Rattle.std.specs.Prelude.{ℕ, ◌≡◌, ◌+◌, ◌*◌, ◌/◌, ◌≤◌, ◌<◌, max, [], ◌∷◌, true, false, pos, nat_abs, None};
+ghost use Rattle.std.specs.Prelude.{ℕ, ◌≡◌, ◌≢◌, ◌+◌, ◌*◌, ◌/◌, ◌≤◌, ◌<◌, max, [], ◌∷◌, true, false, pos, nat_abs, None};
 ghost use Rattle.std.specs.Int.{◌∣◌};
-ghost use Rattle.calc_terms.specs.Fractions.{Fraction, times, whole_fraction};
+ghost use Rattle.calc_terms.specs.Fractions.{Fraction, times, whole_fraction, zero_fraction};
 ghost use Rattle.calc_terms.specs.Fits.{fraction_fits};
 ghost use Rattle.calc_algebra.specs.SquareClasses.{are_alike};
 ghost use Rattle.calc_algebra.specs.Surds.{Term, surd_of, term_times};
@@ -13,7 +13,9 @@ ghost use Rattle.surd_terms.specs.Inverses.{inverse_of, first_of_inverse, second
 ghost use Rattle.surd_terms.specs.Products.{IsExtracted};
 ghost use Rattle.surd_terms.specs.Sums.{IsSum};
 ghost use Rattle.surd_terms.specs.SquareRoots.{IsRootTerm};
+ghost use Rattle.surd_bits.specs.Inverted.{IsNoLargerThanInverse};
 ghost use Rattle.surd_bits.specs.Proper.{IsProper, parts_of, square_over};
+ghost use Rattle.surd_bits.specs.Rooted.{IsNoLargerThanRoot};
 
 /// Two terms that are held within 124 bits can be joined.
 pub fn joins_fit()
@@ -61,6 +63,19 @@ pub fn inverses_measured()
     ensures two_held_by_one { (a b : Term) (h l : ℕ) → IsProper a → IsProper b → are_alike a.radicand b.radicand ≡ false
         → IsHeldByOne (a ∷ b ∷ []) h l
         → IsHeldByOne (first_of_inverse a b ∷ second_of_inverse a b ∷ []) (h + 2 * l) (2 * h + 2 * l) }
+{}
+
+/// The inverse of one term, and of the sum of two that are not alike, is measured over each two common denominators and held.
+pub fn inverses_are_no_larger()
+    ensures one { (a : Term) → IsProper a → IsNoLargerThanInverse (a ∷ []) (inverse_of a ∷ []) }
+    ensures two { (a b : Term) → IsProper a → IsProper b → are_alike a.radicand b.radicand ≡ false
+        → IsNoLargerThanInverse (a ∷ b ∷ []) (first_of_inverse a b ∷ second_of_inverse a b ∷ []) }
+{}
+
+/// The root of a rational, and that of 0, which has no terms, is measured and held.
+pub fn roots_are_no_larger()
+    ensures term { (q : Fraction) (t : Term) → q ≢ zero_fraction → IsRootTerm t (parts_of q) → IsNoLargerThanRoot q (t ∷ []) }
+    ensures none { (q : Fraction) → IsNoLargerThanRoot q [] }
 {}
 
 /// A common denominator stays one of what is joined, and once a square is taken before the root.

@@ -16,7 +16,7 @@ use surd_terms::{Term, product, square_root};
 use tree_handles::{Handle, NumberFault, number};
 
 /// A term: numerator, denominator, number under the root.
-pub(super) type Row = [i64; 3];
+pub(super) type Row = [i128; 3];
 
 /// A Number by at most three terms.
 pub(super) type Rows = [Row; 3];
@@ -31,15 +31,15 @@ pub(super) fn opened(alloc: Global, size: u16) -> Result<Pool, AllocError>
 }
 
 /// num/den, and num where den is below 1.
-fn ratio(num: i64, den: i64) -> Rat {
-    Rat::ratio(i128::from(num), i128::from(den.max(1)))
+fn ratio(num: i128, den: i128) -> Rat {
+    Rat::ratio(num.max(-i128::MAX), den.max(1))
 }
 
 /// n, and 1 where n is below 1.
-fn positive(n: i64) -> Rat
+fn positive(n: i128) -> Rat
     ensures { pos 0 <ℤ (ratio_of result).num }
 {
-    Rat::whole(i128::from(n.max(1)))
+    Rat::whole(n.max(1))
 }
 
 /// A rational times a root, if it is not 0.
@@ -137,7 +137,7 @@ pub(super) fn has_terms(pool: &Pool, number: &Handle, rows: &Rows) -> bool
 /// Whether a term is this multiple of a root.
 fn is_row(term: Term, row: &Row) -> bool {
     let coefficient = term.coefficient();
-    coefficient.num() == i128::from(row[0])
-        && coefficient.den() == i128::from(row[1])
-        && term.radicand() == u128::from(row[2].unsigned_abs())
+    coefficient.num() == row[0]
+        && coefficient.den() == row[1]
+        && term.radicand() == row[2].unsigned_abs()
 }

@@ -127,7 +127,7 @@ fn three(pool: &mut Pool, a: Row, b: Row, c: Row) -> Result<Handle, NumberFault>
 }
 
 /// The inverse of a Number, 0 where it has none, and the Number itself where it is wide.
-fn inverted(pool: &mut Pool, number: Handle) -> Result<Handle, NumberFault>
+pub(super) fn inverted(pool: &mut Pool, number: Handle) -> Result<Handle, NumberFault>
     requires stands { Stands pool.old }
     requires handed { IsHanded number (forest pool.old) }
     requires number { is_number (tree_of number pool.old) ≡ true }
@@ -168,7 +168,7 @@ fn eight_bytes_too_few(rt: HostRuntime) -> Result<(), Fail> {
 }
 
 /// Whether the first node is the number 7: its kind, and the byte of its value.
-fn stands_first(pool: &Pool) -> bool {
+pub(super) fn stands_first(pool: &Pool) -> bool {
     pool.bytes().first() == Some(&1) && pool.bytes().get(8) == Some(&7)
 }
 
@@ -182,7 +182,7 @@ fn three_classes_are_wide(rt: HostRuntime) -> Result<(), Fail> {
 }
 
 /// Two primes, whose product has 126 bits, and a third.
-const PRIMES: [i64; 3] = [
+const PRIMES: [i128; 3] = [
     9223372036854775783,
     9223372036854775643,
     9223372036854775549,
@@ -205,11 +205,8 @@ fn a_radicand_does_not_fit(rt: HostRuntime) -> Result<(), Fail> {
     match product_of_primes(&mut pool) {
         Err(NumberFault::Overflow(overflow)) => {
             assert!(rt; overflow.op == Op::Mul);
-            assert_eq!(rt;
-                overflow.a.num(),
-                i128::from(PRIMES[0]) * i128::from(PRIMES[1])
-            );
-            assert_eq!(rt; overflow.b.num(), i128::from(PRIMES[2]));
+            assert_eq!(rt; overflow.a.num(), PRIMES[0] * PRIMES[1]);
+            assert_eq!(rt; overflow.b.num(), PRIMES[2]);
             assert!(rt; stands_first(&pool));
         }
         _ => panic!(rt; "no overflow"),

@@ -302,7 +302,7 @@ const POWERS: [(i128, [Rows; 2]); 7] = [
 ];
 
 /// The sum of two Numbers that are made for it.
-fn sum_of(pool: &mut Pool, a: &Rows, b: &Rows) -> Result<Handle, NumberFault>
+pub(super) fn sum_of(pool: &mut Pool, a: &Rows, b: &Rows) -> Result<Handle, NumberFault>
     requires { Stands pool.old }
     ensures ok { IfOk result (λ h. Gives (forest pool.old) (forest pool.new) h (λ t. is_number t ≡ true)) }
     ensures stands { Stands pool.new }
@@ -313,7 +313,7 @@ fn sum_of(pool: &mut Pool, a: &Rows, b: &Rows) -> Result<Handle, NumberFault>
 }
 
 /// The product of two Numbers that are made for it.
-fn product_of(pool: &mut Pool, a: &Rows, b: &Rows) -> Result<Handle, NumberFault>
+pub(super) fn product_of(pool: &mut Pool, a: &Rows, b: &Rows) -> Result<Handle, NumberFault>
     requires { Stands pool.old }
     ensures ok { IfOk result (λ h. Gives (forest pool.old) (forest pool.new) h (λ t. is_number t ≡ true)) }
     ensures stands { Stands pool.new }

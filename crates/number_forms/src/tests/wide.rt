@@ -12,7 +12,7 @@ use std::test::Fail;
 use tree_handles::{Handle, NumberFault};
 
 /// (√p + s)·(√q + s)
-fn two(pool: &mut Pool, s: i64, p: i64, q: i64) -> Result<Handle, NumberFault>
+pub(super) fn two(pool: &mut Pool, s: i128, p: i128, q: i128) -> Result<Handle, NumberFault>
     requires { Stands pool.old }
     ensures ok { IfOk result (λ h. Gives (forest pool.old) (forest pool.new) h (λ t. is_number t ≡ true)) }
     ensures stands { Stands pool.new }
@@ -23,7 +23,7 @@ fn two(pool: &mut Pool, s: i64, p: i64, q: i64) -> Result<Handle, NumberFault>
 }
 
 /// The same for 2, 3, 5 and 7.
-fn four(pool: &mut Pool, s: i64) -> Result<Handle, NumberFault>
+pub(super) fn four(pool: &mut Pool, s: i128) -> Result<Handle, NumberFault>
     requires { Stands pool.old }
     ensures ok { IfOk result (λ h. Gives (forest pool.old) (forest pool.new) h (λ t. is_number t ≡ true)) }
     ensures stands { Stands pool.new }
@@ -34,7 +34,7 @@ fn four(pool: &mut Pool, s: i64) -> Result<Handle, NumberFault>
 }
 
 /// The same for the primes from 2 to 13.
-fn six(pool: &mut Pool, s: i64) -> Result<Handle, NumberFault>
+fn six(pool: &mut Pool, s: i128) -> Result<Handle, NumberFault>
     requires { Stands pool.old }
     ensures ok { IfOk result (λ h. Gives (forest pool.old) (forest pool.new) h (λ t. is_number t ≡ true)) }
     ensures stands { Stands pool.new }
@@ -45,7 +45,7 @@ fn six(pool: &mut Pool, s: i64) -> Result<Handle, NumberFault>
 }
 
 /// Its power.
-fn power(pool: &mut Pool, s: i64, n: u8) -> Result<Handle, NumberFault>
+fn power(pool: &mut Pool, s: i128, n: u8) -> Result<Handle, NumberFault>
     requires { Stands pool.old }
     ensures ok { IfOk result (λ h. Gives (forest pool.old) (forest pool.new) h (λ t. is_number t ≡ true)) }
     ensures stands { Stands pool.new }
@@ -89,7 +89,7 @@ fn product_of_cubes(pool: &mut Pool) -> Result<Handle, NumberFault>
     multiply_numbers(pool, a, b)
 }
 
-fn cube(pool: &mut Pool, s: i64) -> Result<Handle, NumberFault>
+fn cube(pool: &mut Pool, s: i128) -> Result<Handle, NumberFault>
     requires { Stands pool.old }
     ensures ok { IfOk result (λ h. Gives (forest pool.old) (forest pool.new) h (λ t. is_number t ≡ true)) }
     ensures stands { Stands pool.new }
@@ -107,7 +107,7 @@ fn cubes_of_conjugates_multiply_to_a_rational(rt: HostRuntime) -> Result<(), Fai
 }
 
 /// 2^63 - 25 and 2^62.
-const GREAT: [i64; 2] = [9223372036854775783, 4611686018427387904];
+const GREAT: [i128; 2] = [9223372036854775783, 4611686018427387904];
 
 /// (a + a·√3)·(a + b·√3) where a·a + 3·a·b does not fit.
 fn great_product(pool: &mut Pool) -> Result<Handle, NumberFault>
@@ -125,7 +125,7 @@ fn products_are_added_in_their_order(rt: HostRuntime) -> Result<(), Fail> {
     let mut pool = opened(rt.alloc(), 1_024)?;
     match great_product(&mut pool) {
         Err(NumberFault::Overflow(overflow)) => {
-            let [a, b] = GREAT.map(i128::from);
+            let [a, b] = GREAT;
             assert!(rt; overflow.op == Op::Add);
             assert_eq!(rt; overflow.a.num(), a * a);
             assert_eq!(rt; overflow.b.num(), 3 * a * b);

@@ -2,9 +2,25 @@ use Rattle.std.proofs.Common.{◌≡◌, true, sym, ap, ◌∙◌}
 use Rattle.std.specs.Prelude.{◌&&◌}
 use Rattle.tree_handles.specs.Handed.{tree_of}
 use Rattle.calc_terms.specs.Trees.{is_num}
+use Rattle.number_forms.proofs.Over.{if_number, if_no_larger, of_over}
+use Rattle.number_forms.proofs.Overflows.{refused_as}
+use Rattle.number_forms.proofs.RationalBits.{sum_not_refused}
+use Rattle.number_forms.proofs.WithinBits.{sum_within}
 use Rattle.number_forms.proofs.SumChanges.{same_plain, read_expression}
+use Rattle.number_forms.proofs.Rooms.{answer_spans, sum_spans}
 use Rattle.number_forms.proofs.adding.add_numbers.Goals as goal
 use Rattle.number_forms.proofs.adding.add_numbers.Goals.{else-is_rational-via-then-is_rational+else-is_rational-2, else-is_rational-via-else-is_rational}
+
+pub returns-then-is_rational-2-clause-room : goal.returns-then-is_rational-2-clause-room
+returns-then-is_rational-2-clause-room c = λ gs s t. c.add_rationals.ensures.room gs
+
+pub returns-then-is_rational-2-clause-spanned : goal.returns-then-is_rational-2-clause-spanned
+returns-then-is_rational-2-clause-spanned c = λ gs s t.
+    answer_spans gs c.add_rationals.result _ c.add_rationals.new.pool c.add_rationals.ensures.ok (λ u h. sum_spans gs _ _ u c.requires.first_number c.requires.second_number (of_over h) s t)
+
+pub returns-else-is_rational-clause-spanned : goal.returns-else-is_rational-clause-spanned
+returns-else-is_rational-clause-spanned c = λ gs s t.
+    answer_spans gs c.add_terms.result _ c.add_terms.new.pool c.add_terms.ensures.ok (λ u h. sum_spans gs _ _ u c.requires.first_number c.requires.second_number (of_over h) s t)
 
 pub is_rational-requires-clause-expression : goal.is_rational-requires-clause-expression
 is_rational-requires-clause-expression c = read_expression _ c.args.a c.args.pool.now c.id.ensures c.requires.stands c.requires.first
@@ -37,3 +53,24 @@ returns-then-is_rational-2-clause-overflow c = λ other.
     let second = sym (c.is_rational-then-is_rational.ensures ∙ ap is_num (same_plain _ c.args.b c.args.pool.now c.id-then-is_rational.ensures c.requires.stands c.requires.second.root)) ∙ c.if-is_rational-2.true in
     let both : (is_num (tree_of c.args.a c.args.pool.now) && is_num (tree_of c.args.b c.args.pool.now)) ≡ true = λ i. first i && second i in
     absurd (cc (both, other))
+
+pub returns-then-is_rational-2-clause-ok : goal.returns-then-is_rational-2-clause-ok
+returns-then-is_rational-2-clause-ok c = if_number c.add_rationals.result _ _ _ c.add_rationals.ensures.ok
+
+pub returns-then-is_rational-2-clause-measured : goal.returns-then-is_rational-2-clause-measured
+returns-then-is_rational-2-clause-measured c = if_no_larger c.add_rationals.result _ c.add_rationals.new.pool _ c.add_rationals.ensures.ok
+
+pub returns-else-is_rational-clause-ok : goal.returns-else-is_rational-clause-ok
+returns-else-is_rational-clause-ok c = if_number c.add_terms.result _ _ _ c.add_terms.ensures.ok
+
+pub returns-else-is_rational-clause-measured : goal.returns-else-is_rational-clause-measured
+returns-else-is_rational-clause-measured c = if_no_larger c.add_terms.result _ c.add_terms.new.pool _ c.add_terms.ensures.ok
+
+pub returns-then-is_rational-2-clause-bits : goal.returns-then-is_rational-2-clause-bits
+returns-then-is_rational-2-clause-bits c = λ few.
+    let first = sym (c.is_rational.ensures ∙ ap is_num (same_plain _ c.args.a c.args.pool.now c.id.ensures c.requires.stands c.requires.first.root)) ∙ c.if-is_rational.true in
+    let second = sym (c.is_rational-then-is_rational.ensures ∙ ap is_num (same_plain _ c.args.b c.args.pool.now c.id-then-is_rational.ensures c.requires.stands c.requires.second.root)) ∙ c.if-is_rational-2.true in
+    sum_not_refused (tree_of c.args.a c.args.pool.now) (tree_of c.args.b c.args.pool.now) c.add_rationals.new.pool c.add_rationals.result first second c.add_rationals.ensures.rationals few
+
+pub returns-else-is_rational-clause-bits : goal.returns-else-is_rational-clause-bits
+returns-else-is_rational-clause-bits c = λ few. refused_as c.add_terms.result c.add_terms.ensures.overflow (λ o s. absurd (sum_within _ _ o few s))

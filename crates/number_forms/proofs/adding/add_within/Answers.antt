@@ -1,10 +1,12 @@
-use Rattle.std.proofs.Common.{◌≡◌, ℕ, inl, sym, ap, ◌∙◌, subst, arith}
+use Rattle.std.proofs.Common.{◌≡◌, ℕ, inl, sym, ap, ◌∙◌, subst, arith, ◌+◌, ◌*◌, ◌^◌, ◌<◌, length}
 use Rattle.calc_algebra.specs.Numbers.{is_number, value}
 use Rattle.calc_algebra.proofs.SquareClassLaws.{Same-trans}
 use Rattle.calc_algebra.proofs.TermLaws.{Same-append, Same-eq}
 use Rattle.number_forms.proofs.ListedTerms.{lists_at}
 use Rattle.number_forms.proofs.SumChanges.{read_expression}
-use Rattle.number_forms.proofs.Loops.{other_plain, gives_without, gives_rest, number_as}
+use Rattle.number_forms.proofs.Loops.{other_plain, gives_without, gives_rest, kept_after}
+use Rattle.number_forms.proofs.Denominators.{shares_eq}
+use Rattle.number_forms.proofs.Over.{over_as, shares_append}
 use Rattle.tree_handles.specs.Handed.{tree_of, IsHanded}
 use Rattle.tree_handles.specs.Expressions.{plain}
 use Rattle.tree_handles.specs.Roots.{without_root}
@@ -15,7 +17,47 @@ use Rattle.tree_handles.proofs.Roots.{tree-without}
 use Rattle.number_forms.specs.Overflows.{SumOverflows}
 use Rattle.tree_handles.specs.Faults.{OfOverflow}
 use Rattle.number_forms.proofs.Overflows.{passed_on, overflow_as, sum_overflows_as}
+use Rattle.calc_room.specs.Needs.{sum_need}
+use Rattle.calc_room.specs.Spans.{Spans}
+use Rattle.calc_algebra.specs.Surds.{Surd}
+use Rattle.calc_terms.specs.Trees.{size}
+use Rattle.node_pool.specs.State.{free_of}
+use Rattle.number_forms.specs.Rooms.{LacksRoom, joining_need}
+use Rattle.number_forms.proofs.FreeBytes.{replaced_free, both_replaced_free}
+use Rattle.number_forms.proofs.Rooms.{full_as, few_for_sum, number_spans, sum_lacks, sum_lacks_two, sum_spans_same}
+use Rattle.tree_handles.specs.declared.fault.NumberFault.TheVariants as fault
 use Rattle.number_forms.proofs.adding.add_within.Goals as goal
+
+pub returns-in_err-sum-clause-room : goal.returns-in_err-sum-clause-room
+returns-in_err-sum-clause-room g c = λ gs s t.
+    passed_on c.from_residual.result (fault.Full c.in_err-sum.field-0.0) (LacksRoom sum_need (free_of c.args.pool.now + size (tree_of c.args.a c.args.pool.now) + size (tree_of c.args.b c.args.pool.now)) gs) c.from_residual.ensures.0 c.from_residual.ensures.1
+    (sum_lacks_two gs _ _ _ c.requires.first_number c.requires.second_number s t c.in_err-sum.ensures.room)
+
+pub returns-in_err-join_terms-clause-room : goal.returns-in_err-join_terms-clause-room
+returns-in_err-join_terms-clause-room g c = λ gs s t.
+    let a = tree_of c.args.a c.args.pool.now in
+    let b = tree_of c.args.b c.args.pool.now in
+    let beside = handed_beside c.args.a c.requires.apart c.requires.second in
+    let sum = c.in_ok-sum.ensures.ok in
+    let same : tree_of c.id-2.result c.sum_over.new.pool ≡ b = ap (λ (i : ℕ). tree_of i c.sum_over.new.pool) c.id-2.ensures ∙ other_plain c.args.b sum beside.root ∙ ap plain (tree-without c.args.a c.args.b (forest c.args.pool.now) c.requires.apart) in
+    let free = replaced_free c.requires.stands c.in_ok-sum.ensures.stands c.in_ok-sum.ensures.kept c.requires.first sum in
+    let first = sum_spans_same gs a _ c.requires.first_number (given_told sum) s in
+    let second = subst (λ (v : Surd). Spans gs v) (sym (ap value same)) (number_spans gs b c.requires.second_number t) in
+    passed_on c.from_residual-in_err-join_terms.result c.in_err-join_terms.field-0.0 (LacksRoom sum_need (free_of c.args.pool.now + size a + size b) gs) c.from_residual-in_err-join_terms.ensures.0 c.from_residual-in_err-join_terms.ensures.1
+    (full_as c.in_err-join_terms.field-0.0 (c.in_err-join_terms.ensures.room gs first second)
+    (λ full few. sum_lacks gs _ b c.requires.second_number t (subst (λ (n : ℕ). n < joining_need * 2 ^ length gs) free few)))
+
+pub returns-in_err-number_of-clause-room : goal.returns-in_err-number_of-clause-room
+returns-in_err-number_of-clause-room g c = λ gs s t.
+    let sum = c.in_ok-sum.ensures.ok in
+    let b = handed_at (handed_beside c.args.a c.requires.apart c.requires.second) (given_rest sum) in
+    let joined = c.in_ok-join_terms.ensures.ok in
+    let left = gives_without c.args.b joined b.root (c.release.ensures.owned (owned (given_other joined b))) in
+    let all = gives_as left (ap (without_root c.args.b) (given_rest sum)) (λ t h. h) in
+    let kept = kept_after c.in_ok-sum.ensures.kept (kept_after c.in_ok-join_terms.ensures.kept c.release.ensures.kept) in
+    let free = both_replaced_free c.requires.stands c.release.ensures.stands kept c.requires.apart c.requires.first c.requires.second all in
+    passed_on c.from_residual-in_err-number_of.result (fault.Full c.in_err-number_of.field-0.0) (LacksRoom sum_need (free_of c.args.pool.now + size (tree_of c.args.a c.args.pool.now) + size (tree_of c.args.b c.args.pool.now)) gs) c.from_residual-in_err-number_of.ensures.0 c.from_residual-in_err-number_of.ensures.1
+    (few_for_sum gs _ (subst (λ (n : ℕ). n < 40) free c.in_err-number_of.ensures.room))
 
 pub join_terms-requires : goal.join_terms-requires
 join_terms-requires g c = (omega (arith, c.requires.few), (c.in_ok-sum.ensures.stands, (gives_rest c.in_ok-sum.ensures.ok (λ t h. h.sum), (lists_at {N = g.row.N} _ _ _ _ (sym c.id.ensures) c.of-list.ensures, (subst (λ (i : ℕ). IsHanded i (without_root c.in_ok-sum.sum (forest c.sum_over.new.pool))) (sym c.id-2.ensures) (handed_at (handed_beside c.args.a c.requires.apart c.requires.second) (given_rest c.in_ok-sum.ensures.ok)), (let beside = handed_beside c.args.a c.requires.apart c.requires.second in let same = other_plain c.args.b c.in_ok-sum.ensures.ok beside.root ∙ ap plain (tree-without c.args.a c.args.b (forest c.args.pool.now) c.requires.apart) in ap (λ (i : ℕ). is_number (tree_of i c.sum_over.new.pool)) c.id-2.ensures ∙ ap is_number same ∙ c.requires.second_number))))))
@@ -56,7 +98,8 @@ returns-clause-ok g c =
     let left = gives_without c.args.b joined b.root (c.release.ensures.owned (owned (given_other joined b))) in
     let same : tree_of c.id-2.result c.sum_over.new.pool ≡ tree_of c.args.b c.args.pool.now = ap (λ (i : ℕ). tree_of i c.sum_over.new.pool) c.id-2.ensures ∙ other_plain c.args.b sum beside.root ∙ ap plain (tree-without c.args.a c.args.b (forest c.args.pool.now) c.requires.apart) in
     let worth = Same-trans (given_told left).worth (Same-append (given_told sum).worth (Same-eq (ap value same))) in
-    gives_as c.in_ok-number_of.ensures.ok (given_rest left ∙ ap (without_root c.args.b) (given_rest sum)) (λ t h. number_as h worth)
+    gives_as c.in_ok-number_of.ensures.ok (given_rest left ∙ ap (without_root c.args.b) (given_rest sum))
+    (λ t h. over_as h worth (λ d p. (given_told left).parts d (shares_append (given_told sum).parts (shares_eq (sym (ap value same))) d p)))
 
 pub returns-in_err-join_terms-clause-overflow : goal.returns-in_err-join_terms-clause-overflow
 returns-in_err-join_terms-clause-overflow g c =
@@ -64,7 +107,7 @@ returns-in_err-join_terms-clause-overflow g c =
     let sum = c.in_ok-sum.ensures.ok in
     let same : tree_of c.id-2.result c.sum_over.new.pool ≡ tree_of c.args.b c.args.pool.now = ap (λ (i : ℕ). tree_of i c.sum_over.new.pool) c.id-2.ensures ∙ other_plain c.args.b sum beside.root ∙ ap plain (tree-without c.args.a c.args.b (forest c.args.pool.now) c.requires.apart) in
     passed_on c.from_residual-in_err-join_terms.result c.in_err-join_terms.field-0.0 (OfOverflow (SumOverflows (value (tree_of c.args.a c.args.pool.now)) (value (tree_of c.args.b c.args.pool.now)))) c.from_residual-in_err-join_terms.ensures.0 c.from_residual-in_err-join_terms.ensures.1
-    (overflow_as c.in_err-join_terms.field-0.0 c.in_err-join_terms.ensures.overflow (λ o s. sum_overflows_as _ _ _ _ o (given_told sum).worth (ap value same) s))
+    (overflow_as c.in_err-join_terms.field-0.0 c.in_err-join_terms.ensures.overflow (λ o s. sum_overflows_as _ _ _ _ o (given_told sum).worth (given_told sum).parts (ap value same) s))
 
 pub of-list-requires : goal.of-list-requires
 of-list-requires g c = (omega (arith, c.requires.few), (c.in_ok-sum.ensures.stands, read_expression _ c.in_ok-sum.sum c.sum_over.new.pool c.id.ensures c.in_ok-sum.ensures.stands (given_handed c.in_ok-sum.ensures.ok)))

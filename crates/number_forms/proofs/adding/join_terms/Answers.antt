@@ -1,20 +1,30 @@
-use Rattle.std.proofs.Common.{◌≡◌, ℕ, ◌≤◌, ◌∷◌, Some, length, sym, ap, ◌∙◌, arith, add-one, rules}
+use Rattle.std.proofs.Common.{◌≡◌, ℕ, ◌≤◌, ◌∷◌, Some, length, sym, ap, ◌∙◌, arith, add-one, rules, ◌+◌}
 use Rattle.std.specs.Prelude.{slice_get}
 use Rattle.calc_algebra.specs.Numbers.{is_number, value, classes}
-use Rattle.calc_terms.specs.Trees.{Tree}
+use Rattle.calc_terms.specs.Trees.{Tree, size}
 use Rattle.calc_algebra.proofs.TermLaws.{Same-refl}
 use Rattle.number_forms.proofs.ListedTerms.{lists_kept}
 use Rattle.number_forms.proofs.Loops.{joined_none, joined_more, joined_all, from_all, other_plain, other_read, other_expression, gives_rest}
 use Rattle.number_forms.proofs.Worth.{terms_from, from_next}
 use Rattle.tree_handles.specs.Handed.{tree_of}
 use Rattle.surd_terms.specs.Terms.{term_of}
-use Rattle.tree_handles.proofs.Given.{given_other}
+use Rattle.tree_handles.proofs.Given.{given_other, given_handed}
 use Rattle.tree_handles.proofs.Lasts.{plain_root}
 use Rattle.number_forms.specs.Overflows.{SumOverflows}
 use Rattle.tree_handles.specs.Faults.{OfOverflow}
 use Rattle.number_forms.proofs.Overflows.{passed_on, overflow_as}
 use Rattle.tree_handles.proofs.Given.{given_told}
+use Rattle.calc_room.proofs.NumberSpans.{spans_append}
+use Rattle.node_pool.specs.State.{free_of}
+use Rattle.number_forms.specs.Rooms.{LacksRoom, joining_need}
+use Rattle.number_forms.proofs.Rooms.{full_as, spans_from, term_lacks}
 use Rattle.number_forms.proofs.adding.join_terms.Goals as goal
+
+pub returns-in_err-join_term-clause-room : goal.returns-in_err-join_term-clause-room
+returns-in_err-join_term-clause-room g c = λ gs s t.
+    passed_on c.from_residual.result c.in_err-join_term.field-0.0 (LacksRoom joining_need (free_of c.args.pool.now + size (tree_of c.args.sum.now c.args.pool.now)) gs) c.from_residual.ensures.0 c.from_residual.ensures.1
+    (full_as c.in_err-join_term.field-0.0 c.in_err-join_term.ensures.room
+    (λ full few. term_lacks gs c.loop-at.invariant.joined c.requires.stands (given_handed c.requires.sum) (spans_append gs _ _ s t) (spans_from gs (value (tree_of c.args.number c.args.pool.now)) c.loop-at.at t) few))
 
 pub term_count-at-end-requires-clause-expression : goal.term_count-at-end-requires-clause-expression
 term_count-at-end-requires-clause-expression g c = other_expression c.args.number c.args.pool.now c.requires.stands c.requires.sum c.requires.handed
@@ -37,7 +47,7 @@ loop-at-preserved g c =
     let same = other_read c.args.number c.loop-at.pool c.loop-at.invariant.joined.stands c.loop-at.invariant.joined.gives c.requires.handed ∙ sym (other_plain c.args.number c.requires.sum c.requires.handed.root) in
     let here : slice_get (value number) c.loop-at.at ≡ Some (term_of c.listed_term-term.result) = ap (λ (t : Tree). slice_get (value t) c.loop-at.at) (sym same) ∙ c.listed_term-term.ensures in
     let next = from_next (value number) c.loop-at.at (term_of c.listed_term-term.result) here ∙ ap (λ (n : ℕ). term_of c.listed_term-term.result ∷ terms_from n (value number)) (sym (add-one c.loop-at.at)) in
-    record { joined = joined_more c.args.sum.now _ _ _ _ (term_of c.listed_term-term.result) c.args.pool.now c.loop-at.pool c.join_term.new.pool c.loop-at.invariant.joined next (Same-refl _) c.in_ok-join_term.ensures.ok c.join_term.ensures.front c.in_ok-join_term.ensures.kept c.join_term.ensures.stands; lists = c.in_ok-join_term.ensures.lists }
+    record { joined = joined_more c.args.sum.now _ _ _ _ (term_of c.listed_term-term.result) c.args.pool.now c.loop-at.pool c.join_term.new.pool c.loop-at.invariant.joined next (Same-refl _) (λ d p. p) c.in_ok-join_term.ensures.ok c.join_term.ensures.front c.in_ok-join_term.ensures.kept c.join_term.ensures.stands; lists = c.in_ok-join_term.ensures.lists }
 
 pub returns-clause-ok : goal.returns-clause-ok
 returns-clause-ok g c =
@@ -59,6 +69,7 @@ returns-in_err-join_term-clause-overflow g c =
       partial = tree_of c.args.sum.now c.loop-at.pool;
       sum = told.sum;
       worth = told.worth;
+      parts = told.parts;
       joined = j;
     }))
 

@@ -1,8 +1,8 @@
-use Rattle.std.proofs.Common.{◌≡◌, ◌≤◌, inl, sym, ap, ◌∙◌, refl, arith, subst}
+use Rattle.std.proofs.Common.{◌≡◌, ◌≤◌, inl, sym, ap, ◌∙◌, refl, arith, subst, ◌<◌}
 use Rattle.std.specs.Prelude.{pos}
 use Rattle.calc_algebra.specs.Numbers.{value}
-use Rattle.number_forms.specs.Answers.{IsNumberOf}
-use Rattle.calc_terms.specs.Trees.{Tree, count}
+use Rattle.number_forms.specs.Answers.{IsNumberOver}
+use Rattle.calc_terms.specs.Trees.{Tree, count, num, root_size}
 use Rattle.number_forms.proofs.LastSums.{sum_is, only_child, only_owned}
 use Rattle.number_forms.proofs.Shaped.{zero_sum, one_sum, more_sum, zero_number_of, two_from}
 use Rattle.number_forms.proofs.SumChanges.{same_plain, read_expression}
@@ -12,7 +12,21 @@ use Rattle.tree_handles.specs.Handed.{tree_of}
 use Rattle.tree_handles.specs.Expressions.{children_of}
 use Rattle.tree_handles.proofs.Fronts.{behind_first, front_same, front_at, front_end, front_put, front_without, front_after}
 use Rattle.tree_handles.proofs.Given.{given_root, given_handed, given_told, gives_as, owned}
+use Rattle.calc_terms.proofs.Sizes.{num_most}
+use Rattle.calc_terms.specs.Rat.{value_of}
+use Rattle.node_pool.specs.State.{free_of}
+use Rattle.number_forms.proofs.FreeBytes.{refused_below}
+use Rattle.number_forms.proofs.Rooms.{refusal_as}
+use Rattle.tree_handles.proofs.Room.{released_free}
 use Rattle.number_forms.proofs.adding.number_of.Goals as goal
+
+pub returns-then-terms-eq0-clause-room : goal.returns-then-terms-eq0-clause-room
+returns-then-terms-eq0-clause-room c =
+    let sum = given_handed c.requires.sum in
+    let free = released_free c.requires.stands c.release.ensures.stands c.release.ensures.kept sum (c.release.ensures.owned (owned sum)) in
+    refusal_as c.number.result c.number.ensures.full (λ full r.
+    let few : free_of c.release.new.pool < root_size (num (value_of c.whole.result)) = refused_below r in
+    omega (arith, free, few, num_most (value_of c.whole.result)))
 
 pub children-terms-requires-clause-live : goal.children-terms-requires-clause-live
 children-terms-requires-clause-live c = (read_expression _ c.args.sum c.args.pool.now c.id.ensures c.requires.stands (given_handed c.requires.sum)).live
@@ -63,4 +77,4 @@ returns-else-terms-eq1-clause-ok c =
     let many = ap (λ (t : Tree). count (children_of t)) (same_plain _ c.args.sum c.args.pool.now c.id.ensures c.requires.stands (given_root c.requires.sum)) in
     let all : c.children-terms.result ≡ count (children_of sum) = c.children-terms.ensures.plain expression ∙ many in
     let two : 2 ≤ c.children-terms.result = two_from c.children-terms.result c.if-terms-eq0.false c.if-terms-eq1.false in
-    gives_as (gives_itself c.requires.sum) refl (λ t h. let e = h.1 in subst (IsNumberOf (value sum)) (sym e) (more_sum sum (children_of sum) told (sum_is sum told) (omega (arith, all, two))))
+    gives_as (gives_itself c.requires.sum) refl (λ t h. let e = h.1 in subst (IsNumberOver (value sum)) (sym e) (more_sum sum (children_of sum) told (sum_is sum told) (omega (arith, all, two))))

@@ -1,4 +1,4 @@
-use Rattle.std.proofs.Common.{sym, ap, ◌∙◌, refl}
+use Rattle.std.proofs.Common.{sym, ap, ◌∙◌, refl, ◌<◌, arith}
 use Rattle.calc_terms.specs.declared.kind.Kind.TheVariants as kind
 use Rattle.calc_terms.specs.Payload.{bare}
 use Rattle.number_forms.specs.Readers.{is_zero}
@@ -9,7 +9,22 @@ use Rattle.tree_handles.specs.Handed.{tree_of}
 use Rattle.tree_handles.proofs.Fronts.{behind_first, front_same, front_at, front_end, front_without, front_after}
 use Rattle.tree_handles.proofs.Given.{represents_none, represents_handed, represents_with, represents_node, gives, owned}
 use Rattle.tree_handles.proofs.Lasts.{last_held, last_apart, other_root}
+use Rattle.node_pool.specs.State.{free_of}
+use Rattle.node_pool.specs.declared.full.Full.{Full}
+use Rattle.number_forms.proofs.FreeBytes.{refused_below}
+use Rattle.number_forms.proofs.Overflows.{passed_on}
+use Rattle.number_forms.proofs.Rooms.{refusal_as}
+use Rattle.tree_handles.proofs.Room.{released_free}
 use Rattle.number_forms.proofs.adding.sum_over_term.Goals as goal
+
+pub returns-then-is_zero-clause-room : goal.returns-then-is_zero-clause-room
+returns-then-is_zero-clause-room c =
+    let free = released_free c.requires.stands c.release.ensures.stands c.release.ensures.kept c.requires.handed (c.release.ensures.owned (owned c.requires.handed)) in
+    refusal_as c.node.result c.node.ensures.full (λ full r. let few : free_of c.release.new.pool < 8 = refused_below r in omega (arith, free, few))
+
+pub returns-in_err-sum-clause-room : goal.returns-in_err-sum-clause-room
+returns-in_err-sum-clause-room c =
+    passed_on c.from_residual.result c.in_err-sum.field-0.0 (λ (full : Full). free_of c.args.pool.now < 8) c.from_residual.ensures.0 c.from_residual.ensures.1 (refused_below c.in_err-sum.ensures.full)
 
 pub is_zero-requires-clause-expression : goal.is_zero-requires-clause-expression
 is_zero-requires-clause-expression c = read_expression _ c.args.a c.args.pool.now c.id.ensures c.requires.stands c.requires.handed

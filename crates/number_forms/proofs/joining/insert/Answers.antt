@@ -1,4 +1,4 @@
-use Rattle.std.proofs.Common.{sym, ap, ◌∙◌, arith}
+use Rattle.std.proofs.Common.{sym, ap, ◌∙◌, arith, ◌<◌, ◌≤◌}
 use Rattle.number_forms.proofs.ListedTerms.{lists_more}
 use Rattle.calc_terms.specs.Trees.{count}
 use Rattle.number_forms.proofs.SumChanges.{many_kids, inserted_sum}
@@ -12,7 +12,15 @@ use Rattle.tree_handles.proofs.Given.{given_root, given_handed, given_other, giv
 use Rattle.tree_handles.proofs.Lasts.{apart}
 use Rattle.tree_handles.proofs.Outcomes.{eqb-sym}
 use Rattle.tree_handles.proofs.Roots.{root_held, root_arity, root_id-root_tree}
+use Rattle.node_pool.specs.State.{free_of}
+use Rattle.number_forms.proofs.Overflows.{passed_on}
+use Rattle.node_pool.specs.declared.full.Full.{Full}
 use Rattle.number_forms.proofs.joining.insert.Goals as goal
+
+pub returns-in_err-child-clause-room : goal.returns-in_err-child-clause-room
+returns-in_err-child-clause-room g c =
+    let lacking : 96 ≤ free_of c.args.pool.now → ⊥ = λ enough. absurd (cc (c.in_err-child.ensures.room enough)) in
+    passed_on c.from_residual.result c.in_err-child.field-0.0 (λ (full : Full). free_of c.args.pool.now < 96) c.from_residual.ensures.0 c.from_residual.ensures.1 (omega (arith, lacking))
 
 pub add_child-requires-clause-live : goal.add_child-requires-clause-live
 add_child-requires-clause-live g c = root_held c.args.sum.now _ (given_other c.in_ok-child.ensures.ok (given_handed c.requires.sum)).root

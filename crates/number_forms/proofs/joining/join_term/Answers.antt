@@ -1,4 +1,4 @@
-use Rattle.std.proofs.Common.{sym, subst, refl, rules}
+use Rattle.std.proofs.Common.{sym, subst, refl, rules, ◌<◌, ◌≤◌, arith}
 use Rattle.calc_terms.specs.Trees.{Tree}
 use Rattle.number_forms.specs.Sums.{IsApart}
 use Rattle.number_forms.proofs.ListedTerms.{lists_at}
@@ -11,7 +11,19 @@ use Rattle.number_forms.specs.Overflows.{JoinOverflows}
 use Rattle.tree_handles.specs.Faults.{OfOverflow}
 use Rattle.number_forms.proofs.Overflows.{passed_on}
 use Rattle.tree_handles.specs.declared.fault.NumberFault.TheVariants as fault
+use Rattle.node_pool.specs.State.{free_of}
+use Rattle.node_pool.specs.declared.full.Full.{Full}
+use Rattle.number_forms.specs.Lacks.{OfFull}
 use Rattle.number_forms.proofs.joining.join_term.Goals as goal
+
+pub returns-in_err-at-clause-room : goal.returns-in_err-at-clause-room
+returns-in_err-at-clause-room g c = passed_on c.from_residual.result (fault.Overflow c.in_err-at.field-0.0) (OfFull (λ (full : Full). free_of c.args.pool.now < 96)) c.from_residual.ensures.0 c.from_residual.ensures.1 tt
+
+pub returns-in_err-insert-in-Term-clause-room : goal.returns-in_err-insert-in-Term-clause-room
+returns-in_err-insert-in-Term-clause-room g c =
+    let few : free_of c.remove-in-Term.new.pool < 96 = c.in_err-insert-in-Term.ensures.room in
+    let more : free_of c.args.pool.now ≤ free_of c.remove-in-Term.new.pool = c.remove-in-Term.ensures.room in
+    passed_on c.from_residual-in_err-insert-in-Term.result (fault.Full c.in_err-insert-in-Term.field-0.0) (OfFull (λ (full : Full). free_of c.args.pool.now < 96)) c.from_residual-in_err-insert-in-Term.ensures.0 c.from_residual-in_err-insert-in-Term.ensures.1 (omega arith)
 
 pub match_in-requires : goal.match_in-requires
 match_in-requires g c = (search rules, (c.requires.stands, (read_expression _ c.args.sum.now c.args.pool.now c.id.ensures c.requires.stands (given_handed c.requires.sum), (read_sum _ c.args.sum.now c.args.pool.now c.id.ensures c.requires.stands c.requires.sum, lists_at {N = g.row.N} _ _ _ _ c.id.ensures c.requires.lists))))
@@ -48,7 +60,7 @@ returns-in_ok-insert-in-Term-clause-ok g c =
     let m = matched (term_of c.args.term) _ sum _ _ same c.in-Term.is c.in_ok-at.ensures.ok in
     let rest = c.remove-in-Term.ensures.sum in
     gives_as c.in_ok-insert-in-Term.ensures.ok (given_rest rest)
-    (λ x w. made_one c.in-Term.at sum _ x (term_of c.args.term) (term_of c.in-Term.joined) (given_told c.requires.sum) m.0 m.1.1 (given_told rest) w)
+    (λ x w. made_one c.in-Term.at sum _ x (term_of c.args.term) (term_of c.in-Term.joined) (given_told c.requires.sum) m.0 m.1.1 m.2 (given_told rest) w)
 
 pub returns-in_ok-insert-in-Term-clause-front : goal.returns-in_ok-insert-in-Term-clause-front
 returns-in_ok-insert-in-Term-clause-front g c = front_after_one behind_first c.remove-in-Term.ensures.front c.insert-in-Term.ensures.front

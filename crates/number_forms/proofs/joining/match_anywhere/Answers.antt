@@ -6,7 +6,7 @@ use Rattle.calc_terms.specs.Trees.{count}
 use Rattle.number_forms.proofs.Children.{IsNextChild, left_more, next_child, none_left, few_children}
 use Rattle.number_forms.proofs.ByKind.{children_number}
 use Rattle.number_forms.proofs.Joined.{apart_each}
-use Rattle.number_forms.proofs.SquareFreeSums.{read_apart, read_joined}
+use Rattle.number_forms.proofs.SquareFreeSums.{read_apart, read_joined, read_parts}
 use Rattle.number_forms.proofs.SumChanges.{term_of_sum}
 use Rattle.number_forms.specs.Sums.{IsPlace}
 use Rattle.surd_terms.specs.Terms.{term_of}
@@ -62,8 +62,11 @@ returns-in-Zero-clause-ok g c =
 
 pub returns-in-Term-clause-ok : goal.returns-in-Term-clause-ok
 returns-in-Term-clause-ok g c =
-    let n = next g (goal.at.returns-in-Term-clause-ok g c).In-Some in
-    (n.within, read_joined c.in_ok-join.field-0 (joined.Term c.in-Term.joined) (term_of c.term_at-other.result) (term_of c.args.term) _ _ c.in-Term.is c.in_ok-join.ensures.joins c.term_at-other.ensures n.is)
+    let n = next g (goal.at.returns-in-Term-clause-ok g c).In-Some in (
+      n.within,
+      read_joined c.in_ok-join.field-0 (joined.Term c.in-Term.joined) (term_of c.term_at-other.result) (term_of c.args.term) _ _ c.in-Term.is c.in_ok-join.ensures.joins c.term_at-other.ensures n.is,
+      read_parts c.in_ok-join.field-0 c.in-Term.joined (term_of c.term_at-other.result) (term_of c.args.term) _ _ c.in-Term.is c.in_ok-join.ensures.sum c.term_at-other.ensures n.is,
+    )
 
 pub returns-clause-ok : goal.returns-clause-ok
 returns-clause-ok g c =

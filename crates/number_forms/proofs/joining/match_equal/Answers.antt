@@ -1,7 +1,9 @@
 use Rattle.std.proofs.Common.{◌≡◌, ◌<◌, ap, ◌∙◌, arith}
 use Rattle.calc_terms.specs.Trees.{count}
 use Rattle.number_forms.proofs.SumChanges.{term_of_sum}
+use Rattle.number_forms.proofs.SquareFreeSums.{read_joined, read_parts}
 use Rattle.surd_terms.specs.Terms.{term_of}
+use Rattle.surd_terms.specs.declared.sums.Joined.TheVariants as joined
 use Rattle.tree_handles.specs.Expressions.{plain, children_of}
 use Rattle.tree_handles.specs.Inside.{tree_at}
 use Rattle.tree_handles.specs.Standing.{forest}
@@ -24,3 +26,13 @@ returns-in_err-joined-clause-overflow g c =
     let within : c.place_of-at.result < count (children_of t) = omega (arith, many, c.place_of-at.ensures.within, c.if-at-children.false) in
     passed_on c.from_residual.result c.in_err-joined.field-0.0 (JoinOverflows t (term_of c.args.term)) c.from_residual.ensures.0 c.from_residual.ensures.1
     (join_overflow t c.place_of-at.result _ _ _ within (c.term_at-other.ensures ∙ ap term_of_tree (c.term.ensures.plain)) c.in_err-joined.ensures.overflow)
+
+pub returns-in-Term-clause-ok : goal.returns-in-Term-clause-ok
+returns-in-Term-clause-ok g c =
+    let t = plain (tree_at c.args.sum (forest c.args.pool.now)) in
+    let many : c.children.result ≡ count (children_of t) = c.children.ensures.plain c.requires.expression in
+    let within : c.place_of-at.result < count (children_of t) = omega (arith, many, c.place_of-at.ensures.within, c.if-at-children.false) in (
+      within,
+      read_joined c.in_ok-joined.joined (joined.Term c.in-Term.one) (term_of c.term_at-other.result) (term_of c.args.term) _ _ c.in-Term.is c.in_ok-joined.ensures.joins c.term_at-other.ensures c.term.ensures.plain,
+      read_parts c.in_ok-joined.joined c.in-Term.one (term_of c.term_at-other.result) (term_of c.args.term) _ _ c.in-Term.is c.in_ok-joined.ensures.sum c.term_at-other.ensures c.term.ensures.plain,
+    )

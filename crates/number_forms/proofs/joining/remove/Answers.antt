@@ -9,6 +9,8 @@ use Rattle.tree_handles.specs.Standing.{forest}
 use Rattle.tree_handles.proofs.Fronts.{behind_first, front_same, front_at, front_put}
 use Rattle.tree_handles.proofs.Given.{given_root, given_handed}
 use Rattle.tree_handles.proofs.Lasts.{last_root, last_tree, last_rest}
+use Rattle.number_forms.proofs.FreeBytes.{removed_free}
+use Rattle.number_forms.proofs.Loops.{kept_after}
 use Rattle.number_forms.proofs.joining.remove.Goals as goal
 use Rattle.number_forms.proofs.joining.remove.Given.{Over}
 use Rattle.number_forms.proofs.joining.remove.Goals.{After-release}
@@ -28,6 +30,11 @@ owned g c =
 
 pub returns-clause-sum : goal.returns-clause-sum
 returns-clause-sum g c = removed_sum c.args.at c.requires.sum (c.take_child-child.ensures.last (given_root c.requires.sum)) (c.release.ensures.owned (owned g (goal.at.returns-clause-sum g c).After-release))
+
+pub returns-clause-room : goal.returns-clause-room
+returns-clause-room g c =
+    let sum = removed_sum c.args.at c.requires.sum (c.take_child-child.ensures.last (given_root c.requires.sum)) (c.release.ensures.owned (owned g (goal.at.returns-clause-room g c).After-release)) in
+    removed_free c.args.at c.requires.stands c.release.ensures.stands (kept_after c.take_child-child.ensures.kept c.release.ensures.kept) c.requires.sum sum
 
 pub returns-clause-front : goal.returns-clause-front
 returns-clause-front g c =

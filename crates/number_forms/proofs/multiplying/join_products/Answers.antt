@@ -1,9 +1,10 @@
-use Rattle.std.proofs.Common.{◌≡◌, ℕ, ◌≤◌, ◌∷◌, Some, length, map, sym, ap, ◌∙◌, arith, add-one, rules}
+use Rattle.std.proofs.Common.{◌≡◌, ℕ, ◌≤◌, ◌∷◌, Some, length, map, sym, ap, ◌∙◌, arith, add-one, rules, ◌+◌}
 use Rattle.std.specs.Prelude.{slice_get}
 use Rattle.calc_algebra.specs.Numbers.{is_number, value, classes}
 use Rattle.calc_algebra.specs.Surds.{term_times}
-use Rattle.calc_terms.specs.Trees.{Tree}
+use Rattle.calc_terms.specs.Trees.{Tree, size}
 use Rattle.calc_algebra.proofs.TermLaws.{Same-refl}
+use Rattle.number_forms.proofs.Denominators.{parts_extracted}
 use Rattle.number_forms.proofs.Loops.{joined_none, joined_more, joined_all, from_all, other_plain, other_read, other_expression, gives_rest}
 use Rattle.number_forms.proofs.Worth.{terms_from, products_next, same_first}
 use Rattle.number_forms.proofs.ListedTerms.{lists_at, lists_kept}
@@ -20,8 +21,24 @@ use Rattle.number_forms.proofs.Overflows.{passed_on, overflow_as}
 use Rattle.number_forms.proofs.multiplying.join_products.Goals.{After-listed_term-other}
 use Rattle.tree_handles.proofs.Given.{given_told}
 use Rattle.tree_handles.specs.declared.fault.NumberFault.TheVariants as fault
+use Rattle.calc_room.proofs.NumberSpans.{spans_append, spans_row}
+use Rattle.node_pool.specs.State.{free_of}
+use Rattle.number_forms.specs.Rooms.{LacksRoom, joining_need}
+use Rattle.number_forms.proofs.Rooms.{full_as, spans_from, term_lacks}
 use Rattle.number_forms.proofs.multiplying.join_products.Goals as goal
 use Rattle.number_forms.proofs.multiplying.join_products.Given.{Over}
+
+pub returns-in_err-product-clause-room : goal.returns-in_err-product-clause-room
+returns-in_err-product-clause-room g c = λ gs s x t.
+    passed_on c.from_residual.result (fault.Overflow c.in_err-product.field-0.0) (LacksRoom joining_need (free_of c.args.pool.now + size (tree_of c.args.sum.now c.args.pool.now)) gs) c.from_residual.ensures.0 c.from_residual.ensures.1 tt
+
+pub returns-in_err-join_term-clause-room : goal.returns-in_err-join_term-clause-room
+returns-in_err-join_term-clause-room g c = λ gs s x t.
+    let v = value (tree_of c.args.number c.args.pool.now) in
+    let row = spans_row gs (term_of c.args.term) v x t in
+    let left = spans_row gs (term_of c.args.term) (terms_from c.loop-at.at v) x (spans_from gs v c.loop-at.at t) in
+    passed_on c.from_residual-in_err-join_term.result c.in_err-join_term.field-0.0 (LacksRoom joining_need (free_of c.args.pool.now + size (tree_of c.args.sum.now c.args.pool.now)) gs) c.from_residual-in_err-join_term.ensures.0 c.from_residual-in_err-join_term.ensures.1
+    (full_as c.in_err-join_term.field-0.0 c.in_err-join_term.ensures.room (λ full few. term_lacks gs c.loop-at.invariant.joined c.requires.stands (given_handed c.requires.sum) (spans_append gs _ _ s row) left few))
 
 pub term_count-at-end-requires-clause-expression : goal.term_count-at-end-requires-clause-expression
 term_count-at-end-requires-clause-expression g c = other_expression c.args.number c.args.pool.now c.requires.stands c.requires.sum c.requires.handed
@@ -51,6 +68,7 @@ loop-at-preserved g c =
     let next = products_next x (value number) c.loop-at.at y here ∙ ap (λ (n : ℕ). term_times x y ∷ map (term_times x) (terms_from n (value number))) (sym (add-one c.loop-at.at)) in
     record {
       joined = joined_more c.args.sum.now _ _ _ _ (term_times x y) c.args.pool.now c.loop-at.pool c.join_term.new.pool c.loop-at.invariant.joined next (same_first (term_of c.in_ok-product.product) (term_times x y) _ _ c.in_ok-product.ensures.product (Same-refl _))
+          (parts_extracted (term_of c.in_ok-product.product) (term_times x y) _ c.in_ok-product.ensures.extracted)
           c.in_ok-join_term.ensures.ok c.join_term.ensures.front c.in_ok-join_term.ensures.kept c.join_term.ensures.stands;
       lists = c.in_ok-join_term.ensures.lists;
     }
@@ -85,6 +103,7 @@ returns-in_err-join_term-clause-overflow g c =
         partial = tree_of c.args.sum.now c.loop-at.pool;
         sum = told.sum;
         worth = told.worth;
+        parts = told.parts;
         joined = j;
       });
     }))

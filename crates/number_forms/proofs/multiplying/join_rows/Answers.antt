@@ -1,8 +1,9 @@
-use Rattle.std.proofs.Common.{◌≡◌, ℕ, ◌≤◌, ◌++◌, Some, length, map, sym, ap, ◌∙◌, arith, add-one, subst, rules}
+use Rattle.std.proofs.Common.{◌≡◌, ℕ, ◌≤◌, ◌++◌, Some, length, map, sym, ap, ◌∙◌, arith, add-one, subst, rules, ◌+◌}
 use Rattle.std.specs.Prelude.{slice_get}
 use Rattle.calc_algebra.specs.Numbers.{is_number, value, classes}
 use Rattle.calc_algebra.specs.Surds.{surd_times, term_times, Surd}
-use Rattle.calc_terms.specs.Trees.{Tree}
+use Rattle.calc_terms.specs.Trees.{Tree, size}
+use Rattle.calc_bits.specs.Denominators.{SharesDenominators}
 use Rattle.number_forms.specs.Sums.{IsSumOf}
 use Rattle.number_forms.proofs.ListedTerms.{lists_kept}
 use Rattle.number_forms.proofs.Loops.{IsJoined, joined_none, joined_row, joined_all, from_all, other_plain, other_read, other_expression, gives_rest}
@@ -11,14 +12,33 @@ use Rattle.tree_handles.specs.Handed.{tree_of, Gives}
 use Rattle.surd_terms.specs.Terms.{term_of}
 use Rattle.tree_handles.specs.Roots.{without_root}
 use Rattle.tree_handles.specs.Standing.{forest}
-use Rattle.tree_handles.proofs.Given.{given_other, given_rest, handed_at}
+use Rattle.tree_handles.proofs.Given.{given_other, given_rest, handed_at, given_handed}
 use Rattle.tree_handles.proofs.Lasts.{plain_root}
 use Rattle.calc_algebra.specs.SquareClasses.{Same}
 use Rattle.number_forms.specs.Overflows.{RowOverflows, ProductOverflows}
 use Rattle.tree_handles.specs.Faults.{OfOverflow}
 use Rattle.number_forms.proofs.Overflows.{passed_on, overflow_as}
 use Rattle.tree_handles.proofs.Given.{given_told}
+use Rattle.calc_room.proofs.NumberSpans.{spans_append, spans_times}
+use Rattle.calc_room.specs.Spans.{Spans}
+use Rattle.node_pool.specs.State.{free_of}
+use Rattle.number_forms.specs.Rooms.{LacksRoom, joining_need}
+use Rattle.number_forms.proofs.Rooms.{full_as, spans_from, spans_nth, partial_spanned, row_lacks}
 use Rattle.number_forms.proofs.multiplying.join_rows.Goals as goal
+
+pub returns-in_err-join_products-clause-room : goal.returns-in_err-join_products-clause-room
+returns-in_err-join_products-clause-room g c = λ gs s t u.
+    let a : Tree = tree_of c.args.a c.args.pool.now in
+    let b : Tree = tree_of c.args.b c.args.pool.now in
+    let joined = c.loop-at.invariant.joined in
+    let same = other_read c.args.a c.loop-at.pool joined.stands joined.gives c.requires.first ∙ sym (other_plain c.args.a c.requires.sum c.requires.first.root) in
+    let here : slice_get (value a) c.loop-at.at ≡ Some (term_of c.nth_term-term.result) = ap (λ (t : Tree). slice_get (value t) c.loop-at.at) (sym same) ∙ c.nth_term-term.ensures in
+    let other = other_plain c.args.b joined.gives c.requires.second.root ∙ sym (other_plain c.args.b c.requires.sum c.requires.second.root) in
+    let left = spans_times gs (terms_from c.loop-at.at (value a)) (value b) (spans_from gs (value a) c.loop-at.at t) u in
+    let partial = partial_spanned gs _ _ (tree_of c.args.sum.now c.loop-at.pool) (given_told joined.gives) (spans_append gs _ _ s (spans_times gs (value a) (value b) t u)) left in
+    passed_on c.from_residual.result c.in_err-join_products.field-0.0 (LacksRoom joining_need (free_of c.args.pool.now + size (tree_of c.args.sum.now c.args.pool.now)) gs) c.from_residual.ensures.0 c.from_residual.ensures.1
+    (full_as c.in_err-join_products.field-0.0 (c.in_err-join_products.ensures.room gs partial (spans_nth gs (value a) c.loop-at.at _ here t) (subst (λ (t : Tree). Spans gs (value t)) (sym other) u))
+    (λ full few. row_lacks gs joined c.requires.stands (given_handed c.requires.sum) few))
 
 pub term_count-at-end-requires-clause-expression : goal.term_count-at-end-requires-clause-expression
 term_count-at-end-requires-clause-expression g c = other_expression c.args.a c.args.pool.now c.requires.stands c.requires.sum c.requires.first
@@ -82,6 +102,7 @@ returns-in_err-join_products-clause-overflow g c = λ empty.
       partial = partial;
       sum = told.sum;
       worth = subst (λ (v : Surd). Same (value partial ++ surd_times (terms_from c.loop-at.at (value a)) (value b)) (v ++ surd_times (value a) (value b))) empty told.worth;
+      parts = subst (λ (v : Surd). SharesDenominators (v ++ surd_times (value a) (value b)) (value partial ++ surd_times (terms_from c.loop-at.at (value a)) (value b))) empty told.parts;
       row = subst (λ (t : Tree). RowOverflows (value partial) x (value t) o) other r;
     }))
 

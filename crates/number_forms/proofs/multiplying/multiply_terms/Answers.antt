@@ -1,8 +1,20 @@
-use Rattle.std.proofs.Common.{inl}
+use Rattle.std.proofs.Common.{inl, ◌+◌}
 use Rattle.number_forms.proofs.Loops.{gives_without}
 use Rattle.tree_handles.proofs.Fronts.{behind_first, behind_later, front_same, front_at, front_without, front_after}
 use Rattle.tree_handles.proofs.Given.{given_other, handed_beside, handed_at, owned}
+use Rattle.calc_room.specs.Needs.{product_need}
+use Rattle.calc_terms.specs.Trees.{size}
+use Rattle.node_pool.specs.State.{free_of}
+use Rattle.number_forms.specs.Rooms.{LacksRoom}
+use Rattle.number_forms.proofs.Overflows.{passed_on}
+use Rattle.number_forms.proofs.Rooms.{full_as, product_lacks}
+use Rattle.tree_handles.specs.Handed.{tree_of}
 use Rattle.number_forms.proofs.multiplying.multiply_terms.Goals as goal
+
+pub returns-in_err-product-clause-room : goal.returns-in_err-product-clause-room
+returns-in_err-product-clause-room c = λ gs s t.
+    passed_on c.from_residual.result c.in_err-product.field-0.0 (LacksRoom product_need (free_of c.args.pool.now + size (tree_of c.args.a c.args.pool.now) + size (tree_of c.args.b c.args.pool.now)) gs) c.from_residual.ensures.0 c.from_residual.ensures.1
+    (full_as c.in_err-product.field-0.0 (c.in_err-product.ensures.room gs s t) (λ full few. product_lacks gs _ _ _ c.requires.first_number c.requires.second_number s t few))
 
 pub release-requires-clause-releasable : goal.release-requires-clause-releasable
 release-requires-clause-releasable c = inl (given_other c.in_ok-product.ensures.ok c.requires.first).root

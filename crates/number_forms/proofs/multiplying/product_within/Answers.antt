@@ -1,4 +1,4 @@
-use Rattle.std.proofs.Common.{◌≡◌, ℕ, ◌++◌, refl, sym, ap, ◌∙◌, subst, arith}
+use Rattle.std.proofs.Common.{◌≡◌, ℕ, ◌++◌, refl, sym, ap, ◌∙◌, subst, arith, ◌*◌, ◌^◌, ◌<◌, length}
 use Rattle.calc_algebra.specs.Numbers.{is_number, value}
 use Rattle.calc_algebra.specs.Surds.{surd_times}
 use Rattle.calc_algebra.proofs.SquareClassLaws.{Same-trans}
@@ -8,7 +8,9 @@ use Rattle.number_forms.proofs.ListedTerms.{lists_none, lists_at}
 use Rattle.tree_handles.specs.Forest.{arity}
 use Rattle.tree_handles.proofs.Lasts.{kids_of_last, expression_root}
 use Rattle.calc_terms.specs.Trees.{Tree}
-use Rattle.number_forms.proofs.Loops.{other_plain, gives_rest, number_as}
+use Rattle.number_forms.proofs.Loops.{other_plain, gives_rest, kept_after}
+use Rattle.number_forms.proofs.Denominators.{shares_eq}
+use Rattle.number_forms.proofs.Over.{over_as}
 use Rattle.tree_handles.specs.Handed.{tree_of, IsHanded}
 use Rattle.tree_handles.specs.Expressions.{IsExpression}
 use Rattle.tree_handles.specs.Roots.{without_root}
@@ -18,7 +20,38 @@ use Rattle.tree_handles.proofs.Given.{given_told, given_other, given_rest, gives
 use Rattle.number_forms.specs.Overflows.{ProductOverflows}
 use Rattle.tree_handles.specs.Faults.{OfOverflow}
 use Rattle.number_forms.proofs.Overflows.{passed_on, overflow_as}
+use Rattle.calc_room.specs.Spans.{Spans}
+use Rattle.node_pool.specs.State.{free_of}
+use Rattle.number_forms.specs.Rooms.{LacksRoom, joining_need}
+use Rattle.number_forms.proofs.FreeBytes.{refused_below}
+use Rattle.number_forms.proofs.Rooms.{full_as, few_for_joining, number_spans}
+use Rattle.tree_handles.proofs.Room.{given_free}
+use Rattle.tree_handles.specs.declared.fault.NumberFault.TheVariants as fault
 use Rattle.number_forms.proofs.multiplying.product_within.Goals as goal
+
+pub returns-in_err-sum-clause-room : goal.returns-in_err-sum-clause-room
+returns-in_err-sum-clause-room g c = λ gs s t.
+    let few : free_of c.args.pool.now < 8 = refused_below c.in_err-sum.ensures.full in
+    passed_on c.from_residual.result (fault.Full c.in_err-sum.field-0.0) (LacksRoom joining_need (free_of c.args.pool.now) gs) c.from_residual.ensures.0 c.from_residual.ensures.1 (few_for_joining gs _ (omega arith))
+
+pub returns-in_err-join_rows-clause-room : goal.returns-in_err-join_rows-clause-room
+returns-in_err-join_rows-clause-room g c = λ gs s t.
+    let new = c.in_ok-sum.ensures.given refl in
+    let free = given_free c.requires.stands c.in_ok-sum.ensures.stands c.in_ok-sum.ensures.kept new in
+    let a : tree_of c.id-2.result c.node.new.pool ≡ tree_of c.args.a.now c.args.pool.now = ap (λ (i : ℕ). tree_of i c.node.new.pool) c.id-2.ensures ∙ other_plain c.args.a.now new c.requires.first.root in
+    let b : tree_of c.id-3.result c.node.new.pool ≡ tree_of c.args.b.now c.args.pool.now = ap (λ (i : ℕ). tree_of i c.node.new.pool) c.id-3.ensures ∙ other_plain c.args.b.now new c.requires.second.root in
+    let none = subst (λ (u : Tree). Spans gs (value u)) (sym (given_told new)) tt in
+    let first = subst (λ (u : Tree). Spans gs (value u)) (sym a) (number_spans gs _ c.requires.first_number s) in
+    let second = subst (λ (u : Tree). Spans gs (value u)) (sym b) (number_spans gs _ c.requires.second_number t) in
+    passed_on c.from_residual-in_err-join_rows.result c.in_err-join_rows.field-0.0 (LacksRoom joining_need (free_of c.args.pool.now) gs) c.from_residual-in_err-join_rows.ensures.0 c.from_residual-in_err-join_rows.ensures.1
+    (full_as c.in_err-join_rows.field-0.0 (c.in_err-join_rows.ensures.room gs none first second) (λ full few. subst (λ (n : ℕ). n < joining_need * 2 ^ length gs) (sym free) few))
+
+pub returns-in_err-number_of-clause-room : goal.returns-in_err-number_of-clause-room
+returns-in_err-number_of-clause-room g c = λ gs s t.
+    let rows = gives_as c.in_ok-join_rows.ensures.ok (given_rest (c.in_ok-sum.ensures.given refl)) (λ t h. h) in
+    let free = given_free c.requires.stands c.in_ok-join_rows.ensures.stands (kept_after c.in_ok-sum.ensures.kept c.in_ok-join_rows.ensures.kept) rows in
+    passed_on c.from_residual-in_err-number_of.result (fault.Full c.in_err-number_of.field-0.0) (LacksRoom joining_need (free_of c.args.pool.now) gs) c.from_residual-in_err-number_of.ensures.0 c.from_residual-in_err-number_of.ensures.1
+    (few_for_joining gs _ (subst (λ (n : ℕ). n < 40) (sym free) c.in_err-number_of.ensures.room))
 
 pub join_rows-requires : goal.join_rows-requires
 join_rows-requires g c = (omega (arith, c.requires.few), (c.in_ok-sum.ensures.stands, (gives_rest (c.in_ok-sum.ensures.given refl) (λ t e. subst IsSum (sym e) (tt, tt)), (lists_none c.new-list.result c.in_ok-sum.sum (forest c.node.new.pool) c.new-list.ensures (ap arity (kids_of_last c.in_ok-sum.ensures.stands c.in_ok-sum.ensures.ok)), (subst (λ (i : ℕ). IsHanded i (without_root c.in_ok-sum.sum (forest c.node.new.pool))) (sym c.id-2.ensures) (handed_at c.requires.first (given_rest (c.in_ok-sum.ensures.given refl))), (subst (λ (i : ℕ). IsHanded i (without_root c.in_ok-sum.sum (forest c.node.new.pool))) (sym c.id-3.ensures) (handed_at c.requires.second (given_rest (c.in_ok-sum.ensures.given refl))), (ap (λ (i : ℕ). is_number (tree_of i c.node.new.pool)) c.id-2.ensures ∙ ap is_number (other_plain c.args.a.now (c.in_ok-sum.ensures.given refl) c.requires.first.root) ∙ c.requires.first_number, (ap (λ (i : ℕ). is_number (tree_of i c.node.new.pool)) c.id-3.ensures ∙ ap is_number (other_plain c.args.b.now (c.in_ok-sum.ensures.given refl) c.requires.second.root) ∙ c.requires.second_number, lists_at {N = g.row.N} _ _ _ _ (c.id-3.ensures ∙ sym c.id.ensures) c.of-terms.ensures))))))))
@@ -45,8 +78,10 @@ returns-clause-ok g c =
     let rows = c.in_ok-join_rows.ensures.ok in
     let a : tree_of c.id-2.result c.node.new.pool ≡ tree_of c.args.a.now c.args.pool.now = ap (λ (i : ℕ). tree_of i c.node.new.pool) c.id-2.ensures ∙ other_plain c.args.a.now new c.requires.first.root in
     let b : tree_of c.id-3.result c.node.new.pool ≡ tree_of c.args.b.now c.args.pool.now = ap (λ (i : ℕ). tree_of i c.node.new.pool) c.id-3.ensures ∙ other_plain c.args.b.now new c.requires.second.root in
-    let worth = Same-trans (given_told rows).worth (Same-eq (λ i. value (given_told new i) ++ surd_times (value (a i)) (value (b i)))) in
-    gives_as c.in_ok-number_of.ensures.ok (given_rest rows ∙ given_rest new) (λ t h. number_as h worth)
+    let same : value (tree_of c.in_ok-sum.sum c.node.new.pool) ++ surd_times (value (tree_of c.id-2.result c.node.new.pool)) (value (tree_of c.id-3.result c.node.new.pool))
+    ≡ surd_times (value (tree_of c.args.a.now c.args.pool.now)) (value (tree_of c.args.b.now c.args.pool.now)) = λ i. value (given_told new i) ++ surd_times (value (a i)) (value (b i)) in
+    gives_as c.in_ok-number_of.ensures.ok (given_rest rows ∙ given_rest new)
+    (λ t h. over_as h (Same-trans (given_told rows).worth (Same-eq same)) (λ d p. (given_told rows).parts d (shares_eq (sym same) d p)))
 
 pub returns-in_err-join_rows-clause-overflow : goal.returns-in_err-join_rows-clause-overflow
 returns-in_err-join_rows-clause-overflow g c =

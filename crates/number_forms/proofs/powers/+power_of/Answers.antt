@@ -1,11 +1,10 @@
-use Rattle.std.proofs.Common.{ap, ◌∙◌, subst}
+use Rattle.std.proofs.Common.{ap, ◌∙◌, subst, sym, ◌/◌}
 use Rattle.calc_algebra.specs.Numbers.{is_number, value}
 use Rattle.calc_algebra.specs.Surds.{surd_times}
 use Rattle.calc_terms.specs.Trees.{Tree}
-use Rattle.calc_algebra.proofs.SquareClassLaws.{Same-trans}
-use Rattle.calc_algebra.proofs.TermLaws.{Same-eq}
-use Rattle.number_forms.proofs.Loops.{other_plain}
-use Rattle.number_forms.proofs.PowerSteps.{power_even, power_odd}
+use Rattle.number_forms.proofs.Loops.{other_plain, kept_after}
+use Rattle.number_forms.specs.Answers.{IsNumberOver}
+use Rattle.number_forms.proofs.Over.{even_power, odd_power, power_itself, of_over, of_power}
 use Rattle.number_forms.proofs.TermTrees.{if_given}
 use Rattle.tree_handles.specs.Handed.{tree_of}
 use Rattle.tree_handles.specs.Expressions.{plain}
@@ -18,7 +17,40 @@ use Rattle.number_forms.specs.Overflows.{PowerOverflows, ProductOverflows}
 use Rattle.tree_handles.specs.Faults.{OfOverflow}
 use Rattle.number_forms.proofs.Overflows.{passed_on, overflow_as, refused_as, power_overflows_more, square_overflows, last_overflows}
 use Rattle.number_forms.proofs.PowerSteps.{half_twice, half_below, half_odd_within}
+use Rattle.calc_room.specs.Spans.{SpansTree}
+use Rattle.node_pool.specs.State.{free_of}
+use Rattle.number_forms.specs.Rooms.{LacksRoom, raising_need}
+use Rattle.number_forms.proofs.Rooms.{full_as, refusal_as, product_spans, power_spans, step_lacks}
+use Rattle.tree_handles.proofs.Room.{given_free}
 use Rattle.number_forms.proofs.powers.+power_of.Goals as goal
+
+pub returns-in_err-half-clause-room : goal.returns-in_err-half-clause-room
+returns-in_err-half-clause-room _ c = λ gs s.
+    passed_on c.from_residual.result c.in_err-half.field-0.0 (LacksRoom raising_need (free_of c.args.pool.now) gs) c.from_residual.ensures.0 c.from_residual.ensures.1 (c.in_err-half.ensures.room gs s)
+
+pub returns-in_err-square-clause-room : goal.returns-in_err-square-clause-room
+returns-in_err-square-clause-room _ c = λ gs s.
+    let half = c.in_ok-half.ensures.ok in
+    let h : Tree = tree_of c.in_ok-half.half c.power_of.new.pool in
+    let spanned = power_spans gs (tree_of c.args.a.now c.args.pool.now) h (c.args.n / 2) c.requires.number (of_power (given_told half)) s in
+    let free = given_free c.requires.stands c.in_ok-half.ensures.stands c.in_ok-half.ensures.kept half in
+    passed_on c.from_residual-in_err-square.result c.in_err-square.field-0.0 (LacksRoom raising_need (free_of c.args.pool.now) gs) c.from_residual-in_err-square.ensures.0 c.from_residual-in_err-square.ensures.1
+    (full_as c.in_err-square.field-0.0 (c.in_err-square.ensures.room gs spanned) (λ full few. step_lacks gs _ _ h (given_told half).number spanned free few))
+
+pub returns-else-n-eq0-clause-room : goal.returns-else-n-eq0-clause-room
+returns-else-n-eq0-clause-room _ c = λ gs s.
+    let half = c.in_ok-half.ensures.ok in
+    let square = c.in_ok-square.ensures.ok in
+    let rest = given_rest half in
+    let a : Tree = tree_of c.args.a.now c.args.pool.now in
+    let h : Tree = tree_of c.in_ok-half.half c.power_of.new.pool in
+    let q : Tree = tree_of c.in_ok-square.square c.squared.new.pool in
+    let same = other_plain c.args.a.now square (handed_at c.requires.handed rest).root ∙ ap (λ (f : Forest). plain (root_tree c.args.a.now f)) rest in
+    let of_half = power_spans gs a h (c.args.n / 2) c.requires.number (of_power (given_told half)) s in
+    let spanned = product_spans gs h h q (given_told half).number (given_told half).number (of_over (given_told square)) of_half of_half in
+    let free = given_free c.requires.stands c.in_ok-square.ensures.stands (kept_after c.in_ok-half.ensures.kept c.in_ok-square.ensures.kept) (gives_as square rest (λ t k. k)) in
+    refusal_as c.multiplied.result (c.multiplied.ensures.room gs spanned (subst (SpansTree gs) (sym same) s))
+    (λ e p. full_as e p (λ full few. step_lacks gs _ _ q (given_told square).number spanned free few))
 
 pub squared-requires-clause-handed : goal.squared-requires-clause-handed
 squared-requires-clause-handed _ c = given_handed c.in_ok-half.ensures.ok
@@ -46,10 +78,8 @@ multiplied-requires-clause-second_number _ c =
 pub returns-then-n-eq0-clause-ok : goal.returns-then-n-eq0-clause-ok
 returns-then-n-eq0-clause-ok _ c =
     let half = c.in_ok-half.ensures.ok in
-    gives_as c.in_ok-square.ensures.ok (given_rest half) (λ t h. record {
-      number = h.number;
-      worth = power_even (value (tree_of c.args.a.now c.args.pool.now)) (value (tree_of c.in_ok-half.half c.power_of.new.pool)) (value t) c.args.n c.if-n-eq0.true (given_told half).worth h.worth;
-    })
+    gives_as c.in_ok-square.ensures.ok (given_rest half)
+    (λ t h. even_power (value (tree_of c.args.a.now c.args.pool.now)) (tree_of c.in_ok-half.half c.power_of.new.pool) t c.args.n c.if-n-eq0.true (given_told half) h)
 
 pub returns-then-n-eq0-clause-front : goal.returns-then-n-eq0-clause-front
 returns-then-n-eq0-clause-front _ c = front_after_one (behind_new c.in_ok-half.ensures.ok.ends front_same) c.power_of.ensures.front c.squared.ensures.front
@@ -60,11 +90,9 @@ returns-else-n-eq0-clause-ok _ c =
     let square = c.in_ok-square.ensures.ok in
     let rest = given_rest half in
     let same = other_plain c.args.a.now square (handed_at c.requires.handed rest).root ∙ ap (λ (f : Forest). plain (root_tree c.args.a.now f)) rest in
-    let q = value (tree_of c.in_ok-square.square c.squared.new.pool) in
-    if_given _ _ _ _ _ c.multiplied.result c.multiplied.ensures.ok (given_rest square ∙ rest) (λ t h. record {
-      number = h.number;
-      worth = power_odd (value (tree_of c.args.a.now c.args.pool.now)) (value (tree_of c.in_ok-half.half c.power_of.new.pool)) q (value t) c.args.n c.if-n-eq0.false (given_told half).worth (given_told square).worth (Same-trans h.worth (Same-eq (ap (λ (x : Tree). surd_times q (value x)) same)));
-    })
+    let q : Tree = tree_of c.in_ok-square.square c.squared.new.pool in
+    if_given _ _ _ _ _ c.multiplied.result c.multiplied.ensures.ok (given_rest square ∙ rest)
+    (λ t h. odd_power (tree_of c.in_ok-half.half c.power_of.new.pool) q (tree_of c.args.a.now c.args.pool.now) t c.args.n c.if-n-eq0.false (given_told half) (given_told square) (subst (λ (x : Tree). IsNumberOver (surd_times (value q) (value x)) t) same h))
 
 pub returns-else-n-eq0-clause-front : goal.returns-else-n-eq0-clause-front
 returns-else-n-eq0-clause-front _ c =
@@ -91,5 +119,5 @@ returns-else-n-eq0-clause-overflow _ c =
     let q : Tree = tree_of c.in_ok-square.square c.squared.new.pool in
     let same = other_plain c.args.a.now square (handed_at c.requires.handed rest).root ∙ ap (λ (f : Forest). plain (root_tree c.args.a.now f)) rest in
     refused_as c.multiplied.result c.multiplied.ensures.overflow
-    (λ o p. last_overflows (tree_of c.in_ok-half.half c.power_of.new.pool) q a c.args.n o (half_twice c.args.n c.requires.twice) (half_odd_within c.args.n c.if-n-eq0.false) (given_told half).worth (given_told square)
-    (record { number = c.requires.number; worth = Same-refl (value a) }) (subst (λ (t : Tree). ProductOverflows (value q) (value t) o) same p))
+    (λ o p. last_overflows (tree_of c.in_ok-half.half c.power_of.new.pool) q a c.args.n o (half_twice c.args.n c.requires.twice) (half_odd_within c.args.n c.if-n-eq0.false) (given_told half) (given_told square)
+    (power_itself a (record { number = c.requires.number; worth = Same-refl (value a) })) (subst (λ (t : Tree). ProductOverflows (value q) (value t) o) same p))

@@ -1,4 +1,4 @@
-use Rattle.std.proofs.Common.{sym, ap, ◌∙◌, subst, rules, FitsSigned}
+use Rattle.std.proofs.Common.{sym, ap, ◌∙◌, subst, rules, FitsSigned, ◌+◌, ◌<◌, arith}
 use Rattle.std.specs.Int.{w128}
 use Rattle.std.proofs.lemmas.Int.{to_z-of_z}
 use Rattle.std.specs.Prelude.{ℤ, nat_abs}
@@ -6,14 +6,35 @@ use Rattle.calc_terms.specs.Fits.{pow_op, fraction_power, operation_fits}
 use Rattle.calc_terms.specs.Fractions.{Fraction, whole_fraction}
 use Rattle.calc_measures.specs.PlainValues.{calculated}
 use Rattle.calc_terms.specs.Rat.{value_of}
-use Rattle.calc_terms.specs.Trees.{num}
+use Rattle.calc_terms.specs.Trees.{num, root_size, size}
 use Rattle.calc_terms.proofs.FractionFacts.{whole_numerator}
-use Rattle.number_forms.proofs.RationalCalls.{plain_answer, rational_of, rational_power, num_same}
+use Rattle.number_forms.proofs.RationalCalls.{plain_answer, rational_power_over, rational_power, num_same}
+use Rattle.number_forms.proofs.RationalBits.{power_parts}
 use Rattle.calc_measures.specs.PlainTrees.{IsPlainAnswer}
 use Rattle.tree_handles.specs.Handed.{tree_of}
 use Rattle.tree_handles.proofs.Fronts.{behind_first, front_same, front_at, front_without, front_after}
 use Rattle.tree_handles.proofs.Given.{given_told, gives_as}
+use Rattle.calc_room.specs.Needs.{power_need}
+use Rattle.calc_terms.proofs.Sizes.{num_most}
+use Rattle.node_pool.specs.State.{free_of}
+use Rattle.number_forms.specs.Rooms.{LacksRoom}
+use Rattle.number_forms.proofs.FreeBytes.{refused_below}
+use Rattle.number_forms.proofs.Overflows.{passed_on}
+use Rattle.number_forms.proofs.Rooms.{few_for_power}
+use Rattle.tree_handles.proofs.Room.{released_free}
+use Rattle.tree_handles.specs.declared.fault.NumberFault.TheVariants as fault
 use Rattle.number_forms.proofs.powers.power_rational.Goals as goal
+
+pub returns-in_err-power-clause-room : goal.returns-in_err-power-clause-room
+returns-in_err-power-clause-room c = λ gs.
+    passed_on c.from_residual.result (fault.Overflow c.in_err-power.field-0.0) (LacksRoom power_need (free_of c.args.pool.now + size (tree_of c.args.a c.args.pool.now)) gs) c.from_residual.ensures.0 c.from_residual.ensures.1 tt
+
+pub returns-in_err-number-clause-room : goal.returns-in_err-number-clause-room
+returns-in_err-number-clause-room c = λ gs.
+    let few : free_of c.take_rational-q.new.pool < root_size (num (value_of c.in_ok-power.power)) = refused_below c.in_err-number.ensures.full in
+    let free = released_free c.requires.stands c.take_rational-q.ensures.stands c.take_rational-q.ensures.kept c.requires.handed c.take_rational-q.ensures.gone in
+    passed_on c.from_residual-in_err-number.result (fault.Full c.in_err-number.field-0.0) (LacksRoom power_need (free_of c.args.pool.now + size (tree_of c.args.a c.args.pool.now)) gs) c.from_residual-in_err-number.ensures.0 c.from_residual-in_err-number.ensures.1
+    (few_for_power gs _ (omega (arith, few, free, num_most (value_of c.in_ok-power.power))))
 
 pub returns-in_err-power-clause-front : goal.returns-in_err-power-clause-front
 returns-in_err-power-clause-front c = front_at (front_without behind_first front_same) c.take_rational-q.ensures.gone
@@ -28,7 +49,8 @@ pub returns-clause-ok : goal.returns-clause-ok
 returns-clause-ok c =
     let fits : FitsSigned w128 c.args.n = search rules in
     gives_as c.in_ok-number.ensures.given c.take_rational-q.ensures.gone
-    (λ t e. rational_of _ _ t _ (c.in_ok-power.ensures.power ∙ ap (λ (z : ℤ). fraction_power (value_of c.take_rational-q.result) (nat_abs z)) (to_z-of_z w128 c.args.n fits)) e (rational_power _ (nat_abs c.args.n) (tree_of c.args.a c.args.pool.now) c.take_rational-q.ensures.value))
+    (λ t e. rational_power_over _ _ t _ (nat_abs c.args.n) (c.in_ok-power.ensures.power ∙ ap (λ (z : ℤ). fraction_power (value_of c.take_rational-q.result) (nat_abs z)) (to_z-of_z w128 c.args.n fits)) e (rational_power _ (nat_abs c.args.n) (tree_of c.args.a c.args.pool.now) c.take_rational-q.ensures.value)
+    (power_parts _ (nat_abs c.args.n) (tree_of c.args.a c.args.pool.now) c.take_rational-q.ensures.value))
 
 pub returns-clause-rational : goal.returns-clause-rational
 returns-clause-rational c = λ q e.

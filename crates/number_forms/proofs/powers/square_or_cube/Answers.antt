@@ -1,24 +1,47 @@
-use Rattle.std.proofs.Common.{◌/◌, ap, ◌∙◌, subst}
+use Rattle.std.proofs.Common.{◌/◌, ap, ◌∙◌, subst, sym, ℕ, arith, refl}
 use Rattle.calc_algebra.specs.Numbers.{is_number, value}
-use Rattle.calc_algebra.specs.Surds.{surd_times, surd_power}
+use Rattle.calc_algebra.specs.Surds.{surd_times}
 use Rattle.calc_terms.specs.Trees.{Tree}
-use Rattle.calc_algebra.proofs.SquareClassLaws.{Same-trans}
-use Rattle.calc_algebra.proofs.TermLaws.{Same-eq, Same-refl}
-use Rattle.number_forms.specs.Answers.{IsNumberOf}
+use Rattle.calc_algebra.proofs.TermLaws.{Same-refl}
+use Rattle.number_forms.specs.Answers.{IsNumberOver, IsPowerOver}
 use Rattle.number_forms.specs.Overflows.{PowerOverflows, ProductOverflows}
 use Rattle.number_forms.proofs.Loops.{other_plain}
+use Rattle.number_forms.proofs.Over.{even_power, odd_power, power_itself, of_over}
 use Rattle.number_forms.proofs.Overflows.{passed_on, overflow_as, refused_as, square_overflows, last_overflows}
-use Rattle.number_forms.proofs.PowerSteps.{power_odd, power_half, three_odd, half_twice, half_odd_within}
+use Rattle.number_forms.proofs.PowerSteps.{half_one, three_odd, half_twice, half_odd_within}
 use Rattle.number_forms.proofs.TermTrees.{if_given}
 use Rattle.tree_handles.specs.Faults.{OfOverflow}
 use Rattle.tree_handles.specs.Handed.{tree_of}
 use Rattle.tree_handles.proofs.Fronts.{behind_new, front_same, front_after_one}
-use Rattle.tree_handles.proofs.Given.{given_handed, given_told, given_rest, given_other}
+use Rattle.tree_handles.proofs.Given.{given_handed, given_told, given_rest, given_other, gives_as}
+use Rattle.calc_room.specs.Spans.{SpansTree}
+use Rattle.node_pool.specs.State.{free_of}
+use Rattle.number_forms.specs.Rooms.{LacksRoom, raising_need}
+use Rattle.number_forms.proofs.Rooms.{full_as, refusal_as, product_spans, step_lacks, few_for_raising}
+use Rattle.tree_handles.proofs.Room.{given_free}
 use Rattle.number_forms.proofs.powers.square_or_cube.Goals as goal
 use Rattle.number_forms.proofs.powers.square_or_cube.Goals.{After-product_of}
 
-half : (c : After-product_of) → IsNumberOf (surd_power (value (tree_of c.args.a.now c.args.pool.now)) (c.args.n / 2)) (tree_of c.args.a.now c.args.pool.now)
-half c = record { number = c.requires.number; worth = power_half (value (tree_of c.args.a.now c.args.pool.now)) c.args.n c.requires.twice c.requires.few }
+pub returns-in_err-square-clause-room : goal.returns-in_err-square-clause-room
+returns-in_err-square-clause-room c = λ gs s.
+    passed_on c.from_residual.result c.in_err-square.field-0.0 (LacksRoom raising_need (free_of c.args.pool.now) gs) c.from_residual.ensures.0 c.from_residual.ensures.1
+    (full_as c.in_err-square.field-0.0 (c.in_err-square.ensures.room gs s s) (λ full few. few_for_raising gs _ few))
+
+pub returns-else-n-eq2-clause-room : goal.returns-else-n-eq2-clause-room
+returns-else-n-eq2-clause-room c = λ gs s.
+    let square = c.in_ok-square.ensures.ok in
+    let a : Tree = tree_of c.args.a.now c.args.pool.now in
+    let q : Tree = tree_of c.in_ok-square.square c.product_of.new.pool in
+    let same = other_plain c.args.a.now square c.requires.handed.root in
+    let spanned = product_spans gs a a q c.requires.number c.requires.number (of_over (given_told square)) s s in
+    let free = given_free c.requires.stands c.in_ok-square.ensures.stands c.in_ok-square.ensures.kept square in
+    refusal_as c.multiplied.result (c.multiplied.ensures.room gs spanned (subst (SpansTree gs) (sym same) s))
+    (λ e p. full_as e p (λ full few. step_lacks gs _ _ q (given_told square).number spanned free few))
+
+half : (c : After-product_of) → IsPowerOver (value (tree_of c.args.a.now c.args.pool.now)) (c.args.n / 2) (tree_of c.args.a.now c.args.pool.now)
+half c =
+    let a : Tree = tree_of c.args.a.now c.args.pool.now in
+    subst (λ (n : ℕ). IsPowerOver (value a) n a) (sym (half_one c.args.n c.requires.twice c.requires.few)) (power_itself a (record { number = c.requires.number; worth = Same-refl (value a) }))
 
 pub returns-in_err-square-clause-overflow : goal.returns-in_err-square-clause-overflow
 returns-in_err-square-clause-overflow c =
@@ -38,17 +61,19 @@ multiplied-requires-clause-first_number c = (given_told c.in_ok-square.ensures.o
 pub multiplied-requires-clause-second_number : goal.multiplied-requires-clause-second_number
 multiplied-requires-clause-second_number c = ap is_number (other_plain c.args.a.now c.in_ok-square.ensures.ok c.requires.handed.root) ∙ c.requires.number
 
+pub returns-then-n-eq2-clause-ok : goal.returns-then-n-eq2-clause-ok
+returns-then-n-eq2-clause-ok c =
+    let a : Tree = tree_of c.args.a.now c.args.pool.now in
+    gives_as c.in_ok-square.ensures.ok refl (λ t h. even_power (value a) a t c.args.n (omega (arith, c.if-n-eq2.true)) (half (goal.at.returns-then-n-eq2-clause-ok c).After-product_of) h)
+
 pub returns-else-n-eq2-clause-ok : goal.returns-else-n-eq2-clause-ok
 returns-else-n-eq2-clause-ok c =
     let square = c.in_ok-square.ensures.ok in
-    let v = value (tree_of c.args.a.now c.args.pool.now) in
-    let q = value (tree_of c.in_ok-square.square c.product_of.new.pool) in
+    let a : Tree = tree_of c.args.a.now c.args.pool.now in
+    let q : Tree = tree_of c.in_ok-square.square c.product_of.new.pool in
     let same = other_plain c.args.a.now square c.requires.handed.root in
-    if_given _ _ _ _ _ c.multiplied.result c.multiplied.ensures.ok (given_rest square) (λ t h. record {
-      number = h.number;
-      worth = power_odd v v q (value t) c.args.n (three_odd c.args.n c.requires.twice c.requires.few c.if-n-eq2.false) (half (goal.at.returns-else-n-eq2-clause-ok c).After-product_of).worth (given_told square).worth
-          (Same-trans h.worth (Same-eq (ap (λ (x : Tree). surd_times q (value x)) same)));
-    })
+    if_given _ _ _ _ _ c.multiplied.result c.multiplied.ensures.ok (given_rest square)
+    (λ t h. odd_power a q a t c.args.n (three_odd c.args.n c.requires.twice c.requires.few c.if-n-eq2.false) (half (goal.at.returns-else-n-eq2-clause-ok c).After-product_of) (given_told square) (subst (λ (x : Tree). IsNumberOver (surd_times (value q) (value x)) t) same h))
 
 pub returns-else-n-eq2-clause-front : goal.returns-else-n-eq2-clause-front
 returns-else-n-eq2-clause-front c = front_after_one (behind_new c.in_ok-square.ensures.ok.ends front_same) c.product_of.ensures.front c.multiplied.ensures.front
@@ -60,5 +85,5 @@ returns-else-n-eq2-clause-overflow c =
     let q : Tree = tree_of c.in_ok-square.square c.product_of.new.pool in
     let same = other_plain c.args.a.now square c.requires.handed.root in
     refused_as c.multiplied.result c.multiplied.ensures.overflow
-    (λ o p. last_overflows a q a c.args.n o (half_twice c.args.n c.requires.twice) (half_odd_within c.args.n (three_odd c.args.n c.requires.twice c.requires.few c.if-n-eq2.false)) (half (goal.at.returns-else-n-eq2-clause-overflow c).After-product_of).worth (given_told square)
-    (record { number = c.requires.number; worth = Same-refl (value a) }) (subst (λ (t : Tree). ProductOverflows (value q) (value t) o) same p))
+    (λ o p. last_overflows a q a c.args.n o (half_twice c.args.n c.requires.twice) (half_odd_within c.args.n (three_odd c.args.n c.requires.twice c.requires.few c.if-n-eq2.false)) (half (goal.at.returns-else-n-eq2-clause-overflow c).After-product_of) (given_told square)
+    (power_itself a (record { number = c.requires.number; worth = Same-refl (value a) })) (subst (λ (t : Tree). ProductOverflows (value q) (value t) o) same p))

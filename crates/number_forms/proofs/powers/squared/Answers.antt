@@ -2,7 +2,14 @@ use Rattle.std.proofs.Common.{inl}
 use Rattle.number_forms.proofs.Loops.{gives_without}
 use Rattle.tree_handles.proofs.Fronts.{behind_first, front_same, front_at, front_without, front_after}
 use Rattle.tree_handles.proofs.Given.{given_other, owned}
+use Rattle.node_pool.specs.State.{free_of}
+use Rattle.number_forms.specs.Rooms.{LacksRoom, joining_need}
+use Rattle.number_forms.proofs.Overflows.{passed_on}
 use Rattle.number_forms.proofs.powers.squared.Goals as goal
+
+pub returns-in_err-square-clause-room : goal.returns-in_err-square-clause-room
+returns-in_err-square-clause-room c = λ gs s.
+    passed_on c.from_residual.result c.in_err-square.field-0.0 (LacksRoom joining_need (free_of c.args.pool.now) gs) c.from_residual.ensures.0 c.from_residual.ensures.1 (c.in_err-square.ensures.room gs s s)
 
 pub release-requires-clause-releasable : goal.release-requires-clause-releasable
 release-requires-clause-releasable c = inl (given_other c.in_ok-square.ensures.ok c.requires.handed).root

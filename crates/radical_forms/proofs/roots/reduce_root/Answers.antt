@@ -1,4 +1,6 @@
-use Rattle.std.proofs.Common.{◌≡◌, false, refl, sym, ap, ◌∙◌, arith}
+use Rattle.std.proofs.Common.{◌≡◌, ◌*◌, [], ◌∷◌, false, refl, sym, ap, ◌∙◌, subst, arith, ◌↔◌}
+use Rattle.calc_algebra.specs.Numbers.{natural_of}
+use Rattle.calc_room.specs.Spans.{SpansTree}
 use Rattle.calc_terms.specs.Rat.{value_of}
 use Rattle.calc_terms.specs.Trees.{Tree, num, root, is_num, is_undef, root_kind, size}
 use Rattle.tree_handles.proofs.Lasts.{expression_root, last_tree}
@@ -11,6 +13,9 @@ use Rattle.tree_handles.specs.Handed.{tree_of}
 use Rattle.radical_forms.specs.RootAnswers.{argument_of}
 use Rattle.radical_forms.proofs.Handed.{root_is, has_child, argument_at, undef_by_kind, no_num_by_kind, no_undef_by_kind}
 use Rattle.radical_forms.proofs.RootLaws.{no_argument_answer, other_answer, no_other_wide, answer_as}
+use Rattle.radical_forms.proofs.Spanned.{spans_answer, spans_root_of}
+use Rattle.radical_forms.proofs.RootBits.{no_wide, not_refused, other_rational}
+use Rattle.radical_forms.specs.Refusals.{HasWideRoot, IsOverflow}
 use Rattle.radical_forms.proofs.roots.reduce_root.Goals as goal
 use Rattle.radical_forms.proofs.roots.reduce_root.Goals.{After-rational-q, After-kind}
 
@@ -38,6 +43,14 @@ returns-in-Num-clause-first_lack c = rw (argument_is (goal.at.returns-in-Num-cla
 pub returns-in-Num-clause-full_of_a_rational : goal.returns-in-Num-clause-full_of_a_rational
 returns-in-Num-clause-full_of_a_rational c = λ full. ap is_num (argument_is (goal.at.returns-in-Num-clause-full_of_a_rational c).After-rational-q)
 
+pub returns-in-Num-clause-measured : goal.returns-in-Num-clause-measured
+returns-in-Num-clause-measured c = rw (argument_is (goal.at.returns-in-Num-clause-measured c).After-rational-q) c.root_of_rational.ensures.measured
+
+pub returns-in-Num-clause-bits : goal.returns-in-Num-clause-bits
+returns-in-Num-clause-bits c = λ few.
+    let wide : IsOverflow c.root_of_rational.result ↔ HasWideRoot (argument_of (tree_of c.args.root c.args.pool.now)) = rw (argument_is (goal.at.returns-in-Num-clause-bits c).After-rational-q) c.root_of_rational.ensures.overflows in
+    not_refused c.root_of_rational.result (λ o. no_wide (argument_of (tree_of c.args.root c.args.pool.now)) few (wide.0 o))
+
 kind_is : (c : After-kind) → c.kind.result ≡ root_kind (argument_of (tree_of c.args.root c.args.pool.now))
 kind_is c =
     let e = c.child_id-argument.ensures.expression (rw c.id.ensures (expression_root c.requires.stands c.requires.handed)) in
@@ -53,8 +66,28 @@ returns-in-Undef-clause-overflows c =
     let a = undef_by_kind _ (sym (kind_is (goal.at.returns-in-Undef-clause-overflows c).After-kind) ∙ c.in-Undef.is) in
     (λ x. absurd x, λ w. no_other_wide _ (ap is_num a) w)
 
+pub returns-in-Undef-clause-measured : goal.returns-in-Undef-clause-measured
+returns-in-Undef-clause-measured c = other_rational _ _ (ap is_num (undef_by_kind _ (sym (kind_is (goal.at.returns-in-Undef-clause-measured c).After-kind) ∙ c.in-Undef.is)))
+
 pub returns-in-Undef-clause-room : goal.returns-in-Undef-clause-room
 returns-in-Undef-clause-room c = omega (arith, ap size (given_told c.undefined.ensures.gives), least_size (tree_of c.args.root c.args.pool.now))
+
+num_spanned : (c : After-rational-q) → tree_of c.args.root c.args.pool.now ≡ root (num (value_of c.rational-q.result))
+num_spanned c = root_is (tree_of c.args.root c.args.pool.now) c.requires.root ∙ ap root (argument_is c)
+
+pub returns-in-Num-clause-spanned : goal.returns-in-Num-clause-spanned
+returns-in-Num-clause-spanned c = λ gs s.
+    spans_answer gs _ _ c.root_of_rational.result _ c.root_of_rational.new.pool c.root_of_rational.ensures.ok (num_spanned (goal.at.returns-in-Num-clause-spanned c).After-rational-q) s
+
+pub returns-in-Num-clause-spanned_alone : goal.returns-in-Num-clause-spanned_alone
+returns-in-Num-clause-spanned_alone c = λ q e h.
+    spans_answer _ _ _ c.root_of_rational.result _ c.root_of_rational.new.pool c.root_of_rational.ensures.ok (ap root (argument_is (goal.at.returns-in-Num-clause-spanned_alone c).After-rational-q)) (spans_root_of q _ e h)
+
+pub returns-in-Undef-clause-spanned : goal.returns-in-Undef-clause-spanned
+returns-in-Undef-clause-spanned c = λ gs s. subst (SpansTree gs) (sym (given_told c.undefined.ensures.gives)) tt
+
+pub returns-in-Undef-clause-spanned_alone : goal.returns-in-Undef-clause-spanned_alone
+returns-in-Undef-clause-spanned_alone c = λ q e h. subst (SpansTree (natural_of q.num * q.den ∷ [])) (sym (given_told c.undefined.ensures.gives)) tt
 
 pub returns-in_default : goal.returns-in_default
 returns-in_default c =
@@ -65,6 +98,8 @@ returns-in_default c =
       ok = gives c.move_last.ensures.last (represents_handed c.requires.handed) (answer_as refl (root_is tree c.requires.root) (other_answer (argument_of tree) no_num no_undef c.requires.reduced));
       overflows = (λ x. absurd x, λ w. no_other_wide (argument_of tree) no_num w);
       named = tt;
+      measured = other_rational (argument_of tree) _ no_num;
+      bits = λ few. tt;
       room = let same : size (tree_of c.args.root c.move_last.new.pool) ≡ size tree = ap (λ (f : Forest). size (plain f)) (last_tree c.move_last.ensures.last) in omega (arith, same);
       first_lack = tt;
       full_of_a_rational = λ x. absurd x;
@@ -73,5 +108,7 @@ returns-in_default c =
       kept = c.move_last.ensures.kept;
       faults = tt;
       caused = tt;
+      spanned = λ gs s. subst (λ (f : Forest). SpansTree gs (plain f)) (sym (last_tree c.move_last.ensures.last)) s;
+      spanned_alone = λ q e h. absurd (cc (ap is_num e, no_num));
       stands = c.move_last.ensures.stands;
     }

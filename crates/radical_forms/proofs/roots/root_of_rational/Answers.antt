@@ -21,6 +21,7 @@ use Rattle.rational128.specs.declared.overflow.Overflow.{Overflow}
 use Rattle.radical_forms.specs.Refusals.{LacksRoot, NamesProduct}
 use Rattle.tree_handles.proofs.Room.{released_free, least_size}
 use Rattle.radical_forms.proofs.RootLaws.{zero_answer, positive_answer, negative_answer, not_above_zero, not_above_negative, answer_as, root_as, wide_as, positive_num, negative_num, not_negative_num, not_overflow, is_overflow, named_overflow, term_tree_is, term_lacks}
+use Rattle.radical_forms.proofs.RootBits.{term_measured, zero_measured}
 use Rattle.radical_forms.proofs.roots.root_of_rational.Goals as goal
 use Rattle.radical_forms.proofs.roots.root_of_rational.Goals.{Then-num-lt0, Then-num-eq0, Else-num-eq0}
 
@@ -145,3 +146,17 @@ returns-in_err-value-clause-first_lack c =
     c.from_residual-in_err-value.ensures.0 c.from_residual-in_err-value.ensures.1
     (term_lacks (value_of c.args.q) (term_of t) (free_of c.release-2.new.pool) _ c.in_err-value.field-0.0 (above (goal.at.returns-in_err-value-clause-first_lack c).Else-num-eq0) (root_as _ _ _ _ _ (sym p.num) (sym p.den) c.in_ok-term.ensures.root)
     (term_tree_is (term_of t) t.not_zero t.positive t.clean) free c.in_err-value.ensures.first_lack)
+
+-- ---- how large it is
+
+pub returns-then-num-lt0-clause-measured : goal.returns-then-num-lt0-clause-measured
+returns-then-num-lt0-clause-measured c = λ h. absurd (cc (negative (goal.at.returns-then-num-lt0-clause-measured c).Then-num-lt0, h))
+
+pub returns-then-num-eq0-clause-measured : goal.returns-then-num-eq0-clause-measured
+returns-then-num-eq0-clause-measured c = λ h. zero_measured (value_of c.args.q) _ (given_told c.in_ok-zero.ensures.given) (zero_num (goal.at.returns-then-num-eq0-clause-measured c).Then-num-eq0)
+
+pub returns-clause-measured : goal.returns-clause-measured
+returns-clause-measured c = λ h.
+    let p = ratio_parts c.args.q in
+    let told = given_told c.in_ok-value.ensures.ok in
+    term_measured (value_of c.args.q) _ (term_of c.in_ok-term.term) _ (above (goal.at.returns-clause-measured c).Else-num-eq0) (λ i. record { num = sym p.num i; den = sym p.den i }) c.in_ok-term.ensures.extracted told.0 told.1

@@ -1,4 +1,4 @@
-use Rattle.std.proofs.Common.{◌≡◌, true, false, ◌∙◌, sym, subst, refl}
+use Rattle.std.proofs.Common.{◌≡◌, true, false, ◌∙◌, sym, subst, refl, ap, arith}
 use Rattle.calc_measures.specs.PlainValues.{plain_value}
 use Rattle.number_forms.specs.Answers.{AnswersRationals}
 use Rattle.tree_handles.specs.Handed.{tree_of}
@@ -13,7 +13,39 @@ use Rattle.sum_reduce.proofs.Rationals.{undef_rationals, rationals_answer, ratio
 use Rattle.sum_reduce.proofs.Results.{passed_on}
 use Rattle.sum_reduce.proofs.Settled.{reduced_formed, undef_answer, settled_answer}
 use Rattle.sum_reduce.proofs.Sums.{changes_rest}
+use Rattle.calc_room.specs.Counts.{counted}
+use Rattle.calc_room.specs.Powers.{HasPowersOf}
+use Rattle.calc_room.specs.Spans.{SpansTree}
+use Rattle.sum_reduce.proofs.CollectedCounts.{collected_counts, written_counted}
+use Rattle.sum_reduce.proofs.CollectedPowers.{collected_powers}
+use Rattle.sum_reduce.proofs.CollectedSpans.{spans_collected, spans_written, spans_terms}
 use Rattle.sum_reduce.proofs.reducing.reduce_sum.Goals as goal
+
+pub returns-then-has_undef_term-clause-counted : goal.returns-then-has_undef_term-clause-counted
+returns-then-has_undef_term-clause-counted c = omega (arith, ap counted (given_told c.undefined.ensures.gives))
+
+pub returns-then-has_undef_term-clause-powers : goal.returns-then-has_undef_term-clause-powers
+returns-then-has_undef_term-clause-powers c = subst (HasPowersOf (terms_in c.args.sum (forest c.args.pool.now))) (sym (given_told c.undefined.ensures.gives)) tt
+
+pub returns-then-has_undef_term-clause-spanned : goal.returns-then-has_undef_term-clause-spanned
+returns-then-has_undef_term-clause-spanned c = λ gs s. subst (SpansTree gs) (sym (given_told c.undefined.ensures.gives)) tt
+
+pub returns-clause-counted : goal.returns-clause-counted
+returns-clause-counted c =
+    let ts = terms_in c.args.sum (forest c.args.pool.now) in
+    let us = terms_in c.args.sum (forest c.settle.new.pool) in
+    let formed = reduced_formed ts c.requires.reduced (sym c.has_undef_term.ensures ∙ c.if-has_undef_term.false) in
+    omega (arith, ap counted (given_told c.written.ensures.tree), written_counted us, collected_counts c.in_ok-settle.ensures.stage.collects formed)
+
+pub returns-clause-powers : goal.returns-clause-powers
+returns-clause-powers c =
+    subst (HasPowersOf (terms_in c.args.sum (forest c.args.pool.now))) (sym (given_told c.written.ensures.tree)) (collected_powers _ _ c.in_ok-settle.ensures.stage.collects)
+
+pub returns-clause-spanned : goal.returns-clause-spanned
+returns-clause-spanned c = λ gs s.
+    let us = terms_in c.args.sum (forest c.settle.new.pool) in
+    subst (SpansTree gs) (sym (given_told c.written.ensures.tree))
+    (spans_written gs us (spans_collected gs _ us c.in_ok-settle.ensures.stage.collects (spans_terms gs (tree_of c.args.sum c.args.pool.now) c.requires.sum s)))
 
 pub returns-then-has_undef_term-clause-ok : goal.returns-then-has_undef_term-clause-ok
 returns-then-has_undef_term-clause-ok c =

@@ -1,0 +1,7 @@
+use Rattle.calc_algebra.specs.Numbers.{terms_of}
+use Rattle.calc_algebra.proofs.NumberClasses.{terms_proper}
+use Rattle.calc_bits.proofs.NoLarger.{held_so_far}
+use Rattle.calc_bits.proofs.laws.sums_so_far_are_held.Goals as goal
+
+pub returns : goal.returns
+returns c = λ ts v w h l a. held_so_far (terms_of ts) v w h l (terms_proper ts a)

@@ -1,0 +1,62 @@
+-- Common denominators stay those of the whole, from one joined term to the next.
+use Rattle.std.proofs.Common.{◌≡◌, ℕ, zero, suc, ◌<◌, ◌∷◌, ◌++◌, Some, map, sym, subst, arith, append_assoc}
+use Rattle.std.specs.Int.{◌∣◌}
+use Rattle.std.specs.Prelude.{slice_get}
+use Rattle.calc_algebra.specs.Numbers.{term_of, terms_of}
+use Rattle.calc_algebra.specs.Surds.{Term, Surd, term_times, surd_times}
+use Rattle.calc_bits.specs.Denominators.{AreWholeOver, Parts, SharesDenominators}
+use Rattle.calc_bits.proofs.MassLaws.{parts_append}
+use Rattle.calc_bits.proofs.Parts.{parts_left, parts_right}
+use Rattle.calc_terms.specs.Trees.{Tree, Trees, none, more, count}
+use Rattle.number_forms.specs.Overflows.{terms_from}
+use Rattle.number_forms.specs.Sums.{removed}
+use Rattle.number_forms.proofs.Worth.{from_next}
+use Rattle.surd_terms.specs.Products.{IsExtracted}
+use Rattle.surd_bits.proofs.Steps.{extracted_den}
+use Rattle.tree_handles.specs.Expressions.{nth, inserted}
+
+pub shares_eq : {v w : Surd} → v ≡ w → SharesDenominators v w
+shares_eq e = λ d p. subst (Parts d) e p
+
+-- a term that was still to come was joined
+pub parts_step : (t u left rest w : Surd) (y : Term) → left ≡ y ∷ rest → SharesDenominators (y ∷ t) u → SharesDenominators w (t ++ left) → SharesDenominators w (u ++ rest)
+parts_step t u left rest w y e h k = λ d p.
+    let q : Parts d (t ++ (y ∷ rest)) = subst (λ (x : Surd). Parts d (t ++ x)) e (k d p) in
+    let r : Parts d (y ∷ rest) = parts_right d t (y ∷ rest) q in
+    parts_append d u rest (h d (record { positive = q.positive; whole = (r.whole.0, (parts_left d t (y ∷ rest) q).whole) })) (record { positive = q.positive; whole = r.whole.1 })
+
+-- no term is still to come
+pub parts_end : (t left w : Surd) → SharesDenominators w (t ++ left) → SharesDenominators w t
+parts_end t left w k = λ d p. parts_left d t left (k d p)
+
+-- the products of a term that was still to come were joined
+pub parts_row : (t u v w : Surd) (n : ℕ) (x : Term) (whole : Surd) → slice_get v n ≡ Some x → SharesDenominators (t ++ map (term_times x) w) u → SharesDenominators whole (t ++ surd_times (terms_from n v) w)
+    → SharesDenominators whole (u ++ surd_times (terms_from (suc n) v) w)
+parts_row t u v w n x whole e h k = λ d p.
+    let row : Surd = map (term_times x) w in
+    let rest : Surd = surd_times (terms_from (suc n) v) w in
+    let q : Parts d (t ++ (row ++ rest)) = subst (λ (y : Surd). Parts d (t ++ surd_times y w)) (from_next v n x e) (k d p) in
+    let r : Parts d ((t ++ row) ++ rest) = subst (Parts d) (sym (append_assoc t row rest)) q in
+    parts_append d u rest (h d (parts_left d (t ++ row) rest r)) (parts_right d (t ++ row) rest r)
+
+-- ---- trees put in, and taken out
+
+pub whole_inserted : (d n : ℕ) (t : Tree) (ts : Trees) → AreWholeOver d (term_of t ∷ terms_of ts) → AreWholeOver d (terms_of (inserted n (more t none) ts))
+whole_inserted d zero t ts h = h
+whole_inserted d (suc n) t none h = h
+whole_inserted d (suc n) t (more u ts) (h, (k, a)) = (k, whole_inserted d n t ts (h, a))
+
+pub whole_removed : (d n : ℕ) (ts : Trees) → AreWholeOver d (terms_of ts) → AreWholeOver d (terms_of (removed n ts))
+whole_removed d n none a = tt
+whole_removed d zero (more t ts) (h, a) = a
+whole_removed d (suc n) (more t ts) (h, a) = (h, whole_removed d n ts a)
+
+pub whole_nth : (d n : ℕ) (ts : Trees) → n < count ts → AreWholeOver d (terms_of ts) → (term_of (nth n ts)).coefficient.den ∣ d
+whole_nth d n none l a = absurd (omega arith)
+whole_nth d zero (more t ts) l (h, a) = h
+whole_nth d (suc n) (more t ts) l (h, a) = whole_nth d n ts (omega arith) a
+
+-- ---- once a square is taken before the root
+
+pub parts_extracted : (t u : Term) (v : Surd) → IsExtracted t u → SharesDenominators (u ∷ v) (t ∷ v)
+parts_extracted t u v e = λ d p. record { positive = p.positive; whole = (extracted_den t u d e p.whole.0, p.whole.1) }

@@ -1,0 +1,62 @@
+-- How large the inverse of a Number is.
+use Rattle.std.proofs.Common.{◌≡◌, ◌≢◌, ◌==◌, [], ◌∷◌, Bool, true, false, pos, if◌then◌else◌, refl, sym, ap, ◌∙◌, subst}
+use Rattle.std.proofs.lemmas.Bool.{eqb-true}
+use Rattle.calc_algebra.specs.Numbers.{Rises, is_number, natural_of, term_of, value}
+use Rattle.calc_algebra.specs.Surds.{Term, Surd, term, surd_of}
+use Rattle.calc_algebra.proofs.InverseLaws.{inverse_times_itself, factor_not_zero, term_not_zero}
+use Rattle.calc_algebra.proofs.NumberClasses.{AreProper, value_proper, value_rises}
+use Rattle.calc_algebra.proofs.NumberLaws.{number_words}
+use Rattle.calc_terms.specs.FractionLaws.{times_comm}
+use Rattle.calc_terms.specs.Fractions.{Fraction, zero_fraction, is_one_fraction, inverse, whole_fraction}
+use Rattle.calc_terms.specs.Trees.{Tree, num, mult, root, none, more}
+use Rattle.calc_terms.proofs.FractionFacts.{one_is, zero_test, whole_numerator}
+use Rattle.number_forms.specs.Inverses.{inverse_trees, IsInverseOf}
+use Rattle.number_forms.specs.Shapes.{term_tree}
+use Rattle.surd_bits.specs.Inverted.{IsNoLargerThanInverse}
+use Rattle.surd_bits.proofs.Inverted.{one_no_larger, two_no_larger}
+use Rattle.surd_terms.specs.Inverses.{inverse_of, first_of_inverse, second_of_inverse}
+
+-- ---- the terms of written trees
+
+abbrev tree_by : Term → Bool → Bool → Tree
+tree_by s b o =
+    if b then num s.coefficient
+    else if o then root (num (whole_fraction (pos s.radicand)))
+    else mult (more (num s.coefficient) (more (root (num (whole_fraction (pos s.radicand)))) none))
+
+written_term : (s : Term) → term_of (term_tree s) ≡ s
+written_term s = by (s.radicand == 1) refl (is_one_fraction s.coefficient) refl
+  where
+    by : (b : Bool) → (s.radicand == 1) ≡ b → (o : Bool) → is_one_fraction s.coefficient ≡ o → term_of (tree_by s b o) ≡ s
+    by true e o f = λ i. term s.coefficient (sym (eqb-true s.radicand 1 e) i)
+    by false e true f = λ i. term (sym (one_is s.coefficient f) i) (ap natural_of (whole_numerator (pos s.radicand)) i)
+    by false e false f = λ i. term s.coefficient (ap natural_of (whole_numerator (pos s.radicand)) i)
+
+written_value : (s : Term) → s.coefficient ≢ zero_fraction → value (term_tree s) ≡ s ∷ []
+written_value s n = by (s.radicand == 1) refl (is_one_fraction s.coefficient) refl
+  where
+    by : (b : Bool) → (s.radicand == 1) ≡ b → (o : Bool) → is_one_fraction s.coefficient ≡ o → value (tree_by s b o) ≡ s ∷ []
+    by true e o f = ap (λ (z : Bool). if z then [] else surd_of s.coefficient) (zero_test s.coefficient n) ∙ (λ i. term s.coefficient (sym (eqb-true s.radicand 1 e) i) ∷ [])
+    by false e true f = λ i. term (sym (one_is s.coefficient f) i) (ap natural_of (whole_numerator (pos s.radicand)) i) ∷ []
+    by false e false f = λ i. term s.coefficient (ap natural_of (whole_numerator (pos s.radicand)) i) ∷ []
+
+-- ---- inverses
+
+inverse_not_zero : (a : Fraction) → a ≢ zero_fraction → inverse a ≢ zero_fraction
+inverse_not_zero a n = factor_not_zero a (inverse a) (times_comm a (inverse a) ∙ inverse_times_itself a n)
+
+one_tree : {a b : Tree} → more a none ≡ more b none → b ≡ a
+one_tree e = cc
+
+pub inverse_no_larger : (a t : Tree) → is_number a ≡ true → IsInverseOf (value a) t → IsNoLargerThanInverse (value a) (value t)
+inverse_no_larger a t n i = by (value a) (value_proper a (number_words a n)) (value_rises a (number_words a n)) i.written
+  where
+    by : (v : Surd) → AreProper v → Rises v → inverse_trees v ≡ more t none → IsNoLargerThanInverse v (value t)
+    by [] p r e = absurd cc
+    by (x ∷ []) p r e =
+        let same : value t ≡ inverse_of x ∷ [] = ap value (one_tree e) ∙ written_value (inverse_of x) (inverse_not_zero _ (term_not_zero x.coefficient x.radicand p.0.not_zero p.0.positive)) in
+        subst (λ (w : Surd). IsNoLargerThanInverse (x ∷ []) w) (sym same) (one_no_larger x p.0.not_zero p.0.positive)
+    by (x ∷ y ∷ []) p r e =
+        let same : value t ≡ first_of_inverse x y ∷ second_of_inverse x y ∷ [] = ap value (one_tree e) ∙ (λ i. written_term (first_of_inverse x y) i ∷ written_term (second_of_inverse x y) i ∷ []) in
+        subst (λ (w : Surd). IsNoLargerThanInverse (x ∷ y ∷ []) w) (sym same) (two_no_larger x y p.0.not_zero p.1.0.not_zero p.0.positive p.1.0.positive r.0.1)
+    by (x ∷ y ∷ z ∷ v) p r e = absurd cc

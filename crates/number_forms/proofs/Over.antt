@@ -1,0 +1,73 @@
+-- Numbers over the common denominators of what they are worth, and of powers of it.
+use Rattle.std.proofs.Common.{◌≡◌, ℕ, ◌+◌, ◌*◌, ◌/◌, ◌%◌, ◌^◌, ◌≢◌, ◌++◌, Result, Ok, Err, refl, sym, subst, arith}
+use Rattle.std.specs.Prelude.{IfOk}
+use Rattle.std.proofs.lemmas.Nat.{pow-add}
+use Rattle.calc_algebra.specs.Numbers.{value}
+use Rattle.calc_algebra.specs.SquareClasses.{Same}
+use Rattle.calc_algebra.specs.Surds.{Surd, surd_times, surd_power}
+use Rattle.calc_algebra.proofs.PowerLaws.{surd_power-squared}
+use Rattle.calc_algebra.proofs.SquareClassLaws.{Same-trans}
+use Rattle.calc_bits.specs.Bounds.{IsNoLarger, SharesPowers}
+use Rattle.calc_bits.specs.Denominators.{Parts, SharesDenominators}
+use Rattle.calc_bits.proofs.Held.{power_once}
+use Rattle.calc_bits.proofs.MassLaws.{parts_append, parts_times}
+use Rattle.calc_bits.proofs.NoLarger.{no_larger}
+use Rattle.calc_bits.proofs.Parts.{parts_left, parts_right}
+use Rattle.calc_terms.specs.Trees.{Tree}
+use Rattle.number_forms.specs.Answers.{IsNumberOf, IsNumberOver, IsPowerOver}
+use Rattle.number_forms.proofs.PowerSteps.{half_even, half_odd, power_odd}
+use Rattle.node_pool.specs.State.{State}
+use Rattle.tree_handles.specs.Forest.{Forest}
+use Rattle.tree_handles.specs.Handed.{tree_of, Gives}
+use Rattle.tree_handles.specs.Standing.{forest}
+use Rattle.tree_handles.proofs.Given.{given_told, gives_as}
+
+pub of_over : {v : Surd} {t : Tree} → IsNumberOver v t → IsNumberOf v t
+of_over n = record { number = n.number; worth = n.worth }
+
+pub of_power : {v : Surd} {n : ℕ} {t : Tree} → IsPowerOver v n t → IsNumberOf (surd_power v n) t
+of_power n = record { number = n.number; worth = n.worth }
+
+pub over_as : {v w : Surd} {t : Tree} → IsNumberOver v t → Same v w → SharesDenominators w v → IsNumberOver w t
+over_as n s f = record { number = n.number; worth = Same-trans n.worth s; parts = λ d p. n.parts d (f d p) }
+
+pub shares_append : {v v' w w' : Surd} → SharesDenominators v v' → SharesDenominators w w' → SharesDenominators (v ++ w) (v' ++ w')
+shares_append {v = v} {v' = v'} {w = w} {w' = w'} f g = λ d p. parts_append d v' w' (f d (parts_left d v w p)) (g d (parts_right d v w p))
+
+-- ---- answers of calls
+
+pub if_number : {E : Type 0} (r : Result ℕ E) (f g : Forest) (v : Surd) → IfOk r (λ h. Gives f g h (IsNumberOver v)) → IfOk r (λ h. Gives f g h (IsNumberOf v))
+if_number (Ok h) f g v e = gives_as e refl (λ t n. of_over n)
+if_number (Err x) f g v e = tt
+
+pub if_no_larger : {E : Type 0} (r : Result ℕ E) (f : Forest) (s : State) (v : Surd) → IfOk r (λ h. Gives f (forest s) h (IsNumberOver v)) → IfOk r (λ h. IsNoLarger v (value (tree_of h s)))
+if_no_larger (Ok h) f s v e = let n = given_told e in no_larger (tree_of h s) v n.number n.worth n.parts
+if_no_larger (Err x) f s v e = tt
+
+-- ---- powers
+
+shares_once : (v : Surd) → SharesPowers v 1 v
+shares_once v = λ d p. subst (λ n. Parts n v) (sym (power_once d)) p
+
+shares_times : (v h k t : Surd) (a b : ℕ) → SharesPowers v a h → SharesPowers v b k → SharesDenominators (surd_times h k) t → SharesPowers v (a + b) t
+shares_times v h k t a b f g s = λ d p. s (d ^ (a + b)) (subst (λ n. Parts n (surd_times h k)) (sym (pow-add d a b)) (parts_times (d ^ a) (d ^ b) h k (f d p) (g d p)))
+
+pub power_itself : (a : Tree) → IsNumberOf (value a) a → IsPowerOver (value a) 1 a
+power_itself a n = record { number = n.number; worth = n.worth; parts = shares_once (value a) }
+
+pub squared_power : (v : Surd) (h q : Tree) (n : ℕ) → IsPowerOver v n h → IsNumberOver (surd_times (value h) (value h)) q → IsPowerOver v (2 * n) q
+squared_power v h q n i j = record {
+  number = j.number;
+  worth = Same-trans j.worth (surd_power-squared v (value h) n i.worth);
+  parts = subst (λ k. SharesPowers v k (value q)) (omega arith) (shares_times v (value h) (value h) (value q) n n i.parts i.parts j.parts);
+}
+
+pub even_power : (v : Surd) (h t : Tree) (n : ℕ) → n % 2 ≡ 0 → IsPowerOver v (n / 2) h → IsNumberOver (surd_times (value h) (value h)) t → IsPowerOver v n t
+even_power v h t n e i j = subst (λ k. IsPowerOver v k t) (half_even n e) (squared_power v h t (n / 2) i j)
+
+pub odd_power : (h q a t : Tree) (n : ℕ) → n % 2 ≢ 0 → IsPowerOver (value a) (n / 2) h → IsNumberOver (surd_times (value h) (value h)) q → IsNumberOver (surd_times (value q) (value a)) t → IsPowerOver (value a) n t
+odd_power h q a t n e i j k = record {
+  number = k.number;
+  worth = power_odd (value a) (value h) (value q) (value t) n e i.worth j.worth k.worth;
+  parts = subst (λ m. SharesPowers (value a) m (value t)) (omega (arith, half_odd n e)) (shares_times (value a) (value q) (value a) (value t) (2 * (n / 2)) 1 (squared_power (value a) h q (n / 2) i j).parts (shares_once (value a)) k.parts);
+}

@@ -1,0 +1,14 @@
+use Rattle.tree_handles.proofs.Given.{given_handed, given_told}
+use Rattle.number_forms.proofs.tests.bounds.inverses.Goals as goal
+
+pub invert_number-requires-clause-handed : goal.invert_number-requires-clause-handed
+invert_number-requires-clause-handed _ c = given_handed c.in_ok-a.ensures.ok
+
+pub invert_number-requires-clause-number : goal.invert_number-requires-clause-number
+invert_number-requires-clause-number _ c = given_told c.in_ok-a.ensures.ok
+
+pub has_terms-requires-clause-handed : goal.has_terms-requires-clause-handed
+has_terms-requires-clause-handed _ c = given_handed (rw c.in-Value.is at c.in_ok-answer.ensures.ok).2
+
+pub has_terms-requires-clause-number : goal.has_terms-requires-clause-number
+has_terms-requires-clause-number _ c = (given_told (rw c.in-Value.is at c.in_ok-answer.ensures.ok).2).number

@@ -1,0 +1,34 @@
+use Rattle.std.proofs.Common.{◌∙◌}
+use Rattle.number_forms.proofs.Pairs.{first_handed, pair_apart, first_told}
+use Rattle.tree_handles.proofs.Given.{given_handed, given_told}
+use Rattle.number_forms.proofs.tests.rooms.of_two.Goals as goal
+
+pub add_numbers-requires-clause-first : goal.add_numbers-requires-clause-first
+add_numbers-requires-clause-first c = first_handed c.in_ok-a.ensures.ok c.in_ok-b.ensures.ok
+
+pub add_numbers-requires-clause-second : goal.add_numbers-requires-clause-second
+add_numbers-requires-clause-second c = given_handed c.in_ok-b.ensures.ok
+
+pub add_numbers-requires-clause-apart : goal.add_numbers-requires-clause-apart
+add_numbers-requires-clause-apart c = pair_apart c.in_ok-a.a c.in_ok-b.b c.in_ok-a.ensures.ok c.in_ok-b.ensures.ok
+
+pub add_numbers-requires-clause-first_number : goal.add_numbers-requires-clause-first_number
+add_numbers-requires-clause-first_number c = first_told c.in_ok-a.ensures.ok c.in_ok-b.ensures.ok ∙ given_told c.in_ok-a.ensures.ok
+
+pub add_numbers-requires-clause-second_number : goal.add_numbers-requires-clause-second_number
+add_numbers-requires-clause-second_number c = given_told c.in_ok-b.ensures.ok
+
+pub multiply_numbers-requires-clause-first : goal.multiply_numbers-requires-clause-first
+multiply_numbers-requires-clause-first c = first_handed c.in_ok-a.ensures.ok c.in_ok-b.ensures.ok
+
+pub multiply_numbers-requires-clause-second : goal.multiply_numbers-requires-clause-second
+multiply_numbers-requires-clause-second c = given_handed c.in_ok-b.ensures.ok
+
+pub multiply_numbers-requires-clause-apart : goal.multiply_numbers-requires-clause-apart
+multiply_numbers-requires-clause-apart c = pair_apart c.in_ok-a.a c.in_ok-b.b c.in_ok-a.ensures.ok c.in_ok-b.ensures.ok
+
+pub multiply_numbers-requires-clause-first_number : goal.multiply_numbers-requires-clause-first_number
+multiply_numbers-requires-clause-first_number c = first_told c.in_ok-a.ensures.ok c.in_ok-b.ensures.ok ∙ given_told c.in_ok-a.ensures.ok
+
+pub multiply_numbers-requires-clause-second_number : goal.multiply_numbers-requires-clause-second_number
+multiply_numbers-requires-clause-second_number c = given_told c.in_ok-b.ensures.ok

@@ -1,0 +1,58 @@
+-- Roots of rationals that have few bits fit, and are no larger than the rationals.
+use Rattle.std.proofs.Common.{◌≡◌, ◌≢◌, [], ◌∷◌, Bool, true, false, Result, Ok, Err, Some, None, pos, ◌<ℤ◌, if◌then◌else◌, sym, ap, ◌∙◌, subst}
+use Rattle.std.specs.Prelude.{IfErr}
+use Rattle.calc_algebra.specs.Numbers.{is_term, term_of, value}
+use Rattle.calc_algebra.specs.Surds.{Term, Surd, surd_of}
+use Rattle.calc_algebra.proofs.NumberLaws.{term_words}
+use Rattle.calc_bits.specs.Bounds.{HasFewBits}
+use Rattle.calc_bits.specs.Masses.{IsHeld}
+use Rattle.calc_terms.specs.Fractions.{Fraction, zero_fraction, whole_fraction}
+use Rattle.calc_terms.specs.Ratio.{Ratio}
+use Rattle.calc_terms.specs.Trees.{Tree, num, is_num}
+use Rattle.calc_terms.proofs.FractionFacts.{zero_test, whole_numerator}
+use Rattle.number_forms.proofs.Shaped.{term_value}
+use Rattle.radical_forms.specs.RootAnswers.{IfRational}
+use Rattle.radical_forms.specs.Refusals.{HasWideRoot, IsOverflow}
+use Rattle.radical_forms.proofs.RootLaws.{zero_value, not_above_zero}
+use Rattle.rational128.specs.declared.overflow.Op.TheVariants.{Mul}
+use Rattle.surd_bits.proofs.Rooted.{root_no_larger, no_root_no_larger}
+use Rattle.surd_bits.proofs.RootsFit.{root_fits}
+use Rattle.surd_bits.specs.Proper.{parts_of}
+use Rattle.surd_bits.specs.Rooted.{IsNoLargerThanRoot}
+use Rattle.surd_terms.specs.Calculations.{Calculation, calculation, does_fit, first_misfit}
+use Rattle.surd_terms.specs.SquareRoots.{IsRootTerm}
+use Rattle.tree_handles.specs.Faults.{OfOverflow}
+use Rattle.tree_handles.specs.declared.fault.NumberFault.{NumberFault}
+use Rattle.tree_handles.specs.declared.fault.NumberFault.TheVariants as fault
+
+not_zero : (q : Fraction) → pos 0 <ℤ q.num → q ≢ zero_fraction
+unfolding zero_fraction
+not_zero q h e = not_above_zero q.num (ap (λ (x : Fraction). x.num) e ∙ whole_numerator (pos 0)) h
+
+misfit_alone : (c : Calculation) → does_fit c ≡ false → first_misfit (c ∷ []) ≡ None → ⊥
+misfit_alone c h e = absurd (let f : first_misfit (c ∷ []) ≡ Some c = ap (λ b. if b then None else Some c) h in cc)
+
+-- a rational that has few bits has no wide root
+pub no_wide : (a : Tree) → HasFewBits (value a) → HasWideRoot a → ⊥
+no_wide (num q) b w =
+    let k : IsHeld (surd_of q) b.high b.low = subst (λ (v : Surd). IsHeld v b.high b.low) (ap (λ (z : Bool). if z then [] else surd_of q) (zero_test q (not_zero q w.0))) b.held in
+    misfit_alone (calculation Mul (whole_fraction q.num) (whole_fraction (pos q.den))) w.1 (root_fits q b.high b.low k b.few)
+no_wide _ b w = w
+
+pub not_refused : {A : Type 0} (r : Result A NumberFault) → (IsOverflow r → ⊥) → IfErr r (OfOverflow (λ o. ⊥))
+not_refused (Ok x) h = tt
+not_refused (Err (fault.Full full)) h = tt
+not_refused (Err (fault.Overflow o)) h = h tt
+
+-- ---- how large it is
+
+pub term_measured : (q : Fraction) (t : Tree) (s : Term) (r : Ratio) → pos 0 <ℤ q.num → r ≡ parts_of q → IsRootTerm s r → is_term t ≡ true → term_of t ≡ s → IsNoLargerThanRoot q (value t)
+term_measured q t s r p e i h f =
+    subst (IsNoLargerThanRoot q) (sym (term_value t (term_words t h) ∙ ap (λ (x : Term). x ∷ []) f)) (root_no_larger q s (not_zero q p) (subst (IsRootTerm s) e i))
+
+pub zero_measured : (q : Fraction) (t : Tree) → t ≡ num q → q.num ≡ pos 0 → IsNoLargerThanRoot q (value t)
+zero_measured q t e z = subst (IsNoLargerThanRoot q) (sym (ap value e ∙ zero_value q z)) (no_root_no_larger q)
+
+pub other_rational : (a : Tree) (P : Fraction → Type 0) → is_num a ≡ false → IfRational a P
+other_rational (num q) P n = cc
+other_rational _ P n = tt

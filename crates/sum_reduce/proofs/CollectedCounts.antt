@@ -1,0 +1,239 @@
+-- The terms of a sum are collected to terms that count no more.
+use Rattle.std.proofs.Common.{◌≡◌, ℕ, suc, ◌+◌, ◌≤◌, max, Bool, true, false, not, if◌then◌else◌, refl, sym, ap, ◌∙◌, subst, arith}
+use Rattle.calc_terms.specs.Fractions.{Fraction, times, zero_fraction, is_zero_fraction, is_one_fraction}
+use Rattle.calc_terms.proofs.FractionFacts.{no_zero}
+use Rattle.calc_terms.specs.Trees.{Tree, num, symbol, undef, add, mult, power, root, neg, sub, div, Trees, none, more, append, count, is_add, AllParts, AllPartsOf}
+use Rattle.calc_algebra.specs.Numbers.{IsNumber, IsTerm, is_number, is_radicand}
+use Rattle.calc_algebra.specs.Reduced.{HasForm, NoneIs, part_of, product_tree, split, split_product, num_one, is_whole_num}
+use Rattle.calc_algebra.proofs.MeaningRewrites.{Permuted, permuted_none, permuted_more, permuted_swap, permuted_trans}
+use Rattle.calc_algebra.proofs.NumberLaws.{number_test, number_words}
+use Rattle.calc_room.specs.Counts.{counted, counted_among}
+use Rattle.calc_room.proofs.TreeBytes.{counted_number, counted_other, none_counted, number_counts, term_counts}
+use Rattle.coefficients.specs.Coefficients.{factors_of, spliced, rational_before, with_coefficient, IsMonic}
+use Rattle.coefficients.specs.Multiples.{mapped, rational_times_term}
+use Rattle.coefficients.proofs.Coefficients.{monic_sum, product_form_of, put_formed, taken}
+use Rattle.coefficients.proofs.Factors.{monic_parts}
+use Rattle.coefficients.proofs.Forms.{number_parts, parts_defined, parts_reduced}
+use Rattle.coefficients.proofs.NumberMultiples.{IsFactor, not_one_is, scaled}
+use Rattle.coefficients.proofs.TermMultiples.{multiple}
+use Rattle.sum_reduce.specs.Collected.{AreLike, Collects, collects_opened, collects_ordered, collects_numbers, collects_like, collects_then}
+use Rattle.sum_reduce.specs.Terms.{terms_of_loose, opened, terms_of_number, sum_tree, leads_number, written_tree}
+use Rattle.sum_reduce.proofs.CollectedParts.{opened_parts, permuted_parts, first_parts, last_parts}
+use Rattle.sum_reduce.proofs.Rearranged.{of_lists}
+
+-- what a tree counts as a term or a factor
+abbrev counted_in : Tree → ℕ
+counted_in t = if is_number t then 0 else counted t
+
+counted_at_most : (t : Tree) → counted_in t ≤ counted t
+counted_at_most t = by (is_number t)
+  where
+    by : (b : Bool) → (if b then 0 else counted t) ≤ counted t
+    by true = omega arith
+    by false = omega arith
+
+number_free : (t : Tree) → is_number t ≡ true → counted_in t ≡ 0
+number_free t e = ap (λ (b : Bool). if b then 0 else counted t) e
+
+other_counts : (t : Tree) → is_number t ≡ false → counted_in t ≡ counted t
+other_counts t e = ap (λ (b : Bool). if b then 0 else counted t) e
+
+counted_some : (t : Tree) → 1 ≤ counted t
+counted_some (num q) = omega arith
+counted_some (symbol x) = omega arith
+counted_some undef = omega arith
+counted_some (add ts) = omega arith
+counted_some (mult ts) = omega arith
+counted_some (power b e) = by (is_whole_num e) (counted_some b)
+  where
+    by : (x : Bool) → 1 ≤ counted b → 1 ≤ (if x then counted b else suc (counted b + counted e))
+    by true h = h
+    by false h = omega arith
+counted_some (root (num q)) = omega arith
+counted_some (root a) = omega arith
+counted_some (neg a) = omega arith
+counted_some (sub a b) = omega arith
+counted_some (div a b) = omega arith
+
+counted_append : (ts us : Trees) → counted_among (append ts us) ≡ counted_among ts + counted_among us
+counted_append none us = omega arith
+counted_append (more t ts) us = omega (arith, counted_append ts us)
+
+-- ---- the part of a term
+
+product_counted : (ts : Trees) → NoneIs is_number ts → counted (product_tree ts) ≡ max 1 (counted_among ts)
+product_counted none h = omega arith
+product_counted (more t none) h = omega (arith, counted_other t none h.0, counted_some t)
+product_counted (more t (more u ts)) h = refl
+
+-- a coefficient is free
+split_counted : (ts : Trees) → counted_among ts ≡ counted_among (split_product ts).factors
+unfolding is_number
+split_counted (more (num q) (more (root (num r)) ts)) = counted_number (num q) (more (root (num r)) ts) refl ∙ by (is_radicand r) refl
+  where
+    by : (b : Bool) → is_radicand r ≡ b → counted_among (more (root (num r)) ts) ≡ counted_among (if b then split (mult (more (num q) (more (root (num r)) none))) ts else split (num q) (more (root (num r)) ts)).factors
+    by true e = counted_number (root (num r)) ts e
+    by false e = refl
+split_counted (more (num q) ts) = counted_number (num q) ts refl
+split_counted (more (root (num r)) ts) = by (is_radicand r) refl
+  where
+    by : (b : Bool) → is_radicand r ≡ b → counted_among (more (root (num r)) ts) ≡ counted_among (if b then split (root (num r)) ts else split num_one (more (root (num r)) ts)).factors
+    by true e = counted_number (root (num r)) ts e
+    by false e = refl
+split_counted (more (add us) ts) = by (is_number (add us)) refl
+  where
+    by : (b : Bool) → is_number (add us) ≡ b → counted_among (more (add us) ts) ≡ counted_among (if b then split (add us) ts else split num_one (more (add us) ts)).factors
+    by true e = counted_number (add us) ts e
+    by false e = refl
+split_counted ts = refl
+
+part_counted : (t : Tree) → AllParts HasForm t → is_number t ≡ false → counted t ≡ counted (part_of t)
+part_counted (mult ts) h n = ap (max 1) (split_counted ts) ∙ sym (product_counted (split_product ts).factors (product_form_of ts h n).no_number)
+part_counted t h n = refl
+
+-- ---- put together again
+
+-- a rational times a term
+term_counted : (q : Fraction) (t : Tree) → IsFactor q → IsTerm t → counted_in (rational_times_term q t) ≡ 0
+term_counted q (num c) f h = number_free (num (times q c)) (number_test (num (times q c)) tt)
+term_counted q (root (num r)) f h = number_free _ (term_counts _ (scaled q (root (num r)) f h).one)
+term_counted q (mult (more (num c) (more (root (num r)) none))) f h = number_free _ (term_counts _ (scaled q (mult (more (num c) (more (root (num r)) none))) f h).one)
+term_counted q t f h = absurd h
+
+times_counted : (q : Fraction) (t : Tree) → IsFactor q → AllParts HasForm t → is_add t ≡ false → counted_in (rational_times_term q t) ≡ counted_in t
+times_counted q t f h a = by (is_number t) refl
+  where
+    number : (t : Tree) → IsNumber t → is_add t ≡ false → counted_in (rational_times_term q t) ≡ 0
+    number (num c) k a = number_free (num (times q c)) (number_test (num (times q c)) tt)
+    number (add ts) k a = cc
+    number (root b) k a = term_counted q (root b) f k
+    number (mult ts) k a = term_counted q (mult ts) f k
+    number t k a = absurd k
+
+    by : (b : Bool) → is_number t ≡ b → counted_in (rational_times_term q t) ≡ counted_in t
+    by true e = number t (number_words t e) a ∙ sym (number_free t e)
+    by false e =
+        let m = multiple q f t h e a in
+        other_counts _ m.no_number ∙ part_counted _ m.formed m.no_number ∙ ap counted m.part ∙ sym (part_counted t h e) ∙ sym (other_counts t e)
+
+mapped_counted : (q : Fraction) (ts : Trees) → IsFactor q → AllPartsOf HasForm ts → NoneIs is_add ts → counted_among (mapped (rational_times_term q) ts) ≡ counted_among ts
+mapped_counted q none f h a = refl
+mapped_counted q (more t ts) f h a = λ i. times_counted q t f h.0 a.0 i + mapped_counted q ts f h.1 a.1 i
+
+factors_counted : (p : Tree) → max 1 (counted_among (factors_of p)) ≤ counted p
+factors_counted (mult ts) = omega arith
+factors_counted p = omega (arith, counted_at_most p, counted_some p)
+
+number_factors : (c : Tree) → IsNumber c → counted_among (factors_of c) ≡ 0
+number_factors (num q) h = counted_number (num q) none (number_test (num q) tt)
+number_factors (add ts) h = counted_number (add ts) none (number_test (add ts) h)
+number_factors (root a) h = counted_number (root a) none (number_test (root a) h)
+number_factors (mult (more (num q) (more (root (num r)) none))) h = counted_number (num q) (more (root (num r)) none) (number_test (num q) tt) ∙ counted_number (root (num r)) none (number_test (root (num r)) h.2)
+number_factors c h = absurd h
+
+spliced_counted : (c p : Tree) → IsNumber c → counted (spliced c p) ≤ counted p
+spliced_counted c p h = omega (arith, counted_append (factors_of c) (factors_of p), number_factors c h, factors_counted p)
+
+before_counted : (q : Fraction) (p : Tree) → IsFactor q → IsMonic p → counted (rational_before q p) ≤ counted p
+before_counted q (add ts) f m = omega (arith, mapped_counted q ts f (monic_parts (add ts) m).1 (monic_sum ts m).no_sum)
+before_counted q p f m = spliced_counted (num q) p tt
+
+put_counted : (c p : Tree) → IsNumber c → IsMonic p → counted_in (with_coefficient c p) ≤ counted p
+put_counted (num q) p h m = by (is_zero_fraction q) (is_one_fraction q) refl refl
+  where
+    by : (x y : Bool) → is_zero_fraction q ≡ x → is_one_fraction q ≡ y → counted_in (if x then num zero_fraction else (if y then p else rational_before q p)) ≤ counted p
+    by true y e g = omega (arith, counted_at_most (num zero_fraction), counted_some p)
+    by false true e g = counted_at_most p
+    by false false e g =
+        let f : IsFactor q = record { not_zero = no_zero q (ap not e); not_one = not_one_is q g } in
+        omega (arith, counted_at_most (rational_before q p), before_counted q p f m)
+put_counted c p h m = omega (arith, counted_at_most (spliced c p), spliced_counted c p h)
+
+-- ---- terms
+
+loose_counted : (t : Tree) → counted_among (terms_of_loose t) ≤ counted_in t
+loose_counted (add ts) = by (is_number (add ts)) refl
+  where
+    by : (b : Bool) → is_number (add ts) ≡ b → counted_among (if b then more (add ts) none else ts) ≤ (if b then 0 else suc (counted_among ts))
+    by true e = omega (arith, counted_number (add ts) none e)
+    by false e = omega arith
+loose_counted t = alone (counted_in t)
+  where
+    alone : (n : ℕ) → n + 0 ≤ n
+    alone n = omega arith
+
+opened_counted : (ts : Trees) → counted_among (opened ts) ≤ counted_among ts
+opened_counted none = omega arith
+opened_counted (more t ts) = omega (arith, counted_append (terms_of_loose t) (opened ts), loose_counted t, opened_counted ts)
+
+permuted_counted : {ts us : Trees} → Permuted ts us → counted_among us ≡ counted_among ts
+permuted_counted permuted_none = refl
+permuted_counted (permuted_more {t} k) = ap (λ (n : ℕ). counted_in t + n) (permuted_counted k)
+permuted_counted (permuted_swap {t} {u} {ts}) = omega arith
+permuted_counted (permuted_trans k l) = permuted_counted l ∙ permuted_counted k
+
+like_monic : (us : Trees) (p : Tree) → 2 ≤ count us → AreLike p us → AllPartsOf HasForm us → IsMonic p
+like_monic none p l a h = absurd (omega arith)
+like_monic (more t us) p l a h = subst IsMonic a.1 (taken t (parts_reduced t h.0) (parts_defined t h.0) a.0).monic
+
+like_counted : (us : Trees) (p : Tree) → 2 ≤ count us → AreLike p us → AllPartsOf HasForm us → counted p ≤ counted_among us
+like_counted none p l a h = absurd (omega arith)
+like_counted (more t us) p l a h = omega (arith, other_counts t a.0, part_counted t h.0 a.0, ap counted a.1)
+
+-- terms stay in their form
+pub collected_formed : {ts us : Trees} → Collects ts us → AllPartsOf HasForm ts → AllPartsOf HasForm us
+collected_formed (collects_opened {ts}) h = opened_parts HasForm ts h
+collected_formed (collects_ordered {ts} {us} k) h = permuted_parts HasForm (of_lists ts us k) h
+collected_formed (collects_numbers {ts} {a} {b} {n} x y k) h = (number_parts n (number_words n k.number), (h.1).1)
+collected_formed (collects_like {ts} us c p l a k) h =
+    let like = first_parts HasForm us ts h in
+    (put_formed c p (number_words c k.number) (like_monic us p l a like), last_parts HasForm us ts h)
+collected_formed (collects_then k l) h = collected_formed l (collected_formed k h)
+
+pub collected_counts : {ts us : Trees} → Collects ts us → AllPartsOf HasForm ts → counted_among us ≤ counted_among ts
+collected_counts (collects_opened {ts}) h = opened_counted ts
+collected_counts (collects_ordered {ts} {us} k) h = omega (arith, permuted_counted (of_lists ts us k))
+collected_counts (collects_numbers {ts} {a} {b} {n} x y k) h = omega (arith, counted_number n ts k.number, counted_number b ts y, counted_number a (more b ts) x)
+collected_counts (collects_like {ts} us c p l a k) h =
+    let like = first_parts HasForm us ts h in
+    omega (arith, put_counted c p (number_words c k.number) (like_monic us p l a like), like_counted us p l a like, counted_append us ts)
+collected_counts (collects_then {ts} {us} {vs} k l) h = omega (arith, collected_counts k h, collected_counts l (collected_formed k h))
+
+-- ---- the tree of terms
+
+number_terms_counted : (t : Tree) → IsNumber t → counted_among (terms_of_number t) ≡ 0
+number_terms_counted (num q) h = by (is_zero_fraction q)
+  where
+    by : (b : Bool) → counted_among (if b then none else more (num q) none) ≡ 0
+    by true = refl
+    by false = counted_number (num q) none (number_test (num q) tt)
+number_terms_counted (add ts) h = none_counted ts h.1
+number_terms_counted (root a) h = counted_number (root a) none (number_test (root a) h)
+number_terms_counted (mult ts) h = counted_number (mult ts) none (number_test (mult ts) h)
+number_terms_counted t h = absurd h
+
+tree_counted : (t : Tree) → counted t ≤ suc (counted_in t)
+tree_counted t = by (is_number t) refl
+  where
+    by : (b : Bool) → is_number t ≡ b → counted t ≤ suc (if b then 0 else counted t)
+    by true e = omega (arith, number_counts t (number_words t e))
+    by false e = omega arith
+
+sum_tree_counted : (ts : Trees) → counted (sum_tree ts) ≤ suc (counted_among ts)
+sum_tree_counted none = omega arith
+sum_tree_counted (more t none) = omega (arith, tree_counted t)
+sum_tree_counted (more t (more u ts)) = omega arith
+
+led_number : (t : Tree) (ts : Trees) → leads_number (more t ts) ≡ true → is_number t ≡ true
+led_number t none h = cc
+led_number t (more u ts) h = h
+
+pub written_counted : (ts : Trees) → counted (written_tree ts) ≤ suc (counted_among ts)
+written_counted none = omega arith
+written_counted (more t ts) = by (leads_number (more t ts)) refl
+  where
+    by : (b : Bool) → leads_number (more t ts) ≡ b → counted (if b then sum_tree (append (terms_of_number t) ts) else sum_tree (more t ts)) ≤ suc (counted_among (more t ts))
+    by true e =
+        let n = led_number t ts e in
+        omega (arith, sum_tree_counted (append (terms_of_number t) ts), counted_append (terms_of_number t) ts, number_terms_counted t (number_words t n), counted_number t ts n)
+    by false e = sum_tree_counted (more t ts)

@@ -1,0 +1,57 @@
+-- What spans the terms of a sum spans what they are collected to.
+use Rattle.std.proofs.Common.{◌≡◌, ℕ, List, Bool, true, false, if◌then◌else◌, refl}
+use Rattle.calc_terms.specs.Trees.{Tree, num, add, mult, root, Trees, none, more, is_add}
+use Rattle.calc_algebra.specs.Numbers.{is_number, is_radicand, value}
+use Rattle.calc_algebra.specs.Reduced.{split, split_product, num_one}
+use Rattle.calc_algebra.proofs.NumberLaws.{number_words, term_words}
+use Rattle.calc_room.specs.Spans.{Spans, SpansRoot, SpansTree, SpansTrees}
+use Rattle.calc_room.proofs.NumberSpans.{spans_append, spans_same, term_spanned, tree_spanned, value_spanned}
+use Rattle.coefficients.specs.Coefficients.{coefficient_of}
+use Rattle.number_forms.specs.Answers.{IsNumberOf}
+use Rattle.number_forms.proofs.Rooms.{sum_spans}
+use Rattle.tree_handles.specs.Expressions.{children_of}
+use Rattle.sum_reduce.specs.Collected.{sum_of_coefficients, Collects}
+use Rattle.sum_reduce.specs.Terms.{written_tree}
+use Rattle.sum_reduce.proofs.CollectedParts.{collected_parts, written_parts}
+
+split_spans : (gs : List ℕ) (ts : Trees) → SpansTrees gs ts → Spans gs (value (split_product ts).coefficient)
+split_spans gs (more (num q) (more (root (num r)) ts)) (h, (k, hs)) = by (is_radicand r) refl
+  where
+    by : (b : Bool) → is_radicand r ≡ b → Spans gs (value (if b then split (mult (more (num q) (more (root (num r)) none))) ts else split (num q) (more (root (num r)) ts)).coefficient)
+    by true e = (term_spanned gs (root (num r)) (term_words (root (num r)) e) k, tt)
+    by false e = value_spanned gs (num q) tt tt
+split_spans gs (more (num q) ts) h = value_spanned gs (num q) tt tt
+split_spans gs (more (root (num r)) ts) (h, hs) = by (is_radicand r) refl
+  where
+    by : (b : Bool) → is_radicand r ≡ b → Spans gs (value (if b then split (root (num r)) ts else split num_one (more (root (num r)) ts)).coefficient)
+    by true e = (term_spanned gs (root (num r)) (term_words (root (num r)) e) h, tt)
+    by false e = value_spanned gs num_one tt tt
+split_spans gs (more (add us) ts) (h, hs) = by (is_number (add us)) refl
+  where
+    by : (b : Bool) → is_number (add us) ≡ b → Spans gs (value (if b then split (add us) ts else split num_one (more (add us) ts)).coefficient)
+    by true e = value_spanned gs (add us) (number_words (add us) e) h
+    by false e = value_spanned gs num_one tt tt
+split_spans gs ts h = value_spanned gs num_one tt tt
+
+coefficient_spans : (gs : List ℕ) (t : Tree) → SpansTree gs t → Spans gs (value (coefficient_of t))
+coefficient_spans gs (mult ts) h = split_spans gs ts h.1
+coefficient_spans gs t h = value_spanned gs num_one tt tt
+
+coefficients_span : (gs : List ℕ) (us : Trees) → SpansTrees gs us → Spans gs (sum_of_coefficients us)
+coefficients_span gs none h = tt
+coefficients_span gs (more t us) h = spans_append gs (value (coefficient_of t)) (sum_of_coefficients us) (coefficient_spans gs t h.0) (coefficients_span gs us h.1)
+
+total_spans : (gs : List ℕ) (us : Trees) (c : Tree) → SpansTrees gs us → IsNumberOf (sum_of_coefficients us) c → SpansTree gs c
+total_spans gs us c h k =
+    let n = number_words c k.number in
+    tree_spanned gs c n (spans_same gs c (sum_of_coefficients us) n k.worth (coefficients_span gs us h))
+
+pub spans_collected : (gs : List ℕ) (ts us : Trees) → Collects ts us → SpansTrees gs ts → SpansTrees gs us
+spans_collected gs ts us k h = collected_parts (SpansRoot gs) (λ q. tt) (λ vs. tt) (λ vs. tt) (λ a b n x y s t m. sum_spans gs a b n x y m s t) (total_spans gs) k h
+
+pub spans_written : (gs : List ℕ) (ts : Trees) → SpansTrees gs ts → SpansTree gs (written_tree ts)
+spans_written gs ts h = written_parts (SpansRoot gs) (λ q. tt) (λ vs. tt) (λ vs. tt) ts h
+
+pub spans_terms : (gs : List ℕ) (t : Tree) → is_add t ≡ true → SpansTree gs t → SpansTrees gs (children_of t)
+spans_terms gs (add ts) e h = h.1
+spans_terms gs t e h = cc
