@@ -1,0 +1,10 @@
+pub mod Weighted
+pub mod HeldTrees
+pub mod Numbers
+pub mod Sums
+pub mod Powers
+pub mod Children
+pub mod FewBits
+pub mod Factors
+pub mod Rows
+pub mod Joined

@@ -1,0 +1,93 @@
+-- A coefficient changes no count.
+use Rattle.std.proofs.Common.{◌≡◌, ℕ, ◌+◌, ◌≤◌, max, Bool, true, false, refl, sym, ap, ◌∙◌, arith}
+use Rattle.std.specs.Prelude.{if◌then◌else◌}
+use Rattle.std.proofs.lemmas.Bool.{true≢false, false≢true}
+use Rattle.calc_algebra.specs.Numbers.{is_number, is_radicand}
+use Rattle.calc_algebra.specs.Reduced.{split, split_product, product_tree, part_of, num_one}
+use Rattle.calc_room.specs.Counts.{counted, counted_among}
+use Rattle.calc_room.proofs.TreeBytes.{counted_number, counted_other}
+use Rattle.calc_terms.specs.Fractions.{Fraction}
+use Rattle.calc_terms.specs.Trees.{Tree, num, add, mult, root, Trees, none, more}
+use Rattle.tree_room.specs.Handed.{HasSamePart, HaveSameParts}
+use Rattle.tree_room.proofs.Counts.{counts_one, number_counts_one, at_most_itself}
+
+-- ---- what is split off
+
+root_free : (r : Fraction) (ts : Trees) → is_radicand r ≡ true → counted_among (more (root (num r)) ts) ≡ counted_among ts
+unfolding is_number
+root_free r ts e = counted_number (root (num r)) ts e
+
+rational_free : (q : Fraction) (ts : Trees) → counted_among (more (num q) ts) ≡ counted_among ts
+unfolding is_number
+rational_free q ts = counted_number (num q) ts refl
+
+pub split_counts : (ts : Trees) → counted_among (split_product ts).factors ≡ counted_among ts
+split_counts (more (num q) (more (root (num r)) ts)) = by (is_radicand r) refl
+  where
+    by : (k : Bool) → is_radicand r ≡ k → counted_among (if k then split (mult (more (num q) (more (root (num r)) none))) ts else split (num q) (more (root (num r)) ts)).factors ≡ counted_among (more (num q) (more (root (num r)) ts))
+    by true e = sym (rational_free q (more (root (num r)) ts) ∙ root_free r ts e)
+    by false e = sym (rational_free q (more (root (num r)) ts))
+split_counts (more (num q) ts) = sym (rational_free q ts)
+split_counts (more (root (num r)) ts) = by (is_radicand r) refl
+  where
+    by : (k : Bool) → is_radicand r ≡ k → counted_among (if k then split (root (num r)) ts else split num_one (more (root (num r)) ts)).factors ≡ counted_among (more (root (num r)) ts)
+    by true e = sym (root_free r ts e)
+    by false e = refl
+split_counts (more (add us) ts) = by (is_number (add us)) refl
+  where
+    by : (k : Bool) → is_number (add us) ≡ k → counted_among (if k then split (add us) ts else split num_one (more (add us) ts)).factors ≡ counted_among (more (add us) ts)
+    by true e = sym (counted_number (add us) ts e)
+    by false e = refl
+split_counts ts = refl
+
+-- ---- what is put together
+
+only_one : (t : Tree) → counted t ≡ max 1 (counted_among (more t none))
+only_one t = by (is_number t) refl
+  where
+    by : (z : Bool) → is_number t ≡ z → counted t ≡ max 1 (counted_among (more t none))
+    by true e = number_counts_one t e ∙ sym (ap (max 1) (counted_number t none e))
+    by false e = at_least (counted t) (counts_one t) ∙ sym (ap (max 1) (counted_other t none e))
+      where
+        at_least : (n : ℕ) → 1 ≤ n → n ≡ max 1 (n + 0)
+        at_least n h = omega arith
+
+pub product_counts : (ts : Trees) → counted (product_tree ts) ≡ counted (mult ts)
+product_counts none = refl
+product_counts (more t none) = only_one t
+product_counts (more t (more u ts)) = refl
+
+pub part_counts : (t : Tree) → counted (part_of t) ≡ counted t
+part_counts (mult ts) = product_counts (split_product ts).factors ∙ ap (max 1) (split_counts ts)
+part_counts t = refl
+
+pub put_before : (c : Tree) (ts : Trees) → is_number c ≡ true → counted (mult (more c ts)) ≡ counted (product_tree ts)
+put_before c ts h = ap (max 1) (counted_number c ts h) ∙ sym (product_counts ts)
+
+-- ---- terms of the same part
+
+same_counts : (t u : Tree) → part_of t ≡ part_of u → counted t ≡ counted u
+same_counts t u e = sym (part_counts t) ∙ ap counted e ∙ part_counts u
+
+same_alone : (t u : Tree) → HasSamePart t u → (if is_number t then 0 else counted t) ≡ (if is_number u then 0 else counted u)
+same_alone t u h = by (is_number t) refl (is_number u) (sym h.number)
+  where
+    by : (y : Bool) → is_number t ≡ y → (z : Bool) → z ≡ is_number t → (if y then 0 else counted t) ≡ (if z then 0 else counted u)
+    by true e true f = refl
+    by true e false f = absurd (false≢true (f ∙ e))
+    by false e true f = absurd (true≢false (f ∙ e))
+    by false e false f = same_counts t u (h.part e)
+
+pub same_parts : (ts us : Trees) → HaveSameParts ts us → counted_among ts ≡ counted_among us
+same_parts none none h = refl
+same_parts (more t ts) (more u us) (h, hs) = (λ i. same_alone t u h i + same_parts ts us hs i)
+same_parts _ _ h = absurd h
+
+pub like_terms : (t u r : Tree) (ts : Trees) → is_number t ≡ false → part_of r ≡ part_of t → counted_among (more r ts) ≤ counted_among (more t (more u ts))
+like_terms t u r ts n e = omega (arith, at_most_itself r ts, same_counts r t e, counted_other t (more u ts) n, more_counts)
+  where
+    more_counts : counted_among ts ≤ counted_among (more u ts)
+    more_counts = omega arith
+
+pub spread : (q : Fraction) (ts us : Trees) → HaveSameParts ts us → counted (add us) ≤ counted (mult (more (num q) (more (add ts) none)))
+spread q ts us h = omega (arith, same_parts ts us h, only_one (add ts), rational_free q (more (add ts) none))

@@ -1,0 +1,10 @@
+mod Multiples
+mod Counts
+mod Coefficients
+mod PowerCounts
+mod Handed
+mod NodeCounts
+mod Rooms
+mod JoinedSpans
+mod Calm
+mod Zeros

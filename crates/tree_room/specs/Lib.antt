@@ -1,0 +1,4 @@
+pub mod Needs
+pub mod Handed
+pub mod Children
+pub mod Exponents
