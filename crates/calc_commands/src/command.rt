@@ -15,7 +15,7 @@ pub enum Command {
     Pool,
     /// The bytes of the pool.
     Dump,
-    /// The tree of a stored name goes. The name may be `ans`.
+    /// The tree of a stored name is released. The name may be `ans`.
     Forget(Name),
     /// A breaker is armed to trip after so many checks.
     After(u64),

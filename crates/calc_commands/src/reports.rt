@@ -9,7 +9,7 @@ use crate::numbers::write_count;
 use calc_terms::Name;
 use line_text::Text;
 use node_pool::Pool;
-use tree_walks::count_trees;
+use tree_handles::count_trees;
 
 /// Appends how full the pool is: at most 128 bytes.
 pub fn write_pool_report(pool: &Pool, text: &mut Text)

@@ -1,25 +1,25 @@
 -- The numbers in a pool fit, so a text is short.
-use Rattle.std.proofs.Common.{◌≡◌, ◌∙◌, ℕ, zero, suc, ◌-◌, ◌*◌, ◌≤◌, List, ◌++◌, length, nat_abs, sym, ap, subst, arith}
+use Rattle.std.proofs.Common.{◌≡◌, ◌∙◌, ℕ, zero, suc, ◌-◌, ◌*◌, ◌≤◌, List, ◌∷◌, ◌++◌, length, nat_abs, true, sym, ap, subst, arith}
 use Rattle.std.proofs.lemmas.List.{length-append}
 use Rattle.std.proofs.lemmas.Bool.{lt-ltb}
 use Rattle.calc_terms.specs.declared.kind.Kind.{Kind}
 use Rattle.calc_terms.specs.declared.kind.Kind.TheVariants as kind
 use Rattle.calc_terms.specs.Fits.{fits}
-use Rattle.calc_terms.specs.Node.{Node}
 use Rattle.calc_terms.specs.Payload.{Payload, rational, named, bare, IsPayload}
-use Rattle.calc_language.specs.Texts.{text}
+use Rattle.calc_language.specs.Texts.{text, IsWritable}
 use Rattle.calc_terms.specs.Trees.{Trees, none, more, AllParts, AllPartsOf, size}
-use Rattle.node_pool.specs.Nodes.{AreNodes, used}
+use Rattle.node_pool.specs.Nodes.{AreNodes}
 use Rattle.node_pool.specs.State.{State}
-use Rattle.node_pool.proofs.Cuts.{AreNodes-since}
-use Rattle.node_pool.proofs.Sizes.{AreNodes-left, AreNodes-right}
-use Rattle.tree_handles.specs.Expressions.{nth, grown, compound, plains}
-use Rattle.tree_handles.specs.Forest.{Forest, empty, tree, flatten}
-use Rattle.tree_handles.specs.Standing.{Stands}
-use Rattle.tree_handles.proofs.Forests.{bytes-flatten}
+use Rattle.node_pool.proofs.Sizes.{AreNodes-left, AreNodes-right, length_le_used}
+use Rattle.tree_handles.specs.Expressions.{nth, grown, compound, plain, plains, IsExpression}
+use Rattle.tree_handles.specs.Forest.{Forest, empty, tree, flatten, node_of, nodes_in}
+use Rattle.tree_handles.specs.Inside.{holds, tree_at, kids_of}
+use Rattle.tree_handles.specs.Standing.{Stands, forest}
+use Rattle.tree_handles.proofs.Forests.{bytes-flatten, nodes-flatten}
+use Rattle.tree_handles.proofs.Measures.{one_at}
+use Rattle.tree_handles.proofs.Parts.{live_at}
 use Rattle.tree_handles.proofs.Plains.{size-plain}
 use Rattle.line_text.specs.Lengths.{IsFitting, HasFittingNumbers}
-use Rattle.line_text.specs.Standing.{tree_from, plain_from, BeginsTree}
 use Rattle.line_text.proofs.Leaves.{numerator_is}
 use Rattle.line_text.proofs.Lengths.{short}
 
@@ -47,18 +47,23 @@ all_fitting : (f : Forest) → AreNodes (flatten f) → AllPartsOf IsFitting (pl
 all_fitting empty h = tt
 all_fitting (tree l k r) h = (grown_fitting l.payload (plains k) h.0.payload (all_fitting k (AreNodes-left (flatten k) (flatten r) h.1)), all_fitting r (AreNodes-right (flatten k) (flatten r) h.1))
 
-first_fitting : (f : Forest) → AllPartsOf IsFitting (plains f) → HasFittingNumbers (nth 0 (plains f))
-first_fitting f h = nth_fitting 0 (plains f) h
-
-pub fitting : {at : ℕ} {s : State} → Stands s → BeginsTree at s.nodes → HasFittingNumbers (plain_from at s.nodes)
-fitting {at = at} {s = s} st b =
-    let here : AreNodes (flatten (tree_from at s.nodes) ++ b.behind) = subst AreNodes b.nodes (AreNodes-since at s.nodes st.pool.nodes) in
-    first_fitting (tree_from at s.nodes) (all_fitting (tree_from at s.nodes) (AreNodes-left (flatten (tree_from at s.nodes)) b.behind here))
+pub fitting : (i : ℕ) (s : State) → Stands s → holds i (forest s) ≡ true → HasFittingNumbers (plain (tree_at i (forest s)))
+fitting i s st h =
+    let p = live_at i s h in
+    let k = kids_of i (forest s) in
+    let all : AreNodes (p.before ++ (node_of p.label k ∷ (flatten k ++ p.after))) = subst AreNodes (st.flat ∙ p.flat) st.pool.nodes in
+    let here = AreNodes-right p.before (node_of p.label k ∷ (flatten k ++ p.after)) all in
+    subst (λ (t : Forest). HasFittingNumbers (plain t)) (sym p.tree-is) (grown_fitting p.label.payload (plains k) here.0.payload (all_fitting k (AreNodes-left (flatten k) p.after here.1)))
 
 -- twice its bytes have room for its text
-pub has_room : {at : ℕ} {s : State} (capacity : ℕ) (bytes : List ℕ) → Stands s → BeginsTree at s.nodes → 2 * size (plain_from at s.nodes) ≤ capacity - length bytes → length (bytes ++ text (plain_from at s.nodes)) ≤ capacity
-has_room {at = at} {s = s} capacity bytes st b room = omega (arith, short (plain_from at s.nodes) b.writable (fitting st b), length-append bytes (text (plain_from at s.nodes)))
+pub has_room : (i : ℕ) (s : State) (capacity : ℕ) (bytes : List ℕ) → Stands s → holds i (forest s) ≡ true → IsWritable (plain (tree_at i (forest s))) → 2 * size (plain (tree_at i (forest s))) ≤ capacity - length bytes
+    → length (bytes ++ text (plain (tree_at i (forest s)))) ≤ capacity
+has_room i s capacity bytes st h w room =
+    let t = plain (tree_at i (forest s)) in
+    omega (arith, short t w (fitting i s st h), length-append bytes (text t))
 
--- the bytes of its nodes
-pub bytes_are : {at : ℕ} {ns : List Node} → BeginsTree at ns → used (flatten (tree_from at ns)) ≡ size (plain_from at ns)
-bytes_are {at = at} {ns = ns} b = bytes-flatten (tree_from at ns) ∙ sym (size-plain (tree_from at ns) b.one b.expression)
+-- and sixteen for each of its nodes
+pub many_bytes : (i : ℕ) (s : State) → IsExpression i (forest s) → 8 * nodes_in (tree_at i (forest s)) ≤ size (plain (tree_at i (forest s)))
+many_bytes i s x =
+    let t = tree_at i (forest s) in
+    omega (arith, size-plain t (one_at i (forest s) x.live) x.whole, bytes-flatten t, nodes-flatten t, length_le_used (flatten t))

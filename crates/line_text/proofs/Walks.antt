@@ -1,33 +1,31 @@
 -- A walk over the nodes of a tree that knows what is still to be written.
-use Rattle.std.proofs.Common.{◌≡◌, ◌∙◌, ℕ, suc, ◌+◌, ◌-◌, ◌*◌, ◌<◌, ◌≤◌, List, [], ◌∷◌, ◌++◌, length, Bool, true, false, codes, refl, sym, ap, subst, arith, append_assoc, append-nil}
+use Rattle.std.proofs.Common.{◌≡◌, ◌∙◌, ℕ, suc, ◌+◌, ◌-◌, ◌<◌, ◌≤◌, List, [], ◌∷◌, ◌++◌, length, Bool, true, false, codes, refl, sym, ap, subst, arith, append_assoc, append-nil}
 use Rattle.std.proofs.lemmas.List.{length-append}
-use Rattle.calc_terms.specs.declared.leaf.Header.{Header}
-use Rattle.calc_terms.specs.Node.{Node, header_of, size_of, size_of_header}
 use Rattle.calc_language.specs.Texts.{IsWritable, AreWritable, text}
 use Rattle.calc_terms.specs.Trees.{Tree, num, symbol, undef, add, mult, power, root, neg, sub, div, Trees, none, more}
-use Rattle.node_pool.specs.Nodes.{used, first_of}
-use Rattle.node_pool.specs.Places.{since, IsBoundary}
-use Rattle.node_pool.proofs.Sizes.{size_from}
-use Rattle.tree_handles.specs.Expressions.{plain, plains, grown, children_of, AllExpressions}
-use Rattle.tree_handles.specs.Forest.{Label, Forest, empty, tree, arity, kids, flatten, node_of}
-use Rattle.tree_handles.proofs.Plains.{alone, grown_whole}
+use Rattle.tree_handles.specs.declared.visits.Visit.{Visit}
+use Rattle.tree_handles.specs.Expressions.{plain, plains, grown, children_of, AllExpressions, IsExpression}
+use Rattle.tree_handles.specs.Forest.{Label, Forest, empty, tree, join, arity, node_of, nodes_in}
+use Rattle.tree_handles.specs.Inside.{tree_at}
+use Rattle.tree_handles.specs.Visits.{visit_of, visits_of, AreFound}
+use Rattle.tree_handles.proofs.Forests.{join-empty}
+use Rattle.tree_handles.proofs.Plains.{alone, grown_whole, children_of-plain}
+use Rattle.tree_handles.proofs.Visiting.{IsSeen, found-join, seen, visit_here, visits_left, visits_length}
 use Rattle.line_text.specs.declared.place.Pending.{Pending}
 use Rattle.line_text.specs.declared.place.Place.TheVariants.{WholeText}
 use Rattle.line_text.specs.Pending.{text_there, texts_from, owed_text}
 use Rattle.line_text.specs.Places.{next_place}
-use Rattle.line_text.specs.Standing.{tree_from, plain_from, children_from, BeginsTree}
 use Rattle.line_text.proofs.Parts.{closing}
-use Rattle.line_text.proofs.Trees.{tree_here, begins, next_node}
 
 -- what is pending of a node, and the children that it still waits for
 pub record Owed : Type 0 where
   pub rest : Pending
   pub trees : Forest
 
--- their nodes, one after another
-abbrev pub owed_nodes : List Owed → List Node
-owed_nodes [] = []
-owed_nodes (o ∷ os) = flatten o.trees ++ owed_nodes os
+-- these children, one after another
+abbrev pub trees_owed : List Owed → Forest
+trees_owed [] = empty
+trees_owed (o ∷ os) = join o.trees (trees_owed os)
 
 -- their texts
 abbrev pub owed_texts : List Owed → List ℕ
@@ -44,17 +42,15 @@ abbrev pub pending_of : List Owed → List Pending
 pending_of [] = []
 pending_of (o ∷ os) = pending_of os ++ o.rest ∷ []
 
--- a walk from a place on: behind the bytes so far come the texts that are owed
-pub record IsWalk (from at : ℕ) (pending : List Pending) (bytes whole : List ℕ) (end : ℕ) (ns : List Node) : Type 0 where
+-- a walk over so many nodes: behind the bytes so far come the texts that are owed
+pub record IsWalk (base : Forest) (total : ℕ) (left : List Visit) (pending : List Pending) (bytes whole : List ℕ) : Type 0 where
   pub owed : List Owed
-  pub behind : List Node
   pub pending-is : pending ≡ pending_of owed
-  pub nodes : since at ns ≡ owed_nodes owed ++ behind
+  pub left-are : left ≡ visits_of (trees_owed owed)
+  pub found : AreFound base (trees_owed owed)
   pub text : bytes ++ owed_texts owed ≡ whole
   pub trees : AreOwed owed
-  pub boundary : IsBoundary at ns
-  pub ends : at + used (owed_nodes owed) ≡ end
-  pub few : from + 8 * length pending ≤ at + 8
+  pub few : length pending + length left ≤ total + 1
 
 -- the last of two equal lists
 snoc_same : (xs ys : List Pending) (x y : Pending) → xs ++ x ∷ [] ≡ ys ++ y ∷ [] → (xs ≡ ys) × (x ≡ y)
@@ -69,87 +65,78 @@ snoc_same (a ∷ xs) (b ∷ ys) x y e =
 
 -- ---- the innermost that is pending
 
-pub record IsTaken (from at : ℕ) (r : Pending) (pending : List Pending) (bytes whole : List ℕ) (end : ℕ) (ns : List Node) : Type 0 where
+pub record IsTaken (base : Forest) (total : ℕ) (left : List Visit) (r : Pending) (pending : List Pending) (bytes whole : List ℕ) : Type 0 where
   pub trees : Forest
   pub owed : List Owed
-  pub behind : List Node
   pub pending-is : pending ≡ pending_of owed
-  pub nodes : since at ns ≡ (flatten trees ++ owed_nodes owed) ++ behind
+  pub left-are : left ≡ visits_of (join trees (trees_owed owed))
+  pub found : AreFound base (join trees (trees_owed owed))
   pub text : bytes ++ (owed_text r (plains trees) ++ owed_texts owed) ≡ whole
-  pub left : r.left ≡ arity trees
+  pub many : r.left ≡ arity trees
   pub expressions : AllExpressions trees
   pub writable : AreWritable (plains trees)
   pub others : AreOwed owed
-  pub boundary : IsBoundary at ns
-  pub ends : at + used (flatten trees ++ owed_nodes owed) ≡ end
-  pub few : from + 8 * length pending ≤ at
+  pub few : length pending + length left ≤ total
 
-pub taken : {from at : ℕ} {all : List Pending} {bytes whole : List ℕ} {end : ℕ} {ns : List Node} (r : Pending) (pending : List Pending) → IsWalk from at all bytes whole end ns → all ≡ pending ++ r ∷ [] → IsTaken from at r pending bytes whole end ns
-taken {from = from} {at = at} {all = all} {bytes = bytes} {whole = whole} {end = end} {ns = ns} r pending w e = by w.owed w.pending-is w.nodes w.text w.trees w.ends
+pub taken : {base : Forest} {total : ℕ} {left : List Visit} {all : List Pending} {bytes whole : List ℕ} (r : Pending) (pending : List Pending) → IsWalk base total left all bytes whole → all ≡ pending ++ r ∷ [] → IsTaken base total left r pending bytes whole
+taken {base = base} {total = total} {left = left} {all = all} {bytes = bytes} {whole = whole} r pending w e = by w.owed w.pending-is w.left-are w.found w.text w.trees
   where
-    few : from + 8 * length pending ≤ at
+    few : length pending + length left ≤ total
     few = omega (arith, w.few, ap length e, length-append pending (r ∷ []))
 
-    by : (os : List Owed) → all ≡ pending_of os → since at ns ≡ owed_nodes os ++ w.behind → bytes ++ owed_texts os ≡ whole → AreOwed os → at + used (owed_nodes os) ≡ end → IsTaken from at r pending bytes whole end ns
-    by [] p n t a z = absurd (omega (arith, ap length (sym e ∙ p), length-append pending (r ∷ [])))
-    by (o ∷ os) p n t a z =
+    by : (os : List Owed) → all ≡ pending_of os → left ≡ visits_of (trees_owed os) → AreFound base (trees_owed os) → bytes ++ owed_texts os ≡ whole → AreOwed os → IsTaken base total left r pending bytes whole
+    by [] p n f t a = absurd (omega (arith, ap length (sym e ∙ p), length-append pending (r ∷ [])))
+    by (o ∷ os) p n f t a =
         let same = snoc_same pending (pending_of os) r o.rest (sym e ∙ p) in
         record {
           trees = o.trees;
           owed = os;
-          behind = w.behind;
           pending-is = same.0;
-          nodes = n;
+          left-are = n;
+          found = f;
           text = ap (λ (x : Pending). bytes ++ (owed_text x (plains o.trees) ++ owed_texts os)) same.1 ∙ t;
-          left = ap (λ (x : Pending). x.left) same.1 ∙ a.0;
+          many = ap (λ (x : Pending). x.left) same.1 ∙ a.0;
           expressions = a.1;
           writable = a.2;
           others = a.3;
-          boundary = w.boundary;
-          ends = z;
           few = few;
         }
 
 -- ---- the steps
 
 -- at the start the whole text is owed
-pub start : {from : ℕ} {r : Pending} {ns : List Node} (bytes : List ℕ) → BeginsTree from ns → r ≡ record { place = WholeText; left = 1; closes = false }
-    → IsWalk from from (r ∷ []) bytes (bytes ++ text (plain_from from ns)) (from + used (flatten (tree_from from ns))) ns
-start {from = from} {r = r} {ns = ns} bytes b e =
-    let t = tree_from from ns in
-    let one : plains t ≡ more (plain t) none = alone t b.one in
-    let owed : owed_text r (plains t) ++ [] ≡ text (plain t) = rw (e, one) (simp append-nil) in
+pub start : {r : Pending} (i : ℕ) (base : Forest) (bytes : List ℕ) → IsExpression i base → arity (tree_at i base) ≡ 1 → IsWritable (plain (tree_at i base)) → AreFound base (tree_at i base) → r ≡ record { place = WholeText; left = 1; closes = false }
+    → IsWalk base (nodes_in (tree_at i base)) (visits_of (tree_at i base)) (r ∷ []) bytes (bytes ++ text (plain (tree_at i base)))
+start {r = r} i base bytes x one w f e =
+    let t = tree_at i base in
+    let plain-is : plains t ≡ more (plain t) none = alone t one in
+    let owed : owed_text r (plains t) ++ [] ≡ text (plain t) = rw (e, plain-is) (simp append-nil) in
     record {
       owed = record { rest = r; trees = t } ∷ [];
-      behind = b.behind;
       pending-is = refl;
-      nodes = b.nodes ∙ ap (λ (x : List Node). x ++ b.behind) (sym (append-nil (flatten t)));
-      text = ap (λ (x : List ℕ). bytes ++ x) owed;
-      trees = (ap (λ (x : Pending). x.left) e ∙ sym b.one, b.expression, subst AreWritable (sym one) (b.writable, tt), tt);
-      boundary = b.boundary;
-      ends = ap (λ (x : List Node). from + used x) (append-nil (flatten t));
-      few = omega arith;
+      left-are = ap visits_of (sym (join-empty t));
+      found = subst (AreFound base) (sym (join-empty t)) f;
+      text = ap (λ (y : List ℕ). bytes ++ y) owed;
+      trees = (ap (λ (y : Pending). y.left) e ∙ sym one, x.whole, subst AreWritable (sym plain-is) (w, tt), tt);
+      few = omega (arith, visits_length t);
     }
 
 -- where no child is left, it is closed
-pub closed : {from at : ℕ} {r : Pending} {pending : List Pending} {bytes more_bytes whole : List ℕ} {end : ℕ} {ns : List Node} → IsTaken from at r pending bytes whole end ns → r.left ≡ 0
-    → more_bytes ≡ bytes ++ closing r.closes → IsWalk from at pending more_bytes whole end ns
-closed {from = from} {at = at} {r = r} {pending = pending} {bytes = bytes} {more_bytes = more_bytes} {whole = whole} {end = end} {ns = ns} k z e = by k.trees k.left k.nodes k.text k.ends
+pub closed : {base : Forest} {total : ℕ} {left : List Visit} {r : Pending} {pending : List Pending} {bytes more_bytes whole : List ℕ} → IsTaken base total left r pending bytes whole → r.left ≡ 0
+    → more_bytes ≡ bytes ++ closing r.closes → IsWalk base total left pending more_bytes whole
+closed {base = base} {total = total} {left = left} {r = r} {pending = pending} {bytes = bytes} {more_bytes = more_bytes} {whole = whole} k z e = by k.trees k.many k.left-are k.found k.text
   where
-    by : (f : Forest) → r.left ≡ arity f → since at ns ≡ (flatten f ++ owed_nodes k.owed) ++ k.behind → bytes ++ (owed_text r (plains f) ++ owed_texts k.owed) ≡ whole → at + used (flatten f ++ owed_nodes k.owed) ≡ end
-        → IsWalk from at pending more_bytes whole end ns
-    by empty a n t s = record {
+    by : (f : Forest) → r.left ≡ arity f → left ≡ visits_of (join f (trees_owed k.owed)) → AreFound base (join f (trees_owed k.owed)) → bytes ++ (owed_text r (plains f) ++ owed_texts k.owed) ≡ whole → IsWalk base total left pending more_bytes whole
+    by empty a n f t = record {
       owed = k.owed;
-      behind = k.behind;
       pending-is = k.pending-is;
-      nodes = n;
+      left-are = n;
+      found = f;
       text = ap (λ (x : List ℕ). x ++ owed_texts k.owed) e ∙ append_assoc bytes (closing r.closes) (owed_texts k.owed) ∙ t;
       trees = k.others;
-      boundary = k.boundary;
-      ends = s;
       few = omega (arith, k.few);
     }
-    by (tree l b f) a n t s = absurd (omega (arith, a, z))
+    by (tree l b f) a n g t = absurd (omega (arith, a, z))
 
 -- the children of a tree that can be written can
 writable_children : (t : Tree) → IsWritable t → AreWritable (children_of t)
@@ -164,117 +151,104 @@ writable_children (neg a) w = (w, tt)
 writable_children (sub a b) w = (w.0, (w.1, tt))
 writable_children (div a b) w = (w.0, (w.1, tt))
 
--- where one is left, it begins here
-pub record IsEntered (from at : ℕ) (r : Pending) (pending : List Pending) (bytes whole : List ℕ) (end : ℕ) (ns : List Node) : Type 0 where
+-- where one is left, a node is left
+pub some_left : {base : Forest} {total : ℕ} {left : List Visit} {r : Pending} {pending : List Pending} {bytes whole : List ℕ} → IsTaken base total left r pending bytes whole → 0 < r.left → 0 < length left
+some_left {left = left} {r = r} k some = by k.trees k.many k.left-are
+  where
+    by : (f : Forest) → r.left ≡ arity f → left ≡ visits_of (join f (trees_owed k.owed)) → 0 < length left
+    by empty a n = absurd (omega (arith, a))
+    by (tree l b f) a n = omega (arith, ap length n)
+
+-- and it is the next child's
+pub record IsEntered (base : Forest) (total : ℕ) (v : Visit) (left : List Visit) (r : Pending) (pending : List Pending) (bytes whole : List ℕ) : Type 0 where
   pub label : Label
   pub below : Forest
   pub others : Forest
   pub owed : List Owed
-  pub behind : List Node
-  pub begins_here : BeginsTree at ns
-  pub tree-is : tree_from at ns ≡ tree label below empty
-  pub node : since at ns ≡ node_of label below ∷ (flatten below ++ ((flatten others ++ owed_nodes owed) ++ behind))
+  pub visit-is : v ≡ visit_of (node_of label below)
+  pub seen_here : IsSeen v label below base
+  pub expression : IsExpression v.id base
   pub pending-is : pending ≡ pending_of owed
-  pub text : bytes ++ (owed_text r (more (plain_from at ns) (plains others)) ++ owed_texts owed) ≡ whole
-  pub left : r.left ≡ suc (arity others)
+  pub left-are : left ≡ visits_of (join below (join others (trees_owed owed)))
+  pub found : AreFound base (join below (join others (trees_owed owed)))
+  pub text : bytes ++ (owed_text r (more (plain (tree_at v.id base)) (plains others)) ++ owed_texts owed) ≡ whole
+  pub many : r.left ≡ suc (arity others)
   pub expressions : AllExpressions (tree label below others)
   pub writable : AreWritable (plains (tree label below others))
   pub others-are : AreOwed owed
-  pub ends : at + used (node_of label below ∷ (flatten below ++ (flatten others ++ owed_nodes owed))) ≡ end
-  pub few : from + 8 * length pending ≤ at
+  pub few : suc (length pending + length left) ≤ total
 
-regroup : (a b c d : List Node) → ((a ++ b) ++ c) ++ d ≡ a ++ ((b ++ c) ++ d)
-regroup a b c d = simp append_assoc
-
-pub entered : {from at : ℕ} {r : Pending} {pending : List Pending} {bytes whole : List ℕ} {end : ℕ} {ns : List Node} → IsTaken from at r pending bytes whole end ns → 0 < r.left → IsEntered from at r pending bytes whole end ns
-entered {from = from} {at = at} {r = r} {pending = pending} {bytes = bytes} {whole = whole} {end = end} {ns = ns} k some = by k.trees k.left k.nodes k.text k.ends k.expressions k.writable
+pub entered : {base : Forest} {total : ℕ} {v : Visit} {xs left : List Visit} {r : Pending} {pending : List Pending} {bytes whole : List ℕ} → IsTaken base total xs r pending bytes whole → 0 < r.left → xs ≡ v ∷ left → IsEntered base total v left r pending bytes whole
+entered {base = base} {total = total} {v = v} {xs = xs} {left = left} {r = r} {pending = pending} {bytes = bytes} {whole = whole} k some e = by k.trees k.many k.left-are k.found k.text k.expressions k.writable
   where
-    by : (f : Forest) → r.left ≡ arity f → since at ns ≡ (flatten f ++ owed_nodes k.owed) ++ k.behind → bytes ++ (owed_text r (plains f) ++ owed_texts k.owed) ≡ whole → at + used (flatten f ++ owed_nodes k.owed) ≡ end
-        → AllExpressions f → AreWritable (plains f) → IsEntered from at r pending bytes whole end ns
-    by empty a n t s x w = absurd (omega (arith, a))
-    by (tree l b f) a n t s x w =
-        let node : since at ns ≡ node_of l b ∷ (flatten b ++ ((flatten f ++ owed_nodes k.owed) ++ k.behind)) = n ∙ ap (λ (y : List Node). node_of l b ∷ y) (regroup (flatten b) (flatten f) (owed_nodes k.owed) k.behind) in
-        let is : tree_from at ns ≡ tree l b empty = tree_here at ns l b ((flatten f ++ owed_nodes k.owed) ++ k.behind) node in
+    by : (f : Forest) → r.left ≡ arity f → xs ≡ visits_of (join f (trees_owed k.owed)) → AreFound base (join f (trees_owed k.owed)) → bytes ++ (owed_text r (plains f) ++ owed_texts k.owed) ≡ whole → AllExpressions f → AreWritable (plains f)
+        → IsEntered base total v left r pending bytes whole
+    by empty a n f t x w = absurd (omega (arith, a))
+    by (tree l b f) a n g t x w =
+        let others = join f (trees_owed k.owed) in
+        let is : v ≡ visit_of (node_of l b) = visit_here l b others (sym n ∙ e) in
+        let s = seen l b others g is in
         record {
           label = l;
           below = b;
           others = f;
           owed = k.owed;
-          behind = k.behind;
-          begins_here = begins at ns l b ((flatten f ++ owed_nodes k.owed) ++ k.behind) k.boundary node (x.0, x.1, tt) w.0;
-          tree-is = is;
-          node = node;
+          visit-is = is;
+          seen_here = s;
+          expression = record { live = s.live; whole = subst AllExpressions (sym s.tree-is) (x.0, x.1, tt) };
           pending-is = k.pending-is;
-          text = ap (λ (u : Forest). bytes ++ (owed_text r (more (plain u) (plains f)) ++ owed_texts k.owed)) is ∙ t;
-          left = a;
+          left-are = visits_left l b others (sym n ∙ e);
+          found = found-join base b others g.1 g.2;
+          text = ap (λ (u : Forest). bytes ++ (owed_text r (more (plain u) (plains f)) ++ owed_texts k.owed)) s.tree-is ∙ t;
+          many = a;
           expressions = x;
           writable = w;
           others-are = k.others;
-          ends = ap (λ (y : List Node). at + used (node_of l b ∷ y)) (sym (append_assoc (flatten b) (flatten f) (owed_nodes k.owed))) ∙ s;
-          few = k.few;
+          few = omega (arith, k.few, ap length e);
         }
 
 spread : (bytes t ts close rest : List ℕ) → bytes ++ (((t ++ ts) ++ close) ++ rest) ≡ (bytes ++ t) ++ ((ts ++ close) ++ rest)
 spread bytes t ts close rest = simp append_assoc
 
-pub room : {from at : ℕ} {r : Pending} {pending : List Pending} {bytes whole : List ℕ} {end : ℕ} {ns : List Node} → IsEntered from at r pending bytes whole end ns
-    → length bytes + length (text_there r.place (plain_from at ns)) ≤ length whole
-room {at = at} {r = r} {bytes = bytes} {ns = ns} e =
-    let t = text_there r.place (plain_from at ns) in
+pub room : {base : Forest} {total : ℕ} {v : Visit} {left : List Visit} {r : Pending} {pending : List Pending} {bytes whole : List ℕ} → IsEntered base total v left r pending bytes whole
+    → length bytes + length (text_there r.place (plain (tree_at v.id base))) ≤ length whole
+room {base = base} {v = v} {r = r} {bytes = bytes} e =
+    let t = text_there r.place (plain (tree_at v.id base)) in
     let ts = texts_from (next_place r.place) (plains e.others) in
     omega (arith, ap length (sym (spread bytes t ts (closing r.closes) (owed_texts e.owed)) ∙ e.text), length-append (bytes ++ t) ((ts ++ closing r.closes) ++ owed_texts e.owed), length-append bytes t)
 
--- it takes bytes of the tree
-pub takes_bytes : {from at : ℕ} {r : Pending} {pending : List Pending} {bytes whole : List ℕ} {end : ℕ} {ns : List Node} → IsEntered from at r pending bytes whole end ns → at + 8 ≤ end
-takes_bytes e = omega (arith, e.ends, size_from (node_of e.label e.below))
-
 -- a closing parenthesis has room
-pub closing_room : {from at : ℕ} {r : Pending} {pending : List Pending} {bytes whole : List ℕ} {end : ℕ} {ns : List Node} → IsTaken from at r pending bytes whole end ns → r.closes ≡ true → length bytes + 1 ≤ length whole
+pub closing_room : {base : Forest} {total : ℕ} {left : List Visit} {r : Pending} {pending : List Pending} {bytes whole : List ℕ} → IsTaken base total left r pending bytes whole → r.closes ≡ true → length bytes + 1 ≤ length whole
 closing_room {r = r} {bytes = bytes} {whole = whole} k c =
     let ts = texts_from r.place (plains k.trees) in
     let text : bytes ++ ((ts ++ codes ")") ++ owed_texts k.owed) ≡ whole = ap (λ (b : Bool). bytes ++ ((ts ++ closing b) ++ owed_texts k.owed)) (sym c) ∙ k.text in
     omega (arith, ap length text, length-append bytes ((ts ++ codes ")") ++ owed_texts k.owed), length-append (ts ++ codes ")") (owed_texts k.owed), length-append ts (codes ")"))
 
 -- and when its root is written, its children are owed
-pub below : {from at size : ℕ} {r : Pending} {pending : List Pending} {bytes whole : List ℕ} {end : ℕ} {ns : List Node} {h : Header} (next : ℕ) (b : Pending) (new : List ℕ) → IsEntered from at r pending bytes whole end ns
-    → IsBoundary at ns → h ≡ header_of (first_of (since at ns)) → size ≡ size_of_header h → next ≡ at + size → b.left ≡ arity (kids (tree_from at ns)) → new ++ owed_text b (children_from at ns) ≡ bytes ++ text_there r.place (plain_from at ns)
-    → IsWalk from next ((pending ++ (record { place = next_place r.place; left = r.left - 1; closes = r.closes }) ∷ []) ++ b ∷ []) new whole end ns
-below {at = at} {size = size} {r = r} {pending = pending} {bytes = bytes} {ns = ns} {h = h} next b new e boundary q z a left text =
+pub below : {base : Forest} {total : ℕ} {v : Visit} {left : List Visit} {r : Pending} {pending : List Pending} {bytes whole : List ℕ} (b : Pending) (new : List ℕ) → IsEntered base total v left r pending bytes whole
+    → b.left ≡ v.children → new ++ owed_text b (children_of (plain (tree_at v.id base))) ≡ bytes ++ text_there r.place (plain (tree_at v.id base))
+    → IsWalk base total left ((pending ++ (record { place = next_place r.place; left = r.left - 1; closes = r.closes }) ∷ []) ++ b ∷ []) new whole
+below {base = base} {v = v} {left = left} {r = r} {pending = pending} {bytes = bytes} b new e many text =
     let wf : Pending = record { place = next_place r.place; left = r.left - 1; closes = r.closes } in
-    let x = next_node at next size ns e.label e.below ((flatten e.others ++ owed_nodes e.owed) ++ e.behind) h boundary e.node q z a in
     let whole-tree : AllExpressions (tree e.label e.below e.others) = e.expressions in
-    let t = text_there r.place (plain_from at ns) in
+    let t = text_there r.place (plain (tree_at v.id base)) in
     let ts = texts_from (next_place r.place) (plains e.others) in
-    let kids-are : children_from at ns ≡ plains e.below = ap (λ (u : Forest). plains (kids u)) e.tree-is in
+    let kids-are : children_of (plain (tree_at v.id base)) ≡ plains e.below = ap (λ (u : Forest). children_of (plain u)) e.seen_here.tree-is ∙ children_of-plain (tree e.label e.below empty) (whole-tree.0, whole-tree.1, tt) in
     let under : AreWritable (plains e.below) = subst AreWritable (grown_whole e.label e.below e.others whole-tree).children-are (writable_children (grown e.label.payload (plains e.below)) e.writable.0) in
     record {
       owed = record { rest = b; trees = e.below } ∷ record { rest = wf; trees = e.others } ∷ e.owed;
-      behind = e.behind;
       pending-is = ap (λ (ps : List Pending). (ps ++ wf ∷ []) ++ b ∷ []) e.pending-is;
-      nodes = x.nodes ∙ sym (append_assoc (flatten e.below) (flatten e.others ++ owed_nodes e.owed) e.behind);
+      left-are = e.left-are;
+      found = e.found;
       text = sym (append_assoc new (owed_text b (plains e.below)) (owed_text wf (plains e.others) ++ owed_texts e.owed))
           ∙ ap (λ (y : List ℕ). y ++ (owed_text wf (plains e.others) ++ owed_texts e.owed)) (ap (λ (us : Trees). new ++ owed_text b us) (sym kids-are) ∙ text)
           ∙ sym (spread bytes t ts (closing r.closes) (owed_texts e.owed)) ∙ e.text;
-      trees = (left ∙ ap (λ (u : Forest). arity (kids u)) e.tree-is, whole-tree.1, under, (omega (arith, e.left), whole-tree.2, e.writable.1, e.others-are));
-      boundary = x.boundary;
-      ends = omega (arith, e.ends, x.grows, ap (λ (y : List Node). size_of (first_of y)) e.node);
-      few = omega (arith, e.few, x.further, length-append (pending ++ wf ∷ []) (b ∷ []), length-append pending (wf ∷ []));
+      trees = (many ∙ ap (λ (y : Visit). y.children) e.visit-is, whole-tree.1, under, (omega (arith, e.many), whole-tree.2, e.writable.1, e.others-are));
+      few = omega (arith, e.few, length-append (pending ++ wf ∷ []) (b ∷ []), length-append pending (wf ∷ []));
     }
 
--- the walk goes on behind the node, within the tree
-pub record GoesOn (at next end : ℕ) (ns : List Node) : Type 0 where
-  pub further : at + 8 ≤ next
-  pub within_tree : next ≤ end
-  pub within : next ≤ used ns
-
-pub goes_on : {from at size : ℕ} {r : Pending} {pending : List Pending} {bytes whole : List ℕ} {end : ℕ} {ns : List Node} {h : Header} (next : ℕ) → IsEntered from at r pending bytes whole end ns
-    → IsBoundary at ns → h ≡ header_of (first_of (since at ns)) → size ≡ size_of_header h → next ≡ at + size → GoesOn at next end ns
-goes_on {at = at} {size = size} {ns = ns} {h = h} next e boundary q z a =
-    let x = next_node at next size ns e.label e.below ((flatten e.others ++ owed_nodes e.owed) ++ e.behind) h boundary e.node q z a in
-    record { further = x.further; within_tree = omega (arith, e.ends, x.grows, ap (λ (y : List Node). size_of (first_of y)) e.node); within = x.within }
-
 -- at the end nothing is owed
-pub done : {from at : ℕ} {pending : List Pending} {bytes whole : List ℕ} {end : ℕ} {ns : List Node} → IsWalk from at pending bytes whole end ns → length pending ≡ 0 → bytes ≡ whole
+pub done : {base : Forest} {total : ℕ} {left : List Visit} {pending : List Pending} {bytes whole : List ℕ} → IsWalk base total left pending bytes whole → length pending ≡ 0 → bytes ≡ whole
 done {pending = pending} {bytes = bytes} {whole = whole} w z = by w.owed w.pending-is w.text
   where
     by : (os : List Owed) → pending ≡ pending_of os → bytes ++ owed_texts os ≡ whole → bytes ≡ whole

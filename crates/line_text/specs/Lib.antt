@@ -1,5 +1,4 @@
 pub mod Content
 pub mod Places
 pub mod Pending
-pub mod Standing
 pub mod Lengths

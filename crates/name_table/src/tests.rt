@@ -10,8 +10,7 @@ use calc_terms::{Kind, Name, Rat};
 use node_pool::{Full, Pool};
 use std::alloc::Global;
 use std::test::Fail;
-use tree_handles::{kind, number, rational, release, symbol};
-use tree_walks::count_trees;
+use tree_handles::{count_trees, kind, number, rational, release, symbol};
 
 /// A table in a pool of 512 bytes, whose last answer is 0.
 fn opened(alloc: Global) -> Result<(Pool, NameTable), Fail>

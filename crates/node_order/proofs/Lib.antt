@@ -1,6 +1,5 @@
 pub mod Orderings
 pub mod Roots
-pub mod FrontLaws
 pub mod Pairs
 pub mod KeyLaws
 pub mod RankLaws

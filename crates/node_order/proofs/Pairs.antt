@@ -1,27 +1,30 @@
 -- Pairs of trees that are compared in one walk.
-use Rattle.std.proofs.Common.{Bool, not, ◌==◌, ◌≡◌, ◌≢◌, ℕ, zero, suc, ◌+◌, ◌-◌, ◌<◌, ◌≤◌, min, List, ◌∷◌, ◌++◌, refl, sym, ap, ◌∙◌, subst, arith, append_assoc, true, false}
+use Rattle.std.proofs.Common.{Bool, not, ◌==◌, ◌≡◌, ◌≢◌, ℕ, zero, suc, ◌+◌, ◌-◌, ◌^◌, ◌<◌, ◌≤◌, min, List, [], ◌∷◌, ◌++◌, length, refl, sym, ap, ◌∙◌, subst, arith, append_assoc, append-nil, ⊎_elim, true, false}
 use Rattle.std.specs.declared.cmp.Ordering.{Ordering}
 use Rattle.std.specs.declared.cmp.Ordering.TheVariants.{Less, Equal, Greater}
 use Rattle.std.specs.Ordering.{nat_cmp, ordering_then, ordering_index}
-use Rattle.calc_terms.specs.Node.{Node}
+use Rattle.std.proofs.lemmas.Bool.{cases_eq}
+use Rattle.std.proofs.lemmas.List.{map-append, length-append}
 use Rattle.calc_terms.specs.Payload.{Payload}
 use Rattle.calc_algebra.specs.TreeOrder.{tree_cmp, trees_cmp}
 use Rattle.calc_terms.specs.Trees.{Tree}
+use Rattle.node_order.specs.declared.comparing.Pairs.{Pairs}
 use Rattle.node_order.specs.declared.fronts.Front.{Front}
 use Rattle.node_order.specs.Fronts.{IsFront, Shows}
 use Rattle.node_order.specs.Roots.{payload_cmp}
 use Rattle.node_order.proofs.Orderings.{then-equal, then_assoc, then_decided, nat_cmp_less, nat_cmp_greater, nat_cmp_equal, nat_cmp-suc}
 use Rattle.node_order.proofs.Roots.{by_roots}
-use Rattle.node_pool.specs.Nodes.{used, payload_of_id}
-use Rattle.node_pool.specs.Places.{since, until, IsBoundary}
 use Rattle.node_pool.specs.State.{State}
-use Rattle.tree_handles.specs.Expressions.{grown, plains, takes, IsWhole, AllExpressions}
-use Rattle.tree_handles.specs.Forest.{Label, Forest, empty, tree, join, arity, node_of, flatten, first_trees, rest_trees}
-use Rattle.tree_handles.proofs.Forests.{arity-join, flatten-join, arity-first_trees, flatten-first_rest, all-join, all-first_trees}
-use Rattle.node_pool.proofs.Cuts.{until-since}
-use Rattle.node_pool.proofs.Sizes.{used-append, length_le_used}
-use Rattle.tree_handles.proofs.Parts.{is_before}
+use Rattle.tree_handles.specs.declared.visits.Visit.{Visit}
+use Rattle.tree_handles.specs.Expressions.{grown, plain, plains, IsWhole, IsExpression, AllExpressions}
+use Rattle.tree_handles.specs.Forest.{Label, Forest, empty, tree, join, arity, node_of, flatten, first_trees, rest_trees, root_payload, nodes_in}
+use Rattle.tree_handles.specs.Inside.{tree_at, payload_in}
+use Rattle.tree_handles.specs.Standing.{Stands, forest}
+use Rattle.tree_handles.specs.Visits.{visit_of, visits_of, AreFound}
+use Rattle.tree_handles.proofs.Forests.{arity-join, arity-first_trees, all-join, all-first_trees, nodes-flatten}
 use Rattle.tree_handles.proofs.Releases.{arity_le}
+use Rattle.tree_handles.proofs.Measures.{few_in, one_at}
+use Rattle.tree_handles.proofs.Visiting.{found, found-join, found-first_trees, seen, visits-join, visits-first_rest, visits_length}
 
 -- ---- lists of trees
 
@@ -54,62 +57,69 @@ cmp-first (tree l k r) (tree m j s) (suc n) e =
 -- ---- the walk
 
 -- two trees are compared, and then as many further ones on each side, before it is left to what is undecided
-pub record IsOpen (left right : Front) (owed : ℕ) (undecided total : Ordering) (s : State) : Type 0 where
+pub record IsOpen (left right : Front) (owed : ℕ) (undecided total : Ordering) (base : Forest) : Type 0 where
   pub x : Payload
   pub y : Payload
   pub k : Forest
   pub j : Forest
   pub f : Forest
   pub g : Forest
-  pub behind : List Node
-  pub rest : List Node
-  pub one : IsFront left x k (flatten f ++ behind) s
-  pub two : IsFront right y j (flatten g ++ rest) s
+  pub others : List Visit
+  pub rest : List Visit
+  pub one : IsFront left x k (visits_of f ++ others) base
+  pub two : IsFront right y j (visits_of g ++ rest) base
+  pub short : length left.behind < 2 ^ 16
   pub first : suc (arity f) ≡ owed
   pub second : suc (arity g) ≡ owed
+  pub found-first : AreFound base f
+  pub found-second : AreFound base g
   pub whole-first : AllExpressions f
   pub whole-second : AllExpressions g
   pub sum : ordering_then (ordering_then (tree_cmp (grown x (plains k)) (grown y (plains j))) (trees_cmp (plains f) (plains g))) undecided ≡ total
 
--- the trees behind two places are still to be compared
-pub record IsPending (left right owed : ℕ) (undecided total : Ordering) (s : State) : Type 0 where
+-- the trees at the beginning of two walks are still to be compared
+pub record IsPending (left right : List Visit) (owed : ℕ) (undecided total : Ordering) (base : Forest) : Type 0 where
   pub f : Forest
   pub g : Forest
-  pub behind : List Node
-  pub rest : List Node
-  pub one : since left s.nodes ≡ flatten f ++ behind
-  pub two : since right s.nodes ≡ flatten g ++ rest
-  pub boundary-first : IsBoundary left s.nodes
-  pub boundary-second : IsBoundary right s.nodes
+  pub others : List Visit
+  pub rest : List Visit
+  pub one : left ≡ visits_of f ++ others
+  pub two : right ≡ visits_of g ++ rest
+  pub short : length left < 2 ^ 16
   pub first : arity f ≡ owed
   pub second : arity g ≡ owed
+  pub found-first : AreFound base f
+  pub found-second : AreFound base g
   pub whole-first : AllExpressions f
   pub whole-second : AllExpressions g
   pub sum : ordering_then (trees_cmp (plains f) (plains g)) undecided ≡ total
 
-pub open_start : (left right : Front) (t u : Tree) (s : State) → Shows left t s → Shows right u s → IsOpen left right 1 Equal (tree_cmp t u) s
-open_start left right t u s a b = record {
+pub open_start : {left right : Front} {t u : Tree} {base : Forest} → Shows left t base → Shows right u base → IsOpen left right 1 Equal (tree_cmp t u) base
+open_start a b = record {
   x = a.payload;
   y = b.payload;
   k = a.kids;
   j = b.kids;
   f = empty;
   g = empty;
-  behind = a.behind;
-  rest = b.behind;
+  others = a.others;
+  rest = b.others;
   one = a.front;
   two = b.front;
+  short = a.short;
   first = refl;
   second = refl;
+  found-first = tt;
+  found-second = tt;
   whole-first = tt;
   whole-second = tt;
   sum = then-equal _ ∙ then-equal _ ∙ (λ i. tree_cmp (sym a.tree-is i) (sym b.tree-is i));
 }
 
 -- the order of the roots, and then that of their children
-roots_first : (left right : Front) (owed : ℕ) (undecided total roots : Ordering) (s : State) (o : IsOpen left right owed undecided total s) → roots ≡ payload_cmp (payload_of_id left.id s.nodes) (payload_of_id right.id s.nodes)
+roots_first : {left right : Front} {owed : ℕ} {undecided total roots : Ordering} {base : Forest} (o : IsOpen left right owed undecided total base) → roots ≡ payload_cmp (payload_in left.root.id base) (payload_in right.root.id base)
     → ordering_then roots (ordering_then (ordering_then (trees_cmp (plains o.k) (plains o.j)) (trees_cmp (plains o.f) (plains o.g))) undecided) ≡ total
-roots_first left right owed undecided total roots s o e =
+roots_first {undecided = undecided} {roots = roots} o e =
     let same : roots ≡ payload_cmp o.x o.y = e ∙ (λ i. payload_cmp (o.one.payload i) (o.two.payload i)) in
     let kids = trees_cmp (plains o.k) (plains o.j) in
     let others = trees_cmp (plains o.f) (plains o.g) in
@@ -119,48 +129,56 @@ roots_first left right owed undecided total roots s o e =
     ∙ o.sum
 
 -- the roots decide
-pub open_decided : (left right : Front) (owed : ℕ) (undecided total roots : Ordering) (s : State) → IsOpen left right owed undecided total s → roots ≡ payload_cmp (payload_of_id left.id s.nodes) (payload_of_id right.id s.nodes)
+pub open_decided : {left right : Front} {owed : ℕ} {undecided total roots : Ordering} {base : Forest} → IsOpen left right owed undecided total base → roots ≡ payload_cmp (payload_in left.root.id base) (payload_in right.root.id base)
     → roots ≢ Equal → roots ≡ total
-open_decided left right owed undecided total roots s o e d = sym (then_decided roots _ d) ∙ roots_first left right owed undecided total roots s o e
+open_decided {roots = roots} o e d = sym (then_decided roots _ d) ∙ roots_first o e
 
 -- the roots are equal
-left_over : (left right : Front) (owed : ℕ) (undecided total roots : Ordering) (s : State) (o : IsOpen left right owed undecided total s) → roots ≡ payload_cmp (payload_of_id left.id s.nodes) (payload_of_id right.id s.nodes) → roots ≡ Equal
+left_over : {left right : Front} {owed : ℕ} {undecided total roots : Ordering} {base : Forest} (o : IsOpen left right owed undecided total base) → roots ≡ payload_cmp (payload_in left.root.id base) (payload_in right.root.id base) → roots ≡ Equal
     → ordering_then (ordering_then (trees_cmp (plains o.k) (plains o.j)) (trees_cmp (plains o.f) (plains o.g))) undecided ≡ total
-left_over left right owed undecided total roots s o e d =
+left_over {undecided = undecided} o e d =
     let rest = ordering_then (ordering_then (trees_cmp (plains o.k) (plains o.j)) (trees_cmp (plains o.f) (plains o.g))) undecided in
-    ap (λ (r : Ordering). ordering_then r rest) (sym d) ∙ roots_first left right owed undecided total roots s o e
+    ap (λ (r : Ordering). ordering_then r rest) (sym d) ∙ roots_first o e
+
+beside : (k f : Forest) (xs others : List Visit) → xs ≡ visits_of k ++ (visits_of f ++ others) → xs ≡ visits_of (join k f) ++ others
+beside k f xs others e = e ∙ sym (append_assoc (visits_of k) (visits_of f) others) ∙ ap (λ (v : List Visit). v ++ others) (sym (visits-join k f))
 
 -- as many children on both sides
-pub open_same : (left right : Front) (owed children : ℕ) (undecided total roots : Ordering) (s : State) → IsOpen left right owed undecided total s
-    → roots ≡ payload_cmp (payload_of_id left.id s.nodes) (payload_of_id right.id s.nodes) → roots ≡ Equal → left.children ≡ right.children → children ≡ left.children
-    → IsPending left.first right.first (owed - 1 + children) undecided total s
-open_same left right owed children undecided total roots s o e d same many =
+open_same : {left right : Front} {owed : ℕ} {undecided total roots : Ordering} {base : Forest} → IsOpen left right owed undecided total base
+    → roots ≡ payload_cmp (payload_in left.root.id base) (payload_in right.root.id base) → roots ≡ Equal → left.root.children ≡ right.root.children
+    → IsPending left.behind right.behind (owed - 1 + left.root.children) undecided total base
+open_same {left = left} {right = right} {undecided = undecided} {base = base} o e d same =
     let even : arity o.k ≡ arity o.j = sym o.one.children ∙ same ∙ o.two.children in
-    let told : children ≡ arity o.k = many ∙ o.one.children in
     record {
       f = join o.k o.f;
       g = join o.j o.g;
-      behind = o.behind;
+      others = o.others;
       rest = o.rest;
-      one = o.one.nodes ∙ sym (append_assoc (flatten o.k) (flatten o.f) o.behind) ∙ ap (λ (n : List Node). n ++ o.behind) (sym (flatten-join o.k o.f));
-      two = o.two.nodes ∙ sym (append_assoc (flatten o.j) (flatten o.g) o.rest) ∙ ap (λ (n : List Node). n ++ o.rest) (sym (flatten-join o.j o.g));
-      boundary-first = o.one.boundary;
-      boundary-second = o.two.boundary;
-      first = omega (arith, arity-join o.k o.f, told, o.first);
-      second = omega (arith, arity-join o.j o.g, told, even, o.second);
+      one = beside o.k o.f left.behind o.others o.one.nodes;
+      two = beside o.j o.g right.behind o.rest o.two.nodes;
+      short = o.short;
+      first = omega (arith, arity-join o.k o.f, o.one.children, o.first);
+      second = omega (arith, arity-join o.j o.g, o.one.children, even, o.second);
+      found-first = found-join base o.k o.f o.one.found o.found-first;
+      found-second = found-join base o.j o.g o.two.found o.found-second;
       whole-first = all-join IsWhole o.k o.f o.one.below o.whole-first;
       whole-second = all-join IsWhole o.j o.g o.two.below o.whole-second;
-      sum = ap (λ (r : Ordering). ordering_then r undecided) (cmp-join o.k o.j o.f o.g even) ∙ left_over left right owed undecided total roots s o e d;
+      sum = ap (λ (r : Ordering). ordering_then r undecided) (cmp-join o.k o.j o.f o.g even) ∙ left_over o e d;
     }
 
+in_front : (n : ℕ) (k : Forest) (xs others : List Visit) → xs ≡ visits_of k ++ others → xs ≡ visits_of (first_trees n k) ++ (visits_of (rest_trees n k) ++ others)
+in_front n k xs others e = e ∙ ap (λ (v : List Visit). v ++ others) (visits-first_rest n k) ∙ append_assoc (visits_of (first_trees n k)) (visits_of (rest_trees n k)) others
+
 -- fewer children on one side: what is undecided does not matter any more
-pub open_fewer : (left right : Front) (owed common : ℕ) (undecided fewer total roots : Ordering) (s : State) → IsOpen left right owed undecided total s
-    → roots ≡ payload_cmp (payload_of_id left.id s.nodes) (payload_of_id right.id s.nodes) → roots ≡ Equal → left.children ≢ right.children → common ≡ min left.children right.children → fewer ≡ nat_cmp left.children right.children
-    → IsPending left.first right.first common fewer total s
-open_fewer left right owed common undecided fewer total roots s o e d other many less =
-    let here : common ≡ min (arity o.k) (arity o.j) = many ∙ (λ i. min (o.one.children i) (o.two.children i)) in
-    let told : fewer ≡ nat_cmp (arity o.k) (arity o.j) = less ∙ (λ i. nat_cmp (o.one.children i) (o.two.children i)) in
-    let apart : fewer ≢ Equal = λ q. other (nat_cmp_equal left.children right.children (sym less ∙ q)) in
+open_fewer : {left right : Front} {owed : ℕ} {undecided total roots : Ordering} {base : Forest} → IsOpen left right owed undecided total base
+    → roots ≡ payload_cmp (payload_in left.root.id base) (payload_in right.root.id base) → roots ≡ Equal → left.root.children ≢ right.root.children
+    → IsPending left.behind right.behind (min left.root.children right.root.children) (nat_cmp left.root.children right.root.children) total base
+open_fewer {left = left} {right = right} {undecided = undecided} {base = base} o e d other =
+    let common = min left.root.children right.root.children in
+    let fewer = nat_cmp left.root.children right.root.children in
+    let here : common ≡ min (arity o.k) (arity o.j) = (λ i. min (o.one.children i) (o.two.children i)) in
+    let told : fewer ≡ nat_cmp (arity o.k) (arity o.j) = (λ i. nat_cmp (o.one.children i) (o.two.children i)) in
+    let apart : fewer ≢ Equal = λ q. other (nat_cmp_equal left.root.children right.root.children q) in
     let k = first_trees common o.k in
     let j = first_trees common o.j in
     let inner = trees_cmp (plains k) (plains j) in
@@ -174,21 +192,36 @@ open_fewer left right owed common undecided fewer total roots s o e d other many
     record {
       f = k;
       g = j;
-      behind = flatten (rest_trees common o.k) ++ (flatten o.f ++ o.behind);
-      rest = flatten (rest_trees common o.j) ++ (flatten o.g ++ o.rest);
-      one = o.one.nodes ∙ ap (λ (n : List Node). n ++ (flatten o.f ++ o.behind)) (flatten-first_rest common o.k) ∙ append_assoc (flatten k) (flatten (rest_trees common o.k)) (flatten o.f ++ o.behind);
-      two = o.two.nodes ∙ ap (λ (n : List Node). n ++ (flatten o.g ++ o.rest)) (flatten-first_rest common o.j) ∙ append_assoc (flatten j) (flatten (rest_trees common o.j)) (flatten o.g ++ o.rest);
-      boundary-first = o.one.boundary;
-      boundary-second = o.two.boundary;
+      others = visits_of (rest_trees common o.k) ++ (visits_of o.f ++ o.others);
+      rest = visits_of (rest_trees common o.j) ++ (visits_of o.g ++ o.rest);
+      one = in_front common o.k left.behind (visits_of o.f ++ o.others) o.one.nodes;
+      two = in_front common o.j right.behind (visits_of o.g ++ o.rest) o.two.nodes;
+      short = o.short;
       first = arity-first_trees common o.k (omega (arith, here));
       second = arity-first_trees common o.j (omega (arith, here));
+      found-first = found-first_trees base common o.k o.one.found;
+      found-second = found-first_trees base common o.j o.two.found;
       whole-first = all-first_trees IsWhole common o.k o.one.below;
       whole-second = all-first_trees IsWhole common o.j o.two.below;
-      sum = sym drops ∙ left_over left right owed undecided total roots s o e d;
+      sum = sym drops ∙ left_over o e d;
     }
 
-pub pending_as : (left right : ℕ) (owed still : ℕ) (undecided last total : Ordering) (s : State) → owed ≡ still → undecided ≡ last → IsPending left right owed undecided total s → IsPending left right still last total s
-pending_as left right owed still undecided last total s e q p = subst (λ (n : ℕ). IsPending left right n last total s) e (subst (λ (o : Ordering). IsPending left right owed o total s) q p)
+-- the pairs that are left behind two equal roots
+pub open_behind : {left right : Front} {pairs next : Pairs} {total roots : Ordering} {base : Forest} → IsOpen left right pairs.owed pairs.undecided total base
+    → roots ≡ payload_cmp (payload_in left.root.id base) (payload_in right.root.id base) → roots ≡ Equal
+    → (left.root.children ≡ right.root.children → next ≡ record { owed = pairs.owed - 1 + left.root.children; undecided = pairs.undecided })
+    → (left.root.children ≢ right.root.children → next ≡ record { owed = min left.root.children right.root.children; undecided = nat_cmp left.root.children right.root.children })
+    → IsPending left.behind right.behind next.owed next.undecided total base
+open_behind {left = left} {right = right} {total = total} {base = base} o e d same fewer =
+    ⊎_elim
+    (λ h. subst (λ (p : Pairs). IsPending left.behind right.behind p.owed p.undecided total base) (sym (same h)) (open_same o e d h))
+    (λ h. subst (λ (p : Pairs). IsPending left.behind right.behind p.owed p.undecided total base) (sym (fewer h)) (open_fewer o e d h))
+    (cases_eq left.root.children right.root.children)
+
+-- there are few of them
+pub open_few : {left right : Front} {owed : ℕ} {undecided total : Ordering} {base : Forest} → IsOpen left right owed undecided total base → owed ≤ 65536
+open_few {left = left} o =
+    omega (arith, o.first, arity_le o.f, visits_length o.f, nodes-flatten o.f, o.short, ap length o.one.nodes, length-append (visits_of o.k) (visits_of o.f ++ o.others), length-append (visits_of o.f) o.others)
 
 -- two roots that are not unequal
 pub equal_roots : (o : Ordering) (t : Bool) → t ≡ not (ordering_index o == 1) → t ≡ false → o ≡ Equal
@@ -196,60 +229,96 @@ equal_roots Less t e h = absurd cc
 equal_roots Equal t e h = refl
 equal_roots Greater t e h = absurd cc
 
--- there are no more of them than there are bytes
-pub open_few : (left right : Front) (owed : ℕ) (undecided total : Ordering) (s : State) → IsOpen left right owed undecided total s → owed - 1 + left.children ≤ used s.nodes
-open_few left right owed undecided total s o =
-    let at = left.first in
-    let whole : used (until at s.nodes) + used (since at s.nodes) ≡ used s.nodes = sym (used-append (until at s.nodes) (since at s.nodes)) ∙ ap used (until-since at s.nodes) in
-    let here : used (since at s.nodes) ≡ used (flatten o.k) + used (flatten o.f ++ o.behind) = ap used o.one.nodes ∙ used-append (flatten o.k) (flatten o.f ++ o.behind) in
-    omega (arith, whole, here, used-append (flatten o.f) o.behind, arity_le o.k, arity_le o.f, length_le_used (flatten o.k), length_le_used (flatten o.f), o.first, o.one.children)
+pub unequal_roots : (o : Ordering) (t : Bool) → t ≡ not (ordering_index o == 1) → t ≡ true → o ≢ Equal
+unequal_roots Less t e h = λ q. absurd cc
+unequal_roots Equal t e h = λ q. absurd cc
+unequal_roots Greater t e h = λ q. absurd cc
 
 -- no pair is left
-pub pending_done : (left right owed : ℕ) (undecided total : Ordering) (s : State) → IsPending left right owed undecided total s → owed ≡ 0 → undecided ≡ total
-pending_done left right owed undecided total s p e = none_left p.f p.g (p.first ∙ e) (p.second ∙ e) p.sum
+pub pending_done : {left right : List Visit} {owed : ℕ} {undecided total : Ordering} {base : Forest} → IsPending left right owed undecided total base → owed ≡ 0 → undecided ≡ total
+pending_done {undecided = undecided} {total = total} p e = none_left p.f p.g (p.first ∙ e) (p.second ∙ e) p.sum
   where
     none_left : (f g : Forest) → arity f ≡ 0 → arity g ≡ 0 → ordering_then (trees_cmp (plains f) (plains g)) undecided ≡ total → undecided ≡ total
     none_left empty empty a b q = q
     none_left empty (tree m j s) a b q = absurd (omega arith)
     none_left (tree l k r) g a b q = absurd (omega arith)
 
--- a tree begins there
-tree_inside : (at : ℕ) (ns : List Node) (f : Forest) (behind : List Node) → IsBoundary at ns → since at ns ≡ flatten f ++ behind → 0 < arity f → at < used ns
-tree_inside at ns empty behind b e some = absurd (omega arith)
-tree_inside at ns (tree l k r) behind b e some = is_before at ns ((flatten k ++ flatten r) ++ behind) (node_of l k) b e
+-- a pair is left
+some_visit : (f : Forest) (xs others : List Visit) → xs ≡ visits_of f ++ others → 0 < arity f → 0 < length xs
+some_visit empty xs others e h = absurd (omega arith)
+some_visit (tree l k r) xs others e h = omega (arith, ap length e)
 
-pub pending_left : (left right owed : ℕ) (undecided total : Ordering) (s : State) → IsPending left right owed undecided total s → 0 < owed → left < used s.nodes
-pending_left left right owed undecided total s p some = tree_inside left s.nodes p.f p.behind p.boundary-first p.one (omega (arith, p.first))
+pub pending_left : {left right : List Visit} {owed : ℕ} {undecided total : Ordering} {base : Forest} → IsPending left right owed undecided total base → 0 < owed → 0 < length left
+pending_left {left = left} p some = some_visit p.f left p.others p.one (omega (arith, p.first))
 
-pub pending_right : (left right owed : ℕ) (undecided total : Ordering) (s : State) → IsPending left right owed undecided total s → 0 < owed → right < used s.nodes
-pending_right left right owed undecided total s p some = tree_inside right s.nodes p.g p.rest p.boundary-second p.two (omega (arith, p.second))
+pub pending_right : {left right : List Visit} {owed : ℕ} {undecided total : Ordering} {base : Forest} → IsPending left right owed undecided total base → 0 < owed → 0 < length right
+pending_right {right = right} p some = some_visit p.g right p.rest p.two (omega (arith, p.second))
 
--- what a front is told of by the place of its root
-abbrev pub Told : Front → ℕ → State → Type 0
-Told f at s = (l : Label) (k : Forest) (rest : List Node) → since at s.nodes ≡ node_of l k ∷ (flatten k ++ rest) → takes l.payload (arity k) ≡ true → AllExpressions k → IsFront f l.payload k rest s
+-- the front of the first of some trees
+first_front : {base : Forest} {front : Front} {xs : List Visit} (l : Label) (k r : Forest) (others : List Visit) → xs ≡ visits_of (tree l k r) ++ others → xs ≡ front.root ∷ front.behind → AreFound base (tree l k r) → AllExpressions (tree l k r)
+    → IsFront front l.payload k (visits_of r ++ others) base
+first_front {base = base} {front = front} l k r others e q h w =
+    let is : front.root ≡ visit_of (node_of l k) = head (sym q ∙ e) in
+    let s = seen l k r h is in
+    record {
+      kind = ap (λ (v : Visit). v.kind) is;
+      children = ap (λ (v : Visit). v.children) is;
+      live = s.live;
+      payload = ap root_payload s.tree-is;
+      nodes = tail (sym q ∙ e) ∙ ap (λ (v : List Visit). v ++ others) (map-append visit_of (flatten k) (flatten r)) ∙ append_assoc (visits_of k) (visits_of r) others;
+      found = h.1;
+      few = w.0;
+      below = w.1;
+    }
+  where
+    head : {v u : Visit} {vs us : List Visit} → v ∷ vs ≡ u ∷ us → v ≡ u
+    head e = cc
 
-next_open : (left right : Front) (at to owed : ℕ) (undecided total : Ordering) (s : State) (f g : Forest) (behind rest : List Node) → since at s.nodes ≡ flatten f ++ behind → since to s.nodes ≡ flatten g ++ rest → arity f ≡ owed → arity g ≡ owed → AllExpressions f → AllExpressions g
-    → ordering_then (trees_cmp (plains f) (plains g)) undecided ≡ total → 0 < owed → Told left at s → Told right to s → IsOpen left right owed undecided total s
-next_open left right at to owed undecided total s empty g behind rest e q m n v w sum some a b = absurd (omega arith)
-next_open left right at to owed undecided total s (tree l k r) empty behind rest e q m n v w sum some a b = absurd (omega arith)
-next_open left right at to owed undecided total s (tree l k r) (tree d j z) behind rest e q m n v w sum some a b = record {
-  x = l.payload;
-  y = d.payload;
-  k = k;
-  j = j;
-  f = r;
-  g = z;
-  behind = behind;
-  rest = rest;
-  one = a l k (flatten r ++ behind) (e ∙ ap (λ (x : List Node). node_of l k ∷ x) (append_assoc (flatten k) (flatten r) behind)) v.0 v.1;
-  two = b d j (flatten z ++ rest) (q ∙ ap (λ (x : List Node). node_of d j ∷ x) (append_assoc (flatten j) (flatten z) rest)) w.0 w.1;
-  first = m;
-  second = n;
-  whole-first = v.2;
-  whole-second = w.2;
-  sum = sum;
-}
+    tail : {v u : Visit} {vs us : List Visit} → v ∷ vs ≡ u ∷ us → vs ≡ us
+    tail e = cc
 
 -- the next pair
-pub pending_next : (left right : Front) (at to owed : ℕ) (undecided total : Ordering) (s : State) → IsPending at to owed undecided total s → 0 < owed → Told left at s → Told right to s → IsOpen left right owed undecided total s
-pending_next left right at to owed undecided total s p some a b = next_open left right at to owed undecided total s p.f p.g p.behind p.rest p.one p.two p.first p.second p.whole-first p.whole-second p.sum some a b
+pub pending_next : {left right : Front} {xs ys : List Visit} {owed : ℕ} {undecided total : Ordering} {base : Forest} → IsPending xs ys owed undecided total base → 0 < owed → xs ≡ left.root ∷ left.behind → ys ≡ right.root ∷ right.behind
+    → IsOpen left right owed undecided total base
+pending_next {left = left} {right = right} {xs = xs} {ys = ys} {owed = owed} {undecided = undecided} {total = total} {base = base} p some a b =
+    by p.f p.g p.one p.two p.first p.second p.found-first p.found-second p.whole-first p.whole-second p.sum
+  where
+    by : (f g : Forest) → xs ≡ visits_of f ++ p.others → ys ≡ visits_of g ++ p.rest → arity f ≡ owed → arity g ≡ owed → AreFound base f → AreFound base g → AllExpressions f → AllExpressions g
+        → ordering_then (trees_cmp (plains f) (plains g)) undecided ≡ total → IsOpen left right owed undecided total base
+    by empty g e q m n h d v w s = absurd (omega arith)
+    by (tree l k r) empty e q m n h d v w s = absurd (omega arith)
+    by (tree l k r) (tree c j z) e q m n h d v w s = record {
+      x = l.payload;
+      y = c.payload;
+      k = k;
+      j = j;
+      f = r;
+      g = z;
+      others = p.others;
+      rest = p.rest;
+      one = first_front l k r p.others e a h v;
+      two = first_front c j z p.rest q b d w;
+      short = omega (arith, p.short, ap length a);
+      first = m;
+      second = n;
+      found-first = h.2;
+      found-second = d.2;
+      whole-first = v.2;
+      whole-second = w.2;
+      sum = s;
+    }
+
+-- the front of one tree, which has few nodes
+pub shows_first : {base : Forest} {front : Front} (t : Forest) → arity t ≡ 1 → AllExpressions t → AreFound base t → nodes_in t ≤ 65535 → visits_of t ≡ front.root ∷ front.behind → Shows front (plain t) base
+shows_first empty one w h few e = absurd (omega arith)
+shows_first (tree l k r) one w h few e = record {
+  payload = l.payload;
+  kids = k;
+  others = visits_of r ++ [];
+  front = first_front l k r [] (sym (append-nil (visits_of (tree l k r)))) e h w;
+  short = omega (arith, few, ap length e, visits_length (tree l k r));
+  tree-is = refl;
+}
+
+pub shows_tree : {front : Front} {i : ℕ} {s : State} → Stands s → IsExpression i (forest s) → visits_of (tree_at i (forest s)) ≡ front.root ∷ front.behind → Shows front (plain (tree_at i (forest s))) (forest s)
+shows_tree {i = i} {s = s} st x e = shows_first (tree_at i (forest s)) (one_at i (forest s) x.live) x.whole (found i s st) (few_in i s st) e

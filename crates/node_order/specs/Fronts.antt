@@ -1,34 +1,30 @@
--- The front of a tree in a pool: what its root holds, and where its children stand.
-use Rattle.std.specs.Prelude.{◌≡◌, List, ◌++◌, true}
-use Rattle.calc_terms.specs.Node.{Node}
+-- The front of a tree: its root, and the nodes behind that.
+use Rattle.std.specs.Prelude.{◌≡◌, ◌<◌, ◌^◌, List, ◌++◌, length, true}
 use Rattle.calc_terms.specs.Payload.{Payload, kind_of_payload}
 use Rattle.calc_terms.specs.Trees.{Tree}
 use Rattle.node_order.specs.declared.fronts.Front.{Front}
-use Rattle.node_pool.specs.Nodes.{has, payload_of_id}
-use Rattle.node_pool.specs.Places.{since, IsBoundary}
-use Rattle.node_pool.specs.State.{State}
+use Rattle.tree_handles.specs.declared.visits.Visit.{Visit}
 use Rattle.tree_handles.specs.Expressions.{grown, plains, takes, AllExpressions}
-use Rattle.tree_handles.specs.Forest.{Forest, arity, flatten, first_trees, forest_of}
+use Rattle.tree_handles.specs.Forest.{Forest, arity}
+use Rattle.tree_handles.specs.Inside.{holds, payload_in}
+use Rattle.tree_handles.specs.Visits.{visits_of, AreFound}
 
 -- the root of a tree of the language holds x, its children are the trees k, and more nodes stand behind them
-pub record IsFront (f : Front) (x : Payload) (k : Forest) (behind : List Node) (s : State) : Type 0 where
-  pub kind : f.kind ≡ kind_of_payload x
-  pub children : f.children ≡ arity k
-  pub live : has f.id s.nodes ≡ true
-  pub payload : payload_of_id f.id s.nodes ≡ x
-  pub boundary : IsBoundary f.first s.nodes
-  pub nodes : since f.first s.nodes ≡ flatten k ++ behind
+pub record IsFront (f : Front) (x : Payload) (k : Forest) (others : List Visit) (base : Forest) : Type 0 where
+  pub kind : f.root.kind ≡ kind_of_payload x
+  pub children : f.root.children ≡ arity k
+  pub live : holds f.root.id base ≡ true
+  pub payload : payload_in f.root.id base ≡ x
+  pub nodes : f.behind ≡ visits_of k ++ others
+  pub found : AreFound base k
   pub few : takes x (arity k) ≡ true
   pub below : AllExpressions k
 
--- the plain tree that a front shows
-abbrev pub front_tree : Front → State → Tree
-front_tree f s = grown (payload_of_id f.id s.nodes) (plains (first_trees f.children (forest_of (since f.first s.nodes))))
-
 -- it is the front of a tree of the language
-pub record Shows (f : Front) (t : Tree) (s : State) : Type 0 where
+pub record Shows (f : Front) (t : Tree) (base : Forest) : Type 0 where
   pub payload : Payload
   pub kids : Forest
-  pub behind : List Node
-  pub front : IsFront f payload kids behind s
+  pub others : List Visit
+  pub front : IsFront f payload kids others base
+  pub short : length f.behind < 2 ^ 16
   pub tree-is : t ≡ grown payload (plains kids)

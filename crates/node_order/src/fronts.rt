@@ -1,72 +1,70 @@
-//! The fronts of trees: a root, and where its children stand.
-ghost use Rattle.std.specs.Prelude.{◌≡◌, ◌<◌, ◌∷◌, ◌++◌, List, true};
-ghost use Rattle.calc_terms.specs.Node.{Node};
+//! The fronts of trees: a root, and the nodes behind it.
+ghost use Rattle.std.specs.Prelude.{◌≡◌, ◌<◌, ◌∷◌, length, true};
 ghost use Rattle.calc_terms.specs.Payload.{kind_of_payload};
-ghost use Rattle.node_order.specs.Fronts.{IsFront, Shows, front_tree};
+ghost use Rattle.node_order.specs.Fronts.{Shows};
 ghost use Rattle.node_order.specs.Roots.{payload_cmp};
-ghost use Rattle.node_pool.specs.Nodes.{used, has, payload_of_id};
-ghost use Rattle.node_pool.specs.Places.{since, IsBoundary};
-ghost use Rattle.tree_handles.specs.Expressions.{IsExpression, AllExpressions, plain, takes};
-ghost use Rattle.tree_handles.specs.Forest.{Label, Forest, arity, node_of, flatten};
-ghost use Rattle.tree_handles.specs.Inside.{tree_at};
+ghost use Rattle.tree_handles.specs.Expressions.{IsExpression, plain};
+ghost use Rattle.tree_handles.specs.Inside.{holds, tree_at, payload_in};
 ghost use Rattle.tree_handles.specs.Standing.{Stands, forest};
 
 use calc_terms::Kind;
 use node_pool::{Id, Pool};
 use rational128::compare as compare_rationals;
 use std::cmp::Ordering;
+use tree_handles::{Nodes, Visit, name, nodes_of, rational};
 
-/// A root, and the place of its first child.
-#[derive(Clone, Copy)]
-pub struct Front {
-    pub kind: Kind,
-    pub id: Id,
-    pub children: u16,
-    pub first: u32,
+/// A root, and the nodes behind it: first those below it, and then others.
+#[derive(Drop)]
+pub struct Front<'a> {
+    pub root: Visit,
+    pub behind: Nodes<'a>,
 }
 
-impl Front {
-    /// The front of the tree that begins at a place.
-    pub fn at(pool: &Pool, at: u32) -> Front
-        requires boundary { IsBoundary at pool.now.nodes }
-        requires inside { at < used pool.now.nodes }
-        ensures front { (l : Label) (k : Forest) (rest : List Node) → since at pool.now.nodes ≡ node_of l k ∷ (flatten k ++ rest)
-            → takes l.payload (arity k) ≡ true → AllExpressions k → IsFront result l.payload k rest pool.now }
-        ensures later { at < result.first }
+impl<'a> Front<'a> {
+    /// The front of the first tree.
+    pub fn first(nodes: Nodes<'a>) -> Front<'a>
+        requires { 0 < length nodes }
+        ensures { nodes.entry ≡ result.root ∷ result.behind }
     {
-        let header = pool.header(at);
-        Front {
-            kind: header.kind,
-            id: Id::of(header.id),
-            children: header.children,
-            first: at + header.size(),
-        }
+        let mut behind = nodes;
+        let root = behind.next().unwrap();
+        Front { root, behind }
     }
 
     /// The front of a tree.
-    pub fn of(pool: &Pool, id: Id) -> Front
+    pub fn of(pool: &'a Pool, id: Id) -> Front<'a>
         requires stands { Stands pool.now }
-        requires live { IsExpression id (forest pool.now) }
-        ensures shows { Shows result (plain (tree_at id (forest pool.now))) pool.now }
-        ensures tree { front_tree result pool.now ≡ plain (tree_at id (forest pool.now)) }
+        requires tree { IsExpression id (forest pool.now) }
+        ensures { Shows result (plain (tree_at id (forest pool.now))) (forest pool.now) }
     {
-        Front::at(pool, pool.locate(id))
+        Front::first(nodes_of(pool, id))
+    }
+
+    /// Goes on to the next node.
+    pub fn advance(&mut self)
+        requires { 0 < length self.old.behind }
+        ensures { self.old.behind ≡ self.new.root ∷ self.new.behind }
+    {
+        self.root = self.behind.next().unwrap();
     }
 }
 
 /// Two roots: by kind, and leaves of one kind by what they hold.
-pub fn compare_roots(pool: &Pool, left: Front, right: Front) -> Ordering
-    requires first { has left.id pool.now.nodes ≡ true }
-    requires second { has right.id pool.now.nodes ≡ true }
-    requires first_kind { left.kind ≡ kind_of_payload (payload_of_id left.id pool.now.nodes) }
-    requires second_kind { right.kind ≡ kind_of_payload (payload_of_id right.id pool.now.nodes) }
-    ensures { result ≡ payload_cmp (payload_of_id left.id pool.now.nodes) (payload_of_id right.id pool.now.nodes) }
+pub fn compare_roots(pool: &Pool, left: &Visit, right: &Visit) -> Ordering
+    requires stands { Stands pool.now }
+    requires first { holds left.now.id (forest pool.now) ≡ true }
+    requires second { holds right.now.id (forest pool.now) ≡ true }
+    requires first_kind { left.now.kind ≡ kind_of_payload (payload_in left.now.id (forest pool.now)) }
+    requires second_kind { right.now.kind ≡ kind_of_payload (payload_in right.now.id (forest pool.now)) }
+    ensures { result ≡ payload_cmp (payload_in left.now.id (forest pool.now)) (payload_in right.now.id (forest pool.now)) }
 {
     match (left.kind, right.kind) {
         (Kind::Num, Kind::Num) => {
-            compare_rationals(pool.rational(left.id), pool.rational(right.id))
+            compare_rationals(rational(pool, left.id), rational(pool, right.id))
         }
-        (Kind::Sym, Kind::Sym) => pool.name(left.id).bytes().cmp(pool.name(right.id).bytes()),
+        (Kind::Sym, Kind::Sym) => name(pool, left.id)
+            .bytes()
+            .cmp(name(pool, right.id).bytes()),
         (left, right) => left.code().cmp(&right.code()),
     }
 }

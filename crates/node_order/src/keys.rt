@@ -1,7 +1,7 @@
 //! What trees are put in order by.
 ghost use Rattle.std.specs.Prelude.{◌≡◌};
 ghost use Rattle.calc_algebra.specs.TreeOrder.{tree_cmp};
-ghost use Rattle.node_order.specs.Fronts.{Shows, front_tree};
+ghost use Rattle.node_order.specs.Fronts.{Shows};
 ghost use Rattle.node_order.specs.Keys.{IsKey, key_tree};
 ghost use Rattle.tree_handles.specs.Standing.{Stands, forest};
 
@@ -9,7 +9,7 @@ use crate::comparing::compare_fronts;
 use crate::fronts::Front;
 use node_pool::{Id, Pool};
 use std::cmp::Ordering;
-use tree_handles::child_id;
+use tree_handles::{Visit, nodes_below};
 
 /// The tree of a node, or for a `behind` above 0 the product of a product's factors behind the first `behind`.
 #[derive(Clone, Copy, Debug, Default, PartialEq, Eq)]
@@ -31,26 +31,27 @@ pub fn compare_keys(pool: &Pool, a: Key, b: Key) -> Ordering
 }
 
 /// The front of a key's tree.
-fn front_of(pool: &Pool, key: Key) -> Front
+fn front_of<'a>(pool: &'a Pool, key: Key) -> Front<'a>
     requires stands { Stands pool.now }
     requires key { IsKey key (forest pool.now) }
-    ensures shows { Shows result (key_tree key (forest pool.now)) pool.now }
-    ensures tree { front_tree result pool.now ≡ key_tree key (forest pool.now) }
+    ensures { Shows result (key_tree key (forest pool.now)) (forest pool.now) }
 {
     let whole = Front::of(pool, key.id);
     if key.behind == 0 {
         return whole;
     }
-    let first = child_id(pool, key.id, key.behind);
-    let children = whole.children - key.behind;
+    let factors = nodes_below(pool, key.id, key.behind);
+    let children = whole.root.children - key.behind;
     if children == 1 {
-        return Front::of(pool, first);
+        return Front::first(factors);
     }
-    let place = pool.locate(first);
-    Front {
-        kind: whole.kind,
-        id: whole.id,
+    let root = Visit {
+        kind: whole.root.kind,
+        id: whole.root.id,
         children,
-        first: place,
+    };
+    Front {
+        root,
+        behind: factors,
     }
 }

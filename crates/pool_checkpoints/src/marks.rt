@@ -7,6 +7,7 @@ ghost use Rattle.pool_checkpoints.specs.Marks.{IsBelow};
 
 use node_pool::Pool;
 use std::marker::Model;
+use tree_handles::drop_behind;
 
 /// The used length of a pool at a moment, in bytes.
 ///
@@ -36,7 +37,7 @@ pub fn open_mark(pool: &Pool) -> Mark
 /// Ends a mark: the trees above it stay. Nothing changes in the pool.
 pub fn commit(_pool: &Pool, _mark: Mark) {}
 
-/// The trees above a mark go, whatever holds them: all handles to them, and to nodes in them, are
+/// The trees above a mark are removed, whatever holds them: all handles to them, and to nodes in them, are
 /// spent. Handles to trees below the mark are as good as before.
 pub fn roll_back(pool: &mut Pool, mark: Mark)
     requires stands { Stands pool.old }
@@ -45,6 +46,5 @@ pub fn roll_back(pool: &mut Pool, mark: Mark)
     ensures kept { KeepsRefusals pool.old pool.new }
     ensures stands { Stands pool.new }
 {
-    let len = pool.used() - mark.used;
-    pool.remove_block(mark.used, len);
+    drop_behind(pool, mark.used);
 }

@@ -1,4 +1,3 @@
-pub mod Listing
 pub mod Parts
 pub mod Sizes
 pub mod Placing

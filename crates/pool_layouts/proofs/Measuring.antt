@@ -8,13 +8,13 @@ use Rattle.tree_handles.specs.Standing.{Stands, forest}
 use Rattle.tree_handles.proofs.Forests.{nodes-flatten}
 use Rattle.tree_handles.proofs.Measures.{one_at}
 use Rattle.tree_handles.proofs.Places.{used_forest}
-use Rattle.pool_layouts.specs.declared.cells.Cell.{Cell}
+use Rattle.tree_handles.specs.declared.visits.Visit.{Visit}
 use Rattle.pool_layouts.specs.declared.extents.Extent.{Extent}
-use Rattle.pool_layouts.specs.Cells.{cell_of, cells_of}
+use Rattle.tree_handles.specs.Visits.{visit_of, visits_of}
 use Rattle.pool_layouts.specs.Drawings.{drawing, AllComposed, IsComposed, IsLayout}
 use Rattle.pool_layouts.specs.Extents.{extent_of, extents_of, HasExtents, HasSmall, IsOver, IsValid, AllValid, HasSomeFirst}
 use Rattle.pool_layouts.specs.Pictures.{picture, height}
-use Rattle.pool_layouts.proofs.Listing.{cells_length}
+use Rattle.tree_handles.proofs.Visiting.{visits_length}
 use Rattle.pool_layouts.proofs.Measures.{extents-join}
 use Rattle.pool_layouts.proofs.Shown.{first_is}
 use Rattle.pool_layouts.proofs.Suffixes.{after, after_flat, after_all, after_bytes, left_at, none_after}
@@ -36,41 +36,41 @@ pub few_bytes : (s : State) (i : ℕ) → Stands s → holds i (forest s) ≡ tr
 few_bytes s i st h = omega (arith, tree_bytes (forest s) i, used_forest s st, st.pool.fits, st.pool.size.most)
 
 -- at the end nothing is listed
-pub measure_start : (s : State) (i : ℕ) (cells : List Cell) (es : List Extent) → cells ≡ cells_of (tree_at i (forest s)) → HasExtents (after (length cells) (tree_at i (forest s))) (length cells) es
+pub measure_start : (s : State) (i : ℕ) (cells : List Visit) (es : List Extent) → cells ≡ visits_of (tree_at i (forest s)) → HasExtents (after (length cells) (tree_at i (forest s))) (length cells) es
 measure_start s i cells es e =
     let t = tree_at i (forest s) in
-    let none : after (length cells) t ≡ empty = none_after (length cells) t (omega (arith, ap length e, cells_length t, nodes-flatten t)) in
+    let none : after (length cells) t ≡ empty = none_after (length cells) t (omega (arith, ap length e, visits_length t, nodes-flatten t)) in
     record { behind = drop (length cells) es; extents_are = ap (λ (f : Forest). extents_of f ++ drop (length cells) es) (sym none) }
 
-pub record IsMeasuring (s : State) (i at : ℕ) (cells : List Cell) (es : List Extent) : Type 0 where
+pub record IsMeasuring (s : State) (i at : ℕ) (cells : List Visit) (es : List Extent) : Type 0 where
   pub label : Label
   pub below : Forest
-  pub cell_is : (d : Cell) → get_or cells (at - 1) d ≡ cell_of (node_of label below)
+  pub cell_is : (d : Visit) → get_or cells (at - 1) d ≡ visit_of (node_of label below)
   pub live : holds label.id (forest s) ≡ true
   pub payload_is : payload_in label.id (forest s) ≡ label.payload
   pub over : IsOver label.payload below at es
   pub listed : (e : Extent) → e ≡ extent_of label.payload below → at - 1 < length es → HasExtents (after (at - 1) (tree_at i (forest s))) (at - 1) (set es (at - 1) e)
 
-pub measuring : (s : State) (i at : ℕ) (cells : List Cell) (es : List Extent) → Stands s → IsLayout i (forest s) → cells ≡ cells_of (tree_at i (forest s)) → 0 < at → at ≤ length cells
+pub measuring : (s : State) (i at : ℕ) (cells : List Visit) (es : List Extent) → Stands s → IsLayout i (forest s) → cells ≡ visits_of (tree_at i (forest s)) → 0 < at → at ≤ length cells
     → HasExtents (after at (tree_at i (forest s))) at es → IsMeasuring s i at cells es
 measuring s i at cells es st x e some within h =
     let t = tree_at i (forest s) in
     let n = at - 1 in
-    let long : length cells ≡ length (flatten t) = ap length e ∙ cells_length t ∙ sym (nodes-flatten t) in
+    let long : length cells ≡ length (flatten t) = ap length e ∙ visits_length t ∙ sym (nodes-flatten t) in
     let here = left_at n t (omega (arith, long, some, within)) in
     let at_is : at ≡ suc n = omega (arith, some) in
     let below_is : after at t ≡ join here.below here.others = ap (λ (m : ℕ). after m t) at_is ∙ here.next in
     let composed_here : AllComposed (tree here.label here.below here.others) = subst AllComposed here.here (after_all IsComposed n t x.composed_whole) in
     let valid_here : AllValid (tree here.label here.below here.others) = subst AllValid here.here (after_all IsValid n t (valid s i st x.live)) in
     let known_here : AllNodes (IsKnown (forest s)) (tree here.label here.below here.others) = subst (AllNodes (IsKnown (forest s))) here.here (after_all (IsKnown (forest s)) n t (known s i st)) in
-    let cells_here : drop n cells ≡ map cell_of (flatten (tree here.label here.below here.others)) = ap (drop n) e ∙ drop-map cell_of n (flatten t) ∙ ap (map cell_of) (sym (after_flat n t) ∙ ap flatten here.here) in
+    let cells_here : drop n cells ≡ map visit_of (flatten (tree here.label here.below here.others)) = ap (drop n) e ∙ drop-map visit_of n (flatten t) ∙ ap (map visit_of) (sym (after_flat n t) ∙ ap flatten here.here) in
     let listed_here : drop at es ≡ extents_of here.below ++ (extents_of here.others ++ h.behind)
     = h.extents_are ∙ ap (λ (f : Forest). extents_of f ++ h.behind) below_is ∙ ap (λ (y : List Extent). y ++ h.behind) (extents-join here.below here.others) ∙ append_assoc (extents_of here.below) (extents_of here.others) h.behind in
     let few : bytes_in (tree here.label here.below here.others) ≤ 524280 = omega (arith, ap bytes_in here.here, after_bytes n t, few_bytes s i st x.live) in
     record {
       label = here.label;
       below = here.below;
-      cell_is = λ d. first_is cells (map cell_of (flatten here.below ++ flatten here.others)) n (cell_of (node_of here.label here.below)) d cells_here;
+      cell_is = λ d. first_is cells (map visit_of (flatten here.below ++ flatten here.others)) n (visit_of (node_of here.label here.below)) d cells_here;
       live = known_here.0.0;
       payload_is = known_here.0.1;
       over = record {

@@ -8,25 +8,25 @@ use Rattle.calc_terms.specs.Node.{Node}
 use Rattle.calc_terms.specs.Payload.{Payload, bare, kind_of_payload, IsPayload}
 use Rattle.tree_handles.specs.Forest.{Label, Forest, empty, tree, flatten, node_of, nodes_in}
 use Rattle.tree_handles.specs.Inside.{holds, payload_in}
-use Rattle.pool_layouts.specs.declared.cells.Cell.{Cell}
+use Rattle.tree_handles.specs.declared.visits.Visit.{Visit}
 use Rattle.pool_layouts.specs.declared.extents.Extent.{Extent}
 use Rattle.pool_layouts.specs.declared.ink.Ink.TheVariants.{Nothing, Leaf, Bar, Roof, Root, Close}
 use Rattle.pool_layouts.specs.declared.steps.Span.{Span}
 use Rattle.pool_layouts.specs.declared.steps.Step.{Step}
 use Rattle.pool_layouts.specs.declared.steps.Step.TheVariants as step
 use Rattle.pool_layouts.specs.declared.steps.Opened.{Opened}
-use Rattle.pool_layouts.specs.Cells.{cell_of, cells_of}
+use Rattle.tree_handles.specs.Visits.{visit_of, visits_of}
 use Rattle.pool_layouts.specs.Extents.{extent_of, extents_of, HasSmall, IsOver, IsSmall}
 use Rattle.pool_layouts.specs.Painting.{IsSpanOf, ShowsPart, ShowsLevel, Shows, ShowsIf, Opens, IsInk, ink_characters, weight_if, count_if, leaf_characters, opened, span_of, part_of, level_if, level_opened, centred_opened, fraction_opened, raised_opened, radical_opened, paren_opened, row_opened}
 use Rattle.pool_layouts.specs.Pictures.{Block, height, blanks, bar, roof, root_character, level, line_or_blanks, level_lines, centred, most_above}
 use Rattle.pool_layouts.proofs.Measures.{blocks_of, block_of, others_read, behind_first, first_small, IsOneOver, IsTwoOver, bare_of, leaf_line, leaf_some}
-use Rattle.pool_layouts.proofs.Listing.{cells_length}
+use Rattle.tree_handles.proofs.Visiting.{visits_length}
 use Rattle.pool_layouts.proofs.Shown.{first_is, others_are, inside_list}
 
 -- ---- spans
 
 -- the first tree of a span
-pub span_first : {base : Forest} {cells : List Cell} {es : List Extent} {span : Span} (l : Label) (k r : Forest) (end : ℕ) → IsSpanOf base cells es (tree l k r) span → end ≡ span.at + suc (nodes_in k) → IsSpanOf base cells es (tree l k empty) (span_of span.at end)
+pub span_first : {base : Forest} {cells : List Visit} {es : List Extent} {span : Span} (l : Label) (k r : Forest) (end : ℕ) → IsSpanOf base cells es (tree l k r) span → end ≡ span.at + suc (nodes_in k) → IsSpanOf base cells es (tree l k empty) (span_of span.at end)
 span_first l k r end s e = record {
   small = record {
     behind = extents_of r ++ s.small.behind;
@@ -35,28 +35,28 @@ span_first l k r end s e = record {
     valid_parts = (s.small.valid_parts.0, s.small.valid_parts.1, tt);
     few = omega (arith, s.small.few);
   };
-  cells_behind = cells_of r ++ s.cells_behind;
-  cells_are = s.cells_are ∙ ap (λ (x : List Cell). cell_of (node_of l k) ∷ x)
-      (ap (λ (x : List Cell). x ++ s.cells_behind) (map-append cell_of (flatten k) (flatten r)) ∙ append_assoc (cells_of k) (cells_of r) s.cells_behind
-      ∙ ap (λ (x : List Cell). x ++ (cells_of r ++ s.cells_behind)) (ap (map cell_of) (sym (append-nil (flatten k)))));
+  cells_behind = visits_of r ++ s.cells_behind;
+  cells_are = s.cells_are ∙ ap (λ (x : List Visit). visit_of (node_of l k) ∷ x)
+      (ap (λ (x : List Visit). x ++ s.cells_behind) (map-append visit_of (flatten k) (flatten r)) ∙ append_assoc (visits_of k) (visits_of r) s.cells_behind
+      ∙ ap (λ (x : List Visit). x ++ (visits_of r ++ s.cells_behind)) (ap (map visit_of) (sym (append-nil (flatten k)))));
   found = (s.found.0, s.found.1, tt);
   end_is = omega (arith, e);
 }
 
 -- the trees behind it
-pub span_rest : {base : Forest} {cells : List Cell} {es : List Extent} {span : Span} (l : Label) (k r : Forest) (at : ℕ) → IsSpanOf base cells es (tree l k r) span → at ≡ span.at + suc (nodes_in k) → IsSpanOf base cells es r (span_of at span.end)
+pub span_rest : {base : Forest} {cells : List Visit} {es : List Extent} {span : Span} (l : Label) (k r : Forest) (at : ℕ) → IsSpanOf base cells es (tree l k r) span → at ≡ span.at + suc (nodes_in k) → IsSpanOf base cells es r (span_of at span.end)
 span_rest {cells = cells} {es = es} {span = span} l k r at s e = record {
   small = subst (λ (n : ℕ). HasSmall r n es) (sym e) (behind_first l k r span.at es s.small);
   cells_behind = s.cells_behind;
   cells_are = ap (λ (n : ℕ). drop n cells) e ∙ sym (drop-drop (suc (nodes_in k)) span.at cells) ∙ ap (drop (suc (nodes_in k))) s.cells_are
-      ∙ ap (λ (x : List Cell). drop (suc (nodes_in k)) (cell_of (node_of l k) ∷ x)) (ap (λ (x : List Cell). x ++ s.cells_behind) (map-append cell_of (flatten k) (flatten r)) ∙ append_assoc (cells_of k) (cells_of r) s.cells_behind)
-      ∙ drop_at (cell_of (node_of l k) ∷ cells_of k) (cells_of r ++ s.cells_behind) (suc (nodes_in k)) (ap suc (cells_length k));
+      ∙ ap (λ (x : List Visit). drop (suc (nodes_in k)) (visit_of (node_of l k) ∷ x)) (ap (λ (x : List Visit). x ++ s.cells_behind) (map-append visit_of (flatten k) (flatten r)) ∙ append_assoc (visits_of k) (visits_of r) s.cells_behind)
+      ∙ drop_at (visit_of (node_of l k) ∷ visits_of k) (visits_of r ++ s.cells_behind) (suc (nodes_in k)) (ap suc (visits_length k));
   found = s.found.2;
   end_is = omega (arith, s.end_is, e);
 }
 
 -- the parts of a layout
-pub span_below : {base : Forest} {cells : List Cell} {es : List Extent} {span : Span} (l : Label) (k : Forest) → IsSpanOf base cells es (tree l k empty) span → IsSpanOf base cells es k (span_of (span.at + 1) span.end)
+pub span_below : {base : Forest} {cells : List Visit} {es : List Extent} {span : Span} (l : Label) (k : Forest) → IsSpanOf base cells es (tree l k empty) span → IsSpanOf base cells es k (span_of (span.at + 1) span.end)
 span_below {cells = cells} {es = es} {span = span} l k s = record {
   small = record {
     behind = s.small.behind;
@@ -66,24 +66,24 @@ span_below {cells = cells} {es = es} {span = span} l k s = record {
     few = omega (arith, s.small.few);
   };
   cells_behind = s.cells_behind;
-  cells_are = others_are cells (map cell_of (flatten k ++ []) ++ s.cells_behind) span.at (cell_of (node_of l k)) s.cells_are ∙ ap (λ (x : List Node). map cell_of x ++ s.cells_behind) (append-nil (flatten k));
+  cells_are = others_are cells (map visit_of (flatten k ++ []) ++ s.cells_behind) span.at (visit_of (node_of l k)) s.cells_are ∙ ap (λ (x : List Node). map visit_of x ++ s.cells_behind) (append-nil (flatten k));
   found = s.found.1;
   end_is = omega (arith, s.end_is);
 }
 
-pub cell_here : {base : Forest} {cells : List Cell} {es : List Extent} {span : Span} (l : Label) (k : Forest) (d : Cell) → IsSpanOf base cells es (tree l k empty) span → get_or cells span.at d ≡ cell_of (node_of l k)
-cell_here {cells = cells} {span = span} l k d s = first_is cells (map cell_of (flatten k ++ []) ++ s.cells_behind) span.at (cell_of (node_of l k)) d s.cells_are
+pub cell_here : {base : Forest} {cells : List Visit} {es : List Extent} {span : Span} (l : Label) (k : Forest) (d : Visit) → IsSpanOf base cells es (tree l k empty) span → get_or cells span.at d ≡ visit_of (node_of l k)
+cell_here {cells = cells} {span = span} l k d s = first_is cells (map visit_of (flatten k ++ []) ++ s.cells_behind) span.at (visit_of (node_of l k)) d s.cells_are
 
-pub cell_inside : {base : Forest} {cells : List Cell} {es : List Extent} {span : Span} (l : Label) (k r : Forest) → IsSpanOf base cells es (tree l k r) span → span.at < length cells
-cell_inside {cells = cells} {span = span} l k r s = inside_list cells (map cell_of (flatten k ++ flatten r) ++ s.cells_behind) span.at (cell_of (node_of l k)) s.cells_are
+pub cell_inside : {base : Forest} {cells : List Visit} {es : List Extent} {span : Span} (l : Label) (k r : Forest) → IsSpanOf base cells es (tree l k r) span → span.at < length cells
+cell_inside {cells = cells} {span = span} l k r s = inside_list cells (map visit_of (flatten k ++ flatten r) ++ s.cells_behind) span.at (visit_of (node_of l k)) s.cells_are
 
 -- a node over its parts
-pub is_over : {base : Forest} {cells : List Cell} {es : List Extent} {span : Span} (l : Label) (k : Forest) → IsSpanOf base cells es (tree l k empty) span → IsOver l.payload k (span.at + 1) es
+pub is_over : {base : Forest} {cells : List Visit} {es : List Extent} {span : Span} (l : Label) (k : Forest) → IsSpanOf base cells es (tree l k empty) span → IsOver l.payload k (span.at + 1) es
 is_over l k s = record { small = (span_below l k s).small; payload = s.small.valid_parts.0; composed_node = s.small.composed_parts.0 }
 
 -- ---- a choice
 
-module _ {base : Forest} {cells : List Cell} {es : List Extent} {s : Step} {cs : List ℕ} where
+module _ {base : Forest} {cells : List Visit} {es : List Extent} {s : Step} {cs : List ℕ} where
   pub choose : (t : Bool) (a b : Opened) (x y : List ℕ) → cs ≡ (if t then x else y) → (cs ≡ x → Opens base cells es s cs a) → (cs ≡ y → Opens base cells es s cs b) → Opens base cells es s cs (if t then a else b)
   choose true a b x y e f g = f e
   choose false a b x y e f g = g e
@@ -111,7 +111,7 @@ level_small above y a h z e = by (nat_le above (y + a) && nat_lt (y + a - above)
 
 -- ---- layouts side by side
 
-level_if_opens : {base : Forest} {cells : List Cell} {es : List Extent} (r : Forest) (at end above y : ℕ) → IsSpanOf base cells es r (span_of at end) → above ≤ 2 ^ 20 → y ≤ 2 ^ 22 → ShowsIf base cells es (level_if at end above y) (level_lines above y (blocks_of r))
+level_if_opens : {base : Forest} {cells : List Visit} {es : List Extent} (r : Forest) (at end above y : ℕ) → IsSpanOf base cells es r (span_of at end) → above ≤ 2 ^ 20 → y ≤ 2 ^ 22 → ShowsIf base cells es (level_if at end above y) (level_lines above y (blocks_of r))
 level_if_opens {base = base} {cells = cells} {es = es} empty at end above y s a b = subst (λ (t : Bool). ShowsIf base cells es (if t then Some (step.Level (span_of at end) above y) else None) []) (sym (le-ltb at end (omega (arith, s.end_is)))) refl
 level_if_opens {base = base} {cells = cells} {es = es} (tree l k r) at end above y s a b =
     subst (λ (t : Bool). ShowsIf base cells es (if t then Some (step.Level (span_of at end) above y) else None) (level_lines above y (blocks_of (tree l k r)))) (sym (lt-ltb at end (omega (arith, s.end_is))))
@@ -131,7 +131,7 @@ level_if_few at end above y = by (nat_lt at end)
     by true = omega arith
     by false = omega arith
 
-pub level_opens : {base : Forest} {cells : List Cell} {es : List Extent} {span : Span} {above y : ℕ} {cs : List ℕ} (e : Extent) (p : ShowsLevel base cells es span above y cs) → e ≡ extent_of p.label.payload p.below → Opens base cells es (step.Level span above y) cs (level_opened e span above y)
+pub level_opens : {base : Forest} {cells : List Visit} {es : List Extent} {span : Span} {above y : ℕ} {cs : List ℕ} (e : Extent) (p : ShowsLevel base cells es span above y cs) → e ≡ extent_of p.label.payload p.below → Opens base cells es (step.Level span above y) cs (level_opened e span above y)
 level_opens {base = base} {cells = cells} {es = es} {span = span} {above = above} {y = y} {cs = cs} e p q =
     subst (λ (x : Extent). Opens base cells es (step.Level span above y) cs (level_opened x span above y)) (sym q)
     (choose_level (level above y b.above (height b)) (level above y b.above (height b)) (λ z. opened 0 Nothing (part_of span.at next z) rest) (opened b.width Nothing None rest) b (level_lines above y (blocks_of p.others)) refl p.lines_are
@@ -173,9 +173,9 @@ level_opens {base = base} {cells = cells} {es = es} {span = span} {above = above
 
 -- ---- one layout
 
-module _ {base : Forest} {cells : List Cell} {es : List Extent} {span : Span} {y : ℕ} {cs : List ℕ} (p : ShowsPart base cells es span y cs) where
-  pub part_kind : (j : Kind) (d : Cell) → (get_or cells span.at d).kind ≡ j → kind_of_payload p.label.payload ≡ j
-  part_kind j d e = ap (λ (x : Cell). x.kind) (sym (cell_here p.label p.below d p.listed)) ∙ e
+module _ {base : Forest} {cells : List Visit} {es : List Extent} {span : Span} {y : ℕ} {cs : List ℕ} (p : ShowsPart base cells es span y cs) where
+  pub part_kind : (j : Kind) (d : Visit) → (get_or cells span.at d).kind ≡ j → kind_of_payload p.label.payload ≡ j
+  part_kind j d e = ap (λ (x : Visit). x.kind) (sym (cell_here p.label p.below d p.listed)) ∙ e
 
   part_over : IsOver p.label.payload p.below (span.at + 1) es
   part_over = is_over p.label p.below p.listed
@@ -184,7 +184,7 @@ module _ {base : Forest} {cells : List Cell} {es : List Extent} {span : Span} {y
   below_listed = span_below p.label p.below p.listed
 
   -- a row
-  pub row_opens : (e : Extent) (d : Cell) → (get_or cells span.at d).kind ≡ kind.Row → e ≡ extent_of p.label.payload p.below → Opens base cells es (step.Part span y) cs (row_opened e (span_of (span.at + 1) span.end) y)
+  pub row_opens : (e : Extent) (d : Visit) → (get_or cells span.at d).kind ≡ kind.Row → e ≡ extent_of p.label.payload p.below → Opens base cells es (step.Part span y) cs (row_opened e (span_of (span.at + 1) span.end) y)
   row_opens e d k q =
       let is : p.label.payload ≡ bare kind.Row = bare_of p.label.payload kind.Row p.listed.small.valid_parts.0 refl (part_kind kind.Row d k) in
       let above : e.above ≡ most_above (blocks_of p.below) = ap (λ (x : Extent). x.above) q ∙ ap (λ (x : Payload). (block_of x p.below).above) is in
@@ -325,13 +325,13 @@ module _ {base : Forest} {cells : List Cell} {es : List Extent} {span : Span} {y
       (λ g. centred_opens t.lower t.below mid span.end w (y - height a - 1) (span_rest t.upper t.above (tree t.lower t.below empty) mid both refl) (omega (arith, p.row_small)) g (omega (arith, ends)) (omega (arith, ends))))))
 
   -- a leaf
-  pub leaf_opens : (d : Cell) (i : ℕ) → i ≡ (get_or cells span.at d).id → ((get_or cells span.at d).kind ≡ kind.Row → ⊥) → ((get_or cells span.at d).kind ≡ kind.Fraction → ⊥) → ((get_or cells span.at d).kind ≡ kind.Raised → ⊥)
+  pub leaf_opens : (d : Visit) (i : ℕ) → i ≡ (get_or cells span.at d).id → ((get_or cells span.at d).kind ≡ kind.Row → ⊥) → ((get_or cells span.at d).kind ≡ kind.Fraction → ⊥) → ((get_or cells span.at d).kind ≡ kind.Raised → ⊥)
       → ((get_or cells span.at d).kind ≡ kind.Radical → ⊥) → ((get_or cells span.at d).kind ≡ kind.Paren → ⊥) → Opens base cells es (step.Part span y) cs (opened 0 (Leaf i) None None)
   leaf_opens d i e a b f g h =
       let x = p.label.payload in
       let cell = cell_here p.label p.below d p.listed in
-      let id_is : i ≡ p.label.id = e ∙ ap (λ (c : Cell). c.id) cell in
-      let kind_is : (get_or cells span.at d).kind ≡ kind_of_payload x = ap (λ (c : Cell). c.kind) cell in
+      let id_is : i ≡ p.label.id = e ∙ ap (λ (c : Visit). c.id) cell in
+      let kind_is : (get_or cells span.at d).kind ≡ kind_of_payload x = ap (λ (c : Visit). c.kind) cell in
       let payload : payload_in i base ≡ x = ap (λ (n : ℕ). payload_in n base) id_is ∙ p.listed.found.0.1 in
       let over = part_over in
       let line = leaf_line x p.below y over.payload over.composed_node (λ q. a (kind_is ∙ q)) (λ q. b (kind_is ∙ q)) (λ q. f (kind_is ∙ q)) (λ q. g (kind_is ∙ q)) (λ q. h (kind_is ∙ q)) in
@@ -347,8 +347,8 @@ module _ {base : Forest} {cells : List Cell} {es : List Extent} {span : Span} {y
         ink_is = (ap (λ (n : ℕ). holds n base) id_is ∙ p.listed.found.0.0, subst IsPayload (sym payload) over.payload, subst (λ (z : Payload). leaf_characters z ≢ []) (sym payload) some);
       }
 
-pub blanks_opens : {base : Forest} {cells : List Cell} {es : List Extent} {cs : List ℕ} (n : ℕ) → Shows base cells es (step.Blanks n) cs → Opens base cells es (step.Blanks n) cs (opened n Nothing None None)
+pub blanks_opens : {base : Forest} {cells : List Visit} {es : List Extent} {cs : List ℕ} (n : ℕ) → Shows base cells es (step.Blanks n) cs → Opens base cells es (step.Blanks n) cs (opened n Nothing None None)
 blanks_opens n h = record { first = []; second = []; whole = h ∙ sym (append-nil (blanks n)); first_shown = refl; second_shown = refl; lighter = omega arith; fewer = omega arith; ink_is = tt }
 
-pub close_opens : {base : Forest} {cells : List Cell} {es : List Extent} {cs : List ℕ} → Shows base cells es step.Close cs → Opens base cells es step.Close cs (opened 0 Close None None)
+pub close_opens : {base : Forest} {cells : List Visit} {es : List Extent} {cs : List ℕ} → Shows base cells es step.Close cs → Opens base cells es step.Close cs (opened 0 Close None None)
 close_opens h = record { first = []; second = []; whole = h; first_shown = refl; second_shown = refl; lighter = omega arith; fewer = omega arith; ink_is = tt }

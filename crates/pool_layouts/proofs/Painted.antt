@@ -4,7 +4,7 @@ use Rattle.std.proofs.Common.{◌≡◌, ◌∙◌, ℕ, zero, suc, ◌+◌, ◌
 use Rattle.std.proofs.lemmas.List.{length-append, length-replicate, replicate-append-replicate}
 use Rattle.std.proofs.lemmas.Str.{encodes-append}
 use Rattle.tree_handles.specs.Forest.{Forest}
-use Rattle.pool_layouts.specs.declared.cells.Cell.{Cell}
+use Rattle.tree_handles.specs.declared.visits.Visit.{Visit}
 use Rattle.pool_layouts.specs.declared.extents.Extent.{Extent}
 use Rattle.pool_layouts.specs.declared.steps.Step.{Step}
 use Rattle.pool_layouts.specs.declared.steps.Step.TheVariants as step
@@ -46,11 +46,11 @@ abbrev pub counts_of : List Owed → ℕ
 counts_of [] = 0
 counts_of (o ∷ os) = count o.step + counts_of os
 
-abbrev pub AreShown : Forest → List Cell → List Extent → List Owed → Type 0
+abbrev pub AreShown : Forest → List Visit → List Extent → List Owed → Type 0
 AreShown base cells es [] = Unit {0}
 AreShown base cells es (o ∷ os) = Shows base cells es o.step o.cs × AreShown base cells es os
 
-pub record IsPainting (base : Forest) (cells : List Cell) (es : List Extent) (steps : List Step) (owed_blanks : ℕ) (bytes start line : List ℕ) : Type 0 where
+pub record IsPainting (base : Forest) (cells : List Visit) (es : List Extent) (steps : List Step) (owed_blanks : ℕ) (bytes start line : List ℕ) : Type 0 where
   pub owed : List Owed
   pub seen : List ℕ
   pub steps_are : steps ≡ steps_of owed
@@ -60,7 +60,7 @@ pub record IsPainting (base : Forest) (cells : List Cell) (es : List Extent) (st
   pub each : AreShown base cells es owed
   pub few : counts_of owed ≤ length cells
 
-pub painting_start : {base : Forest} {cells : List Cell} {es : List Extent} {steps : List Step} {line : List ℕ} (start : List ℕ) → IsLine base cells es steps line → IsPainting base cells es steps 0 start start line
+pub painting_start : {base : Forest} {cells : List Visit} {es : List Extent} {steps : List Step} {line : List ℕ} (start : List ℕ) → IsLine base cells es steps line → IsPainting base cells es steps 0 start start line
 painting_start {line = line} start h = record {
   owed = record { step = h.only; cs = line } ∷ [];
   seen = [];
@@ -73,19 +73,19 @@ painting_start {line = line} start h = record {
 }
 
 -- a step that paints something counts
-counts_one : (base : Forest) (cells : List Cell) (es : List Extent) (s : Step) (cs : List ℕ) → Shows base cells es s cs → 1 ≤ count s
+counts_one : (base : Forest) (cells : List Visit) (es : List Extent) (s : Step) (cs : List ℕ) → Shows base cells es s cs → 1 ≤ count s
 counts_one base cells es (step.Blanks n) cs h = omega arith
 counts_one base cells es step.Close cs h = omega arith
 counts_one base cells es (step.Part span y) cs h = omega (arith, h.listed.end_is)
 counts_one base cells es (step.Level span above y) cs h = omega (arith, h.listed.end_is)
 
-steps_few : (base : Forest) (cells : List Cell) (es : List Extent) (os : List Owed) → AreShown base cells es os → length (steps_of os) ≤ counts_of os
+steps_few : (base : Forest) (cells : List Visit) (es : List Extent) (os : List Owed) → AreShown base cells es os → length (steps_of os) ≤ counts_of os
 steps_few base cells es [] h = omega arith
 steps_few base cells es (o ∷ os) h = omega (arith, steps_few base cells es os h.1, counts_one base cells es o.step o.cs h.0, length-append (steps_of os) (o.step ∷ []))
 
 -- ---- the next step
 
-pub record IsDue (base : Forest) (cells : List Cell) (es : List Extent) (s : Step) (popped : List Step) (owed_blanks : ℕ) (bytes start line : List ℕ) : Type 0 where
+pub record IsDue (base : Forest) (cells : List Visit) (es : List Extent) (s : Step) (popped : List Step) (owed_blanks : ℕ) (bytes start line : List ℕ) : Type 0 where
   pub cs : List ℕ
   pub owed : List Owed
   pub seen : List ℕ
@@ -107,7 +107,7 @@ snoc_same (a ∷ xs) (b ∷ ys) x y e =
     let same = snoc_same xs ys x y tails in
     (ap (λ (z : Step). z ∷ xs) heads ∙ ap (λ (zs : List Step). b ∷ zs) same.0, same.1)
 
-pub due : {base : Forest} {cells : List Cell} {es : List Extent} {steps : List Step} {owed_blanks : ℕ} {bytes start line : List ℕ} (s : Step) (popped : List Step) → IsPainting base cells es steps owed_blanks bytes start line → steps ≡ popped ++ s ∷ []
+pub due : {base : Forest} {cells : List Visit} {es : List Extent} {steps : List Step} {owed_blanks : ℕ} {bytes start line : List ℕ} (s : Step) (popped : List Step) → IsPainting base cells es steps owed_blanks bytes start line → steps ≡ popped ++ s ∷ []
     → IsDue base cells es s popped owed_blanks bytes start line
 due {base = base} {cells = cells} {es = es} {steps = steps} {owed_blanks = owed_blanks} {bytes = bytes} {start = start} {line = line} s popped p e = by p.owed p.steps_are p.chars p.each p.few
   where
@@ -129,7 +129,7 @@ due {base = base} {cells = cells} {es = es} {steps = steps} {owed_blanks = owed_
         }
 
 -- there is room for two steps in its stead
-pub due_room : {base : Forest} {cells : List Cell} {es : List Extent} {s : Step} {popped : List Step} {owed_blanks : ℕ} {bytes start line : List ℕ} → IsDue base cells es s popped owed_blanks bytes start line → length popped + 1 ≤ length cells
+pub due_room : {base : Forest} {cells : List Visit} {es : List Extent} {s : Step} {popped : List Step} {owed_blanks : ℕ} {bytes start line : List ℕ} → IsDue base cells es s popped owed_blanks bytes start line → length popped + 1 ≤ length cells
 due_room {base = base} {cells = cells} {es = es} {s = s} d = omega (arith, ap length d.popped_is, steps_few base cells es d.owed d.each, counts_one base cells es s d.cs d.shown, d.few)
 
 -- ---- it is painted
@@ -142,7 +142,7 @@ seen_kept : (seen : List ℕ) (n : ℕ) (cs : List ℕ) → cut seen ≡ seen �
 seen_kept seen n [] k b = ap cut (append-nil seen) ∙ k ∙ sym (append-nil seen)
 seen_kept seen n (c ∷ cs) k b = ap cut (sym (append_assoc seen (blanks n) (c ∷ cs))) ∙ cut_kept (seen ++ blanks n) c cs b ∙ append_assoc seen (blanks n) (c ∷ cs)
 
-shown_if : (base : Forest) (cells : List Cell) (es : List Extent) (o : Option Step) (cs : List ℕ) (os : List Owed) → ShowsIf base cells es o cs → AreShown base cells es os
+shown_if : (base : Forest) (cells : List Visit) (es : List Extent) (o : Option Step) (cs : List ℕ) (os : List Owed) → ShowsIf base cells es o cs → AreShown base cells es os
     → (ps : List Owed) × (steps_of ps ≡ steps_of os ++ option_to_list o) × (chars_of ps ≡ cs ++ chars_of os) × (counts_of ps ≡ count_if o + counts_of os) × AreShown base cells es ps
 shown_if base cells es None cs os h a = (os, sym (append-nil (steps_of os)), ap (λ (x : List ℕ). x ++ chars_of os) (sym h), omega arith, a)
 shown_if base cells es (Some s) cs os h a = (record { step = s; cs = cs } ∷ os, refl, refl, refl, (h, a))
@@ -150,14 +150,14 @@ shown_if base cells es (Some s) cs os h a = (record { step = s; cs = cs } ∷ os
 spread : (seen b ob ink f s rest : List ℕ) → seen ++ (b ++ ((ob ++ (ink ++ (f ++ s))) ++ rest)) ≡ seen ++ (((b ++ ob) ++ ink) ++ (f ++ (s ++ rest)))
 spread seen b ob ink f s rest = simp append_assoc
 
-pub record IsStepped (base : Forest) (cells : List Cell) (es : List Extent) (s : Step) (popped : List Step) (owed_blanks : ℕ) (bytes start line : List ℕ) (o : Opened) : Type 0 where
+pub record IsStepped (base : Forest) (cells : List Visit) (es : List Extent) (s : Step) (popped : List Step) (owed_blanks : ℕ) (bytes start line : List ℕ) (o : Opened) : Type 0 where
   pub blanks_few : owed_blanks + o.blanks ≤ length line
   pub start_few : length start ≤ length bytes
   pub bytes_few : length bytes + length (encode_utf8_all (inked (owed_blanks + o.blanks) (ink_characters base o.ink))) ≤ length start + length (encode_utf8_all line)
   pub goes_on : (new : List ℕ) (steps : List Step) → new ≡ bytes ++ encode_utf8_all (inked (owed_blanks + o.blanks) (ink_characters base o.ink)) → steps ≡ (popped ++ option_to_list o.second) ++ option_to_list o.first
       → IsPainting base cells es steps (blanks_left (owed_blanks + o.blanks) (ink_characters base o.ink)) new start line
 
-pub stepped : {base : Forest} {cells : List Cell} {es : List Extent} {s : Step} {popped : List Step} {owed_blanks : ℕ} {bytes start line : List ℕ} {o : Opened} (d : IsDue base cells es s popped owed_blanks bytes start line) → Opens base cells es s d.cs o
+pub stepped : {base : Forest} {cells : List Visit} {es : List Extent} {s : Step} {popped : List Step} {owed_blanks : ℕ} {bytes start line : List ℕ} {o : Opened} (d : IsDue base cells es s popped owed_blanks bytes start line) → Opens base cells es s d.cs o
     → IsStepped base cells es s popped owed_blanks bytes start line o
 stepped {base = base} {cells = cells} {es = es} {s = s} {popped = popped} {owed_blanks = owed_blanks} {bytes = bytes} {start = start} {line = line} {o = o} d p =
     let ink = ink_characters base o.ink in
@@ -221,7 +221,7 @@ lighter_steps steps popped new s first second e f h =
 
 -- ---- the end
 
-pub painted : {base : Forest} {cells : List Cell} {es : List Extent} {steps : List Step} {owed_blanks : ℕ} {bytes start line : List ℕ} → IsPainting base cells es steps owed_blanks bytes start line → length steps ≡ 0 → bytes ≡ start ++ encode_utf8_all (cut line)
+pub painted : {base : Forest} {cells : List Visit} {es : List Extent} {steps : List Step} {owed_blanks : ℕ} {bytes start line : List ℕ} → IsPainting base cells es steps owed_blanks bytes start line → length steps ≡ 0 → bytes ≡ start ++ encode_utf8_all (cut line)
 painted {steps = steps} {owed_blanks = owed_blanks} {bytes = bytes} {start = start} {line = line} p z = by p.owed p.steps_are p.chars
   where
     by : (os : List Owed) → steps ≡ steps_of os → p.seen ++ (blanks owed_blanks ++ chars_of os) ≡ line → bytes ≡ start ++ encode_utf8_all (cut line)

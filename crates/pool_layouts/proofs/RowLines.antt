@@ -11,17 +11,17 @@ use Rattle.tree_handles.specs.Forest.{Forest, empty, tree, arity, nodes_in, byte
 use Rattle.tree_handles.specs.Inside.{tree_at}
 use Rattle.tree_handles.specs.Standing.{Stands, forest}
 use Rattle.tree_handles.proofs.Measures.{one_at}
-use Rattle.pool_layouts.specs.declared.cells.Cell.{Cell}
+use Rattle.tree_handles.specs.declared.visits.Visit.{Visit}
 use Rattle.pool_layouts.specs.declared.extents.Extent.{Extent}
 use Rattle.pool_layouts.specs.declared.steps.Step.{Step}
 use Rattle.pool_layouts.specs.declared.steps.Step.TheVariants as step
-use Rattle.pool_layouts.specs.Cells.{cells_of}
+use Rattle.tree_handles.specs.Visits.{visits_of}
 use Rattle.pool_layouts.specs.Drawings.{drawn, drawing, drawings, composed, composes, composes_kind, part, AllComposed, IsLayout}
 use Rattle.pool_layouts.specs.Layouts.{Layout, Layouts, nothing, beside}
 use Rattle.pool_layouts.specs.Extents.{AllValid}
 use Rattle.pool_layouts.specs.Painting.{IsFound, IsLine, span_of}
 use Rattle.pool_layouts.specs.Pictures.{picture, height, widths}
-use Rattle.pool_layouts.proofs.Listing.{cells_length}
+use Rattle.tree_handles.proofs.Visiting.{visits_length}
 use Rattle.pool_layouts.proofs.Measures.{blocks_of, block_of, digits_fit, drawn_bounded, bounded, first_small}
 use Rattle.pool_layouts.proofs.Measuring.{IsMeasured, alone}
 use Rattle.pool_layouts.proofs.Inks.{decimal_small, names_small}
@@ -29,12 +29,12 @@ use Rattle.pool_layouts.proofs.Lines.{lines_long, lines_bytes, signs, all_signs,
 use Rattle.pool_layouts.proofs.UnderWay.{known}
 use Rattle.pool_layouts.proofs.Valid.{valid}
 
-pub row_line : (s : State) (i : ℕ) (cells : List Cell) (es : List Extent) (steps : List Step) (end y : ℕ) → Stands s → IsLayout i (forest s) → cells ≡ cells_of (tree_at i (forest s)) → (m : IsMeasured s i es) → end ≡ suc (nodes_in m.below) → y < height (picture (drawing (tree_at i (forest s))))
+pub row_line : (s : State) (i : ℕ) (cells : List Visit) (es : List Extent) (steps : List Step) (end y : ℕ) → Stands s → IsLayout i (forest s) → cells ≡ visits_of (tree_at i (forest s)) → (m : IsMeasured s i es) → end ≡ suc (nodes_in m.below) → y < height (picture (drawing (tree_at i (forest s))))
     → steps ≡ step.Part (span_of 0 end) y ∷ [] → IsLine (forest s) cells es steps ((picture (drawing (tree_at i (forest s)))).line y)
 row_line s i cells es steps end y st x e m q h f =
     let t = tree m.label m.below empty in
     let is = m.tree_is in
-    let all : cells ≡ cells_of t = e ∙ ap cells_of is in
+    let all : cells ≡ visits_of t = e ∙ ap visits_of is in
     let a = bounded m.below m.small.composed_parts.1 m.small.valid_parts.1 in
     let b = drawn_bounded m.label.payload m.below m.small.composed_parts.0 m.small.valid_parts.0 a.widths_are a.heights_are in
     let small = first_small m.label m.below empty 0 es m.small in
@@ -47,14 +47,14 @@ row_line s i cells es steps end y st x e m q h f =
         listed = record {
           small = m.small;
           cells_behind = [];
-          cells_are = all ∙ sym (append-nil (cells_of t));
+          cells_are = all ∙ sym (append-nil (visits_of t));
           found = subst (AllNodes (IsFound (forest s))) is (known s i st);
           end_is = omega (arith, q);
         };
         row_small = omega (arith, h, ap (λ (g : Forest). height (picture (drawing g))) is, small.above, small.below);
         line_is = ap (λ (g : Forest). (picture (drawing g)).line y) is;
       };
-      fits = omega (arith, q, ap length all, cells_length t);
+      fits = omega (arith, q, ap length all, visits_length t);
       short = omega (arith, lines_long (drawing (tree_at i (forest s))) y, ap (λ (g : Forest). (picture (drawing g)).width) is, b.width, m.small.few);
     }
 

@@ -11,24 +11,25 @@ use Rattle.line_text.proofs.Parts.{not_opposite}
 use Rattle.tree_handles.specs.Expressions.{plain, plains, grown, takes, AllExpressions}
 use Rattle.tree_handles.specs.Forest.{Label, Forest, empty, tree, arity, flatten, node_of}
 use Rattle.tree_handles.proofs.Plains.{root_kind-plain}
-use Rattle.pool_layouts.specs.declared.cells.Cell.{Cell}
+use Rattle.tree_handles.specs.declared.visits.Visit.{Visit}
 use Rattle.pool_layouts.specs.declared.places.Place.{Place}
 use Rattle.pool_layouts.specs.declared.places.Place.TheVariants.{Alone, FirstOfSum, LaterOfSum, LeftOfDifference, RightOfDifference, UnderSign, FirstOfProduct, LaterOfProduct, Base, Exponent}
-use Rattle.pool_layouts.specs.Cells.{cell_of, cells_of, ShowsTree}
+use Rattle.tree_handles.specs.Visits.{visit_of, visits_of}
+use Rattle.pool_layouts.specs.Cells.{ShowsTree}
 use Rattle.pool_layouts.specs.Places.{deciding_kind}
 
 -- ---- the first of what is left
 
-pub inside_list : (xs ys : List Cell) (n : ℕ) (x : Cell) → drop n xs ≡ x ∷ ys → n < length xs
+pub inside_list : (xs ys : List Visit) (n : ℕ) (x : Visit) → drop n xs ≡ x ∷ ys → n < length xs
 inside_list xs ys n x e = omega (arith, ap length e, length-drop n xs)
 
-pub first_is : (xs ys : List Cell) (n : ℕ) (x d : Cell) → drop n xs ≡ x ∷ ys → get_or xs n d ≡ x
+pub first_is : (xs ys : List Visit) (n : ℕ) (x d : Visit) → drop n xs ≡ x ∷ ys → get_or xs n d ≡ x
 first_is xs ys n x d e = by (drop-cons xs n d (inside_list xs ys n x e))
   where
     by : drop n xs ≡ get_or xs n d ∷ drop (suc n) xs → get_or xs n d ≡ x
     by h = cc
 
-pub others_are : (xs ys : List Cell) (n : ℕ) (x : Cell) → drop n xs ≡ x ∷ ys → drop (n + 1) xs ≡ ys
+pub others_are : (xs ys : List Visit) (n : ℕ) (x : Visit) → drop n xs ≡ x ∷ ys → drop (n + 1) xs ≡ ys
 others_are xs ys n x e = ap (λ (k : ℕ). drop k xs) (add-one n) ∙ by (drop-cons xs n x (inside_list xs ys n x e))
   where
     by : drop n xs ≡ get_or xs n x ∷ drop (suc n) xs → drop (suc n) xs ≡ ys
@@ -36,15 +37,15 @@ others_are xs ys n x e = ap (λ (k : ℕ). drop k xs) (add-one n) ∙ by (drop-c
 
 -- ---- a tree, by its root
 
-pub record IsShown (at : ℕ) (t : Forest) (cells : List Cell) : Type 0 where
+pub record IsShown (at : ℕ) (t : Forest) (cells : List Visit) : Type 0 where
   pub label : Label
   pub below : Forest
-  pub rest : List Cell
+  pub rest : List Visit
   pub tree_is : t ≡ tree label below empty
-  pub cells_are : drop at cells ≡ cell_of (node_of label below) ∷ (cells_of below ++ rest)
+  pub cells_are : drop at cells ≡ visit_of (node_of label below) ∷ (visits_of below ++ rest)
   pub whole : AllExpressions (tree label below empty)
 
-shown_as : (at : ℕ) (t : Forest) (cells rest : List Cell) → arity t ≡ 1 → AllExpressions t → drop at cells ≡ cells_of t ++ rest → IsShown at t cells
+shown_as : (at : ℕ) (t : Forest) (cells rest : List Visit) → arity t ≡ 1 → AllExpressions t → drop at cells ≡ visits_of t ++ rest → IsShown at t cells
 shown_as at empty cells rest one w e = absurd (omega (arith, one))
 shown_as at (tree l k (tree m j r)) cells rest one w e = absurd (omega (arith, one))
 shown_as at (tree l k empty) cells rest one w e = record {
@@ -52,20 +53,20 @@ shown_as at (tree l k empty) cells rest one w e = record {
   below = k;
   rest = rest;
   tree_is = refl;
-  cells_are = e ∙ ap (λ (ns : List Node). cell_of (node_of l k) ∷ (map cell_of ns ++ rest)) (append-nil (flatten k));
+  cells_are = e ∙ ap (λ (ns : List Node). visit_of (node_of l k) ∷ (map visit_of ns ++ rest)) (append-nil (flatten k));
   whole = w;
 }
 
-pub shown : {at : ℕ} {t : Forest} {cells : List Cell} → ShowsTree at t cells → IsShown at t cells
+pub shown : {at : ℕ} {t : Forest} {cells : List Visit} → ShowsTree at t cells → IsShown at t cells
 shown {at = at} {t = t} {cells = cells} s = shown_as at t cells s.behind s.alone s.whole s.cells_are
 
-pub shown_inside : {at : ℕ} {t : Forest} {cells : List Cell} → ShowsTree at t cells → at < length cells
-shown_inside {at = at} {cells = cells} s = let x = shown s in inside_list cells (cells_of x.below ++ x.rest) at (cell_of (node_of x.label x.below)) x.cells_are
+pub shown_inside : {at : ℕ} {t : Forest} {cells : List Visit} → ShowsTree at t cells → at < length cells
+shown_inside {at = at} {cells = cells} s = let x = shown s in inside_list cells (visits_of x.below ++ x.rest) at (visit_of (node_of x.label x.below)) x.cells_are
 
-pub shown_kind : {at : ℕ} {t : Forest} {cells : List Cell} (d : Cell) → ShowsTree at t cells → (get_or cells at d).kind ≡ root_kind (plain t)
+pub shown_kind : {at : ℕ} {t : Forest} {cells : List Visit} (d : Visit) → ShowsTree at t cells → (get_or cells at d).kind ≡ root_kind (plain t)
 shown_kind {at = at} {t = t} {cells = cells} d s =
     let x = shown s in
-    ap (λ (y : Cell). y.kind) (first_is cells (cells_of x.below ++ x.rest) at (cell_of (node_of x.label x.below)) d x.cells_are) ∙ sym (root_kind-plain (tree x.label x.below empty) refl x.whole) ∙ ap (λ (u : Forest). root_kind (plain u)) (sym x.tree_is)
+    ap (λ (y : Visit). y.kind) (first_is cells (visits_of x.below ++ x.rest) at (visit_of (node_of x.label x.below)) d x.cells_are) ∙ sym (root_kind-plain (tree x.label x.below empty) refl x.whole) ∙ ap (λ (u : Forest). root_kind (plain u)) (sym x.tree_is)
 
 -- ---- opposites
 
@@ -75,12 +76,12 @@ neg_payload (named y) h = absurd cc
 neg_payload (bare j) h = ap bare h
 
 -- what an opposite is of stands behind its node
-pub record IsOpposite (at : ℕ) (t : Forest) (cells : List Cell) : Type 0 where
+pub record IsOpposite (at : ℕ) (t : Forest) (cells : List Visit) : Type 0 where
   pub inner : Forest
   pub shows : ShowsTree (at + 1) inner cells
   pub plain_is : plain t ≡ neg (plain inner)
 
-opposite_of : (at : ℕ) (t : Forest) (cells rest : List Cell) (l : Label) (k : Forest) → t ≡ tree l k empty → drop at cells ≡ cell_of (node_of l k) ∷ (cells_of k ++ rest) → l.payload ≡ bare kind.Neg → AllExpressions (tree l k empty) → IsOpposite at t cells
+opposite_of : (at : ℕ) (t : Forest) (cells rest : List Visit) (l : Label) (k : Forest) → t ≡ tree l k empty → drop at cells ≡ visit_of (node_of l k) ∷ (visits_of k ++ rest) → l.payload ≡ bare kind.Neg → AllExpressions (tree l k empty) → IsOpposite at t cells
 opposite_of at t cells rest l empty q e n w = absurd (cc (ap (λ (y : Payload). takes y 0) n, w.0))
 opposite_of at t cells rest l (tree m j (tree o i r)) q e n w = absurd (omega (arith, eqb-true (arity (tree m j (tree o i r))) 1 (ap (λ (y : Payload). takes y (arity (tree m j (tree o i r)))) (sym n) ∙ w.0)))
 opposite_of at t cells rest l (tree m j empty) q e n w = record {
@@ -89,18 +90,18 @@ opposite_of at t cells rest l (tree m j empty) q e n w = record {
     alone = refl;
     whole = w.1;
     behind = rest;
-    cells_are = others_are cells (cells_of (tree m j empty) ++ rest) at (cell_of (node_of l (tree m j empty))) e;
+    cells_are = others_are cells (visits_of (tree m j empty) ++ rest) at (visit_of (node_of l (tree m j empty))) e;
   };
   plain_is = ap plain q ∙ ap (λ (y : Payload). grown y (plains (tree m j empty))) n;
 }
 
-pub opposite : {at : ℕ} {t : Forest} {cells : List Cell} (d : Cell) → ShowsTree at t cells → (get_or cells at d).kind ≡ kind.Neg → IsOpposite at t cells
+pub opposite : {at : ℕ} {t : Forest} {cells : List Visit} (d : Visit) → ShowsTree at t cells → (get_or cells at d).kind ≡ kind.Neg → IsOpposite at t cells
 opposite {at = at} {t = t} {cells = cells} d s e =
     let x = shown s in
-    let is : (get_or cells at d).kind ≡ kind_of_payload x.label.payload = ap (λ (y : Cell). y.kind) (first_is cells (cells_of x.below ++ x.rest) at (cell_of (node_of x.label x.below)) d x.cells_are) in
+    let is : (get_or cells at d).kind ≡ kind_of_payload x.label.payload = ap (λ (y : Visit). y.kind) (first_is cells (visits_of x.below ++ x.rest) at (visit_of (node_of x.label x.below)) d x.cells_are) in
     opposite_of at t cells x.rest x.label x.below x.tree_is x.cells_are (neg_payload x.label.payload (sym is ∙ e)) x.whole
 
-pub behind_none : {at : ℕ} {t : Forest} {cells : List Cell} (d e : Cell) → ShowsTree at t cells → ((get_or cells at e).kind ≡ kind.Neg → ⊥) → (get_or cells at d).kind ≡ kind_behind_opposites (plain t)
+pub behind_none : {at : ℕ} {t : Forest} {cells : List Visit} (d e : Visit) → ShowsTree at t cells → ((get_or cells at e).kind ≡ kind.Neg → ⊥) → (get_or cells at d).kind ≡ kind_behind_opposites (plain t)
 behind_none {t = t} d e s h = shown_kind d s ∙ sym (not_opposite (plain t) (λ q. h (shown_kind e s ∙ q)))
 
 pub decided_by_root : (p : Place) (t : Tree) → (p ≡ LaterOfProduct → ⊥) → root_kind t ≡ deciding_kind p t

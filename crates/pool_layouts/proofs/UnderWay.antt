@@ -17,7 +17,7 @@ use Rattle.tree_handles.specs.Forest.{Label, Forest, empty, tree, join, arity, b
 use Rattle.tree_handles.specs.Handed.{Ends, Starts, KeepsFront, AllOnce, IsOnce}
 use Rattle.tree_handles.specs.Inside.{holds, tree_at, payload_in}
 use Rattle.tree_handles.specs.Standing.{Stands, forest, KeepsRefusals, Refuses, LacksBytes}
-use Rattle.tree_handles.proofs.Distinct.{Distinct, distinct, distinct_parts, distinct-tree_at, holds-tree_at, tree_at-inside, other_id}
+use Rattle.tree_handles.proofs.Visiting.{found}
 use Rattle.tree_handles.proofs.Forests.{join-empty, join_assoc, arity-join, all-join, keeps_after, keeps_none, refuses_after}
 use Rattle.tree_handles.proofs.Gathering.{before_last-join, last_trees-join}
 use Rattle.tree_handles.proofs.Joins.{holds-left, tree_at-join_left}
@@ -25,12 +25,13 @@ use Rattle.tree_handles.proofs.Lasts.{ends_as}
 use Rattle.tree_handles.proofs.Measures.{one_at}
 use Rattle.tree_handles.proofs.Places.{used_forest}
 use Rattle.tree_handles.proofs.Plains.{count-plains}
-use Rattle.pool_layouts.specs.declared.cells.Cell.{Cell}
+use Rattle.tree_handles.specs.declared.visits.Visit.{Visit}
 use Rattle.pool_layouts.specs.declared.frames.Frame.{Frame}
 use Rattle.pool_layouts.specs.declared.places.Place.{Place}
 use Rattle.pool_layouts.specs.declared.places.Place.TheVariants.{Alone, FirstOfSum, LaterOfSum, LeftOfDifference, RightOfDifference, UnderSign, FirstOfProduct, LaterOfProduct, Base, Exponent}
 use Rattle.pool_layouts.specs.Building.{part_sizes, parts_sizes}
-use Rattle.pool_layouts.specs.Cells.{cell_of, cells_of, ShowsTree}
+use Rattle.tree_handles.specs.Visits.{visit_of, visits_of, AreFound}
+use Rattle.pool_layouts.specs.Cells.{ShowsTree}
 use Rattle.pool_layouts.specs.Drawings.{drawn, drawings, composes, AllComposed, IsComposed, GivesLayout}
 use Rattle.pool_layouts.specs.Frames.{frame_of, frame_behind}
 use Rattle.pool_layouts.specs.Layouts.{Layout, Layouts, beside, one_part, join_parts, layout}
@@ -103,12 +104,12 @@ AreOwed base making [] = Unit {0}
 AreOwed base making (o ∷ os) = IsOwed base (made_of os) making o × AreOwed base 1 os
 
 -- the innermost node, and those around it
-pub record IsUnderWay (l : Layout) (old now : State) (at : ℕ) (cells : List Cell) (frames : List Frame) : Type 0 where
+pub record IsUnderWay (l : Layout) (old now : State) (at : ℕ) (cells : List Visit) (frames : List Frame) : Type 0 where
   pub inner : Owed
   pub outer : List Owed
   pub frames_are : frames ≡ frames_of (inner ∷ outer)
   pub whole : forest now ≡ join (forest old) (made_of (inner ∷ outer))
-  pub cells_are : drop at cells ≡ map cell_of (nodes_left (inner ∷ outer))
+  pub cells_are : drop at cells ≡ map visit_of (nodes_left (inner ∷ outer))
   pub innermost : IsOwed (forest old) (made_of outer) 0 inner
   pub others : AreOwed (forest old) 1 outer
   pub layout_is : plugged outer (finished inner (join_parts (drawings inner.parts) (parts_left inner))) ≡ l
@@ -119,40 +120,12 @@ pub record IsUnderWay (l : Layout) (old now : State) (at : ℕ) (cells : List Ce
 
 -- ---- the nodes of the face are known
 
-known_below : (base : Forest) (l : Label) (k r : Forest) → Distinct (tree l k r) → ((i : ℕ) → holds i (tree l k r) ≡ true → (holds i base ≡ true) × (tree_at i base ≡ tree_at i (tree l k r))) → (i : ℕ) → holds i k ≡ true → (holds i base ≡ true) × (tree_at i base ≡ tree_at i k)
-known_below base l k r d h i e =
-    let p = distinct_parts l k r d in
-    let apart = other_id l.id i k p.not_below e in
-    let here : holds i (tree l k r) ≡ true = rw (apart, e) refl in
-    let same : tree_at i (tree l k r) ≡ tree_at i k = rw (apart, e) refl in
-    ((h i here).0, (h i here).1 ∙ same)
-
-known_behind : (base : Forest) (l : Label) (k r : Forest) → Distinct (tree l k r) → ((i : ℕ) → holds i (tree l k r) ≡ true → (holds i base ≡ true) × (tree_at i base ≡ tree_at i (tree l k r))) → (i : ℕ) → holds i r ≡ true → (holds i base ≡ true) × (tree_at i base ≡ tree_at i r)
-known_behind base l k r d h i e =
-    let p = distinct_parts l k r d in
-    let apart = other_id l.id i r p.not_behind e in
-    let not_below = p.apart i e in
-    let here : holds i (tree l k r) ≡ true = rw (apart, not_below, e) refl in
-    let same : tree_at i (tree l k r) ≡ tree_at i r = rw (apart, not_below) refl in
-    ((h i here).0, (h i here).1 ∙ same)
-
-first_payload : (l : Label) (k r : Forest) → root_payload (tree_at l.id (tree l k r)) ≡ l.payload
-first_payload l k r = rw (eq-eqb l.id) refl
-
-root_known : (base : Forest) (l : Label) (k r : Forest) → (holds l.id base ≡ true) × (tree_at l.id base ≡ tree_at l.id (tree l k r)) → IsKnown base l (arity k)
-root_known base l k r h = (h.0, ap root_payload h.1 ∙ first_payload l k r)
-
-known_all : (base t : Forest) → Distinct t → ((i : ℕ) → holds i t ≡ true → (holds i base ≡ true) × (tree_at i base ≡ tree_at i t)) → AllNodes (IsKnown base) t
-known_all base empty d h = tt
-known_all base (tree l k r) d h =
-    let p = distinct_parts l k r d in
-    let root : holds l.id (tree l k r) ≡ true = rw (eq-eqb l.id) refl in
-    (root_known base l k r (h l.id root), known_all base k p.below (known_below base l k r d h), known_all base r p.behind (known_behind base l k r d h))
+known_all : (base f : Forest) → AreFound base f → AllNodes (IsKnown base) f
+known_all base empty h = tt
+known_all base (tree l k r) h = ((h.0.0, ap root_payload h.0.1), known_all base k h.1, known_all base r h.2)
 
 pub known : (s : State) (i : ℕ) → Stands s → AllNodes (IsKnown (forest s)) (tree_at i (forest s))
-known s i st =
-    let d = distinct s st in
-    known_all (forest s) (tree_at i (forest s)) (distinct-tree_at i (forest s) d) (λ j h. (holds-tree_at i j (forest s) h, tree_at-inside i j (forest s) d h))
+known s i st = known_all (forest s) (tree_at i (forest s)) (found i s st)
 
 -- ---- a node before its children
 
@@ -198,7 +171,7 @@ whole_sizes x around ls h a =
 
 -- a node is entered, and nothing is placed of it
 abbrev pub fresh_owed : Label → Forest → Option Kind → ℕ → Owed
-fresh_owed l k around begin = record { frame = frame_of (cell_of (node_of l k)) around begin; source = l.payload; parts = empty; rest = k }
+fresh_owed l k around begin = record { frame = frame_of (visit_of (node_of l k)) around begin; source = l.payload; parts = empty; rest = k }
 
 record IsFresh (base outer : Forest) (l : Label) (k : Forest) (around : Option Kind) (begin : ℕ) : Type 0 where
   owed : IsOwed base outer 0 (fresh_owed l k around begin)
@@ -231,27 +204,27 @@ fresh base outer l k around begin b w n a =
 
 -- ---- the start
 
-shows_face : (face : ℕ) (s : State) (cells : List Cell) → IsExpression face (forest s) → cells ≡ cells_of (tree_at face (forest s)) → ShowsTree 0 (tree_at face (forest s)) cells
-shows_face face s cells x e = record { alone = one_at face (forest s) x.live; whole = x.whole; behind = []; cells_are = e ∙ sym (append-nil (cells_of (tree_at face (forest s)))) }
+shows_face : (face : ℕ) (s : State) (cells : List Visit) → IsExpression face (forest s) → cells ≡ visits_of (tree_at face (forest s)) → ShowsTree 0 (tree_at face (forest s)) cells
+shows_face face s cells x e = record { alone = one_at face (forest s) x.live; whole = x.whole; behind = []; cells_are = e ∙ sym (append-nil (visits_of (tree_at face (forest s)))) }
 
-pub first_inside : (face : ℕ) (s : State) (cells : List Cell) → IsExpression face (forest s) → cells ≡ cells_of (tree_at face (forest s)) → 0 < length cells
+pub first_inside : (face : ℕ) (s : State) (cells : List Visit) → IsExpression face (forest s) → cells ≡ visits_of (tree_at face (forest s)) → 0 < length cells
 first_inside face s cells x e = shown_inside (shows_face face s cells x e)
 
-pub started : (s : State) (face : ℕ) (cells : List Cell) (frames : List Frame) (d : Cell) (begin : ℕ) → Stands s → IsExpression face (forest s) → cells ≡ cells_of (tree_at face (forest s)) → begin ≡ used s.nodes → frames ≡ frame_of (get_or cells 0 d) None begin ∷ []
+pub started : (s : State) (face : ℕ) (cells : List Visit) (frames : List Frame) (d : Visit) (begin : ℕ) → Stands s → IsExpression face (forest s) → cells ≡ visits_of (tree_at face (forest s)) → begin ≡ used s.nodes → frames ≡ frame_of (get_or cells 0 d) None begin ∷ []
     → IsUnderWay (layout (plain (tree_at face (forest s)))) s s 1 cells frames
 started s face cells frames d begin st x e b f =
     let x = shown (shows_face face s cells x e) in
     let base = forest s in
-    let c = cell_of (node_of x.label x.below) in
+    let c = visit_of (node_of x.label x.below) in
     let known_ones = subst (AllNodes (IsKnown base)) x.tree_is (known s face st) in
     let n = fresh base empty x.label x.below None begin (b ∙ used_forest s st ∙ ap bytes_in (sym (join-empty base))) x.whole known_ones tt in
     let plain_is : plain (tree_at face base) ≡ plain (tree x.label x.below empty) = ap plain x.tree_is in
-    let first : get_or cells 0 d ≡ c = first_is cells (cells_of x.below ++ x.rest) 0 c d x.cells_are in
-    let all : cells ≡ cells_of (tree x.label x.below empty) = e ∙ ap cells_of x.tree_is in
+    let first : get_or cells 0 d ≡ c = first_is cells (visits_of x.below ++ x.rest) 0 c d x.cells_are in
+    let all : cells ≡ visits_of (tree x.label x.below empty) = e ∙ ap visits_of x.tree_is in
     record {
       inner = fresh_owed x.label x.below None begin;
       outer = [];
-      frames_are = f ∙ ap (λ (y : Cell). frame_of y None begin ∷ []) first;
+      frames_are = f ∙ ap (λ (y : Visit). frame_of y None begin ∷ []) first;
       whole = sym (join-empty base);
       cells_are = ap (drop 1) all;
       innermost = n.owed;
@@ -265,14 +238,14 @@ started s face cells frames d begin st x e b f =
 
 -- ---- the innermost node
 
-pub record IsTop (l : Layout) (old now : State) (at : ℕ) (cells : List Cell) (popped : List Frame) (frame : Frame) : Type 0 where
+pub record IsTop (l : Layout) (old now : State) (at : ℕ) (cells : List Visit) (popped : List Frame) (frame : Frame) : Type 0 where
   pub source : Payload
   pub parts : Forest
   pub rest : Forest
   pub outer : List Owed
   pub popped_is : popped ≡ frames_of outer
   pub whole : forest now ≡ join (forest old) (join (made_of outer) parts)
-  pub cells_are : drop at cells ≡ map cell_of (flatten rest ++ nodes_left outer)
+  pub cells_are : drop at cells ≡ map visit_of (flatten rest ++ nodes_left outer)
   pub innermost : IsOwed (forest old) (made_of outer) 0 (record { frame = frame; source = source; parts = parts; rest = rest })
   pub others : AreOwed (forest old) 1 outer
   pub layout_is : plugged outer (within frame.around (drawn (laid source) (join_parts (drawings parts) (parts_from frame.place (plains rest))))) ≡ l
@@ -292,7 +265,7 @@ snoc_same (a ∷ xs) (b ∷ ys) x y e =
     let same = snoc_same xs ys x y tails in
     (ap (λ (z : Frame). z ∷ xs) heads ∙ ap (λ (zs : List Frame). b ∷ zs) same.0, same.1)
 
-top_itself : (l : Layout) (old now : State) (at : ℕ) (cells : List Cell) (frames : List Frame) (u : IsUnderWay l old now at cells frames) → IsTop l old now at cells (frames_of u.outer) u.inner.frame
+top_itself : (l : Layout) (old now : State) (at : ℕ) (cells : List Visit) (frames : List Frame) (u : IsUnderWay l old now at cells frames) → IsTop l old now at cells (frames_of u.outer) u.inner.frame
 top_itself l old now at cells frames u = record {
   source = u.inner.source;
   parts = u.inner.parts;
@@ -310,14 +283,14 @@ top_itself l old now at cells frames u = record {
   short = omega (arith, u.short, ap length u.frames_are, length-append (frames_of u.outer) (u.inner.frame ∷ []));
 }
 
-pub top : {l : Layout} {old now : State} {at : ℕ} {cells : List Cell} {frames : List Frame} (popped : List Frame) (frame : Frame) → IsUnderWay l old now at cells frames → frames ≡ popped ++ frame ∷ [] → IsTop l old now at cells popped frame
+pub top : {l : Layout} {old now : State} {at : ℕ} {cells : List Visit} {frames : List Frame} (popped : List Frame) (frame : Frame) → IsUnderWay l old now at cells frames → frames ≡ popped ++ frame ∷ [] → IsTop l old now at cells popped frame
 top {l = l} {old = old} {now = now} {at = at} {cells = cells} {frames = frames} popped frame u e =
     let same = snoc_same popped (frames_of u.outer) frame u.inner.frame (sym e ∙ u.frames_are) in
     subst (λ (f : Frame). IsTop l old now at cells popped f) (sym same.1) (subst (λ (p : List Frame). IsTop l old now at cells p u.inner.frame) (sym same.0) (top_itself l old now at cells frames u))
 
 -- ---- the next child is entered
 
-pub record IsNext (l : Layout) (old now : State) (at : ℕ) (cells : List Cell) (popped : List Frame) (frame : Frame) : Type 0 where
+pub record IsNext (l : Layout) (old now : State) (at : ℕ) (cells : List Visit) (popped : List Frame) (frame : Frame) : Type 0 where
   pub source : Payload
   pub parts : Forest
   pub label : Label
@@ -326,7 +299,7 @@ pub record IsNext (l : Layout) (old now : State) (at : ℕ) (cells : List Cell) 
   pub outer : List Owed
   pub popped_is : popped ≡ frames_of outer
   pub whole : forest now ≡ join (forest old) (join (made_of outer) parts)
-  pub cells_are : drop at cells ≡ cell_of (node_of label below) ∷ map cell_of (flatten below ++ (flatten rest ++ nodes_left outer))
+  pub cells_are : drop at cells ≡ visit_of (node_of label below) ∷ map visit_of (flatten below ++ (flatten rest ++ nodes_left outer))
   pub innermost : IsOwed (forest old) (made_of outer) 0 (record { frame = frame; source = source; parts = parts; rest = tree label below rest })
   pub others : AreOwed (forest old) 1 outer
   pub layout_is : plugged outer (within frame.around (drawn (laid source) (join_parts (drawings parts) (parts_from frame.place (plains (tree label below rest)))))) ≡ l
@@ -335,10 +308,10 @@ pub record IsNext (l : Layout) (old now : State) (at : ℕ) (cells : List Cell) 
   pub stands : Stands now
   pub short : length popped + 1 ≤ at
 
-pub next : {l : Layout} {old now : State} {at : ℕ} {cells : List Cell} {popped : List Frame} {frame : Frame} → IsTop l old now at cells popped frame → 0 < frame.left → IsNext l old now at cells popped frame
+pub next : {l : Layout} {old now : State} {at : ℕ} {cells : List Visit} {popped : List Frame} {frame : Frame} → IsTop l old now at cells popped frame → 0 < frame.left → IsNext l old now at cells popped frame
 next {l = l} {old = old} {now = now} {at = at} {cells = cells} {popped = popped} {frame = frame} t some = by t.rest t.cells_are t.innermost t.layout_is t.budget
   where
-    by : (rest : Forest) → drop at cells ≡ map cell_of (flatten rest ++ nodes_left t.outer) → IsOwed (forest old) (made_of t.outer) 0 (record { frame = frame; source = t.source; parts = t.parts; rest = rest })
+    by : (rest : Forest) → drop at cells ≡ map visit_of (flatten rest ++ nodes_left t.outer) → IsOwed (forest old) (made_of t.outer) 0 (record { frame = frame; source = t.source; parts = t.parts; rest = rest })
         → plugged t.outer (within frame.around (drawn (laid t.source) (join_parts (drawings t.parts) (parts_from frame.place (plains rest))))) ≡ l
         → taking (free_of old) (part_sizes l) ≡ taking (free_of now) (parts_sizes (parts_from frame.place (plains rest)) ++ (root_sizes t.source frame.around ++ sizes_left t.outer)) → IsNext l old now at cells popped frame
     by empty c o d b = absurd (omega (arith, o.left, some))
@@ -351,7 +324,7 @@ next {l = l} {old = old} {now = now} {at = at} {cells = cells} {popped = popped}
       outer = t.outer;
       popped_is = t.popped_is;
       whole = t.whole;
-      cells_are = c ∙ ap (λ (ns : List Node). cell_of (node_of m k) ∷ map cell_of ns) (append_assoc (flatten k) (flatten r) (nodes_left t.outer));
+      cells_are = c ∙ ap (λ (ns : List Node). visit_of (node_of m k) ∷ map visit_of ns) (append_assoc (flatten k) (flatten r) (nodes_left t.outer));
       innermost = o;
       others = t.others;
       layout_is = d;
@@ -361,16 +334,16 @@ next {l = l} {old = old} {now = now} {at = at} {cells = cells} {popped = popped}
       short = t.short;
     }
 
-pub next_shows : {l : Layout} {old now : State} {at : ℕ} {cells : List Cell} {popped : List Frame} {frame : Frame} (n : IsNext l old now at cells popped frame) → ShowsTree at (tree n.label n.below empty) cells
+pub next_shows : {l : Layout} {old now : State} {at : ℕ} {cells : List Visit} {popped : List Frame} {frame : Frame} (n : IsNext l old now at cells popped frame) → ShowsTree at (tree n.label n.below empty) cells
 next_shows {at = at} {cells = cells} n = record {
   alone = refl;
   whole = (n.innermost.expressions.0, n.innermost.expressions.1, tt);
-  behind = map cell_of (flatten n.rest ++ nodes_left n.outer);
-  cells_are = n.cells_are ∙ ap (λ (y : List Cell). cell_of (node_of n.label n.below) ∷ y) (map-append cell_of (flatten n.below) (flatten n.rest ++ nodes_left n.outer) ∙ ap (λ (ns : List Node). map cell_of ns ++ map cell_of (flatten n.rest ++ nodes_left n.outer)) (sym (append-nil (flatten n.below))));
+  behind = map visit_of (flatten n.rest ++ nodes_left n.outer);
+  cells_are = n.cells_are ∙ ap (λ (y : List Visit). visit_of (node_of n.label n.below) ∷ y) (map-append visit_of (flatten n.below) (flatten n.rest ++ nodes_left n.outer) ∙ ap (λ (ns : List Node). map visit_of ns ++ map visit_of (flatten n.rest ++ nodes_left n.outer)) (sym (append-nil (flatten n.below))));
 }
 
 -- the parts of a node are few
-pub parts_are_few : {l : Layout} {old now : State} {at : ℕ} {cells : List Cell} {popped : List Frame} {frame : Frame} → IsTop l old now at cells popped frame → frame.parts ≤ 65535
+pub parts_are_few : {l : Layout} {old now : State} {at : ℕ} {cells : List Visit} {popped : List Frame} {frame : Frame} → IsTop l old now at cells popped frame → frame.parts ≤ 65535
 parts_are_few {old = old} {now = now} t =
     omega (arith, few_trees now t.stands, ap arity t.whole, arity-join (forest old) (join (made_of t.outer) t.parts), arity-join (made_of t.outer) t.parts, t.innermost.number)
 
@@ -382,7 +355,7 @@ marked a b c d = join_assoc a (join b c) d ∙ ap (join a) (join_assoc b c d)
 regroup : (a b c d : List ℕ) → ((a ++ b) ++ c) ++ d ≡ a ++ (b ++ (c ++ d))
 regroup a b c d = append_assoc (a ++ b) c d ∙ append_assoc a b (c ++ d)
 
-pub entered : {l : Layout} {old now : State} {at : ℕ} {cells : List Cell} {popped : List Frame} {frame : Frame} (after : State) (marks_placed : ℕ) (around : Option Kind) (begin : ℕ) (d : Cell) (frames : List Frame)
+pub entered : {l : Layout} {old now : State} {at : ℕ} {cells : List Visit} {popped : List Frame} {frame : Frame} (after : State) (marks_placed : ℕ) (around : Option Kind) (begin : ℕ) (d : Visit) (frames : List Frame)
     → IsNext l old now at cells popped frame → PlacesMark (mark_before frame.place) (forest now) (forest after) marks_placed → KeepsRefusals now after → taking (free_of now) (around_sizes (mark_before frame.place)) ≡ Ok (free_of after) → Stands after
     → ((t : Forest) → ShowsTree at t cells → around ≡ around_of frame.place (plain t)) → begin ≡ used after.nodes
     → frames ≡ (popped ++ frame_behind frame marks_placed ∷ []) ++ frame_of (get_or cells at d) around begin ∷ []
@@ -393,8 +366,8 @@ entered {l = l} {old = old} {now = now} {at = at} {cells = cells} {popped = popp
     let t = tree n.label n.below empty in
     let a : around ≡ around_of frame.place (plain t) = around_is t (next_shows n) in
     let whole : forest after ≡ join base made = m.whole ∙ ap (λ (g : Forest). join g m.parts) n.whole ∙ marked base (made_of n.outer) n.parts m.parts in
-    let c = cell_of (node_of n.label n.below) in
-    let first : get_or cells at d ≡ c = first_is cells (map cell_of (flatten n.below ++ (flatten n.rest ++ nodes_left n.outer))) at c d n.cells_are in
+    let c = visit_of (node_of n.label n.below) in
+    let first : get_or cells at d ≡ c = first_is cells (map visit_of (flatten n.below ++ (flatten n.rest ++ nodes_left n.outer))) at c d n.cells_are in
     let stands_in : IsAround around = subst IsAround (sym a) (stands_around frame.place (root_kind (plain t)) (deciding_kind frame.place (plain t))) in
     let x = fresh base made n.label n.below around begin (b ∙ used_forest after st ∙ ap bytes_in whole) (n.innermost.expressions.0, n.innermost.expressions.1, tt) (n.innermost.known.0, n.innermost.known.1, tt) stands_in in
     let outer_owed : Owed = record { frame = frame_behind frame marks_placed; source = n.source; parts = join n.parts m.parts; rest = n.rest } in
@@ -412,9 +385,9 @@ entered {l = l} {old = old} {now = now} {at = at} {cells = cells} {popped = popp
     record {
       inner = fresh_owed n.label n.below around begin;
       outer = outer_owed ∷ n.outer;
-      frames_are = f ∙ ap (λ (y : Cell). (popped ++ frame_behind frame marks_placed ∷ []) ++ frame_of y around begin ∷ []) first ∙ ap (λ (y : List Frame). (y ++ frame_behind frame marks_placed ∷ []) ++ frame_of c around begin ∷ []) n.popped_is;
+      frames_are = f ∙ ap (λ (y : Visit). (popped ++ frame_behind frame marks_placed ∷ []) ++ frame_of y around begin ∷ []) first ∙ ap (λ (y : List Frame). (y ++ frame_behind frame marks_placed ∷ []) ++ frame_of c around begin ∷ []) n.popped_is;
       whole = whole ∙ ap (join base) (sym (join-empty made));
-      cells_are = others_are cells (map cell_of (flatten n.below ++ (flatten n.rest ++ nodes_left n.outer))) at c n.cells_are;
+      cells_are = others_are cells (map visit_of (flatten n.below ++ (flatten n.rest ++ nodes_left n.outer))) at c n.cells_are;
       innermost = x.owed;
       others = (
         record {
@@ -489,14 +462,14 @@ pub front_kept : {others new : Forest} {id : ℕ} {l : Layout} → GivesLayout o
 front_kept {others = others} {new = new} g = keeps_starting others g.tree new (record { behind = empty; whole = g.ends.whole ∙ sym (join-empty (join others g.tree)) })
 
 -- what closing it wants
-pub record IsClosing (l : Layout) (old now : State) (popped : List Frame) (frame : Frame) (at : ℕ) (cells : List Cell) : Type 0 where
+pub record IsClosing (l : Layout) (old now : State) (popped : List Frame) (frame : Frame) (at : ℕ) (cells : List Visit) : Type 0 where
   pub source : Payload
   pub parts : Forest
   pub outer : List Owed
   pub popped_is : popped ≡ frames_of outer
   pub whole : forest now ≡ join (join (forest old) (made_of outer)) parts
   pub number : frame.parts ≡ arity parts
-  pub cells_are : drop at cells ≡ map cell_of (nodes_left outer)
+  pub cells_are : drop at cells ≡ map visit_of (nodes_left outer)
   pub innermost : IsOwed (forest old) (made_of outer) 0 (record { frame = frame; source = source; parts = parts; rest = empty })
   pub others : AreOwed (forest old) 1 outer
   pub layout_is : plugged outer (within frame.around (drawn (laid source) (drawings parts))) ≡ l
@@ -506,10 +479,10 @@ pub record IsClosing (l : Layout) (old now : State) (popped : List Frame) (frame
   pub short : length popped + 1 ≤ at
   pub composed : composes (laid source) (arity parts) ≡ true
 
-pub closing : {l : Layout} {old now : State} {at : ℕ} {cells : List Cell} {popped : List Frame} {frame : Frame} → IsTop l old now at cells popped frame → frame.left ≡ 0 → IsClosing l old now popped frame at cells
+pub closing : {l : Layout} {old now : State} {at : ℕ} {cells : List Visit} {popped : List Frame} {frame : Frame} → IsTop l old now at cells popped frame → frame.left ≡ 0 → IsClosing l old now popped frame at cells
 closing {l = l} {old = old} {now = now} {at = at} {cells = cells} {popped = popped} {frame = frame} t z = by t.rest t.cells_are t.innermost t.layout_is t.budget
   where
-    by : (rest : Forest) → drop at cells ≡ map cell_of (flatten rest ++ nodes_left t.outer) → IsOwed (forest old) (made_of t.outer) 0 (record { frame = frame; source = t.source; parts = t.parts; rest = rest })
+    by : (rest : Forest) → drop at cells ≡ map visit_of (flatten rest ++ nodes_left t.outer) → IsOwed (forest old) (made_of t.outer) 0 (record { frame = frame; source = t.source; parts = t.parts; rest = rest })
         → plugged t.outer (within frame.around (drawn (laid t.source) (join_parts (drawings t.parts) (parts_from frame.place (plains rest))))) ≡ l
         → taking (free_of old) (part_sizes l) ≡ taking (free_of now) (parts_sizes (parts_from frame.place (plains rest)) ++ (root_sizes t.source frame.around ++ sizes_left t.outer)) → IsClosing l old now popped frame at cells
     by (tree m k r) c o d b = absurd (omega (arith, o.left, z))
@@ -531,7 +504,7 @@ closing {l = l} {old = old} {now = now} {at = at} {cells = cells} {popped = popp
       composed = ap (composes (laid t.source)) (let same : arity t.parts ≡ arity t.parts + 0 + 0 = omega arith in same) ∙ o.composed_whole;
     }
 
-module _ {l : Layout} {old now : State} {at : ℕ} {cells : List Cell} {popped : List Frame} {frame : Frame} (k : IsClosing l old now popped frame at cells) where
+module _ {l : Layout} {old now : State} {at : ℕ} {cells : List Visit} {popped : List Frame} {frame : Frame} (k : IsClosing l old now popped frame at cells) where
   pub close_live : holds frame.id (forest now) ≡ true
   close_live = ap (holds frame.id) (k.whole ∙ join_assoc (forest old) (made_of k.outer) k.parts) ∙ holds-left frame.id (forest old) (join (made_of k.outer) k.parts) k.innermost.live
 
@@ -592,7 +565,7 @@ module _ {l : Layout} {old now : State} {at : ℕ} {cells : List Cell} {popped :
       → taking (free_of now) (root_sizes (payload_in frame.id (forest now)) frame.around) ≡ Ok (free_of after) → Stands after → IsUnderWay l old after at cells popped
   closed_one after id some c kept room st = by k.outer k.popped_is k.cells_are k.others k.layout_is (closed_whole after id c) (left_sizes after room)
     where
-      by : (outer : List Owed) → popped ≡ frames_of outer → drop at cells ≡ map cell_of (nodes_left outer) → AreOwed (forest old) 1 outer → plugged outer (within frame.around (drawn (laid k.source) (drawings k.parts))) ≡ l
+      by : (outer : List Owed) → popped ≡ frames_of outer → drop at cells ≡ map visit_of (nodes_left outer) → AreOwed (forest old) 1 outer → plugged outer (within frame.around (drawn (laid k.source) (drawings k.parts))) ≡ l
           → Ends id (held_in frame.around id (one_tree c.root (laid k.source) k.parts)) (join (forest old) (made_of outer)) (forest after)
           → taking (free_of old) (part_sizes l) ≡ taking (free_of after) (sizes_left outer) → IsUnderWay l old after at cells popped
       by [] p n o d e b = absurd (omega (arith, ap length p, some))
@@ -641,7 +614,7 @@ module _ {l : Layout} {old now : State} {at : ℕ} {cells : List Cell} {popped :
   }
 
 -- a mark was refused
-pub mark_stopped : {l : Layout} {old now : State} {at : ℕ} {cells : List Cell} {popped : List Frame} {frame : Frame} (after : State) (full : Full) → IsNext l old now at cells popped frame
+pub mark_stopped : {l : Layout} {old now : State} {at : ℕ} {cells : List Visit} {popped : List Frame} {frame : Frame} (after : State) (full : Full) → IsNext l old now at cells popped frame
     → IsStopped (forest now) (around_sizes (mark_before frame.place)) now after full → HasStopped l old after full
 mark_stopped {l = l} {old = old} {now = now} {frame = frame} after full n s =
     let placed_marks = marks (mark_before frame.place) in
@@ -658,7 +631,7 @@ mark_stopped {l = l} {old = old} {now = now} {frame = frame} after full n s =
     }
 
 -- some node is under way
-pub some_under_way : {l : Layout} {old now : State} {at : ℕ} {cells : List Cell} {frames : List Frame} → IsUnderWay l old now at cells frames → 0 < length frames
+pub some_under_way : {l : Layout} {old now : State} {at : ℕ} {cells : List Visit} {frames : List Frame} → IsUnderWay l old now at cells frames → 0 < length frames
 some_under_way u = omega (arith, ap length u.frames_are, length-append (frames_of u.outer) (u.inner.frame ∷ []))
 
 pub none_left : (frames : List Frame) → nat_eq (length frames) 0 ≡ true → frames ≡ []

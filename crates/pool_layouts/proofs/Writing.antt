@@ -13,9 +13,9 @@ use Rattle.node_pool.proofs.Sizes.{size_from}
 use Rattle.tree_handles.proofs.Measures.{one_at}
 use Rattle.tree_handles.proofs.Parts.{live_at}
 use Rattle.line_text.specs.Content.{Content}
-use Rattle.pool_layouts.specs.declared.cells.Cell.{Cell}
+use Rattle.tree_handles.specs.declared.visits.Visit.{Visit}
 use Rattle.pool_layouts.specs.declared.serial.Pending.{Pending}
-use Rattle.pool_layouts.specs.Cells.{cell_of, cells_of}
+use Rattle.tree_handles.specs.Visits.{visit_of, visits_of}
 use Rattle.pool_layouts.specs.Drawings.{drawn, drawings, drawing, composes, AllComposed, IsLayout}
 use Rattle.pool_layouts.specs.Layouts.{Layouts, nothing, beside}
 use Rattle.pool_layouts.specs.Pending.{before_part, behind_parts, number_of, parts_text, owed_text, leaf_serial}
@@ -53,10 +53,10 @@ abbrev pub AreOwed : Forest → List Owed → Type 0
 AreOwed base [] = Unit {0}
 AreOwed base (o ∷ os) = IsOwed base o × AreOwed base os
 
-pub record IsWriting (base : Forest) (at : ℕ) (cells : List Cell) (pendings : List Pending) (bytes whole : List ℕ) : Type 0 where
+pub record IsWriting (base : Forest) (at : ℕ) (cells : List Visit) (pendings : List Pending) (bytes whole : List ℕ) : Type 0 where
   pub owed : List Owed
   pub pendings_are : pendings ≡ pendings_of owed
-  pub cells_are : drop at cells ≡ map cell_of (nodes_left owed)
+  pub cells_are : drop at cells ≡ map visit_of (nodes_left owed)
   pub text : bytes ++ owed_texts owed ≡ whole
   pub each : AreOwed base owed
   pub short : length pendings ≤ at + 1
@@ -68,7 +68,7 @@ alone empty e = absurd (omega (arith, e))
 alone (tree l k empty) e = refl
 alone (tree l k (tree m j r)) e = absurd (omega (arith, e))
 
-pub writing_start : (s : State) (i : ℕ) (cells : List Cell) (pendings : List Pending) (bytes : List ℕ) → Stands s → IsLayout i (forest s) → cells ≡ cells_of (tree_at i (forest s)) → pendings ≡ (record { kind = kind.Row; left = 1 }) ∷ []
+pub writing_start : (s : State) (i : ℕ) (cells : List Visit) (pendings : List Pending) (bytes : List ℕ) → Stands s → IsLayout i (forest s) → cells ≡ visits_of (tree_at i (forest s)) → pendings ≡ (record { kind = kind.Row; left = 1 }) ∷ []
     → IsWriting (forest s) 0 cells pendings bytes (bytes ++ serial (drawing (tree_at i (forest s))))
 writing_start s i cells pendings bytes st x e p =
     let t = tree_at i (forest s) in
@@ -77,7 +77,7 @@ writing_start s i cells pendings bytes st x e p =
     record {
       owed = record { rest = record { kind = kind.Row; left = 1 }; parts = t } ∷ [];
       pendings_are = p;
-      cells_are = e ∙ ap (map cell_of) (sym (append-nil (flatten t)));
+      cells_are = e ∙ ap (map visit_of) (sym (append-nil (flatten t)));
       text = ap (λ (x : List ℕ). bytes ++ x) text_is;
       each = (record { left = sym one; composed_parts = x.composed_whole; known_parts = known s i st; valid_parts = valid s i st x.live }, tt);
       short = omega (arith, ap length p);
@@ -95,11 +95,11 @@ whole_short s i bytes capacity st x room =
 
 -- ---- the innermost
 
-pub record IsTaken (base : Forest) (at : ℕ) (cells : List Cell) (rest : Pending) (popped : List Pending) (bytes whole : List ℕ) : Type 0 where
+pub record IsTaken (base : Forest) (at : ℕ) (cells : List Visit) (rest : Pending) (popped : List Pending) (bytes whole : List ℕ) : Type 0 where
   pub parts : Forest
   pub owed : List Owed
   pub popped_is : popped ≡ pendings_of owed
-  pub cells_are : drop at cells ≡ map cell_of (flatten parts ++ nodes_left owed)
+  pub cells_are : drop at cells ≡ map visit_of (flatten parts ++ nodes_left owed)
   pub text : bytes ++ (owed_text rest.kind (drawings parts) ++ owed_texts owed) ≡ whole
   pub first : IsOwed base (record { rest = rest; parts = parts })
   pub others : AreOwed base owed
@@ -115,10 +115,10 @@ snoc_same (a ∷ xs) (b ∷ ys) x y e =
     let same = snoc_same xs ys x y tails in
     (ap (λ (z : Pending). z ∷ xs) heads ∙ ap (λ (zs : List Pending). b ∷ zs) same.0, same.1)
 
-pub taken : {base : Forest} {at : ℕ} {cells : List Cell} {pendings : List Pending} {bytes whole : List ℕ} (rest : Pending) (popped : List Pending) → IsWriting base at cells pendings bytes whole → pendings ≡ popped ++ rest ∷ [] → IsTaken base at cells rest popped bytes whole
+pub taken : {base : Forest} {at : ℕ} {cells : List Visit} {pendings : List Pending} {bytes whole : List ℕ} (rest : Pending) (popped : List Pending) → IsWriting base at cells pendings bytes whole → pendings ≡ popped ++ rest ∷ [] → IsTaken base at cells rest popped bytes whole
 taken {base = base} {at = at} {cells = cells} {pendings = pendings} {bytes = bytes} {whole = whole} rest popped w e = by w.owed w.pendings_are w.cells_are w.text w.each
   where
-    by : (os : List Owed) → pendings ≡ pendings_of os → drop at cells ≡ map cell_of (nodes_left os) → bytes ++ owed_texts os ≡ whole → AreOwed base os → IsTaken base at cells rest popped bytes whole
+    by : (os : List Owed) → pendings ≡ pendings_of os → drop at cells ≡ map visit_of (nodes_left os) → bytes ++ owed_texts os ≡ whole → AreOwed base os → IsTaken base at cells rest popped bytes whole
     by [] p c t a = absurd (omega (arith, ap length (sym e ∙ p), length-append popped (rest ∷ [])))
     by (o ∷ os) p c t a =
         let same = snoc_same popped (pendings_of os) rest o.rest (sym e ∙ p) in
@@ -135,14 +135,14 @@ taken {base = base} {at = at} {cells = cells} {pendings = pendings} {bytes = byt
 
 -- ---- it is closed
 
-pub record IsEnded (base : Forest) (at : ℕ) (cells : List Cell) (rest : Pending) (popped : List Pending) (bytes whole : List ℕ) : Type 0 where
+pub record IsEnded (base : Forest) (at : ℕ) (cells : List Visit) (rest : Pending) (popped : List Pending) (bytes whole : List ℕ) : Type 0 where
   pub room : length bytes + length (behind_parts rest.kind) ≤ length whole
   pub goes_on : (new : List ℕ) → new ≡ bytes ++ behind_parts rest.kind → IsWriting base at cells popped new whole
 
-pub ended : {base : Forest} {at : ℕ} {cells : List Cell} {rest : Pending} {popped : List Pending} {bytes whole : List ℕ} → IsTaken base at cells rest popped bytes whole → rest.left ≡ 0 → IsEnded base at cells rest popped bytes whole
+pub ended : {base : Forest} {at : ℕ} {cells : List Visit} {rest : Pending} {popped : List Pending} {bytes whole : List ℕ} → IsTaken base at cells rest popped bytes whole → rest.left ≡ 0 → IsEnded base at cells rest popped bytes whole
 ended {base = base} {at = at} {cells = cells} {rest = rest} {popped = popped} {bytes = bytes} {whole = whole} k z = by k.parts k.cells_are k.text k.first.left
   where
-    by : (f : Forest) → drop at cells ≡ map cell_of (flatten f ++ nodes_left k.owed) → bytes ++ (owed_text rest.kind (drawings f) ++ owed_texts k.owed) ≡ whole → rest.left ≡ arity f → IsEnded base at cells rest popped bytes whole
+    by : (f : Forest) → drop at cells ≡ map visit_of (flatten f ++ nodes_left k.owed) → bytes ++ (owed_text rest.kind (drawings f) ++ owed_texts k.owed) ≡ whole → rest.left ≡ arity f → IsEnded base at cells rest popped bytes whole
     by (tree l b r) c t a = absurd (omega (arith, a, z))
     by empty c t a = record {
       room = omega (arith, ap length t, length-append bytes (behind_parts rest.kind ++ owed_texts k.owed), length-append (behind_parts rest.kind) (owed_texts k.owed));
@@ -158,10 +158,10 @@ ended {base = base} {at = at} {cells = cells} {rest = rest} {popped = popped} {b
 
 -- ---- its next part is written
 
-pub record IsEntered (base : Forest) (at : ℕ) (cells : List Cell) (rest : Pending) (popped : List Pending) (bytes whole : List ℕ) : Type 0 where
+pub record IsEntered (base : Forest) (at : ℕ) (cells : List Visit) (rest : Pending) (popped : List Pending) (bytes whole : List ℕ) : Type 0 where
   pub label : Label
   pub below : Forest
-  pub cell_is : (d : Cell) → get_or cells at d ≡ cell_of (node_of label below)
+  pub cell_is : (d : Visit) → get_or cells at d ≡ visit_of (node_of label below)
   pub inside : at < length cells
   pub live : holds label.id base ≡ true
   pub payload_is : payload_in label.id base ≡ label.payload
@@ -174,15 +174,15 @@ pub record IsEntered (base : Forest) (at : ℕ) (cells : List Cell) (rest : Pend
 spread : (bytes b leaf inner ts close rest : List ℕ) → bytes ++ ((((b ++ (leaf ++ inner)) ++ ts) ++ close) ++ rest) ≡ ((bytes ++ b) ++ leaf) ++ (inner ++ ((ts ++ close) ++ rest))
 spread bytes b leaf inner ts close rest = simp append_assoc
 
-pub entered : {base : Forest} {at : ℕ} {cells : List Cell} {rest : Pending} {popped : List Pending} {bytes whole : List ℕ} → IsTaken base at cells rest popped bytes whole → 0 < rest.left → IsEntered base at cells rest popped bytes whole
+pub entered : {base : Forest} {at : ℕ} {cells : List Visit} {rest : Pending} {popped : List Pending} {bytes whole : List ℕ} → IsTaken base at cells rest popped bytes whole → 0 < rest.left → IsEntered base at cells rest popped bytes whole
 entered {base = base} {at = at} {cells = cells} {rest = rest} {popped = popped} {bytes = bytes} {whole = whole} k some = by k.parts k.cells_are k.text k.first
   where
-    by : (f : Forest) → drop at cells ≡ map cell_of (flatten f ++ nodes_left k.owed) → bytes ++ (owed_text rest.kind (drawings f) ++ owed_texts k.owed) ≡ whole → IsOwed base (record { rest = rest; parts = f }) → IsEntered base at cells rest popped bytes whole
+    by : (f : Forest) → drop at cells ≡ map visit_of (flatten f ++ nodes_left k.owed) → bytes ++ (owed_text rest.kind (drawings f) ++ owed_texts k.owed) ≡ whole → IsOwed base (record { rest = rest; parts = f }) → IsEntered base at cells rest popped bytes whole
     by empty c t a = absurd (omega (arith, a.left, some))
     by (tree l b r) c t a =
-        let n = cell_of (node_of l b) in
-        let behind = map cell_of (flatten b ++ (flatten r ++ nodes_left k.owed)) in
-        let here : drop at cells ≡ n ∷ behind = c ∙ ap (λ (ns : List Node). n ∷ map cell_of ns) (append_assoc (flatten b) (flatten r) (nodes_left k.owed)) in
+        let n = visit_of (node_of l b) in
+        let behind = map visit_of (flatten b ++ (flatten r ++ nodes_left k.owed)) in
+        let here : drop at cells ≡ n ∷ behind = c ∙ ap (λ (ns : List Node). n ∷ map visit_of ns) (append_assoc (flatten b) (flatten r) (nodes_left k.owed)) in
         let many : rest.left ≡ suc (number_of (drawings r)) = a.left ∙ ap suc (sym (number-drawings r)) in
         let sign = before_part rest.kind rest.left in
         let leaf = leaf_serial l.payload in
@@ -218,7 +218,7 @@ entered {base = base} {at = at} {cells = cells} {rest = rest} {popped = popped} 
 
 -- ---- the end
 
-pub done : {base : Forest} {at : ℕ} {cells : List Cell} {pendings : List Pending} {bytes whole : List ℕ} → IsWriting base at cells pendings bytes whole → length pendings ≡ 0 → bytes ≡ whole
+pub done : {base : Forest} {at : ℕ} {cells : List Visit} {pendings : List Pending} {bytes whole : List ℕ} → IsWriting base at cells pendings bytes whole → length pendings ≡ 0 → bytes ≡ whole
 done {base = base} {at = at} {cells = cells} {pendings = pendings} {bytes = bytes} {whole = whole} w z = by w.owed w.pendings_are w.text
   where
     by : (os : List Owed) → pendings ≡ pendings_of os → bytes ++ owed_texts os ≡ whole → bytes ≡ whole

@@ -1,24 +1,16 @@
 -- The nodes of trees, listed in prefix order.
-use Rattle.std.specs.Prelude.{ℕ, ◌≡◌, List, ◌++◌, map, drop}
-use Rattle.calc_terms.specs.Node.{Node}
-use Rattle.calc_terms.specs.Payload.{kind_of_payload}
+use Rattle.std.specs.Prelude.{ℕ, ◌≡◌, List, ◌++◌, drop}
+use Rattle.tree_handles.specs.declared.visits.Visit.{Visit}
 use Rattle.tree_handles.specs.Expressions.{AllExpressions}
-use Rattle.tree_handles.specs.Forest.{Forest, arity, flatten}
-use Rattle.pool_layouts.specs.declared.cells.Cell.{Cell}
-
--- a node without its count and what it holds
-abbrev pub cell_of : Node → Cell
-cell_of n = record { kind = kind_of_payload n.payload; children = n.children; id = n.id }
-
-abbrev pub cells_of : Forest → List Cell
-cells_of f = map cell_of (flatten f)
+use Rattle.tree_handles.specs.Forest.{Forest, arity}
+use Rattle.tree_handles.specs.Visits.{visits_of}
 
 -- one tree of the language is listed from a place on
-pub record ShowsTree (at : ℕ) (t : Forest) (cells : List Cell) : Type 0 where
+pub record ShowsTree (at : ℕ) (t : Forest) (cells : List Visit) : Type 0 where
   pub alone : arity t ≡ 1
   pub whole : AllExpressions t
-  pub behind : List Cell
-  pub cells_are : drop at cells ≡ cells_of t ++ behind
+  pub behind : List Visit
+  pub cells_are : drop at cells ≡ visits_of t ++ behind
 
-abbrev pub ShowsSome : ℕ → List Cell → Type 0
+abbrev pub ShowsSome : ℕ → List Visit → Type 0
 ShowsSome at cells = (t : Forest) × ShowsTree at t cells

@@ -1,12 +1,12 @@
 -- Nodes of a face whose layouts are under way.
 use Rattle.std.specs.Prelude.{ℕ, ◌+◌, ◌-◌, Option}
 use Rattle.calc_terms.specs.declared.kind.Kind.{Kind}
-use Rattle.pool_layouts.specs.declared.cells.Cell.{Cell}
+use Rattle.tree_handles.specs.declared.visits.Visit.{Visit}
 use Rattle.pool_layouts.specs.declared.frames.Frame.{Frame}
 use Rattle.pool_layouts.specs.Places.{first_place, next_place}
 
 -- a node before its children
-abbrev pub frame_of : Cell → Option Kind → ℕ → Frame
+abbrev pub frame_of : Visit → Option Kind → ℕ → Frame
 frame_of c around begin = record { id = c.id; place = first_place c.kind; left = c.children; parts = 0; begin = begin; around = around }
 
 -- the same when its next child is under way

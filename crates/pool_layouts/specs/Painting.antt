@@ -5,7 +5,7 @@ use Rattle.calc_terms.specs.Payload.{Payload, rational, named, bare, IsPayload}
 use Rattle.calc_language.specs.Texts.{decimal}
 use Rattle.tree_handles.specs.Forest.{Label, Forest, empty, tree, nodes_in, AllNodes}
 use Rattle.tree_handles.specs.Inside.{holds, payload_in}
-use Rattle.pool_layouts.specs.declared.cells.Cell.{Cell}
+use Rattle.tree_handles.specs.declared.visits.Visit.{Visit}
 use Rattle.pool_layouts.specs.declared.extents.Extent.{Extent}
 use Rattle.pool_layouts.specs.declared.ink.Ink.{Ink}
 use Rattle.pool_layouts.specs.declared.ink.Ink.TheVariants.{Nothing, Leaf, Bar, Roof, Root, Open, Close}
@@ -13,7 +13,7 @@ use Rattle.pool_layouts.specs.declared.steps.Span.{Span}
 use Rattle.pool_layouts.specs.declared.steps.Step.{Step}
 use Rattle.pool_layouts.specs.declared.steps.Step.TheVariants as step
 use Rattle.pool_layouts.specs.declared.steps.Opened.{Opened}
-use Rattle.pool_layouts.specs.Cells.{cells_of}
+use Rattle.tree_handles.specs.Visits.{visits_of}
 use Rattle.pool_layouts.specs.Drawings.{drawn, drawings}
 use Rattle.pool_layouts.specs.Extents.{HasSmall}
 use Rattle.pool_layouts.specs.Pictures.{blanks, bar, roof, root_character, times_character, level, picture, pictures, level_lines}
@@ -64,15 +64,15 @@ abbrev pub IsFound : Forest → Label → ℕ → Type 0
 IsFound base l n = (holds l.id base ≡ true) × (payload_in l.id base ≡ l.payload)
 
 -- the nodes of these layout trees are listed in that span
-pub record IsSpanOf (base : Forest) (cells : List Cell) (es : List Extent) (f : Forest) (span : Span) : Type 0 where
+pub record IsSpanOf (base : Forest) (cells : List Visit) (es : List Extent) (f : Forest) (span : Span) : Type 0 where
   pub small : HasSmall f span.at es
-  pub cells_behind : List Cell
-  pub cells_are : drop span.at cells ≡ cells_of f ++ cells_behind
+  pub cells_behind : List Visit
+  pub cells_are : drop span.at cells ≡ visits_of f ++ cells_behind
   pub found : AllNodes (IsFound base) f
   pub end_is : span.end ≡ span.at + nodes_in f
 
 -- a row of one layout
-pub record ShowsPart (base : Forest) (cells : List Cell) (es : List Extent) (span : Span) (y : ℕ) (cs : List ℕ) : Type 0 where
+pub record ShowsPart (base : Forest) (cells : List Visit) (es : List Extent) (span : Span) (y : ℕ) (cs : List ℕ) : Type 0 where
   pub label : Label
   pub below : Forest
   pub listed : IsSpanOf base cells es (tree label below empty) span
@@ -80,7 +80,7 @@ pub record ShowsPart (base : Forest) (cells : List Cell) (es : List Extent) (spa
   pub line_is : cs ≡ (picture (drawn label.payload (drawings below))).line y
 
 -- what one layout or more show in a row of a picture
-pub record ShowsLevel (base : Forest) (cells : List Cell) (es : List Extent) (span : Span) (above y : ℕ) (cs : List ℕ) : Type 0 where
+pub record ShowsLevel (base : Forest) (cells : List Visit) (es : List Extent) (span : Span) (above y : ℕ) (cs : List ℕ) : Type 0 where
   pub label : Label
   pub below : Forest
   pub others : Forest
@@ -90,13 +90,13 @@ pub record ShowsLevel (base : Forest) (cells : List Cell) (es : List Extent) (sp
   pub lines_are : cs ≡ level_lines above y (pictures (drawings (tree label below others)))
 
 -- the characters that a step paints
-abbrev pub Shows : Forest → List Cell → List Extent → Step → List ℕ → Type 0
+abbrev pub Shows : Forest → List Visit → List Extent → Step → List ℕ → Type 0
 Shows base cells es (step.Blanks n) cs = cs ≡ blanks n
 Shows base cells es step.Close cs = cs ≡ codes ")"
 Shows base cells es (step.Part span y) cs = ShowsPart base cells es span y cs
 Shows base cells es (step.Level span above y) cs = ShowsLevel base cells es span above y cs
 
-abbrev pub ShowsIf : Forest → List Cell → List Extent → Option Step → List ℕ → Type 0
+abbrev pub ShowsIf : Forest → List Visit → List Extent → Option Step → List ℕ → Type 0
 ShowsIf base cells es None cs = cs ≡ []
 ShowsIf base cells es (Some s) cs = Shows base cells es s cs
 
@@ -122,7 +122,7 @@ count_if None = 0
 count_if (Some s) = count s
 
 -- a step paints blanks, ink, and then what two further steps paint
-pub record Opens (base : Forest) (cells : List Cell) (es : List Extent) (s : Step) (cs : List ℕ) (o : Opened) : Type 0 where
+pub record Opens (base : Forest) (cells : List Visit) (es : List Extent) (s : Step) (cs : List ℕ) (o : Opened) : Type 0 where
   pub first : List ℕ
   pub second : List ℕ
   pub whole : cs ≡ blanks o.blanks ++ (ink_characters base o.ink ++ (first ++ second))
@@ -132,7 +132,7 @@ pub record Opens (base : Forest) (cells : List Cell) (es : List Extent) (s : Ste
   pub fewer : count_if o.first + count_if o.second ≤ count s
   pub ink_is : IsInk base o.ink
 
-abbrev pub ShowsSome : Forest → List Cell → List Extent → Step → Type 0
+abbrev pub ShowsSome : Forest → List Visit → List Extent → Step → Type 0
 ShowsSome base cells es s = (cs : List ℕ) × Shows base cells es s cs
 
 -- ---- what each step opens to
@@ -185,7 +185,7 @@ row_opened e span y = opened 0 Nothing None (level_if span.at span.end e.above y
 -- ---- a row
 
 -- one step is noted, which paints this line of at most so many characters
-pub record IsLine (base : Forest) (cells : List Cell) (es : List Extent) (steps : List Step) (line : List ℕ) : Type 0 where
+pub record IsLine (base : Forest) (cells : List Visit) (es : List Extent) (steps : List Step) (line : List ℕ) : Type 0 where
   pub only : Step
   pub steps_are : steps ≡ only ∷ []
   pub shown : Shows base cells es only line

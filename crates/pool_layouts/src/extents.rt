@@ -2,7 +2,7 @@
 ghost use Rattle.std.specs.Prelude.{◌≡◌, ◌+◌, ◌≤◌, ◌<◌, ◌^◌, length, max, nat_abs, true};
 ghost use Rattle.calc_language.specs.Texts.{decimal};
 ghost use Rattle.calc_terms.specs.Rat.{ratio_of};
-ghost use Rattle.pool_layouts.specs.Cells.{cells_of};
+ghost use Rattle.tree_handles.specs.Visits.{visits_of};
 ghost use Rattle.pool_layouts.specs.Drawings.{IsLayout, drawings};
 ghost use Rattle.pool_layouts.specs.Extents.{extent_from, extent_of, HasExtents, HasPair, HasSomeFirst, HasSomePair, HasSmall, HasSomeSmall, IsOver, IsSomeOver, IsSmall, leaf_width as leaf_width_of};
 ghost use Rattle.pool_layouts.specs.Pictures.{level, pictures, side_by_side};
@@ -10,11 +10,10 @@ ghost use Rattle.tree_handles.specs.Forest.{Forest, Label, arity, nodes_in, tree
 ghost use Rattle.tree_handles.specs.Inside.{holds, tree_at, payload_in};
 ghost use Rattle.tree_handles.specs.Standing.{Stands, forest};
 
-use crate::cells::Cell;
 use calc_terms::{Kind, Rat};
 use itoa::Buffer;
 use node_pool::{Id, Pool};
-use tree_handles::{kind, name, rational};
+use tree_handles::{Visit, kind, name, rational};
 
 /// The nodes of a layout, the columns of its picture, and the picture's rows above its base row and below.
 #[derive(Clone, Copy, Debug, Default)]
@@ -116,10 +115,10 @@ impl Extent {
 }
 
 /// Lists the extents of all layouts in the tree whose nodes are listed.
-pub(crate) fn measure(pool: &Pool, layout: Id, cells: &[Cell], extents: &mut [Extent])
+pub(crate) fn measure(pool: &Pool, layout: Id, cells: &[Visit], extents: &mut [Extent])
     requires stands { Stands pool.now }
     requires layout { IsLayout layout (forest pool.now) }
-    requires cells { cells.now ≡ cells_of (tree_at layout (forest pool.now)) }
+    requires cells { cells.now ≡ visits_of (tree_at layout (forest pool.now)) }
     requires room { length cells.now ≤ length extents.old }
     requires few { length extents.old ≤ 2 ^ 16 }
     ensures listed { HasExtents (tree_at layout (forest pool.now)) 0 extents.new }

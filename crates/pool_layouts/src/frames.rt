@@ -2,10 +2,10 @@
 ghost use Rattle.std.specs.Prelude.{◌≡◌, ◌<◌, ◌+◌, ◌^◌};
 ghost use Rattle.pool_layouts.specs.Frames.{frame_of, frame_behind};
 
-use crate::cells::Cell;
 use crate::places::Place;
 use calc_terms::Kind;
 use node_pool::Id;
+use tree_handles::Visit;
 
 /// A node of a face whose layout is under way.
 #[derive(Clone, Copy, Debug)]
@@ -39,7 +39,7 @@ impl Default for Frame {
 
 impl Frame {
     /// A node before its children.
-    pub(crate) fn of(cell: Cell, around: Option<Kind>, begin: u32) -> Frame
+    pub(crate) fn of(cell: Visit, around: Option<Kind>, begin: u32) -> Frame
         ensures { result ≡ frame_of cell around begin }
     {
         Frame {

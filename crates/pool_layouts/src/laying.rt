@@ -10,20 +10,21 @@ ghost use Rattle.tree_handles.specs.Inside.{holds, tree_at, payload_in};
 ghost use Rattle.tree_handles.specs.Standing.{Stands, forest, KeepsRefusals, Refuses, LacksBytes, IsRefused};
 ghost use Rattle.line_text.specs.Places.{kind_behind_opposites as behind_opposites};
 ghost use Rattle.pool_layouts.specs.Building.{laying};
-ghost use Rattle.pool_layouts.specs.Cells.{cells_of, ShowsTree, ShowsSome};
+ghost use Rattle.tree_handles.specs.Visits.{visits_of};
+ghost use Rattle.pool_layouts.specs.Cells.{ShowsTree, ShowsSome};
 ghost use Rattle.pool_layouts.specs.Drawings.{GivesLayout};
 ghost use Rattle.pool_layouts.specs.Layouts.{layout};
 ghost use Rattle.pool_layouts.specs.Laying.{Closes, HasLast, IsAround, is_leaf, IsStopped, PlacesMark, StandsIn, root_sizes, around_sizes};
 ghost use Rattle.pool_layouts.specs.Places.{laid, mark_before, around_of, deciding_kind as deciding};
 
-use crate::cells::{Cell, FEW, MANY, PLENTY, SEVERAL, list_nodes};
+use crate::cells::{FEW, MANY, PLENTY, SEVERAL, list_nodes};
 use crate::frames::Frame;
 use crate::places::{Place, laid_kind};
 use arrayvec::ArrayVec;
 use calc_terms::Kind;
 use node_pool::{Full, Id, Pool};
 use tree_handles::{
-    Handle, kind, name, node, node_over_last, number, rational, symbol, tree_nodes,
+    Handle, Visit, kind, name, node, node_over_last, number, rational, symbol, tree_nodes,
 };
 
 /// The layout of a face as a new last root. Its nodes are placed in postfix order: the parts from
@@ -71,7 +72,7 @@ fn lay_within<const N: usize>(pool: &mut Pool, face: Id) -> Result<Handle, Full>
     ensures caused { IfErr result (LacksBytes pool.new) }
     ensures stands { Stands pool.new }
 {
-    let mut cells: ArrayVec<Cell, N> = ArrayVec::new();
+    let mut cells: ArrayVec<Visit, N> = ArrayVec::new();
     list_nodes(pool, face, &mut cells);
     let mut under_way: ArrayVec<Frame, N> = ArrayVec::new();
     lay(pool, face, cells.as_slice(), &mut under_way)
@@ -81,12 +82,12 @@ fn lay_within<const N: usize>(pool: &mut Pool, face: Id) -> Result<Handle, Full>
 fn lay<const N: usize>(
     pool: &mut Pool,
     face: Id,
-    cells: &[Cell],
+    cells: &[Visit],
     under_way: &mut ArrayVec<Frame, N>,
 ) -> Result<Handle, Full>
     requires stands { Stands pool.old }
     requires expression { IsExpression face (forest pool.old) }
-    requires cells { cells.now ≡ cells_of (tree_at face (forest pool.old)) }
+    requires cells { cells.now ≡ visits_of (tree_at face (forest pool.old)) }
     requires none { under_way.old.items ≡ [] }
     requires listed { nodes_in (tree_at face (forest pool.old)) < N }
     requires few { N ≤ 2 ^ 16 }
@@ -137,7 +138,7 @@ fn place_mark(pool: &mut Pool, place: Place) -> Result<u32, Full>
 }
 
 /// What the tree at a place of the list stands in.
-fn around(cells: &[Cell], at: usize, place: Place) -> Option<Kind>
+fn around(cells: &[Visit], at: usize, place: Place) -> Option<Kind>
     requires shown { ShowsSome at cells.now }
     requires few { length cells.now < 2 ^ 16 }
     ensures { (t : Forest) → ShowsTree at t cells.now → result ≡ around_of place (plain t) }
@@ -146,7 +147,7 @@ fn around(cells: &[Cell], at: usize, place: Place) -> Option<Kind>
 }
 
 /// The kind on which it depends whether the tree at a place of the list needs parentheses.
-fn deciding_kind(cells: &[Cell], at: usize, place: Place) -> Kind
+fn deciding_kind(cells: &[Visit], at: usize, place: Place) -> Kind
     requires shown { ShowsSome at cells.now }
     requires few { length cells.now < 2 ^ 16 }
     ensures { (t : Forest) → ShowsTree at t cells.now → result ≡ deciding place (plain t) }
@@ -158,7 +159,7 @@ fn deciding_kind(cells: &[Cell], at: usize, place: Place) -> Kind
 }
 
 /// The kind of the first node from a place on that is no opposite.
-fn kind_behind_opposites(cells: &[Cell], from: usize) -> Kind
+fn kind_behind_opposites(cells: &[Visit], from: usize) -> Kind
     requires shown { ShowsSome from cells.now }
     requires few { length cells.now < 2 ^ 16 }
     ensures { (t : Forest) → ShowsTree from t cells.now → result ≡ behind_opposites (plain t) }

@@ -9,14 +9,14 @@ ghost use Rattle.tree_handles.specs.Forest.{bytes_in, nodes_in};
 ghost use Rattle.tree_handles.specs.Inside.{tree_at};
 ghost use Rattle.tree_handles.specs.Standing.{Stands, forest};
 
-use crate::cells::{Cell, FEW, MANY, PLENTY, SEVERAL, list_nodes};
+use crate::cells::{FEW, MANY, PLENTY, SEVERAL, list_nodes};
 use crate::extents::{Extent, extent_at, measure};
 use crate::ink::paint_ink;
 use crate::steps::{Span, Step, open_step};
 use arrayvec::ArrayVec;
 use line_text::Text;
 use node_pool::{Id, Pool};
-use tree_handles::tree_nodes;
+use tree_handles::{Visit, tree_nodes};
 
 /// How many rows the picture of a layout has.
 pub fn rows(pool: &Pool, layout: Id) -> u32
@@ -45,7 +45,7 @@ fn rows_within<const N: usize>(pool: &Pool, layout: Id) -> u32
     requires few { N ≤ 2 ^ 16 }
     ensures { result ≡ height (picture (drawing (tree_at layout (forest pool.now)))) }
 {
-    let mut cells: ArrayVec<Cell, N> = ArrayVec::new();
+    let mut cells: ArrayVec<Visit, N> = ArrayVec::new();
     list_nodes(pool, layout, &mut cells);
     let mut extents = [Extent::default(); N];
     measure(pool, layout, cells.as_slice(), &mut extents);
@@ -83,7 +83,7 @@ fn write_row_within<const N: usize>(pool: &Pool, layout: Id, row: u32, text: &mu
     requires few { N ≤ 2 ^ 16 }
     ensures { text.new ≡ extended text.old (encode_utf8_all (cut ((picture (drawing (tree_at layout (forest pool.now)))).line row))) }
 {
-    let mut cells: ArrayVec<Cell, N> = ArrayVec::new();
+    let mut cells: ArrayVec<Visit, N> = ArrayVec::new();
     list_nodes(pool, layout, &mut cells);
     let mut extents = [Extent::default(); N];
     measure(pool, layout, cells.as_slice(), &mut extents);
@@ -99,7 +99,7 @@ fn write_row_within<const N: usize>(pool: &Pool, layout: Id, row: u32, text: &mu
 /// Paints what is still to be painted of a row, the last step first.
 fn paint<const N: usize>(
     pool: &Pool,
-    cells: &[Cell],
+    cells: &[Visit],
     extents: &[Extent],
     steps: &mut ArrayVec<Step, N>,
     text: &mut Text,

@@ -3,7 +3,7 @@ ghost use Rattle.std.specs.Prelude.{◌≡◌, ◌<◌, ◌≤◌, ◌*◌, ◌^
 ghost use Rattle.calc_language.specs.Texts.{decimal};
 ghost use Rattle.calc_terms.specs.Rat.{ratio_of};
 ghost use Rattle.line_text.specs.Content.{spare_of, extended};
-ghost use Rattle.pool_layouts.specs.Cells.{cells_of};
+ghost use Rattle.tree_handles.specs.Visits.{visits_of};
 ghost use Rattle.pool_layouts.specs.Drawings.{IsLayout, drawing};
 ghost use Rattle.pool_layouts.specs.Pending.{before_part, behind_parts, leaf_serial};
 ghost use Rattle.pool_layouts.specs.Serial.{serial};
@@ -11,13 +11,13 @@ ghost use Rattle.tree_handles.specs.Forest.{bytes_in, nodes_in};
 ghost use Rattle.tree_handles.specs.Inside.{holds, tree_at, payload_in};
 ghost use Rattle.tree_handles.specs.Standing.{Stands, forest};
 
-use crate::cells::{Cell, FEW, MANY, PLENTY, SEVERAL, list_nodes};
+use crate::cells::{FEW, MANY, PLENTY, SEVERAL, list_nodes};
 use arrayvec::ArrayVec;
 use calc_terms::{Kind, Rat};
 use itoa::Buffer;
 use line_text::Text;
 use node_pool::{Id, Pool};
-use tree_handles::{kind, name, rational, tree_nodes};
+use tree_handles::{Visit, kind, name, rational, tree_nodes};
 
 /// Appends the serial text of a layout.
 pub fn write_serial(pool: &Pool, layout: Id, text: &mut Text)
@@ -48,7 +48,7 @@ fn write_within<const N: usize>(pool: &Pool, layout: Id, text: &mut Text)
     requires few { N ≤ 2 ^ 16 }
     ensures { text.new ≡ extended text.old (serial (drawing (tree_at layout (forest pool.now)))) }
 {
-    let mut cells: ArrayVec<Cell, N> = ArrayVec::new();
+    let mut cells: ArrayVec<Visit, N> = ArrayVec::new();
     list_nodes(pool, layout, &mut cells);
     let mut pending: ArrayVec<Pending, N> = ArrayVec::new();
     write_nodes(pool, layout, cells.as_slice(), &mut pending, text);
@@ -77,13 +77,13 @@ impl Default for Pending {
 fn write_nodes<const N: usize>(
     pool: &Pool,
     layout: Id,
-    cells: &[Cell],
+    cells: &[Visit],
     pending: &mut ArrayVec<Pending, N>,
     text: &mut Text,
 )
     requires stands { Stands pool.now }
     requires layout { IsLayout layout (forest pool.now) }
-    requires cells { cells.now ≡ cells_of (tree_at layout (forest pool.now)) }
+    requires cells { cells.now ≡ visits_of (tree_at layout (forest pool.now)) }
     requires none { pending.old.items ≡ [] }
     requires room { 2 * bytes_in (tree_at layout (forest pool.now)) ≤ spare_of text.old }
     requires listed { nodes_in (tree_at layout (forest pool.now)) < N }

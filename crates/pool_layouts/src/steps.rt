@@ -4,10 +4,10 @@ ghost use Rattle.pool_layouts.specs.Extents.{IsSmall};
 ghost use Rattle.pool_layouts.specs.Painting.{Opens, Shows, ShowsSome, centred_opened, fraction_opened, level_if as level_if_any, level_opened, paren_opened, radical_opened, raised_opened, row_opened};
 ghost use Rattle.tree_handles.specs.Forest.{Forest};
 
-use crate::cells::Cell;
 use crate::extents::{Extent, extent_at, second};
 use crate::ink::Ink;
 use calc_terms::Kind;
+use tree_handles::Visit;
 
 /// What is still to be painted of a row.
 #[derive(Clone, Copy, Debug)]
@@ -46,7 +46,7 @@ pub(crate) struct Opened {
 }
 
 /// What a step paints first, and what is left of it.
-pub(crate) fn open_step(cells: &[Cell], extents: &[Extent], step: Step) -> Opened
+pub(crate) fn open_step(cells: &[Visit], extents: &[Extent], step: Step) -> Opened
     requires shown { (base : Forest) × ShowsSome base cells.now extents.now step }
     requires few_cells { length cells.now < 2 ^ 16 }
     requires few { length extents.now ≤ 2 ^ 16 }
@@ -74,7 +74,7 @@ pub(crate) fn open_step(cells: &[Cell], extents: &[Extent], step: Step) -> Opene
 }
 
 /// A row of one layout.
-fn open_part(cells: &[Cell], extents: &[Extent], span: Span, row: u32) -> Opened
+fn open_part(cells: &[Visit], extents: &[Extent], span: Span, row: u32) -> Opened
     requires shown { (base : Forest) × ShowsSome base cells.now extents.now (Step.Part span row) }
     requires few_cells { length cells.now < 2 ^ 16 }
     requires few { length extents.now ≤ 2 ^ 16 }

@@ -32,7 +32,7 @@ rest_trees-sum (suc m) n empty = nothing n ∙ sym (nothing (n + suc m))
 rest_trees-sum (suc m) n (tree l k r) = rest_trees-sum m n r ∙ ap (λ (j : ℕ). rest_trees j (tree l k r)) {x = suc (n + m)} (omega arith)
 
 -- behind some trees the others begin
-forest_of-skip : (k : ℕ) (ns : List Node) → forest_of (skip k ns) ≡ rest_trees k (forest_of ns)
+pub forest_of-skip : (k : ℕ) (ns : List Node) → forest_of (skip k ns) ≡ rest_trees k (forest_of ns)
 unfolding forest_of
 forest_of-skip zero ns = refl
 forest_of-skip (suc k) [] = refl

@@ -29,3 +29,8 @@ pub mod NextChildren
 pub mod Room
 pub mod Opened
 pub mod Gathering
+pub mod Adopting
+pub mod Visiting
+pub mod Depths
+pub mod Dropping
+pub mod Counting

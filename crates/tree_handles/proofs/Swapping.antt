@@ -16,7 +16,7 @@ use Rattle.tree_handles.specs.Standing.{forest, Stands, IsCounted}
 use Rattle.tree_handles.specs.Walks.{skip}
 use Rattle.tree_handles.proofs.Counted.{all-kids, all-tree_at, all-with_kids, all-tree_nth, all-set_nth, all-root_tree, all-without_root}
 use Rattle.tree_handles.proofs.Distinct.{not_before, held_parent}
-use Rattle.tree_handles.proofs.Forests.{flatten-join, skip-flatten, arity-join, arity-set_nth, arity-tree_nth, nth_tree, all-join}
+use Rattle.tree_handles.proofs.Forests.{flatten-join, join-empty, skip-flatten, arity-join, arity-set_nth, arity-tree_nth, nth_tree, all-join}
 use Rattle.tree_handles.proofs.Nths.{pair}
 use Rattle.tree_handles.proofs.Parts.{live_at, kid_place, place_is, has_mid}
 use Rattle.tree_handles.proofs.Releases.{arity_le}
@@ -169,6 +169,11 @@ pub record IsBlock (i from end : ℕ) (s : State) : Type 0 where
   pub stop : end ≤ used s.nodes
   pub some : from < end
   pub done : moved from (end - from) (used s.nodes) s.nodes ≡ flatten (join (without_root i (forest s)) (root_tree i (forest s)))
+  pub stays : end ≡ used s.nodes → forest s ≡ join (without_root i (forest s)) (root_tree i (forest s))
+
+no_bytes : (f : Forest) → used (flatten f) ≡ 0 → f ≡ empty
+no_bytes empty e = refl
+no_bytes (tree l k r) e = absurd (omega (arith, e, size_from (node_of l k)))
 
 pub block : (i from end : ℕ) (s : State) → Stands s → has_root i (forest s) ≡ true → from ≡ place_of i s.nodes → IsBoundary end s.nodes → since end s.nodes ≡ skip 1 (since from s.nodes) → IsBlock i from end s
 block i from end s st root h b r =
@@ -196,6 +201,10 @@ block i from end s st root h b r =
       done = ap (moved from (end - from) (used ns)) all ∙ moved_right l c d [] from (end - from) (used ns) from-is (omega (arith, from-is, end-is)) size (omega (arith, from-is, end-is, some))
           ∙ ap (λ (y : List Node). l ++ (d ++ y)) (append-nil c) ∙ sym (append_assoc l d c)
           ∙ sym (ap flatten (ap (λ (y : Forest). join y (root_tree i f)) x.without ∙ ap (join (join x.left x.right)) x.tree-is) ∙ flatten-join (join x.left x.right) t ∙ ap (λ (y : List Node). y ++ c) (flatten-join x.left x.right));
+      stays = λ e.
+          let none : x.right ≡ empty = no_bytes x.right (omega (arith, e, end-is, size)) in
+          x.whole ∙ ap (λ (y : Forest). join x.left (tree x.label x.kids-are y)) none ∙ ap (λ (y : Forest). join y t) (sym (join-empty x.left) ∙ ap (join x.left) (sym none))
+          ∙ sym (ap (λ (y : Forest). join y (root_tree i f)) x.without ∙ ap (join (join x.left x.right)) x.tree-is);
     }
 
 pub counted_last : (i : ℕ) (s : State) → Stands s → AllNodes IsCounted (join (without_root i (forest s)) (root_tree i (forest s)))

@@ -7,6 +7,7 @@ pub mod Handed
 pub mod Children
 pub mod Copies
 pub mod Walks
+pub mod Visits
 pub mod Faults
 pub mod Building
 pub mod Causes

@@ -12,6 +12,13 @@ skip zero ns = ns
 skip (suc k) [] = []
 skip (suc k) (n ∷ ns) = skip (k + n.children) ns
 
+-- so many whole trees stand first
+pub record BeginsTrees (n : ℕ) (ns : List Node) : Type 0 where
+  pub trees : Forest
+  pub behind : List Node
+  pub nodes : ns ≡ flatten trees ++ behind
+  pub many : arity trees ≡ n
+
 -- the first trees released, and the others as they are
 abbrev pub release_first : ℕ → Forest → Forest
 release_first n f = join (released (first_trees n f)) (rest_trees n f)

@@ -12,6 +12,7 @@ mod read;
 mod releasing;
 mod siblings;
 mod undef;
+mod visits;
 mod walk;
 
 pub use building::{node_over, node_over_last, node_over_two};
@@ -19,14 +20,16 @@ pub use copy::copy_tree;
 pub use counts::{child, retain};
 pub use fault::NumberFault;
 pub use handle::{Handle, node, number, symbol};
-pub use measure::{tree_bytes, tree_depth, tree_nodes};
+pub use measure::{count_trees, tree_bytes, tree_depth, tree_nodes};
 pub use moving::{
-    add_child, merge_children, move_last, replace_child, swap_children, swap_siblings, take_child,
+    add_child, adopt, merge_children, move_last, replace_child, swap_children, swap_siblings,
+    take_child,
 };
 pub use read::{child_id, children, count, kind, name, rational};
-pub use releasing::release;
+pub use releasing::{drop_behind, release};
 pub use siblings::{ChildIds, child_ids};
 pub use undef::{has_undefined_child, is_undefined, undefined};
+pub use visits::{Nodes, Visit, nodes_below, nodes_of};
 
 #[cfg(test)]
 mod tests;

@@ -4,7 +4,7 @@ ghost use Rattle.tree_handles.specs.Children.{AreSiblings};
 ghost use Rattle.tree_handles.specs.Forest.{Forest, join, arity, kids, with_root_kids, tree_nth, without_nth, with_nth, set_nth, swapped_nth, merged_nth, root_id, root_count};
 ghost use Rattle.tree_handles.specs.Handed.{Ends};
 ghost use Rattle.tree_handles.specs.Inside.{holds, kids_of, with_kids};
-ghost use Rattle.tree_handles.specs.Roots.{has_root, root_tree, without_root, put};
+ghost use Rattle.tree_handles.specs.Roots.{has_root, root_tree, without_root, put, behind_root, adopted};
 ghost use Rattle.tree_handles.specs.Standing.{Stands, forest, KeepsRefusals};
 
 use crate::handle::Handle;
@@ -65,6 +65,20 @@ pub fn add_child(pool: &mut Pool, parent: &Handle, at: u16, child: Handle)
     let to = child_place(pool, owner, at);
     pool.move_block(from, end - from, to);
     pool.set_children(owner, children + 1);
+}
+
+/// The first trees behind a root become its last children, where they stand, and their handles' units the parent's.
+pub fn adopt(pool: &mut Pool, parent: &Handle, trees: u16)
+    requires stands { Stands pool.old }
+    requires root { has_root parent.now (forest pool.old) ≡ true }
+    requires within { trees ≤ arity (behind_root parent.now (forest pool.old)) }
+    ensures forest { forest pool.new ≡ adopted parent.now trees (forest pool.old) }
+    ensures kept { KeepsRefusals pool.old pool.new }
+    ensures stands { Stands pool.new }
+{
+    let owner = parent.id();
+    let own = children(pool, owner);
+    pool.set_children(owner, own + trees);
 }
 
 /// A root takes the place of a child, whose tree becomes the last root.
@@ -142,7 +156,7 @@ fn swap_apart(pool: &mut Pool, first: Id, second: Id)
     pool.swap_blocks(start, mid, next, end);
 }
 
-/// The children of a child take its place, and its node goes. No other handle holds that child.
+/// The children of a child take its place, and its node is removed. No other handle holds that child.
 pub fn merge_children(pool: &mut Pool, parent: &Handle, at: u16)
     requires stands { Stands pool.old }
     requires within { at < arity (kids_of parent.now (forest pool.old)) }
@@ -161,7 +175,7 @@ pub fn merge_children(pool: &mut Pool, parent: &Handle, at: u16)
     pool.set_children(owner, children - 1 + header.children);
 }
 
-/// A root's tree goes behind all others.
+/// A root's tree comes behind all others. Nothing is moved where it stands there.
 pub fn move_last(pool: &mut Pool, handle: &Handle)
     requires stands { Stands pool.old }
     requires root { has_root handle.now (forest pool.old) ≡ true }
@@ -173,5 +187,8 @@ pub fn move_last(pool: &mut Pool, handle: &Handle)
     let from = pool.locate(handle.id());
     let end = behind(pool, from, 1);
     let last = pool.used();
+    if end == last {
+        return;
+    }
     pool.move_block(from, end - from, last);
 }

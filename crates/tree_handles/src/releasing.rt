@@ -3,8 +3,8 @@ ghost use Rattle.std.specs.Prelude.{◌≡◌, ◌<◌, ◌≤◌, ◌+◌, ◌-
 ghost use Rattle.node_pool.specs.Nodes.{used, first_of};
 ghost use Rattle.node_pool.specs.Places.{since, without, IsBoundary};
 ghost use Rattle.node_pool.specs.State.{IsPool};
-ghost use Rattle.tree_handles.specs.Forest.{forest_of, flatten};
-ghost use Rattle.tree_handles.specs.Handed.{IsOwned};
+ghost use Rattle.tree_handles.specs.Forest.{Forest, bytes_in, forest_of, flatten};
+ghost use Rattle.tree_handles.specs.Handed.{IsOwned, Starts};
 ghost use Rattle.tree_handles.specs.Inside.{released_in};
 ghost use Rattle.tree_handles.specs.Roots.{IsReleasable, without_root};
 ghost use Rattle.tree_handles.specs.Standing.{Stands, forest, KeepsRefusals};
@@ -14,7 +14,7 @@ use crate::handle::Handle;
 use crate::walk::{behind, step};
 use node_pool::{Id, Pool};
 
-/// One unit of a node's count goes. Where none is left the node goes, and its children are
+/// One unit of a node's count is released. Where none is left the node is removed, and its children are
 /// released; a subtree that is still held stays as a root where it stood.
 pub fn release(pool: &mut Pool, handle: Handle)
     requires stands { Stands pool.old }
@@ -26,6 +26,18 @@ pub fn release(pool: &mut Pool, handle: Handle)
 {
     let at = pool.locate(handle.id());
     release_at(pool, at);
+}
+
+/// The trees behind the first ones are removed, whatever holds them. `bytes` is how many bytes the first ones take.
+pub fn drop_behind(pool: &mut Pool, bytes: u32)
+    requires stands { Stands pool.old }
+    requires front { (first : Forest) × Starts first (forest pool.old) × (bytes ≡ bytes_in first) }
+    ensures forest { (first : Forest) → Starts first (forest pool.old) → bytes ≡ bytes_in first → forest pool.new ≡ first }
+    ensures kept { KeepsRefusals pool.old pool.new }
+    ensures stands { Stands pool.new }
+{
+    let len = pool.used() - bytes;
+    pool.remove_block(bytes, len);
 }
 
 /// The tree that begins at a place loses one unit of its count.
@@ -53,7 +65,7 @@ fn release_at(pool: &mut Pool, at: u32)
     }
 }
 
-/// The place behind the nodes that go, up to the next one that is held, and how many trees are
+/// The place behind the nodes that are removed, up to the next one that is held, and how many trees are
 /// still owed there.
 fn gone(pool: &Pool, place: u32, owed: u64) -> (u32, u64)
     requires owed { IsOwed pool.now.nodes place owed (released_at place owed pool.now.nodes) }

@@ -292,6 +292,23 @@ fn a_copy_that_does_not_fit_changes_nothing(rt: HostRuntime) -> Result<(), Fail>
     Ok(())
 }
 
+#[test]
+fn walks_come_to_each_parent_before_its_children(rt: HostRuntime) -> Result<(), Fail> {
+    let mut pool = opened(rt.alloc(), 72)?;
+    make_all(&rt, &mut pool, &SUM);
+    let sum = Id::of(2);
+    assert!(rt; is_node(&pool, sum));
+    let expected = [(Kind::Add, 2, 2), (Kind::Num, 0, 0), (Kind::Sym, 1, 0)];
+    let mut nodes = nodes_of(&pool, sum);
+    for (kind, id, children) in expected {
+        let id = Id::of(id);
+        assert_eq!(rt; nodes.next(), Some(Visit { kind, id, children }));
+    }
+    assert_eq!(rt; nodes.next(), None);
+    assert_eq!(rt; count_trees(&pool), 1);
+    Ok(())
+}
+
 /// Numbers drawn one after another.
 #[derive(Drop)]
 struct Draws(u32);
@@ -430,5 +447,21 @@ fn what_upper_calls_give_is_read(rt: HostRuntime) -> Result<(), Fail> {
     assert_eq!(rt; tree_depth(&pool, root.id()), 4);
     let larger = upper::one_of_two(&mut pool, 3, 4).expect(&rt, "it fits");
     assert_eq!(rt; read(&pool, larger.id()), Some((Kind::Num, 4)));
+    Ok(())
+}
+
+#[test]
+fn trees_behind_a_root_are_adopted(rt: HostRuntime) -> Result<(), Fail> {
+    let mut pool = opened(rt.alloc(), 64)?;
+    let sum = upper::sum_behind(&mut pool, 3, 4).expect(&rt, "it fits");
+    let parts: [(&[u16], (Kind, i128)); 3] = [
+        (&[], (Kind::Add, 2)),
+        (&[0], (Kind::Num, 3)),
+        (&[1], (Kind::Num, 4)),
+    ];
+    for (path, node) in parts {
+        let id = part(&pool, sum.id(), path).expect(&rt, "it is there");
+        assert_eq!(rt; read(&pool, id), Some(node), "{path:?}");
+    }
     Ok(())
 }

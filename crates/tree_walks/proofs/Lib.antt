@@ -4,6 +4,5 @@ pub mod Passing
 pub mod Placing
 pub mod Ending
 pub mod Levels
-pub mod Counts
 pub mod Searches
 pub mod Composing

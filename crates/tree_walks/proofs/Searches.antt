@@ -1,104 +1,64 @@
 -- A walk that looks for a name.
-use Rattle.std.proofs.Common.{◌≡◌, ℕ, ◌+◌, ◌-◌, ◌<◌, ◌≤◌, List, [], ◌∷◌, ◌++◌, length, get_or, cond, refl, sym, ap, ◌∙◌, subst, arith, Bool, true, false}
+use Rattle.std.proofs.Common.{◌≡◌, ℕ, ◌+◌, ◌<◌, ◌≤◌, List, [], ◌∷◌, get_or, cond, refl, sym, ap, ◌∙◌, subst, arith, Bool, true, false}
 use Rattle.std.specs.Prelude.{Contains}
 use Rattle.std.specs.List.{count_by}
 use Rattle.std.specs.Str.{bytes_eq}
-use Rattle.std.proofs.lemmas.List.{append-nil, length-append}
 use Rattle.std.proofs.lemmas.List.Elements.{Contains-append_left, Contains-append_right, Contains-push}
 use Rattle.std.proofs.lemmas.List.Sums.{get_or-le-sum_by, sum_by-cons}
 use Rattle.std.proofs.lemmas.Slice.Eq.{bytes_eq-Decides}
-use Rattle.calc_terms.specs.declared.leaf.Header.{Header}
-use Rattle.calc_terms.specs.Node.{Node, header_of}
-use Rattle.node_pool.specs.Nodes.{used, first_of}
-use Rattle.node_pool.specs.Places.{since, until, IsBoundary}
-use Rattle.node_pool.specs.State.{State}
-use Rattle.node_pool.proofs.Cuts.{until-since}
-use Rattle.node_pool.proofs.Sizes.{length_le_used, size_from, used-append}
+use Rattle.tree_handles.specs.declared.visits.Visit.{Visit}
 use Rattle.tree_handles.specs.Expressions.{plain, AllExpressions, IsWhole}
-use Rattle.tree_handles.specs.Forest.{Forest, empty, tree, join, arity, node_of, flatten}
-use Rattle.tree_handles.specs.Inside.{tree_at}
-use Rattle.tree_handles.specs.Standing.{Stands, forest}
-use Rattle.tree_handles.proofs.Forests.{all-join, arity-join, flatten-join}
-use Rattle.tree_handles.proofs.Measures.{IsBefore}
+use Rattle.tree_handles.specs.Forest.{Forest, empty, tree, join, arity, root_payload}
+use Rattle.tree_handles.specs.Inside.{holds, payload_in}
+use Rattle.tree_handles.specs.Visits.{visits_of, visit_at, AreFound}
+use Rattle.tree_handles.proofs.Forests.{all-join}
 use Rattle.tree_handles.proofs.Outcomes.{by_test}
 use Rattle.tree_handles.proofs.Plains.{alone}
-use Rattle.tree_handles.proofs.Releases.{arity_le}
+use Rattle.tree_handles.proofs.Visiting.{seen, found-join, visit_here, visits_left, no_visit}
 use Rattle.tree_walks.specs.Replacing.{occurrences}
 use Rattle.tree_walks.specs.Walks.{has_name}
 use Rattle.tree_walks.proofs.Names.{named_in, named-tree, named-join, occurrences_in, occurrences-alone}
 
 -- the trees that are still to be searched, in which the name occurs as often as in the whole
-pub record IsSearching (x : List ℕ) (at owed total : ℕ) (ns : List Node) : Type 0 where
+pub record IsSearching (x : List ℕ) (left : List Visit) (total : ℕ) (base : Forest) : Type 0 where
   pub trees : Forest
-  pub behind : List Node
-  pub nodes : since at ns ≡ flatten trees ++ behind
-  pub all : arity trees ≡ owed
+  pub left-are : left ≡ visits_of trees
+  pub found : AreFound base trees
   pub expressions : AllExpressions trees
   pub same : named_in x trees ≡ total
 
-pub search_start : (x : List ℕ) (i at : ℕ) (s : State) → IsBefore i at s → AllExpressions (tree_at i (forest s)) → IsSearching x at 1 (named_in x (tree_at i (forest s))) s.nodes
-search_start x i at s b w = record {
-  trees = tree b.label b.below empty;
-  behind = b.behind;
-  nodes = b.nodes ∙ ap (λ (y : List Node). node_of b.label b.below ∷ (y ++ b.behind)) (sym (append-nil (flatten b.below)));
-  all = refl;
-  expressions = subst AllExpressions b.tree-is w;
-  same = ap (named_in x) (sym b.tree-is);
-}
+-- the next node
+pub record IsSearched (x : List ℕ) (v : Visit) (left : List Visit) (total : ℕ) (base : Forest) : Type 0 where
+  pub live : holds v.id base ≡ true
+  pub visit-is : v ≡ visit_at v.id base
+  pub here : has_name x (payload_in v.id base) ≡ true → 0 < total
+  pub more : has_name x (payload_in v.id base) ≡ false → IsSearching x left total base
 
--- a node stands there
-some_node : (f : Forest) → 0 < arity f → 0 < used (flatten f)
-some_node empty h = absurd (omega arith)
-some_node (tree l k r) h = omega (arith, size_from (node_of l k))
-
-pub search_in : {x : List ℕ} {at owed total : ℕ} {ns : List Node} → IsSearching x at owed total ns → IsBoundary at ns → 0 < owed → at < used ns
-search_in {at = at} {ns = ns} w b h =
-    omega (arith, some_node w.trees (omega (arith, w.all)), ap used w.nodes, used-append (flatten w.trees) w.behind, ap used (until-since at ns), used-append (until at ns) (since at ns), b)
-
-pub search_few : {x : List ℕ} {at owed total : ℕ} (s : State) → Stands s → IsSearching x at owed total s.nodes → owed ≤ 65535
-search_few {at = at} s st w =
-    omega (arith, w.all, arity_le w.trees, ap length w.nodes, length-append (flatten w.trees) w.behind, ap length (until-since at s.nodes), length-append (until at s.nodes) (since at s.nodes), length_le_used s.nodes, st.pool.fits, st.pool.size.most)
-
--- the node there, and the trees that are left behind it
-node_of_trees : (x : List ℕ) (at next owed total children : ℕ) (ns behind : List Node) (h : Header) (f : Forest) → since at ns ≡ flatten f ++ behind → arity f ≡ owed → AllExpressions f → named_in x f ≡ total → 0 < owed
-    → h ≡ header_of (first_of (since at ns)) → since at ns ≡ first_of (since at ns) ∷ since next ns → children ≡ h.children → has_name x (first_of (since at ns)).payload ≡ false → IsSearching x next (owed - 1 + children) total ns
-node_of_trees x at next owed total children ns behind h empty e a w s some q rest c other = absurd (omega arith)
-node_of_trees x at next owed total children ns behind h (tree l k r) e a w s some q rest c is_other =
-    let n : first_of (since at ns) ≡ node_of l k = ap first_of e in
-    let told : children ≡ arity k = c ∙ ap (λ (y : Header). y.children) (q ∙ ap header_of n) in
-    let other : has_name x l.payload ≡ false = sym (ap (λ (m : Node). has_name x m.payload) n) ∙ is_other in
-    record {
-      trees = join k r;
-      behind = behind;
-      nodes = tail_is (since at ns) (first_of (since at ns)) (node_of l k) (since next ns) ((flatten k ++ flatten r) ++ behind) rest e ∙ ap (λ (y : List Node). y ++ behind) (sym (flatten-join k r));
-      all = omega (arith, arity-join k r, told);
-      expressions = all-join IsWhole k r w.1 w.2;
-      same = omega (arith, named-tree x l k r w, named-join x k r, ap {B = ℕ} (λ (b : Bool). cond b 1 0) other);
-    }
+pub searched : {x : List ℕ} {v : Visit} {xs left : List Visit} {total : ℕ} {base : Forest} → IsSearching x xs total base → xs ≡ v ∷ left → IsSearched x v left total base
+searched {x = x} {v = v} {left = left} {total = total} {base = base} w e = by w.trees (sym w.left-are ∙ e) w.found w.expressions w.same
   where
-    tail_is : (xs : List Node) (n m : Node) (ys zs : List Node) → xs ≡ n ∷ ys → xs ≡ m ∷ zs → ys ≡ zs
-    tail_is xs n m ys zs e h = cc
+    by : (f : Forest) → visits_of f ≡ v ∷ left → AreFound base f → AllExpressions f → named_in x f ≡ total → IsSearched x v left total base
+    by empty q h a s = absurd cc
+    by (tree l k r) q h a s =
+        let y = seen l k r h (visit_here l k r q) in
+        let holds-it : payload_in v.id base ≡ l.payload = ap root_payload y.tree-is in
+        let once : (b : Bool) → has_name x (payload_in v.id base) ≡ b → cond (has_name x l.payload) 1 0 ≡ cond b 1 0 = λ b t. ap {B = ℕ} (λ (z : Bool). cond z 1 0) (ap (has_name x) (sym holds-it) ∙ t) in
+        record {
+          live = y.live;
+          visit-is = y.visit-is;
+          here = λ t. omega (arith, s, named-tree x l k r a, once true t);
+          more = λ t. record {
+            trees = join k r;
+            left-are = visits_left l k r q;
+            found = found-join base k r h.1 h.2;
+            expressions = all-join IsWhole k r a.1 a.2;
+            same = omega (arith, s, named-tree x l k r a, named-join x k r, once false t);
+          };
+        }
 
-pub search_more : {x : List ℕ} {at next owed total children : ℕ} {ns : List Node} (h : Header) → IsSearching x at owed total ns → 0 < owed → h ≡ header_of (first_of (since at ns)) → since at ns ≡ first_of (since at ns) ∷ since next ns → children ≡ h.children
-    → has_name x (first_of (since at ns)).payload ≡ false → IsSearching x next (owed - 1 + children) total ns
-search_more {x = x} {at = at} {next = next} {owed = owed} {total = total} {children = children} {ns = ns} h w some q rest c is_other = node_of_trees x at next owed total children ns w.behind h w.trees w.nodes w.all w.expressions w.same some q rest c is_other
-
--- it is found, or it is not there
-here : (x : List ℕ) (at total : ℕ) (ns behind : List Node) (f : Forest) → since at ns ≡ flatten f ++ behind → AllExpressions f → named_in x f ≡ total → 0 < arity f → has_name x (first_of (since at ns)).payload ≡ true → 0 < total
-here x at total ns behind empty e w s some h = absurd (omega arith)
-here x at total ns behind (tree l k r) e w s some h =
-    let n : first_of (since at ns) ≡ node_of l k = ap first_of e in
-    omega (arith, s, named-tree x l k r w, ap {B = ℕ} (λ (b : Bool). cond b 1 0) (sym (ap (λ (m : Node). has_name x m.payload) n) ∙ h))
-
-pub search_found : {x : List ℕ} {at owed total : ℕ} {ns : List Node} → IsSearching x at owed total ns → 0 < owed → has_name x (first_of (since at ns)).payload ≡ true → 0 < total
-search_found {x = x} {at = at} {total = total} {ns = ns} w some h = here x at total ns w.behind w.trees w.nodes w.expressions w.same (omega (arith, w.all)) h
-
-pub search_done : {x : List ℕ} {at owed total : ℕ} {ns : List Node} → IsSearching x at owed total ns → owed ≡ 0 → total ≡ 0
-search_done {x = x} {total = total} w z = none_left w.trees (w.all ∙ z) w.same
-  where
-    none_left : (f : Forest) → arity f ≡ 0 → named_in x f ≡ total → total ≡ 0
-    none_left empty a s = omega (arith, s)
-    none_left (tree l k r) a s = absurd (omega arith)
+-- where none is left, the name does not occur
+pub searched_all : {x : List ℕ} {xs : List Visit} {total : ℕ} {base : Forest} → IsSearching x xs total base → xs ≡ [] → total ≡ 0
+searched_all {x = x} w e = sym w.same ∙ ap (named_in x) (no_visit w.trees (sym w.left-are ∙ e))
 
 -- ---- how often a name occurs, and whether it does
 

@@ -5,8 +5,8 @@ ghost use Rattle.tree_handles.specs.Expressions.{IsExpression, plain};
 ghost use Rattle.tree_handles.specs.Inside.{tree_at};
 ghost use Rattle.tree_handles.specs.Standing.{Stands, forest};
 
-use crate::walk::step;
 use node_pool::{Id, Pool};
+use tree_handles::nodes_of;
 
 /// How deep the tree of a line may be: a leaf is 1 deep.
 pub const DEPTH_LIMIT: usize = 64;
@@ -17,7 +17,7 @@ pub fn is_deeper(pool: &Pool, id: Id) -> bool
     requires expression { IsExpression id (forest pool.now) }
     ensures { IsTrue result ↔ (64 < depth (plain (tree_at id (forest pool.now)))) }
 {
-    let mut at = pool.locate(id);
+    let mut nodes = nodes_of(pool, id);
     // How many nodes are still owed on each open level.
     let mut owed = [0u16; DEPTH_LIMIT + 1];
     owed[0] = 1;
@@ -28,11 +28,10 @@ pub fn is_deeper(pool: &Pool, id: Id) -> bool
         } else if height > DEPTH_LIMIT {
             return true;
         } else {
-            let (header, next) = step(pool, at);
+            let node = nodes.next().unwrap();
             owed[height - 1] -= 1;
-            owed[height] = header.children;
+            owed[height] = node.children;
             height += 1;
-            at = next;
         }
     }
     false

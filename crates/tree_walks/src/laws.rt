@@ -16,7 +16,7 @@ pub fn names_occur()
     ensures { OccursWhereNamed }
 {}
 
-/// For each leaf that is replaced, its bytes go and those of the tree that is put in come.
+/// For each leaf that is replaced, its bytes are freed and those of the tree that is put in are taken.
 pub fn replaced_bytes()
     ensures { BytesOfReplaced }
 {}

@@ -20,7 +20,7 @@ use node_pool::{Full, Id, Pool};
 use tree_handles::{Handle, copy_tree, release};
 
 /// Each leaf of a name in the last tree becomes a copy of another tree, in prefix order: a copy is placed at the end, the
-/// leaf goes, and the copy takes its place. Answers the root, which is another one where the whole tree was such a leaf.
+/// leaf is removed, and the copy takes its place. Answers the root, which is another one where the whole tree was such a leaf.
 ///
 /// Where a copy finds no room, the leaves before it have been replaced.
 pub fn replace_name(pool: &mut Pool, tree: Handle, name: Name, source: Id) -> Result<Handle, Full>

@@ -11,7 +11,7 @@ use calc_terms::{Kind, Name, Rat};
 use node_pool::{Full, Pool};
 use std::alloc::{AllocError, Global};
 use std::test::Fail;
-use tree_handles::{Handle, node_over, node_over_two, number, symbol};
+use tree_handles::{Handle, count_trees, node_over, node_over_two, number, symbol};
 
 /// The leaves of a tree, in which `x` is replaced by the tree of other leaves, and what the pool holds then.
 const REPLACED: &str = "\

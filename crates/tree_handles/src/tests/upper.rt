@@ -9,7 +9,7 @@ ghost use Rattle.tree_handles.specs.Handed.{IsHanded, Gives, KeepsFront};
 ghost use Rattle.tree_handles.specs.Roots.{root_tree, without_root};
 ghost use Rattle.tree_handles.specs.Standing.{Stands, forest, KeepsRefusals, Refuses};
 
-use crate::{Handle, node_over, node_over_two, number, rational, release, symbol};
+use crate::{Handle, adopt, node, node_over, node_over_two, number, rational, release, symbol};
 use calc_terms::{Kind, Name, Rat};
 use node_pool::{Full, Pool};
 
@@ -32,7 +32,7 @@ pub fn difference(pool: &mut Pool, a: Handle, b: Handle) -> Result<Handle, Full>
     Ok(sum)
 }
 
-/// One of two numbers, which both go.
+/// One of two numbers, which are both consumed.
 pub fn kept_number(pool: &mut Pool, a: Handle, b: Handle) -> Result<Handle, Full>
     requires stands { Stands pool.old }
     requires first { IsHanded a (forest pool.old) }
@@ -72,6 +72,18 @@ pub fn root_of_difference(pool: &mut Pool, name: Name) -> Result<Handle, Full>
     let difference = difference(pool, five, name)?;
     let root = node_over(pool, Kind::Root, difference)?;
     Ok(root)
+}
+
+/// A sum over two numbers that were placed behind it.
+pub fn sum_behind(pool: &mut Pool, n: i8, m: i8) -> Result<Handle, Full>
+    requires stands { Stands pool.old }
+    ensures stands { Stands pool.new }
+{
+    let sum = node(pool, Kind::Add)?;
+    let _first = number(pool, Rat::whole(i128::from(n)))?;
+    let _second = number(pool, Rat::whole(i128::from(m)))?;
+    adopt(pool, &sum, 2);
+    Ok(sum)
 }
 
 /// One of two numbers.

@@ -1,5 +1,13 @@
-use Rattle.line_text.proofs.Trees.{inside}
+use Rattle.std.proofs.Common.{cond, sym, ap, ◌∙◌, Bool}
+use Rattle.calc_terms.specs.Trees.{root_kind}
+use Rattle.line_text.specs.Places.{kind_behind_opposites}
+use Rattle.tree_handles.specs.Expressions.{plain}
+use Rattle.tree_handles.specs.Inside.{tree_at}
+use Rattle.tree_handles.specs.Standing.{forest}
+use Rattle.line_text.proofs.Trees.{kind_told}
 use Rattle.line_text.proofs.writing.deciding_kind.Goals as goal
 
-pub header-requires-clause-inside : goal.header-requires-clause-inside
-header-requires-clause-inside c = inside c.requires.tree
+pub returns-else-skips_opposites : goal.returns-else-skips_opposites
+returns-else-skips_opposites c =
+    let t = plain (tree_at c.args.node.now.id (forest c.args.pool.now)) in
+    kind_told c.args.node.now c.args.pool.now c.requires.expression c.requires.node ∙ ap (λ (b : Bool). cond b (kind_behind_opposites t) (root_kind t)) (sym (sym c.skips_opposites.ensures ∙ c.if-skips_opposites.false))

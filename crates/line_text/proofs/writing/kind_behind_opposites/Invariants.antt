@@ -1,14 +1,9 @@
-use Rattle.std.proofs.Common.{◌≡◌, ◌-◌}
-use Rattle.node_pool.specs.Nodes.{used}
 use Rattle.line_text.specs.Places.{kind_behind_opposites}
-use Rattle.line_text.specs.Standing.{plain_from, BeginsTree}
+use Rattle.line_text.proofs.Trees.{IsBehind}
+use Rattle.tree_handles.specs.Expressions.{plain}
+use Rattle.tree_handles.specs.Inside.{tree_at}
+use Rattle.tree_handles.specs.Standing.{forest}
 use Rattle.line_text.proofs.writing.kind_behind_opposites.Given as goal
 
-abbrev pub invariant-loop-at : goal.invariant-loop-at
-invariant-loop-at l = record {
-  tree : BeginsTree l.at l.pool.nodes;
-  same : kind_behind_opposites (plain_from l.from l.pool.nodes) ≡ kind_behind_opposites (plain_from l.at l.pool.nodes);
-}
-
-abbrev pub decreases-loop-at : goal.decreases-loop-at
-decreases-loop-at l = used l.pool.nodes - l.at
+abbrev pub invariant-loop-node : goal.invariant-loop-node
+invariant-loop-node l = IsBehind (kind_behind_opposites (plain (tree_at l.fn.id (forest l.fn.pool)))) l.node-iterator

@@ -1,55 +1,70 @@
-use Rattle.std.proofs.Common.{arith, sym, ◌∙◌}
-use Rattle.calc_algebra.specs.TreeOrder.{tree_cmp}
-use Rattle.node_order.specs.Fronts.{front_tree}
-use Rattle.node_order.proofs.Pairs.{IsPending, pending_as, equal_roots, open_start, open_few, open_same, open_fewer, pending_done, pending_left, pending_right, pending_next}
+use Rattle.std.proofs.Common.{length, arith, sym, ap, ◌∙◌}
+use Rattle.calc_terms.specs.Payload.{kind_of_payload}
+use Rattle.node_order.proofs.Pairs.{equal_roots, unequal_roots, open_start, open_decided, open_few, open_behind, pending_done, pending_left, pending_right, pending_next}
 use Rattle.node_order.proofs.comparing.compare_fronts.Goals as goal
-use Rattle.node_order.proofs.comparing.compare_fronts.Goals.{then-left-right, else-left-right}
 
 pub loop-left-init : goal.loop-left-init
-loop-left-init c = open_start c.args.left c.args.right (front_tree c.args.left c.args.pool.now) (front_tree c.args.right c.args.pool.now) c.args.pool.now c.requires.first c.requires.second
+loop-left-init c = λ t u a b. open_start a b
 
-pub overflow_add-owed : goal.overflow_add-owed
-overflow_add-owed c = record { fits = omega (arith, open_few c.loop-left.left c.loop-left.right c.loop-left.owed c.loop-left.undecided (tree_cmp (front_tree c.args.left c.args.pool.now) (front_tree c.args.right c.args.pool.now)) c.args.pool.now c.loop-left.invariant, c.from.ensures, c.requires.stands.pool.fits, c.requires.stands.pool.size.most) }
+pub compare_roots-roots-requires-clause-first : goal.compare_roots-roots-requires-clause-first
+compare_roots-roots-requires-clause-first c =
+    let (t, a) = c.requires.first in
+    let (u, b) = c.requires.second in
+    (c.loop-left.invariant t u a b).one.live
 
-done : (c : goal.Then-owed-eq0) → IsPending c.loop-left.left.first c.loop-left.right.first c.if-left-right.owed c.if-left-right.undecided (tree_cmp (front_tree c.args.left c.args.pool.now) (front_tree c.args.right c.args.pool.now)) c.args.pool.now
-done c =
-    elim c.if-left-right.branch as (λ _. IsPending c.loop-left.left.first c.loop-left.right.first c.if-left-right.owed c.if-left-right.undecided (tree_cmp (front_tree c.args.left c.args.pool.now) (front_tree c.args.right c.args.pool.now)) c.args.pool.now) [
-      | then-left-right w ↦ pending_as _ _ _ _ _ _ _ _ (sym w.owed-is) (sym w.undecided-is) (open_same c.loop-left.left c.loop-left.right c.loop-left.owed w.from.result c.loop-left.undecided (tree_cmp (front_tree c.args.left c.args.pool.now) (front_tree c.args.right c.args.pool.now)) c.compare_roots-roots.result c.args.pool.now c.loop-left.invariant c.compare_roots-roots.ensures (equal_roots c.compare_roots-roots.result c.ne.result c.ne.ensures c.if-ne.false) w.if-left-right.true w.from.ensures)
-      | else-left-right w ↦ pending_as _ _ _ _ _ _ _ _ (sym w.owed-is) (sym w.undecided-is) (open_fewer c.loop-left.left c.loop-left.right c.loop-left.owed w.from-owed.result c.loop-left.undecided w.cmp-undecided.result (tree_cmp (front_tree c.args.left c.args.pool.now) (front_tree c.args.right c.args.pool.now)) c.compare_roots-roots.result c.args.pool.now c.loop-left.invariant c.compare_roots-roots.ensures (equal_roots c.compare_roots-roots.result c.ne.result c.ne.ensures c.if-ne.false) w.if-left-right.false (w.from-owed.ensures ∙ w.min.ensures) w.cmp-undecided.ensures)
-    ]
+pub compare_roots-roots-requires-clause-second : goal.compare_roots-roots-requires-clause-second
+compare_roots-roots-requires-clause-second c =
+    let (t, a) = c.requires.first in
+    let (u, b) = c.requires.second in
+    (c.loop-left.invariant t u a b).two.live
 
-more : (c : goal.Else-owed-eq0) → IsPending c.loop-left.left.first c.loop-left.right.first c.if-left-right.owed c.if-left-right.undecided (tree_cmp (front_tree c.args.left c.args.pool.now) (front_tree c.args.right c.args.pool.now)) c.args.pool.now
-more c =
-    elim c.if-left-right.branch as (λ _. IsPending c.loop-left.left.first c.loop-left.right.first c.if-left-right.owed c.if-left-right.undecided (tree_cmp (front_tree c.args.left c.args.pool.now) (front_tree c.args.right c.args.pool.now)) c.args.pool.now) [
-      | then-left-right w ↦ pending_as _ _ _ _ _ _ _ _ (sym w.owed-is) (sym w.undecided-is) (open_same c.loop-left.left c.loop-left.right c.loop-left.owed w.from.result c.loop-left.undecided (tree_cmp (front_tree c.args.left c.args.pool.now) (front_tree c.args.right c.args.pool.now)) c.compare_roots-roots.result c.args.pool.now c.loop-left.invariant c.compare_roots-roots.ensures (equal_roots c.compare_roots-roots.result c.ne.result c.ne.ensures c.if-ne.false) w.if-left-right.true w.from.ensures)
-      | else-left-right w ↦ pending_as _ _ _ _ _ _ _ _ (sym w.owed-is) (sym w.undecided-is) (open_fewer c.loop-left.left c.loop-left.right c.loop-left.owed w.from-owed.result c.loop-left.undecided w.cmp-undecided.result (tree_cmp (front_tree c.args.left c.args.pool.now) (front_tree c.args.right c.args.pool.now)) c.compare_roots-roots.result c.args.pool.now c.loop-left.invariant c.compare_roots-roots.ensures (equal_roots c.compare_roots-roots.result c.ne.result c.ne.ensures c.if-ne.false) w.if-left-right.false (w.from-owed.ensures ∙ w.min.ensures) w.cmp-undecided.ensures)
-    ]
+pub compare_roots-roots-requires-clause-first_kind : goal.compare_roots-roots-requires-clause-first_kind
+compare_roots-roots-requires-clause-first_kind c =
+    let (t, a) = c.requires.first in
+    let (u, b) = c.requires.second in
+    let o = c.loop-left.invariant t u a b in
+    o.one.kind ∙ ap kind_of_payload (sym o.one.payload)
 
-beside : (c : goal.After-at-left) → IsPending c.loop-left.left.first c.loop-left.right.first c.if-left-right.owed c.if-left-right.undecided (tree_cmp (front_tree c.args.left c.args.pool.now) (front_tree c.args.right c.args.pool.now)) c.args.pool.now
-beside c =
-    elim c.if-left-right.branch as (λ _. IsPending c.loop-left.left.first c.loop-left.right.first c.if-left-right.owed c.if-left-right.undecided (tree_cmp (front_tree c.args.left c.args.pool.now) (front_tree c.args.right c.args.pool.now)) c.args.pool.now) [
-      | then-left-right w ↦ pending_as _ _ _ _ _ _ _ _ (sym w.owed-is) (sym w.undecided-is) (open_same c.loop-left.left c.loop-left.right c.loop-left.owed w.from.result c.loop-left.undecided (tree_cmp (front_tree c.args.left c.args.pool.now) (front_tree c.args.right c.args.pool.now)) c.compare_roots-roots.result c.args.pool.now c.loop-left.invariant c.compare_roots-roots.ensures (equal_roots c.compare_roots-roots.result c.ne.result c.ne.ensures c.if-ne.false) w.if-left-right.true w.from.ensures)
-      | else-left-right w ↦ pending_as _ _ _ _ _ _ _ _ (sym w.owed-is) (sym w.undecided-is) (open_fewer c.loop-left.left c.loop-left.right c.loop-left.owed w.from-owed.result c.loop-left.undecided w.cmp-undecided.result (tree_cmp (front_tree c.args.left c.args.pool.now) (front_tree c.args.right c.args.pool.now)) c.compare_roots-roots.result c.args.pool.now c.loop-left.invariant c.compare_roots-roots.ensures (equal_roots c.compare_roots-roots.result c.ne.result c.ne.ensures c.if-ne.false) w.if-left-right.false (w.from-owed.ensures ∙ w.min.ensures) w.cmp-undecided.ensures)
-    ]
+pub compare_roots-roots-requires-clause-second_kind : goal.compare_roots-roots-requires-clause-second_kind
+compare_roots-roots-requires-clause-second_kind c =
+    let (t, a) = c.requires.first in
+    let (u, b) = c.requires.second in
+    let o = c.loop-left.invariant t u a b in
+    o.two.kind ∙ ap kind_of_payload (sym o.two.payload)
 
-behind : (c : goal.After-at-right) → IsPending c.loop-left.left.first c.loop-left.right.first c.if-left-right.owed c.if-left-right.undecided (tree_cmp (front_tree c.args.left c.args.pool.now) (front_tree c.args.right c.args.pool.now)) c.args.pool.now
-behind c =
-    elim c.if-left-right.branch as (λ _. IsPending c.loop-left.left.first c.loop-left.right.first c.if-left-right.owed c.if-left-right.undecided (tree_cmp (front_tree c.args.left c.args.pool.now) (front_tree c.args.right c.args.pool.now)) c.args.pool.now) [
-      | then-left-right w ↦ pending_as _ _ _ _ _ _ _ _ (sym w.owed-is) (sym w.undecided-is) (open_same c.loop-left.left c.loop-left.right c.loop-left.owed w.from.result c.loop-left.undecided (tree_cmp (front_tree c.args.left c.args.pool.now) (front_tree c.args.right c.args.pool.now)) c.compare_roots-roots.result c.args.pool.now c.loop-left.invariant c.compare_roots-roots.ensures (equal_roots c.compare_roots-roots.result c.ne.result c.ne.ensures c.if-ne.false) w.if-left-right.true w.from.ensures)
-      | else-left-right w ↦ pending_as _ _ _ _ _ _ _ _ (sym w.owed-is) (sym w.undecided-is) (open_fewer c.loop-left.left c.loop-left.right c.loop-left.owed w.from-owed.result c.loop-left.undecided w.cmp-undecided.result (tree_cmp (front_tree c.args.left c.args.pool.now) (front_tree c.args.right c.args.pool.now)) c.compare_roots-roots.result c.args.pool.now c.loop-left.invariant c.compare_roots-roots.ensures (equal_roots c.compare_roots-roots.result c.ne.result c.ne.ensures c.if-ne.false) w.if-left-right.false (w.from-owed.ensures ∙ w.min.ensures) w.cmp-undecided.ensures)
-    ]
+pub returns-then-ne : goal.returns-then-ne
+returns-then-ne c = λ t u a b. open_decided (c.loop-left.invariant t u a b) c.compare_roots-roots.ensures (unequal_roots c.compare_roots-roots.result c.ne.result c.ne.ensures c.if-ne.true)
 
-pub returns-then-owed-eq0 : goal.returns-then-owed-eq0
-returns-then-owed-eq0 c = pending_done c.loop-left.left.first c.loop-left.right.first c.if-left-right.owed c.if-left-right.undecided (tree_cmp (front_tree c.args.left c.args.pool.now) (front_tree c.args.right c.args.pool.now)) c.args.pool.now (done c) c.if-owed-eq0.true
+pub behind-pairs-requires-clause-some : goal.behind-pairs-requires-clause-some
+behind-pairs-requires-clause-some c =
+    let (t, a) = c.requires.first in
+    let (u, b) = c.requires.second in
+    omega (arith, (c.loop-left.invariant t u a b).first)
 
-pub at-left-requires-clause-inside : goal.at-left-requires-clause-inside
-at-left-requires-clause-inside c = pending_left c.loop-left.left.first c.loop-left.right.first c.if-left-right.owed c.if-left-right.undecided (tree_cmp (front_tree c.args.left c.args.pool.now) (front_tree c.args.right c.args.pool.now)) c.args.pool.now (more c) (omega arith)
+pub behind-pairs-requires-clause-few : goal.behind-pairs-requires-clause-few
+behind-pairs-requires-clause-few c =
+    let (t, a) = c.requires.first in
+    let (u, b) = c.requires.second in
+    omega (arith, open_few (c.loop-left.invariant t u a b))
 
-pub at-right-requires-clause-inside : goal.at-right-requires-clause-inside
-at-right-requires-clause-inside c = pending_right c.loop-left.left.first c.loop-left.right.first c.if-left-right.owed c.if-left-right.undecided (tree_cmp (front_tree c.args.left c.args.pool.now) (front_tree c.args.right c.args.pool.now)) c.args.pool.now (beside c) (omega arith)
+pub returns-then-pairs-eq0 : goal.returns-then-pairs-eq0
+returns-then-pairs-eq0 c = λ t u a b. pending_done (open_behind (c.loop-left.invariant t u a b) c.compare_roots-roots.ensures (equal_roots c.compare_roots-roots.result c.ne.result c.ne.ensures c.if-ne.false) c.behind-pairs.ensures.same c.behind-pairs.ensures.fewer) c.if-pairs-eq0.true
+
+pub advance-requires : goal.advance-requires
+advance-requires c =
+    let (t, a) = c.requires.first in
+    let (u, b) = c.requires.second in
+    pending_left (open_behind (c.loop-left.invariant t u a b) c.compare_roots-roots.ensures (equal_roots c.compare_roots-roots.result c.ne.result c.ne.ensures c.if-ne.false) c.behind-pairs.ensures.same c.behind-pairs.ensures.fewer) (omega (arith, c.if-pairs-eq0.false))
+
+pub advance-requires-in-loop-left : goal.advance-requires-in-loop-left
+advance-requires-in-loop-left c =
+    let (t, a) = c.requires.first in
+    let (u, b) = c.requires.second in
+    pending_right (open_behind (c.loop-left.invariant t u a b) c.compare_roots-roots.ensures (equal_roots c.compare_roots-roots.result c.ne.result c.ne.ensures c.if-ne.false) c.behind-pairs.ensures.same c.behind-pairs.ensures.fewer) (omega (arith, c.if-pairs-eq0.false))
 
 pub loop-left-smaller : goal.loop-left-smaller
-loop-left-smaller c = omega (arith, pending_left c.loop-left.left.first c.loop-left.right.first c.if-left-right.owed c.if-left-right.undecided (tree_cmp (front_tree c.args.left c.args.pool.now) (front_tree c.args.right c.args.pool.now)) c.args.pool.now (behind c) (omega arith), c.at-left.ensures.later)
+loop-left-smaller c = omega (arith, ap length c.advance.ensures)
 
 pub loop-left-preserved : goal.loop-left-preserved
-loop-left-preserved c = pending_next c.at-left.result c.at-right.result c.loop-left.left.first c.loop-left.right.first c.if-left-right.owed c.if-left-right.undecided (tree_cmp (front_tree c.args.left c.args.pool.now) (front_tree c.args.right c.args.pool.now)) c.args.pool.now (behind c) (omega arith) c.at-left.ensures.front c.at-right.ensures.front
+loop-left-preserved c = λ t u a b.
+    pending_next (open_behind (c.loop-left.invariant t u a b) c.compare_roots-roots.ensures (equal_roots c.compare_roots-roots.result c.ne.result c.ne.ensures c.if-ne.false) c.behind-pairs.ensures.same c.behind-pairs.ensures.fewer) (omega (arith, c.if-pairs-eq0.false)) c.advance.ensures c.advance-in-loop-left.ensures

@@ -2,7 +2,7 @@ use Rattle.std.proofs.Common.{◌∙◌, ◌-◌, ap, refl, sym, subst, arith}
 use Rattle.std.proofs.lemmas.List.{length-set}
 use Rattle.tree_handles.specs.Inside.{holds, payload_in}
 use Rattle.tree_handles.specs.Standing.{forest}
-use Rattle.pool_layouts.specs.declared.cells.Cell.{Cell}
+use Rattle.tree_handles.specs.declared.visits.Visit.{Visit}
 use Rattle.pool_layouts.specs.Extents.{IsOver, extent_of}
 use Rattle.pool_layouts.proofs.Measuring.{measure_start, measuring}
 use Rattle.pool_layouts.proofs.extents.measure.Goals as goal
@@ -13,21 +13,21 @@ loop-at-init c = record { measured = measure_start c.args.pool.now c.args.layout
 pub extent_over-extent-requires-clause-live : goal.extent_over-extent-requires-clause-live
 extent_over-extent-requires-clause-live c =
     let m = measuring c.args.pool.now c.args.layout c.loop-at.at c.args.cells.now c.loop-at.extents c.requires.stands c.requires.layout c.requires.cells c.loop-at-test.true c.loop-at.invariant.within c.loop-at.invariant.measured in
-    ap (λ (x : Cell). holds x.id (forest c.args.pool.now)) (c.index-cells-at.is ∙ m.cell_is c.index-cells-at.result) ∙ m.live
+    ap (λ (x : Visit). holds x.id (forest c.args.pool.now)) (c.index-cells-at.is ∙ m.cell_is c.index-cells-at.result) ∙ m.live
 
 pub extent_over-extent-requires-clause-over : goal.extent_over-extent-requires-clause-over
 extent_over-extent-requires-clause-over c =
     let m = measuring c.args.pool.now c.args.layout c.loop-at.at c.args.cells.now c.loop-at.extents c.requires.stands c.requires.layout c.requires.cells c.loop-at-test.true c.loop-at.invariant.within c.loop-at.invariant.measured in
     let cell = c.index-cells-at.is ∙ m.cell_is c.index-cells-at.result in
-    let payload = ap (λ (x : Cell). payload_in x.id (forest c.args.pool.now)) cell ∙ m.payload_is in
-    (m.below, subst (λ y. IsOver y m.below c.loop-at.at c.loop-at.extents) (sym payload) m.over, ap (λ (x : Cell). x.children) cell)
+    let payload = ap (λ (x : Visit). payload_in x.id (forest c.args.pool.now)) cell ∙ m.payload_is in
+    (m.below, subst (λ y. IsOver y m.below c.loop-at.at c.loop-at.extents) (sym payload) m.over, ap (λ (x : Visit). x.children) cell)
 
 pub loop-at-preserved : goal.loop-at-preserved
 loop-at-preserved c =
     let m = measuring c.args.pool.now c.args.layout c.loop-at.at c.args.cells.now c.loop-at.extents c.requires.stands c.requires.layout c.requires.cells c.loop-at-test.true c.loop-at.invariant.within c.loop-at.invariant.measured in
     let cell = c.index-cells-at.is ∙ m.cell_is c.index-cells-at.result in
-    let payload = ap (λ (x : Cell). payload_in x.id (forest c.args.pool.now)) cell ∙ m.payload_is in
-    let extent = c.extent_over-extent.ensures m.below (subst (λ y. IsOver y m.below c.loop-at.at c.loop-at.extents) (sym payload) m.over) (ap (λ (x : Cell). x.children) cell) in
+    let payload = ap (λ (x : Visit). payload_in x.id (forest c.args.pool.now)) cell ∙ m.payload_is in
+    let extent = c.extent_over-extent.ensures m.below (subst (λ y. IsOver y m.below c.loop-at.at c.loop-at.extents) (sym payload) m.over) (ap (λ (x : Visit). x.children) cell) in
     let value = extent ∙ ap (λ y. extent_of y m.below) payload in
     record {
       measured = m.listed c.extent_over-extent.result value (omega (arith, c.loop-at-test.true, c.loop-at.invariant.within, c.loop-at.invariant.len, c.requires.room));

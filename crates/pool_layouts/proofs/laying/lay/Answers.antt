@@ -4,10 +4,10 @@ use Rattle.tree_handles.specs.Forest.{empty, tree}
 use Rattle.tree_handles.specs.Inside.{tree_at}
 use Rattle.tree_handles.specs.Standing.{forest}
 use Rattle.tree_handles.proofs.Forests.{keeps_after}
-use Rattle.pool_layouts.specs.declared.cells.Cell.{Cell}
+use Rattle.tree_handles.specs.declared.visits.Visit.{Visit}
 use Rattle.pool_layouts.specs.declared.frames.Frame.{Frame}
 use Rattle.pool_layouts.specs.Frames.{frame_of, frame_behind}
-use Rattle.pool_layouts.proofs.Listing.{cells_length}
+use Rattle.tree_handles.proofs.Visiting.{visits_length}
 use Rattle.pool_layouts.proofs.Shown.{shown_inside}
 use Rattle.pool_layouts.proofs.UnderWay.{first_inside, started, top, next, next_shows, parts_are_few, entered, closing, close_live, close_few, close_begin, close_leaf, closed_all, closed_room, closed_one, close_stopped, mark_stopped, front_kept, none_left, some_left}
 use Rattle.pool_layouts.proofs.laying.lay.Goals as goal
@@ -18,12 +18,12 @@ bounds-cells-0 g c = first_inside c.args.face c.args.pool.now c.args.cells.now c
 pub push-requires : goal.push-requires
 push-requires g c =
     let inside = first_inside c.args.face c.args.pool.now c.args.cells.now c.requires.expression c.requires.cells in
-    omega (arith, inside, ap length c.requires.cells, cells_length (tree_at c.args.face (forest c.args.pool.now)), c.requires.listed, ap length c.requires.none, c.requires.few)
+    omega (arith, inside, ap length c.requires.cells, visits_length (tree_at c.args.face (forest c.args.pool.now)), c.requires.listed, ap length c.requires.none, c.requires.few)
 
 pub loop-frame-init : goal.loop-frame-init
 loop-frame-init g c =
     started c.args.pool.now c.args.face c.args.cells.now c.push.new.self.items c.index-cells-0.result c.used.result c.requires.stands c.requires.expression c.requires.cells c.used.ensures.value
-    (c.push.ensures.items ∙ ap (λ (xs : List Frame). xs ++ c.of.result ∷ []) c.requires.none ∙ ap (λ (f : Frame). f ∷ []) c.of.ensures ∙ ap (λ (x : Cell). frame_of x None c.used.result ∷ []) c.index-cells-0.is)
+    (c.push.ensures.items ∙ ap (λ (xs : List Frame). xs ++ c.of.result ∷ []) c.requires.none ∙ ap (λ (f : Frame). f ∷ []) c.of.ensures ∙ ap (λ (x : Visit). frame_of x None c.used.result ∷ []) c.index-cells-0.is)
 
 pub returns-in_err-marks-clause-front : goal.returns-in_err-marks-clause-front
 returns-in_err-marks-clause-front g c =
@@ -42,7 +42,7 @@ around-around-requires-clause-shown g c =
     (tree n.label n.below empty, next_shows n)
 
 pub around-around-requires-clause-few : goal.around-around-requires-clause-few
-around-around-requires-clause-few g c = omega (arith, ap length c.requires.cells, cells_length (tree_at c.args.face (forest c.args.pool.now)), c.requires.listed, c.requires.few)
+around-around-requires-clause-few g c = omega (arith, ap length c.requires.cells, visits_length (tree_at c.args.face (forest c.args.pool.now)), c.requires.listed, c.requires.few)
 
 pub behind-requires-clause-few : goal.behind-requires-clause-few
 behind-requires-clause-few g c = omega (arith, parts_are_few (top c.pop.new.self.items c.in-Some.frame c.loop-frame.invariant c.in-Some.ensures.items), c.in_ok-marks.ensures.ok.few)
@@ -50,12 +50,12 @@ behind-requires-clause-few g c = omega (arith, parts_are_few (top c.pop.new.self
 pub push-requires-then-frame-gt0 : goal.push-requires-then-frame-gt0
 push-requires-then-frame-gt0 g c =
     let n = next (top c.pop.new.self.items c.in-Some.frame c.loop-frame.invariant c.in-Some.ensures.items) c.if-frame-gt0.true in
-    omega (arith, shown_inside (next_shows n), n.short, ap length c.requires.cells, cells_length (tree_at c.args.face (forest c.args.pool.now)), c.requires.listed, c.requires.few)
+    omega (arith, shown_inside (next_shows n), n.short, ap length c.requires.cells, visits_length (tree_at c.args.face (forest c.args.pool.now)), c.requires.listed, c.requires.few)
 
 pub offset_bounds-cells-at : goal.offset_bounds-cells-at
 offset_bounds-cells-at g c =
     let n = next (top c.pop.new.self.items c.in-Some.frame c.loop-frame.invariant c.in-Some.ensures.items) c.if-frame-gt0.true in
-    record { fits = omega (arith, shown_inside (next_shows n), ap length c.requires.cells, cells_length (tree_at c.args.face (forest c.args.pool.now)), c.requires.listed, c.requires.few) }
+    record { fits = omega (arith, shown_inside (next_shows n), ap length c.requires.cells, visits_length (tree_at c.args.face (forest c.args.pool.now)), c.requires.listed, c.requires.few) }
 
 pub bounds-cells-at : goal.bounds-cells-at
 bounds-cells-at g c =
@@ -65,12 +65,12 @@ bounds-cells-at g c =
 pub push-requires-then-frame-gt0-2 : goal.push-requires-then-frame-gt0-2
 push-requires-then-frame-gt0-2 g c =
     let n = next (top c.pop.new.self.items c.in-Some.frame c.loop-frame.invariant c.in-Some.ensures.items) c.if-frame-gt0.true in
-    omega (arith, shown_inside (next_shows n), n.short, c.push-then-frame-gt0.ensures.len, ap length c.requires.cells, cells_length (tree_at c.args.face (forest c.args.pool.now)), c.requires.listed, c.requires.few)
+    omega (arith, shown_inside (next_shows n), n.short, c.push-then-frame-gt0.ensures.len, ap length c.requires.cells, visits_length (tree_at c.args.face (forest c.args.pool.now)), c.requires.listed, c.requires.few)
 
 pub overflow_add-at : goal.overflow_add-at
 overflow_add-at g c =
     let n = next (top c.pop.new.self.items c.in-Some.frame c.loop-frame.invariant c.in-Some.ensures.items) c.if-frame-gt0.true in
-    record { fits = omega (arith, shown_inside (next_shows n), ap length c.requires.cells, cells_length (tree_at c.args.face (forest c.args.pool.now)), c.requires.listed, c.requires.few) }
+    record { fits = omega (arith, shown_inside (next_shows n), ap length c.requires.cells, visits_length (tree_at c.args.face (forest c.args.pool.now)), c.requires.listed, c.requires.few) }
 
 pub loop-frame-smaller-then-frame-gt0 : goal.loop-frame-smaller-then-frame-gt0
 loop-frame-smaller-then-frame-gt0 g c =
@@ -85,7 +85,7 @@ loop-frame-preserved-then-frame-gt0 g c =
     c.around-around.ensures c.used-then-frame-gt0.ensures.value
     (c.push-then-frame-gt0-2.ensures.items ∙ ap (λ (xs : List Frame). xs ++ c.of-then-frame-gt0.result ∷ []) c.push-then-frame-gt0.ensures.items
     ∙ ap (λ (f : Frame). (popped ++ f ∷ []) ++ c.of-then-frame-gt0.result ∷ []) c.behind.ensures ∙ ap (λ (f : Frame). (popped ++ frame_behind c.in-Some.frame c.in_ok-marks.marks ∷ []) ++ f ∷ []) c.of-then-frame-gt0.ensures
-    ∙ ap (λ (x : Cell). (popped ++ frame_behind c.in-Some.frame c.in_ok-marks.marks ∷ []) ++ frame_of x c.around-around.result c.used-then-frame-gt0.result ∷ []) c.index-cells-at.is)
+    ∙ ap (λ (x : Visit). (popped ++ frame_behind c.in-Some.frame c.in_ok-marks.marks ∷ []) ++ frame_of x c.around-around.result c.used-then-frame-gt0.result ∷ []) c.index-cells-at.is)
 
 pub close-requires-clause-live : goal.close-requires-clause-live
 close-requires-clause-live g c = close_live (closing (top c.pop.new.self.items c.in-Some.frame c.loop-frame.invariant c.in-Some.ensures.items) (omega (arith, c.if-frame-gt0.false)))

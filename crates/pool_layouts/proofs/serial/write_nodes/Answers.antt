@@ -3,12 +3,12 @@ use Rattle.std.proofs.lemmas.List.{length-append}
 use Rattle.tree_handles.specs.Inside.{holds, tree_at, payload_in}
 use Rattle.tree_handles.specs.Standing.{forest}
 use Rattle.line_text.specs.Content.{Content, extended}
-use Rattle.pool_layouts.specs.declared.cells.Cell.{Cell}
+use Rattle.tree_handles.specs.declared.visits.Visit.{Visit}
 use Rattle.pool_layouts.specs.declared.serial.Pending.{Pending}
 use Rattle.pool_layouts.specs.Drawings.{drawing}
 use Rattle.pool_layouts.specs.Pending.{before_part, leaf_serial}
 use Rattle.pool_layouts.specs.Serial.{serial}
-use Rattle.pool_layouts.proofs.Listing.{cells_length}
+use Rattle.tree_handles.proofs.Visiting.{visits_length}
 use Rattle.pool_layouts.proofs.Writing.{writing_start, whole_short, taken, ended, entered, done, content_is, none_popped}
 use Rattle.pool_layouts.proofs.serial.write_nodes.Goals as goal
 
@@ -21,7 +21,7 @@ loop-rest-init g c = record {
 pub offset_bounds-cells-at : goal.offset_bounds-cells-at
 offset_bounds-cells-at g c =
     let e = entered (taken c.in-Some.rest c.pop.new.self.items c.loop-rest.invariant.writing c.in-Some.ensures.items) c.if-rest-gt0.true in
-    record { fits = omega (arith, e.inside, ap length c.requires.cells, cells_length (tree_at c.args.layout (forest c.args.pool.now)), c.requires.listed, c.requires.few) }
+    record { fits = omega (arith, e.inside, ap length c.requires.cells, visits_length (tree_at c.args.layout (forest c.args.pool.now)), c.requires.listed, c.requires.few) }
 
 pub bounds-cells-at : goal.bounds-cells-at
 bounds-cells-at g c = (entered (taken c.in-Some.rest c.pop.new.self.items c.loop-rest.invariant.writing c.in-Some.ensures.items) c.if-rest-gt0.true).inside
@@ -34,7 +34,7 @@ push-requires-then-rest-gt0 g c =
 pub write_leaf-requires-clause-live : goal.write_leaf-requires-clause-live
 write_leaf-requires-clause-live g c =
     let e = entered (taken c.in-Some.rest c.pop.new.self.items c.loop-rest.invariant.writing c.in-Some.ensures.items) c.if-rest-gt0.true in
-    ap (λ (x : Cell). holds x.id (forest c.args.pool.now)) (c.index-cells-at.is ∙ e.cell_is c.index-cells-at.result) ∙ e.live
+    ap (λ (x : Visit). holds x.id (forest c.args.pool.now)) (c.index-cells-at.is ∙ e.cell_is c.index-cells-at.result) ∙ e.live
 
 pub write_leaf-requires-clause-room : goal.write_leaf-requires-clause-room
 write_leaf-requires-clause-room g c =
@@ -42,7 +42,7 @@ write_leaf-requires-clause-room g c =
     omega (
       arith,
       e.leaf_room,
-      ap (λ (x : Cell). length (leaf_serial (payload_in x.id (forest c.args.pool.now)))) (c.index-cells-at.is ∙ e.cell_is c.index-cells-at.result),
+      ap (λ (x : Visit). length (leaf_serial (payload_in x.id (forest c.args.pool.now)))) (c.index-cells-at.is ∙ e.cell_is c.index-cells-at.result),
       ap (λ y. length (leaf_serial y)) e.payload_is,
       ap (λ (x : Content). length x.bytes) c.push-then-rest-gt0.ensures,
       ap (λ (x : Content). x.capacity) c.push-then-rest-gt0.ensures,
@@ -55,17 +55,17 @@ write_leaf-requires-clause-room g c =
 pub push-requires-then-rest-gt0-2 : goal.push-requires-then-rest-gt0-2
 push-requires-then-rest-gt0-2 g c =
     let e = entered (taken c.in-Some.rest c.pop.new.self.items c.loop-rest.invariant.writing c.in-Some.ensures.items) c.if-rest-gt0.true in
-    omega (arith, e.inside, e.short, ap length c.requires.cells, cells_length (tree_at c.args.layout (forest c.args.pool.now)), c.requires.listed, c.requires.few)
+    omega (arith, e.inside, e.short, ap length c.requires.cells, visits_length (tree_at c.args.layout (forest c.args.pool.now)), c.requires.listed, c.requires.few)
 
 pub push-requires-then-rest-gt0-3 : goal.push-requires-then-rest-gt0-3
 push-requires-then-rest-gt0-3 g c =
     let e = entered (taken c.in-Some.rest c.pop.new.self.items c.loop-rest.invariant.writing c.in-Some.ensures.items) c.if-rest-gt0.true in
-    omega (arith, e.inside, e.short, c.push-then-rest-gt0-2.ensures.len, ap length c.requires.cells, cells_length (tree_at c.args.layout (forest c.args.pool.now)), c.requires.listed, c.requires.few)
+    omega (arith, e.inside, e.short, c.push-then-rest-gt0-2.ensures.len, ap length c.requires.cells, visits_length (tree_at c.args.layout (forest c.args.pool.now)), c.requires.listed, c.requires.few)
 
 pub overflow_add-at : goal.overflow_add-at
 overflow_add-at g c =
     let e = entered (taken c.in-Some.rest c.pop.new.self.items c.loop-rest.invariant.writing c.in-Some.ensures.items) c.if-rest-gt0.true in
-    record { fits = omega (arith, e.inside, ap length c.requires.cells, cells_length (tree_at c.args.layout (forest c.args.pool.now)), c.requires.listed, c.requires.few) }
+    record { fits = omega (arith, e.inside, ap length c.requires.cells, visits_length (tree_at c.args.layout (forest c.args.pool.now)), c.requires.listed, c.requires.few) }
 
 pub loop-rest-smaller-then-rest-gt0 : goal.loop-rest-smaller-then-rest-gt0
 loop-rest-smaller-then-rest-gt0 g c =
@@ -80,10 +80,10 @@ loop-rest-preserved-then-rest-gt0 g c =
     let left : Pending = record { kind = c.in-Some.rest.kind; left = c.in-Some.rest.left - 1 } in
     let bytes = ap (λ (x : Content). x.bytes) c.write_leaf.ensures
     ∙ ap (λ (x : List ℕ). x ++ leaf_serial (payload_in c.index-cells-at.result.id base)) (ap (λ (x : Content). x.bytes) c.push-then-rest-gt0.ensures ∙ ap (λ (x : List ℕ). c.loop-rest.text.bytes ++ x) c.before-then-rest-gt0.ensures)
-    ∙ ap (λ (x : Cell). (c.loop-rest.text.bytes ++ before_part c.in-Some.rest.kind c.in-Some.rest.left) ++ leaf_serial (payload_in x.id base)) cell_is
+    ∙ ap (λ (x : Visit). (c.loop-rest.text.bytes ++ before_part c.in-Some.rest.kind c.in-Some.rest.left) ++ leaf_serial (payload_in x.id base)) cell_is
     ∙ ap (λ y. (c.loop-rest.text.bytes ++ before_part c.in-Some.rest.kind c.in-Some.rest.left) ++ leaf_serial y) e.payload_is in
     let items = c.push-then-rest-gt0-3.ensures.items ∙ ap (λ (xs : List Pending). xs ++ (record { kind = c.index-cells-at.result.kind; left = c.index-cells-at.result.children }) ∷ []) c.push-then-rest-gt0-2.ensures.items
-    ∙ ap (λ (x : Cell). (c.pop.new.self.items ++ left ∷ []) ++ (record { kind = x.kind; left = x.children }) ∷ []) cell_is in
+    ∙ ap (λ (x : Visit). (c.pop.new.self.items ++ left ∷ []) ++ (record { kind = x.kind; left = x.children }) ∷ []) cell_is in
     record {
       writing = e.goes_on c.write_leaf.new.text.bytes c.push-then-rest-gt0-3.new.self.items bytes items;
       capacity = ap (λ (x : Content). x.capacity) c.write_leaf.ensures ∙ ap (λ (x : Content). x.capacity) c.push-then-rest-gt0.ensures ∙ c.loop-rest.invariant.capacity;

@@ -1,18 +1,15 @@
-use Rattle.std.proofs.Common.{◌≡◌, ◌-◌, ◌+◌, ◌*◌, length}
-use Rattle.node_pool.specs.Nodes.{used}
-use Rattle.node_pool.specs.Places.{IsBoundary}
-use Rattle.tree_handles.specs.Forest.{depth_in}
+use Rattle.std.proofs.Common.{◌≡◌, ◌+◌, ◌*◌, length}
+use Rattle.tree_handles.specs.Forest.{nodes_in, depth_in}
 use Rattle.tree_handles.specs.Inside.{tree_at}
 use Rattle.tree_handles.specs.Standing.{forest}
-use Rattle.tree_handles.proofs.Measures.{IsWalked}
+use Rattle.tree_handles.proofs.Depths.{IsWalked}
 use Rattle.tree_handles.proofs.measure.tree_depth.Given as goal
 
 abbrev pub invariant-loop-height : goal.invariant-loop-height
 invariant-loop-height l = record {
-  walked : IsWalked l.at l.height l.deepest (depth_in (tree_at l.fn.id (forest l.pool))) l.owed l.pool.nodes;
-  boundary : IsBoundary l.at l.pool.nodes;
+  walked : IsWalked l.nodes l.height l.deepest (depth_in (tree_at l.fn.id (forest l.fn.pool))) (nodes_in (tree_at l.fn.id (forest l.fn.pool))) l.owed;
   levels : length l.owed ≡ 65536;
 }
 
 abbrev pub decreases-loop-height : goal.decreases-loop-height
-decreases-loop-height l = 2 * (used l.pool.nodes - l.at) + l.height
+decreases-loop-height l = 2 * length l.nodes + l.height

@@ -31,3 +31,14 @@ returns-clause-stands c = (all c).1
 
 pub returns-clause-last : goal.returns-clause-last
 returns-clause-last c = moved_last c.args.handle.now c.args.pool.now c.move_block.new.self c.requires.stands (all c).1 c.requires.root (all c).0
+
+pub returns-then-end-last-clause-forest : goal.returns-then-end-last-clause-forest
+returns-then-end-last-clause-forest c =
+    (block c.args.handle.now c.locate-from.result c.behind-end.result c.args.pool.now c.requires.stands c.requires.root (c.locate-from.ensures.value ∙ ap (λ (i : ℕ). place_of i c.args.pool.now.nodes) c.id.ensures) c.behind-end.ensures.boundary c.behind-end.ensures.rest).stays
+    (omega (arith, c.if-end-last.true, c.used-last.ensures.value))
+
+pub returns-then-end-last-clause-last : goal.returns-then-end-last-clause-last
+returns-then-end-last-clause-last c =
+    moved_last c.args.handle.now c.args.pool.now c.args.pool.now c.requires.stands c.requires.stands c.requires.root
+    ((block c.args.handle.now c.locate-from.result c.behind-end.result c.args.pool.now c.requires.stands c.requires.root (c.locate-from.ensures.value ∙ ap (λ (i : ℕ). place_of i c.args.pool.now.nodes) c.id.ensures) c.behind-end.ensures.boundary c.behind-end.ensures.rest).stays
+    (omega (arith, c.if-end-last.true, c.used-last.ensures.value)))

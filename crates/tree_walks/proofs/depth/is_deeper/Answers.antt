@@ -1,31 +1,27 @@
-use Rattle.std.proofs.Common.{◌≡◌, ◌<◌, ◌-◌, ◌∙◌, length, get_or, arith, refl}
+use Rattle.std.proofs.Common.{◌≡◌, ◌<◌, ◌-◌, ◌∙◌, length, get_or, ap, arith, refl}
 use Rattle.std.proofs.Math.ListN.{set}
+use Rattle.std.proofs.lemmas.List.{length-set}
 use Rattle.calc_terms.specs.Trees.{depth}
 use Rattle.tree_handles.specs.Expressions.{plain}
-use Rattle.std.proofs.lemmas.List.{length-set}
 use Rattle.tree_handles.specs.Forest.{depth_in}
 use Rattle.tree_handles.specs.Inside.{tree_at}
 use Rattle.tree_handles.specs.Standing.{forest}
-use Rattle.tree_handles.proofs.Measures.{before, walked_start, walked_close, walked_in, walked_deeper, walked_done, one_at}
-use Rattle.tree_handles.proofs.Parts.{live_node}
+use Rattle.tree_handles.proofs.Depths.{walked_start, walked_close, walked_some, walked_deeper, walked_done}
+use Rattle.tree_handles.proofs.Measures.{one_at}
 use Rattle.tree_handles.proofs.Plains.{depth-plain}
+use Rattle.tree_handles.proofs.Visiting.{some_next, next_is}
 use Rattle.tree_walks.proofs.Levels.{shallow, too_deep}
 use Rattle.tree_walks.proofs.depth.is_deeper.Goals as goal
 
-pub locate-at-requires : goal.locate-at-requires
-locate-at-requires c = live_node c.args.id c.args.pool.now c.requires.stands c.requires.expression.live
-
 pub loop-height-init : goal.loop-height-init
 loop-height-init c = record {
-  shallow = shallow (walked_start c.args.id c.locate-at.result _ c.args.pool.now (before c.args.id c.locate-at.result c.args.pool.now c.requires.stands c.requires.expression.live c.locate-at.ensures.value) refl) (omega arith);
-  boundary = c.locate-at.ensures.boundary;
+  shallow = shallow (walked_start (tree_at c.args.id (forest c.args.pool.now)) (one_at c.args.id (forest c.args.pool.now) c.requires.expression.live) c.nodes_of-nodes.ensures refl) (omega arith);
   levels = refl;
 }
 
 pub loop-height-preserved-then-owed-height-eq0 : goal.loop-height-preserved-then-owed-height-eq0
 loop-height-preserved-then-owed-height-eq0 c = record {
-  shallow = shallow (walked_close c.loop-height.at c.loop-height.height c.loop-height.invariant.shallow.deepest _ c.loop-height.owed c.args.pool.now.nodes c.loop-height.invariant.shallow.walked c.loop-height-test.true c.if-owed-height-eq0.true) c.loop-height.invariant.shallow.few;
-  boundary = c.loop-height.invariant.boundary;
+  shallow = shallow (walked_close c.loop-height.invariant.shallow.walked c.loop-height-test.true c.if-owed-height-eq0.true) c.loop-height.invariant.shallow.few;
   levels = c.loop-height.invariant.levels;
 }
 
@@ -36,8 +32,11 @@ returns-then-height-gt-DEPTH_LIMIT c =
     let deep = too_deep c.loop-height.invariant.shallow c.if-height-gt-DEPTH_LIMIT.true (omega (arith, c.if-owed-height-eq0.false)) in
     (λ h. omega (arith, same, deep), λ h. refl)
 
-pub step-next-requires-clause-inside : goal.step-next-requires-clause-inside
-step-next-requires-clause-inside c = walked_in c.loop-height.at c.loop-height.height c.loop-height.invariant.shallow.deepest _ c.loop-height.owed c.args.pool.now.nodes c.loop-height.invariant.boundary c.loop-height.invariant.shallow.walked c.loop-height-test.true (omega (arith, c.if-owed-height-eq0.false))
+pub unwrap-node-requires : goal.unwrap-node-requires
+unwrap-node-requires c = some_next c.next.result _ _ c.next.ensures.steps (walked_some c.loop-height.invariant.shallow.walked c.loop-height-test.true (omega (arith, c.if-owed-height-eq0.false)))
+
+pub loop-height-smaller : goal.loop-height-smaller
+loop-height-smaller c = omega (arith, ap length (next_is c.next.result c.unwrap-node.result _ _ c.next.ensures.steps c.unwrap-node.ensures))
 
 pub loop-height-preserved : goal.loop-height-preserved
 loop-height-preserved c =
@@ -46,9 +45,8 @@ loop-height-preserved c =
     let height = c.loop-height.height in
     let room : height < length owed = omega (arith, c.loop-height.invariant.levels, c.if-height-gt-DEPTH_LIMIT.false) in
     record {
-      shallow = shallow (walked_deeper c.loop-height.at c.step-next.result.1 height w.deepest _ c.step-next.result.0.children owed c.args.pool.now.nodes c.step-next.result.0 w.walked c.loop-height-test.true room (omega (arith, c.if-owed-height-eq0.false)) c.step-next.ensures.header c.step-next.ensures.rest c.step-next.ensures.next refl) (omega (arith, w.few, c.if-height-gt-DEPTH_LIMIT.false));
-      boundary = c.step-next.ensures.boundary;
-      levels = length-set (set owed (height - 1) (get_or owed (height - 1) 0 - 1)) height c.step-next.result.0.children ∙ length-set owed (height - 1) (get_or owed (height - 1) 0 - 1) ∙ c.loop-height.invariant.levels;
+      shallow = shallow (walked_deeper w.walked c.loop-height-test.true room (omega (arith, c.if-owed-height-eq0.false)) (next_is c.next.result c.unwrap-node.result _ _ c.next.ensures.steps c.unwrap-node.ensures)) (omega (arith, w.few, c.if-height-gt-DEPTH_LIMIT.false));
+      levels = length-set (set owed (height - 1) (get_or owed (height - 1) 0 - 1)) height c.unwrap-node.result.children ∙ length-set owed (height - 1) (get_or owed (height - 1) 0 - 1) ∙ c.loop-height.invariant.levels;
     }
 
 pub returns : goal.returns
@@ -56,5 +54,5 @@ returns c =
     let t = tree_at c.args.id (forest c.args.pool.now) in
     let same : depth (plain t) ≡ depth_in t = depth-plain t (one_at c.args.id (forest c.args.pool.now) c.requires.expression.live) c.requires.expression.whole in
     let w = c.loop-height.invariant.shallow in
-    let deepest : w.deepest ≡ depth_in t = walked_done c.loop-height.at c.loop-height.height w.deepest (depth_in t) c.loop-height.owed c.args.pool.now.nodes w.walked (omega arith) in
+    let deepest : w.deepest ≡ depth_in t = walked_done w.walked (omega arith) in
     (λ h. absurd cc, λ h. absurd (omega (arith, same, deepest, w.few)))

@@ -1,0 +1,100 @@
+-- Trees behind a root that become its children.
+use Rattle.std.specs.Prelude.{◌≡◌, ℕ, ◌+◌, ◌<◌, ◌≤◌, List, ◌∷◌, ◌++◌, length, true, false}
+use Rattle.std.proofs.Common.{refl, sym, ap, ◌∙◌, subst, arith, append_assoc, cond, eqb, Bool}
+use Rattle.std.proofs.lemmas.Bool.{eq-eqb}
+use Rattle.std.proofs.lemmas.List.{length-append}
+use Rattle.calc_terms.specs.Node.{Node}
+use Rattle.node_pool.specs.Nodes.{has, with_children, AreDistinct}
+use Rattle.node_pool.specs.State.{State}
+use Rattle.node_pool.proofs.Splits.{with_children-append}
+use Rattle.tree_handles.specs.Forest.{Label, Forest, empty, tree, join, arity, kids, node_of, flatten, first_trees, rest_trees, root_id, AllNodes}
+use Rattle.tree_handles.specs.Handed.{Ends}
+use Rattle.tree_handles.specs.Inside.{kids_of}
+use Rattle.tree_handles.specs.Roots.{has_root, behind_root, adopted}
+use Rattle.tree_handles.specs.Standing.{Stands, forest, IsCounted}
+use Rattle.tree_handles.proofs.Distinct.{distinct, not_before}
+use Rattle.tree_handles.proofs.Forests.{flatten-join, join_assoc, arity-join, arity-first_trees, first-rest, first_trees-join, rest_trees-join, join-empty, all-join, all-left, all-right, all-first_trees, all-rest_trees}
+use Rattle.tree_handles.proofs.Lasts.{kids_of_root}
+use Rattle.tree_handles.proofs.Outcomes.{by_test}
+use Rattle.tree_handles.proofs.Releases.{arity_le, few_nodes}
+use Rattle.tree_handles.proofs.Roots.{top}
+
+behind-right : (i : ℕ) (f g : Forest) → has_root i f ≡ false → behind_root i (join f g) ≡ behind_root i g
+behind-right i empty g h = refl
+behind-right i (tree l k r) g h =
+    by_test (λ t. cond t true (has_root i r) ≡ false → cond t (join r g) (behind_root i (join r g)) ≡ behind_root i g) (eqb l.id i) (λ e h. absurd cc) (λ e h. behind-right i r g h) h
+
+adopted-right : (i n : ℕ) (f g : Forest) → has_root i f ≡ false → adopted i n (join f g) ≡ join f (adopted i n g)
+adopted-right i n empty g h = refl
+adopted-right i n (tree l k r) g h =
+    by_test (λ t. cond t true (has_root i r) ≡ false → cond t (tree l (join k (first_trees n (join r g))) (rest_trees n (join r g))) (tree l k (adopted i n (join r g))) ≡ tree l k (join r (adopted i n g))) (eqb l.id i)
+    (λ e h. absurd cc) (λ e h. ap (λ (x : Forest). tree l k x) (adopted-right i n r g h)) h
+
+-- the root, with the trees behind it
+pub behind_there : (i : ℕ) (f r k : Forest) (l : Label) → has_root i f ≡ false → l.id ≡ i → behind_root i (join f (tree l k r)) ≡ r
+behind_there i f r k l h e = behind-right i f (tree l k r) h ∙ ap (λ (t : Bool). cond t r (behind_root i r)) (eq-eqb l.id i e)
+
+adopted_there : (i n : ℕ) (f r k : Forest) (l : Label) → has_root i f ≡ false → l.id ≡ i → adopted i n (join f (tree l k r)) ≡ join f (tree l (join k (first_trees n r)) (rest_trees n r))
+adopted_there i n f r k l h e =
+    adopted-right i n f (tree l k r) h ∙ ap (λ (t : Bool). join f (cond t (tree l (join k (first_trees n r)) (rest_trees n r)) (tree l k (adopted i n r)))) (eq-eqb l.id i e)
+
+-- all of them
+pub adopted_all : (i n : ℕ) (f r k : Forest) (l : Label) → has_root i f ≡ false → l.id ≡ i → n ≡ arity r → adopted i n (join f (tree l k r)) ≡ join f (tree l (join k r) empty)
+adopted_all i n f r k l h e c =
+    let first : first_trees n r ≡ r = ap (λ (m : ℕ). first_trees m r) c ∙ ap (first_trees (arity r)) (sym (join-empty r)) ∙ first_trees-join r empty in
+    let rest : rest_trees n r ≡ empty = ap (λ (m : ℕ). rest_trees m r) c ∙ ap (rest_trees (arity r)) (sym (join-empty r)) ∙ rest_trees-join r empty in
+    adopted_there i n f r k l h e ∙ ap (λ (x : Forest). join f (tree l (join k x) (rest_trees n r))) first ∙ ap (λ (x : Forest). join f (tree l (join k r) x)) rest
+
+behind_alone : (i : ℕ) (t r : Forest) → arity t ≡ 1 → root_id t ≡ i → behind_root i (join t r) ≡ r
+behind_alone i empty r a e = absurd (omega arith)
+behind_alone i (tree l k empty) r a e = ap (λ (t : Bool). cond t r (behind_root i r)) (eq-eqb l.id i e)
+behind_alone i (tree l k (tree m j s)) r a e = absurd (omega arith)
+
+-- two trees that came after it
+pub two_behind : {i j k : ℕ} {t u v others f g h : Forest} → Ends i t others f → Ends j u f g → Ends k v g h → 2 ≤ arity (behind_root i h)
+two_behind {i = i} {t = t} {u = u} {v = v} {others = others} a b c =
+    let whole = c.whole ∙ ap (λ (x : Forest). join x v) (b.whole ∙ ap (λ (x : Forest). join x u) a.whole ∙ join_assoc others t u) ∙ join_assoc others (join t u) v ∙ ap (join others) (join_assoc t u v) in
+    let behind = ap (behind_root i) whole ∙ behind-right i others (join t (join u v)) a.clear ∙ behind_alone i t (join u v) a.alone a.root in
+    omega (arith, ap arity behind, arity-join u v, b.alone, c.alone)
+
+-- ---- the call
+
+pub record IsAdopted (i n own : ℕ) (s : State) : Type 0 where
+  pub few : own + n < 65536
+  pub nodes : with_children i (own + n) s.nodes ≡ flatten (adopted i n (forest s))
+
+pub are_adopted : (i n own : ℕ) (s : State) → Stands s → has_root i (forest s) ≡ true → n ≤ arity (behind_root i (forest s)) → own ≡ arity (kids_of i (forest s)) → IsAdopted i n own s
+are_adopted i n own s st root within many =
+    let f = forest s in
+    let p = top i f root in
+    let l = p.label in
+    let k = p.kids-are in
+    let r = p.right in
+    let new = join k (first_trees n r) in
+    let whole : flatten f ≡ flatten p.left ++ (node_of l k ∷ (flatten k ++ flatten r)) = ap flatten p.whole ∙ flatten-join p.left (tree l k r) in
+    let clear : has i (flatten p.left) ≡ false = ap (λ (x : ℕ). has x (flatten p.left)) (sym p.id-is) ∙ not_before (flatten p.left) (node_of l k) (flatten k ++ flatten r) (subst AreDistinct whole (distinct s st)) in
+    let own-is : own ≡ arity k = many ∙ ap arity (kids_of_root i st root) ∙ ap (λ (x : Forest). arity (kids x)) p.tree-is in
+    let right : n ≤ arity r = subst (λ (x : Forest). n ≤ arity x) (ap (behind_root i) p.whole ∙ behind_there i p.left r k l p.clear p.id-is) within in
+    let count : own + n ≡ arity new = omega (arith, own-is, arity-join k (first_trees n r), arity-first_trees n r right) in
+    let below : flatten new ++ flatten (rest_trees n r) ≡ flatten k ++ flatten r =
+    ap (λ (x : List Node). x ++ flatten (rest_trees n r)) (flatten-join k (first_trees n r)) ∙ append_assoc (flatten k) (flatten (first_trees n r)) (flatten (rest_trees n r))
+    ∙ ap (λ (x : List Node). flatten k ++ x) (sym (flatten-join (first_trees n r) (rest_trees n r)) ∙ ap flatten (first-rest n r)) in
+    let goal : flatten (adopted i n f) ≡ flatten p.left ++ (node_of l new ∷ (flatten k ++ flatten r)) =
+    ap flatten (ap (adopted i n) p.whole ∙ adopted_there i n p.left r k l p.clear p.id-is) ∙ flatten-join p.left (tree l new (rest_trees n r)) ∙ ap (λ (x : List Node). flatten p.left ++ (node_of l new ∷ x)) below in
+    record {
+      few = omega (arith, own-is, right, arity_le k, arity_le r, length-append (flatten p.left) (node_of l k ∷ (flatten k ++ flatten r)), length-append (flatten k) (flatten r), ap length whole, ap length st.flat, few_nodes s st.pool);
+      nodes = ap (with_children i (own + n)) (st.flat ∙ whole) ∙ with_children-append i (own + n) (flatten p.left) (node_of l k) (flatten k ++ flatten r) clear p.id-is
+          ∙ ap (λ (c : ℕ). flatten p.left ++ (record (node_of l k) { children = c } ∷ (flatten k ++ flatten r))) count ∙ sym goal;
+    }
+
+pub counted_adopted : (i n : ℕ) (s : State) → Stands s → has_root i (forest s) ≡ true → AllNodes IsCounted (adopted i n (forest s))
+counted_adopted i n s st root =
+    let p = top i (forest s) root in
+    let l = p.label in
+    let k = p.kids-are in
+    let r = p.right in
+    let all = subst (AllNodes IsCounted) p.whole st.counted in
+    let here = all-right IsCounted p.left (tree l k r) all in
+    subst (AllNodes IsCounted) (sym (ap (adopted i n) p.whole ∙ adopted_there i n p.left r k l p.clear p.id-is))
+    (all-join IsCounted p.left (tree l (join k (first_trees n r)) (rest_trees n r)) (all-left IsCounted p.left (tree l k r) all)
+    (here.0, all-join IsCounted k (first_trees n r) here.1 (all-first_trees IsCounted n r here.2), all-rest_trees IsCounted n r here.2))

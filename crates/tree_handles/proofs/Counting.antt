@@ -1,0 +1,37 @@
+-- Trees, counted one after another.
+use Rattle.std.proofs.Common.{◌≡◌, ℕ, ◌+◌, ◌-◌, ◌<◌, ◌≤◌, List, [], ◌∷◌, ap, arith, length}
+use Rattle.calc_terms.specs.Node.{Node}
+use Rattle.node_pool.specs.Nodes.{used, first_of}
+use Rattle.node_pool.specs.Places.{since, IsBoundary}
+use Rattle.node_pool.specs.State.{State}
+use Rattle.node_pool.proofs.Cuts.{step}
+use Rattle.node_pool.proofs.Sizes.{length_le_used}
+use Rattle.node_pool.proofs.Walk.{since_end}
+use Rattle.tree_handles.specs.Forest.{arity, forest_of}
+use Rattle.tree_handles.specs.Standing.{Stands, forest}
+use Rattle.tree_handles.specs.Walks.{skip}
+use Rattle.tree_handles.proofs.ChildPlaces.{forest_of-skip}
+use Rattle.tree_handles.proofs.Forests.{arity-rest_trees}
+use Rattle.tree_handles.proofs.Releases.{arity_le}
+
+-- a tree begins at a node
+some_tree : (ns ms : List Node) (n : Node) → ns ≡ n ∷ ms → 0 < arity (forest_of ns)
+unfolding forest_of
+some_tree ns ms n e = omega (arith, ap (λ (x : List Node). arity (forest_of x)) e)
+
+-- one tree fewer begins behind it
+pub one_fewer : (at next : ℕ) (ns : List Node) → IsBoundary at ns → at < used ns → since next ns ≡ skip 1 (since at ns) → arity (forest_of (since next ns)) + 1 ≡ arity (forest_of (since at ns))
+one_fewer at next ns b lt e =
+    omega (arith, some_tree (since at ns) _ (first_of (since at ns)) (step at ns b lt).rest, ap (λ (x : List Node). arity (forest_of x)) e, ap arity (forest_of-skip 1 (since at ns)), arity-rest_trees 1 (forest_of (since at ns)))
+
+-- none is left at the end
+no_tree : (ns : List Node) → ns ≡ [] → arity (forest_of ns) ≡ 0
+unfolding forest_of
+no_tree ns e = ap (λ (x : List Node). arity (forest_of x)) e
+
+pub none_left : (at : ℕ) (ns : List Node) → used ns ≤ at → arity (forest_of (since at ns)) ≡ 0
+none_left at ns h = no_tree (since at ns) (since_end at ns h)
+
+-- a pool has few trees
+pub few_trees : (s : State) → Stands s → arity (forest s) ≤ 65535
+few_trees s st = omega (arith, arity_le (forest s), ap length st.flat, length_le_used s.nodes, st.pool.fits, st.pool.size.most)

@@ -1,0 +1,50 @@
+-- The trees that stand first are left, and the others are dropped.
+use Rattle.std.proofs.Common.{◌≡◌, ℕ, ◌+◌, ◌-◌, ◌≤◌, List, [], ◌++◌, ap, ◌∙◌, sym, subst, arith}
+use Rattle.std.proofs.lemmas.List.{append-nil}
+use Rattle.calc_terms.specs.Node.{Node}
+use Rattle.node_pool.specs.Nodes.{used}
+use Rattle.node_pool.specs.Places.{IsBoundary, without}
+use Rattle.node_pool.specs.State.{State, IsPool}
+use Rattle.node_pool.proofs.Sizes.{used-append}
+use Rattle.node_pool.proofs.Splits.{boundary-append, without-append}
+use Rattle.tree_handles.specs.Forest.{Forest, flatten, bytes_in, AllNodes}
+use Rattle.tree_handles.specs.Handed.{Starts}
+use Rattle.tree_handles.specs.Standing.{Stands, IsCounted, forest}
+use Rattle.tree_handles.proofs.Forests.{all-left, bytes-flatten, flatten-join, stands}
+
+-- some trees stand first, and take so many bytes
+pub record StandsFirst (bytes : ℕ) (first : Forest) (s : State) : Type 0 where
+  pub behind : List Node
+  pub nodes : s.nodes ≡ flatten first ++ behind
+  pub ends : bytes ≡ used (flatten first)
+  pub boundary : IsBoundary bytes s.nodes
+  pub within : bytes ≤ used s.nodes
+
+pub stands_first : {bytes : ℕ} {first : Forest} {s : State} → Stands s → Starts first (forest s) → bytes ≡ bytes_in first → StandsFirst bytes first s
+stands_first {bytes = bytes} {first = first} {s = s} st x e =
+    let a = flatten first in
+    let b = flatten x.behind in
+    let nodes : s.nodes ≡ a ++ b = st.flat ∙ ap flatten x.whole ∙ flatten-join first x.behind in
+    let ends : bytes ≡ used a = e ∙ sym (bytes-flatten first) in
+    record {
+      behind = b;
+      nodes = nodes;
+      ends = ends;
+      boundary = subst (IsBoundary bytes) (sym nodes) (boundary-append a b bytes ends);
+      within = omega (arith, ap used nodes, used-append a b, ends);
+    }
+
+-- the nodes that are left
+nodes_left : {bytes : ℕ} {first : Forest} {s : State} → StandsFirst bytes first s → without bytes (used s.nodes) s.nodes ≡ flatten first
+nodes_left {bytes = bytes} {first = first} {s = s} f =
+    let a = flatten first in
+    let whole : s.nodes ≡ a ++ (f.behind ++ []) = f.nodes ∙ ap (λ (ns : List Node). a ++ ns) (sym (append-nil f.behind)) in
+    let size : used s.nodes ≡ used a + used f.behind = ap used f.nodes ∙ used-append a f.behind in
+    ap (without bytes (used s.nodes)) whole ∙ without-append a f.behind [] bytes (used s.nodes) f.ends size ∙ append-nil a
+
+-- so the pool stands for the first trees
+pub dropped : {bytes : ℕ} {first : Forest} {s t : State} → Stands s → Starts first (forest s) → bytes ≡ bytes_in first → t ≡ record s { nodes = without bytes (bytes + (used s.nodes - bytes)) s.nodes } → IsPool t → (forest t ≡ first) × Stands t
+dropped {bytes = bytes} {first = first} {s = s} {t = t} st x e n p =
+    let f : StandsFirst bytes first s = stands_first st x e in
+    let end : bytes + (used s.nodes - bytes) ≡ used s.nodes = omega (arith, f.within) in
+    stands t first (ap (λ (u : State). u.nodes) n ∙ ap (λ (k : ℕ). without bytes k s.nodes) end ∙ nodes_left f) p (all-left IsCounted first x.behind (subst (AllNodes IsCounted) x.whole st.counted))
