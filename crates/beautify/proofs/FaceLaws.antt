@@ -328,7 +328,7 @@ product_leads (add us) ts h = by (is_number (add us)) h
     by false h = none_num ts h.1
 product_leads t ts h = none_num ts h.1
 
-form_leads : (t : Tree) → HasForm t → LeadsOnly t
+pub form_leads : (t : Tree) → HasForm t → LeadsOnly t
 form_leads (mult none) h = tt
 form_leads (mult (more t ts)) (inl h) = number_leads t ts h
 form_leads (mult (more t ts)) (inr h) = product_leads t ts h.no_number

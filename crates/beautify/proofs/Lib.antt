@@ -21,3 +21,5 @@ pub mod Examples
 pub mod FaceRewrites
 pub mod FaceLaws
 pub mod FaceTexts
+pub mod OwnFaces
+pub mod NaturalNodes

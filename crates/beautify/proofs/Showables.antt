@@ -11,14 +11,14 @@ use Rattle.calc_algebra.proofs.ReducedLaws.{reduced_words}
 use Rattle.beautify.specs.Showing.{IsShowable, IsFactor, AreFactors}
 
 -- the root of a part of a reduced tree
-abbrev IsFormed : Tree → Type 0
+abbrev pub IsFormed : Tree → Type 0
 IsFormed (neg a) = ⊥
 IsFormed (sub a b) = ⊥
 IsFormed (div a b) = ⊥
 IsFormed undef = ⊥
 IsFormed _ = Unit {0}
 
-formed : (t : Tree) → HasForm t → IsFormed t
+pub formed : (t : Tree) → HasForm t → IsFormed t
 formed undef (inl h) = h
 formed undef (inr h) = h
 formed (neg a) (inl h) = h
@@ -29,7 +29,7 @@ formed (div a b) (inl h) = h
 formed (div a b) (inr h) = h
 formed _ h = tt
 
-first_part : (t : Tree) → AllParts HasForm t → HasForm t
+pub first_part : (t : Tree) → AllParts HasForm t → HasForm t
 first_part (num q) h = h
 first_part (symbol x) h = h
 first_part undef h = h
@@ -57,7 +57,7 @@ factors : (ts : Trees) → AllPartsOf HasForm ts → NoneIs is_mult ts → AreFa
 factors none h n = tt
 factors (more t ts) h n = (factor t (formed t (first_part t h.0)) n.0, factors ts h.1 n.1)
 
-two_terms : (ts : Trees) → HasForm (add ts) → HasTwo ts
+pub two_terms : (ts : Trees) → HasForm (add ts) → HasTwo ts
 two_terms none (inl h) = absurd (omega (arith, h.0))
 two_terms (more t none) (inl h) = absurd (omega (arith, h.0))
 two_terms (more t (more u ts)) (inl h) = tt
@@ -67,7 +67,7 @@ term_product : (ts : Trees) → IsTerm (mult ts) → HasTwo ts × NoneIs is_mult
 term_product (more (num q) (more (root (num r)) none)) h = (tt, (refl, (refl, tt)))
 term_product _ h = absurd h
 
-two_factors : (ts : Trees) → HasForm (mult ts) → HasTwo ts × NoneIs is_mult ts
+pub two_factors : (ts : Trees) → HasForm (mult ts) → HasTwo ts × NoneIs is_mult ts
 two_factors ts (inl h) = term_product ts h
 two_factors ts (inr h) = (h.two, h.no_product)
 

@@ -3,3 +3,4 @@ pub mod Stacks
 pub mod Showing
 pub mod Room
 pub mod Marks
+pub mod OwnFaces

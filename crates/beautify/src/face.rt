@@ -1,7 +1,8 @@
 //! The face of a reduced tree.
-ghost use Rattle.std.specs.Prelude.{◌≡◌, ◌<◌, ◌≤◌, ◌+◌, ◌*◌, true, false, IfErr, IfOk, IsOk, OnOk, [], ◌∷◌};
+ghost use Rattle.std.specs.Prelude.{◌≡◌, ◌<◌, ◌≤◌, ◌+◌, ◌*◌, true, false, IfErr, IfOk, IsOk, OnOk, Ok, [], ◌∷◌};
 ghost use Rattle.calc_language.specs.Faces.{face};
 ghost use Rattle.calc_algebra.specs.Reduced.{is_reduced};
+ghost use Rattle.beautify.specs.OwnFaces.{has_natural_numbers};
 ghost use Rattle.beautify.specs.Showing.{IsShowable};
 ghost use Rattle.beautify.specs.Stacks.{stacked, IsStack, Restacks, FailsAbove};
 ghost use Rattle.calc_terms.specs.Trees.{none, more, is_undef, size, AllParts};
@@ -14,16 +15,17 @@ ghost use Rattle.tree_handles.specs.Inside.{tree_at};
 ghost use Rattle.tree_handles.specs.Roots.{without_root};
 
 use crate::marks::{mark_before, node_at, root_mark};
+use crate::naturals::has_natural_numbers;
 use crate::nodes::show_node;
 use crate::stack::pop;
 use crate::sums::sign;
 use calc_terms::Kind;
 use node_pool::{Full, Id, Pool};
-use tree_handles::{Handle, node, release, tree_nodes};
+use tree_handles::{Handle, move_last, node, release, tree_nodes};
 
-/// The face of a reduced tree that is not Undef. It is built beside the tree, from the last node
-/// to the first, on a stack that lies in the pool too: so the machine's stack that a call takes is
-/// the same for every tree. Refused where a node finds no place; then the tree still stands.
+/// The face of a reduced tree that is not Undef. A tree whose rationals are all whole and at least 0 is its own face. Any
+/// other's is built beside the tree, from the last node to the first, on a stack that lies in the pool too: so the machine's
+/// stack that a call takes is the same for every tree. Refused where a node finds no place; then the tree still stands.
 pub fn face_of(pool: &mut Pool, reduced: Handle) -> Result<Handle, Full>
     requires stands { Stands pool.old }
     requires handed { IsHanded reduced (forest pool.old) }
@@ -40,11 +42,18 @@ pub fn face_of(pool: &mut Pool, reduced: Handle) -> Result<Handle, Full>
     ensures refused { IfErr result (Refuses pool.old pool.new) }
     ensures caused { IfErr result (LacksBytes pool.new) }
 
+    // A tree that is its own face takes no bytes.
+    ensures own { has_natural_numbers (tree_of reduced pool.old) ≡ true → result ≡ Ok reduced }
+
     // Four times the tree's bytes are enough.
     ensures enough { 4 * size (tree_of reduced pool.old) ≤ free_of pool.old → IsOk result }
 
     ensures stands { Stands pool.new }
 {
+    if has_natural_numbers(pool, reduced.id()) {
+        move_last(pool, &reduced);
+        return Ok(reduced);
+    }
     let stack = node(pool, Kind::Add)?;
     show_tree(pool, &stack, reduced.id())?;
     let face = pop(pool, &stack, 0);

@@ -6,6 +6,7 @@ ghost use Rattle.calc_algebra.specs.Surds.{Surd};
 ghost use Rattle.calc_algebra.specs.Meanings.{Assignment, Means};
 ghost use Rattle.calc_language.specs.Reads.{Reads};
 ghost use Rattle.calc_language.specs.Texts.{text as text_of, HasNames};
+ghost use Rattle.beautify.specs.OwnFaces.{has_natural_numbers};
 ghost use Rattle.calc_language.specs.Faces.{face};
 ghost use Rattle.calc_algebra.specs.Reduced.{is_reduced};
 
@@ -17,4 +18,9 @@ pub fn face_keeps_meanings()
 /// The text of its face reads as the face, where the symbols in it are names.
 pub fn face_text_reads()
     ensures { (t : Tree) → is_reduced t ≡ true → is_undef t ≡ false → HasNames t → Reads (text_of (face t)) (face t) }
+{}
+
+/// A reduced tree whose rationals are all whole and at least 0 is its own face.
+pub fn natural_trees_are_their_faces()
+    ensures { (t : Tree) → is_reduced t ≡ true → has_natural_numbers t ≡ true → face t ≡ t }
 {}

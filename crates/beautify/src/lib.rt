@@ -5,6 +5,7 @@ mod face;
 mod fractions;
 pub mod laws;
 mod marks;
+mod naturals;
 mod nodes;
 mod products;
 mod reading;

@@ -109,7 +109,7 @@ fn raise(pool: &mut Pool, stack: &Handle, base: Id, exponent: Id) -> Result<(), 
     gather(pool, stack, Kind::Pow, 0, 2)
 }
 
-/// The first tree of the stack becomes a divisor of 1, with its sign, and the second one goes.
+/// The first tree of the stack becomes a divisor of 1, with its sign, and the second one is released.
 fn invert(pool: &mut Pool, stack: &Handle, base: Id) -> Result<(), Full>
     requires stands { Stands pool.old }
     requires stack { IsStack stack.now (forest pool.old) }

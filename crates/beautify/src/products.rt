@@ -46,7 +46,7 @@ pub(crate) fn show_product(pool: &mut Pool, stack: &Handle, id: Id) -> Result<()
 }
 
 /// The face of a factor at a place of the stack, which stands before the factors that are split
-/// already, goes above the line, below it, or to both sides.
+/// already, stands above the line, below it, or on both sides.
 fn split_factor(
     pool: &mut Pool,
     stack: &Handle,
@@ -112,7 +112,7 @@ fn split_other(
     })
 }
 
-/// The face of a rational at a place of the stack goes, and its numerator stands above the line,
+/// The face of a rational at a place of the stack is released, and its numerator stands above the line,
 /// and its denominator below it, unless they are 1.
 fn split_number(
     pool: &mut Pool,

@@ -49,7 +49,7 @@ pub(crate) fn below_the_line(pool: &Pool, exponent: Id) -> u128
     }
 }
 
-fn is_below_zero(value: Rat) -> bool
+pub(crate) fn is_below_zero(value: Rat) -> bool
     ensures { result ≡ int_is_negative (value_of value).num }
 {
     value.num() < 0

@@ -15,7 +15,7 @@ use calc_terms::{Kind, Name, Rat};
 use node_pool::{Full, Pool};
 use tree_handles::{Handle, add_child, children, node, number, release, symbol, take_child};
 
-/// The last tree goes to a place of the stack, which stands before it.
+/// The last tree is moved to a place of the stack, which stands before it.
 pub(crate) fn push(pool: &mut Pool, stack: &Handle, at: u16, tree: Handle)
     requires stands { Stands pool.old }
     requires last { Gives (without_root tree (forest pool.old)) (forest pool.old) tree (λ t. t ≡ t) }
@@ -118,7 +118,7 @@ pub(crate) fn extend(pool: &mut Pool, stack: &Handle)
     push(pool, stack, 0, sum);
 }
 
-/// The tree at a place of the stack goes.
+/// The tree at a place of the stack is released.
 pub(crate) fn discard(pool: &mut Pool, stack: &Handle, at: u16)
     requires stands { Stands pool.old }
     requires stack { IsStack stack.now (forest pool.old) }
@@ -131,7 +131,7 @@ pub(crate) fn discard(pool: &mut Pool, stack: &Handle, at: u16)
     release(pool, tree);
 }
 
-/// Of the quotient at a place of the stack only the divisor is left, which goes to another place.
+/// Of the quotient at a place of the stack only the divisor is left, which is moved to another place.
 pub(crate) fn keep_divisor(pool: &mut Pool, stack: &Handle, at: u16, to: u16)
     requires stands { Stands pool.old }
     requires stack { IsStack stack.now (forest pool.old) }

@@ -80,3 +80,14 @@ fn small_pools_refuse(rt: HostRuntime) -> Result<(), Fail> {
     assert_eq!(rt; bytes_of_face(&mut pool, rational(-3, 2)), Some(48));
     Ok(())
 }
+
+/// A whole number at least 0 is its own face, which takes no byte: in a full pool there are four.
+#[test]
+fn full_pools_show_whole_numbers(rt: HostRuntime) -> Result<(), Fail> {
+    let mut pool = opened(rt.alloc(), 64)?;
+    for bytes in [16u32, 32, 48, 64] {
+        assert_eq!(rt; bytes_of_face(&mut pool, rational(7, 1)), Some(bytes));
+    }
+    assert_eq!(rt; pool.refusals(), 0);
+    Ok(())
+}

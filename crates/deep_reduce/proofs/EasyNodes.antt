@@ -155,10 +155,6 @@ module _ (t r : Tree) (h : IsReducedFrom t r) (e : IsEasy t) where
       by true u = absurd (n ((h.easy e).undefined.0 (undef_words r u)))
       by false u = u
 
--- each tree of the list is Easy
-AreEasy : Trees → Type 0
-AreEasy ts = (p : Tree) → IsPartOf p ts → IsEasy p
-
 children_bad : (ts us : Trees) → AreReducedFrom ts us → ((p : Tree) → IsPartOf p ts → IsEasy p) → HasBad ts → has_undef us ≡ true
 children_bad none us h e b = absurd b
 children_bad (more t ts) none h e b = absurd h

@@ -1,38 +1,21 @@
 -- Factors of reduced trees before and after a joining: their loads and nests.
-use Rattle.std.proofs.Common.{◌≡◌, ℕ, zero, suc, ◌+◌, ◌<◌, ◌≤◌, inl, inr, Bool, true, false, not, ◌&&◌, if◌then◌else◌, refl, sym, ap, ◌∙◌, subst, arith}
-use Rattle.std.specs.Prelude.{max}
+use Rattle.std.proofs.Common.{◌≡◌, ℕ, zero, suc, ◌+◌, ◌≤◌, inl, inr, Bool, true, false, not, ◌&&◌, if◌then◌else◌, refl, sym, ap, ◌∙◌, subst, arith}
 use Rattle.std.proofs.lemmas.Bool.{and_parts}
-use Rattle.calc_measures.specs.Loads.{nest, nest_of, weight, load_of_factor, load_of_factors}
+use Rattle.calc_measures.specs.Loads.{nest_of, weight, load_of_factor, load_of_factors}
 use Rattle.calc_algebra.specs.Numbers.{is_number, IsNumber, are_numbers}
-use Rattle.calc_algebra.specs.Reduced.{is_reduced, is_num_one, base_of, HasForm, NoneIs, are_reduced}
-use Rattle.calc_terms.specs.Trees.{Tree, num, symbol, undef, add, mult, power, root, neg, sub, div, Trees, none, more, append, count, is_mult, AllPartsOf}
+use Rattle.calc_algebra.specs.Reduced.{is_reduced, base_of, HasForm, NoneIs, are_reduced}
+use Rattle.calc_terms.specs.Trees.{Tree, num, symbol, undef, add, mult, power, root, neg, sub, div, Trees, none, more, append, is_mult, AllPartsOf}
 use Rattle.calc_algebra.proofs.NumberLaws.{number_test, number_words}
 use Rattle.coefficients.specs.Coefficients.{factors_of}
 use Rattle.coefficients.proofs.Forms.{reduced_parts, parts_reduced}
 use Rattle.deep_reduce.specs.Unfinished.{nest_of_joint}
 use Rattle.deep_reduce.proofs.Heavy.{heavy_base}
 use Rattle.deep_reduce.proofs.Joints.{same_base, transparent_exponent, joint_load, joint_nest, joint_below}
-use Rattle.product_reduce.specs.Factors.{opened, others_in, coefficient_before}
-use Rattle.product_reduce.specs.Joining.{exponent_of, is_partner, joint}
+use Rattle.product_reduce.specs.Factors.{opened, others_in}
+use Rattle.product_reduce.specs.Joining.{exponent_of, is_partner}
 use Rattle.product_reduce.specs.Neighbours.{is_single, IsPairAt, joined_pair}
-use Rattle.product_reduce.proofs.Bounds.{nest_factors, nest_opened, nest_others, load-append, load_number, load_factors, load_opened}
-use Rattle.calc_measures.proofs.Nests.{nest_number}
 
 -- ---- factors opened, without their Numbers
-
-others_load : (ts : Trees) → load_of_factors (others_in ts) ≡ load_of_factors ts
-others_load none = refl
-others_load (more t ts) = by (is_number t) refl (others_load ts)
-  where
-    by : (x : Bool) → is_number t ≡ x → load_of_factors (others_in ts) ≡ load_of_factors ts → load_of_factors (if x then others_in ts else more t (others_in ts)) ≡ load_of_factor t + load_of_factors ts
-    by true e rest = omega (arith, load_number t e)
-    by false e rest = omega arith
-
-pub open_load : (ts : Trees) → load_of_factors (others_in (opened ts)) ≡ load_of_factors ts
-open_load ts = others_load (opened ts) ∙ load_opened ts
-
-pub open_nest : (ts : Trees) → nest_of (others_in (opened ts)) ≤ nest_of ts
-open_nest ts = omega (arith, nest_others (opened ts), nest_opened ts)
 
 -- where all are Numbers no factor is left
 number_opened : (t : Tree) (us : Trees) → is_number t ≡ true → others_in (append (factors_of t) us) ≡ others_in us

@@ -27,6 +27,7 @@ pub mod Steps
 pub mod Quotients
 pub mod Parents
 pub mod Walks
+pub mod Stopping
 pub mod Ready
 pub mod Undefs
 pub mod Results

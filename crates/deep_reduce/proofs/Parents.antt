@@ -1,22 +1,22 @@
--- A root with its children, whatever it holds: a child is taken out, and put back rewritten.
-use Rattle.std.proofs.Common.{◌≡◌, ℕ, [], ◌∷◌, eqb, cond, Bool, true, false, refl, sym, ap, ◌∙◌, subst, arith}
+-- A root with its children, whatever it holds: a child is taken out.
+use Rattle.std.proofs.Common.{◌≡◌, ℕ, [], ◌∷◌, eqb, cond, Bool, true, refl, sym, ap, ◌∙◌, subst, arith}
 use Rattle.calc_terms.specs.Payload.{Payload}
 use Rattle.calc_terms.specs.Trees.{Tree, Trees, none, more, append, count}
-use Rattle.coefficients.proofs.Places.{cut_at, represents_count, inserted_behind, once_count, without_put}
+use Rattle.coefficients.proofs.Places.{cut_at, represents_count, once_count, without_put}
 use Rattle.coefficients.proofs.Steps.{gives_without}
 use Rattle.deep_reduce.specs.Pairs.{GivesSides}
 use Rattle.node_pool.specs.State.{State}
 use Rattle.tree_handles.proofs.Counted.{all-kids}
 use Rattle.tree_handles.proofs.Fronts.{behind_first, front_same, front_put, front_end}
-use Rattle.tree_handles.proofs.Given.{gives, given_handed, given_rest, given_root, given_told, gives_as, represents_handed, represents_with}
-use Rattle.tree_handles.proofs.Lasts.{apart, ends_at, kids_of_root, other_apart, other_root, other_tree}
-use Rattle.tree_handles.proofs.Outcomes.{by_test, eqb-sym}
+use Rattle.tree_handles.proofs.Given.{gives, gives_as}
+use Rattle.tree_handles.proofs.Lasts.{ends_at, kids_of_root, other_root, other_tree}
+use Rattle.tree_handles.proofs.Outcomes.{by_test}
 use Rattle.tree_handles.proofs.Plains.{children_of-plain, count-plains, whole_kids, grown_whole}
-use Rattle.tree_handles.proofs.Roots.{root_arity, root-put, kids-put, put-put}
-use Rattle.tree_handles.specs.Expressions.{nth, grown, plain, plains, inserted, takes, children_of, AllExpressions}
-use Rattle.tree_handles.specs.Forest.{Forest, empty, tree, arity, kids, root_payload, root_count, with_root_kids, with_nth, tree_nth, without_nth}
+use Rattle.tree_handles.proofs.Roots.{root_arity, root-put, kids-put}
+use Rattle.tree_handles.specs.Expressions.{nth, grown, plain, plains, takes, children_of, AllExpressions}
+use Rattle.tree_handles.specs.Forest.{Forest, empty, tree, arity, kids, root_payload, root_count, with_root_kids, tree_nth, without_nth}
 use Rattle.tree_handles.specs.Handed.{IsOnce, AllOnce, IsOwned, IsHanded, Represents, Ends, Gives, KeepsFront}
-use Rattle.tree_handles.specs.Inside.{holds, kids_of}
+use Rattle.tree_handles.specs.Inside.{kids_of}
 use Rattle.tree_handles.specs.Roots.{has_root, root_tree, without_root, put}
 use Rattle.tree_handles.specs.Standing.{Stands, forest}
 
@@ -117,9 +117,6 @@ parent_end {i = i} {ts = ts} h e =
       kids = subst (λ (x : Forest). Represents (kids x) ts) (sym same) h.kids;
     }
 
-pub parent_same : {x : Payload} {i : ℕ} {ts : Trees} {f g : Forest} → IsParent x i ts f → g ≡ f → IsParent x i ts g
-parent_same {x = x} {i = i} {ts = ts} h e = subst (IsParent x i ts) (sym e) h
-
 -- ---- a child is taken out, and stands last
 
 pub record IsTakenOut (x : Payload) (i : ℕ) (t : Tree) (others : Trees) (f new : Forest) (h : ℕ) : Type 0 where
@@ -134,39 +131,6 @@ taken_out {i = i} {f = f} n ts t us o e d =
     let c = cut_at n ts t us (kids (root_tree i f)) e o.kids in
     let now = without_nth n (kids (root_tree i f)) in
     record { now = now; kids = c.rest; gives = gives d c.one refl; parent = parent_put now o c.rest }
-
--- ---- it is rewritten, and put back
-
--- what is given in its place stands behind the parent without the child
-pub given_back : {x : Payload} {i h j : ℕ} {t : Tree} {others : Trees} {f new g : Forest} {Told : Tree → Type 0} (a : IsTakenOut x i t others f new h) → Gives (without_root h new) g j Told → Gives (put i a.now f) g j Told
-given_back a g = gives_as g (given_rest a.gives) (λ u k. k)
-
-pub parent_back : {x : Payload} {i h j : ℕ} {t : Tree} {others : Trees} {f new g : Forest} {Told : Tree → Type 0} (a : IsTakenOut x i t others f new h) → Gives (without_root h new) g j Told → IsParent x i others g
-parent_back a g = parent_end a.parent (given_back a g).ends
-
-pub apart_back : {x : Payload} {i h j : ℕ} {t : Tree} {others : Trees} {f new : Forest} {s : State} {Told : Tree → Type 0} → Stands s → (a : IsTakenOut x i t others f new h) → Gives (without_root h new) (forest s) j Told
-    → holds i (root_tree j (forest s)) ≡ false
-apart_back {i = i} {j = j} st a g = apart i j st (eqb-sym j i (other_apart i (given_back a g).ends a.parent.root)) (parent_back a g).root (given_root g)
-
--- the parent over these trees, where it stood
-pub record IsPutBack (x : Payload) (i : ℕ) (ts : Trees) (old new : Forest) : Type 0 where
-  pub now : Forest
-  pub kids : Represents now ts
-  pub whole : new ≡ put i now old
-  pub parent : IsParent x i ts new
-
-pub put_back : {x : Payload} {i h j : ℕ} {t v : Tree} {f new g end : Forest} (n : ℕ) (done rest : Trees) (a : IsTakenOut x i t (append done rest) f new h) → Gives (without_root h new) g j (λ u. u ≡ v) → n ≡ count done
-    → end ≡ put i (with_nth n (root_tree j g) (kids (root_tree i g))) (without_root j g) → IsPutBack x i (append done (more v rest)) f end
-put_back {x = x} {i = i} {j = j} {v = v} {f = f} {g = g} {end = end} n done rest a k e w =
-    let given = given_back a k in
-    let now = with_nth n (root_tree j g) (kids (root_tree i (put i a.now f))) in
-    let rep = represents_with n (represents_handed (given_handed given)) a.parent.kids in
-    let same : inserted n (more (plain (root_tree j g)) none) (append done rest) ≡ append done (more v rest) =
-    (λ z. inserted (e z) (more (given_told given z) none) (append done rest)) ∙ inserted_behind done (more v none) rest in
-    let all : Represents now (append done (more v rest)) = subst (Represents now) same rep in
-    let whole : end ≡ put i now f =
-    w ∙ (λ z. put i (with_nth n (root_tree j g) (kids (other_tree i given.ends a.parent.root z))) (given_rest given z)) ∙ put-put i now a.now f in
-    record { now = now; kids = all; whole = whole; parent = parent_same (parent_put now a.parent all) (w ∙ (λ z. put i (with_nth n (root_tree j g) (kids (other_tree i given.ends a.parent.root z))) (given_rest given z))) }
 
 -- ---- a parent that goes
 

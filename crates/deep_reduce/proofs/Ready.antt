@@ -10,7 +10,6 @@ use Rattle.calc_terms.specs.declared.kind.Kind.TheVariants as kind
 use Rattle.calc_terms.specs.Payload.{Payload, rational, named, bare}
 use Rattle.calc_algebra.specs.Reduced.{is_reduced, are_reduced}
 use Rattle.calc_terms.specs.Trees.{Tree, power, root, neg, sub, div, Trees, none, more, count, nodes, nodes_of}
-use Rattle.coefficients.proofs.Places.{without_put}
 use Rattle.deep_reduce.specs.Nodes.{IsNodeAnswer, IsNodeOverflow}
 use Rattle.deep_reduce.specs.Reductions.{IsReducedFrom, Stops}
 use Rattle.deep_reduce.proofs.EasyNodes.{and_true}
@@ -97,7 +96,7 @@ walked_ready {i = i} {old = old} {new = new} h w =
       reduced = ap are_reduced are ∙ answers_reduced (children_of (plain (root_tree i old))) w.answers w.reduced;
       over = subst (λ (t : Tree). IsOver t (plain (root_tree i new))) (sym node.grown)
           (subst (IsOver (grown x (children_of (plain (root_tree i old))))) (sym (parent_plain w.parent right)) (over_payload x (children_of (plain (root_tree i old))) w.answers node.takes w.reduced));
-      rest = ap (without_root i) w.whole ∙ without_put i w.now old;
+      rest = w.rest;
     }
 
 pub ready_gives : {i h : ℕ} {old new f : Forest} → IsReady i old new → Gives (without_root i new) f h (IsNodeAnswer (plain (root_tree i new))) → Gives (without_root i old) f h (IsReducedFrom (plain (root_tree i old)))

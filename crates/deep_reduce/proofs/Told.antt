@@ -208,10 +208,6 @@ first_defined a b h = or_first (is_undef a) (is_undef b || false) h
 pub second_defined : (a b : Tree) → has_undef (two a b) ≡ false → is_undef b ≡ false
 second_defined a b h = or_first (is_undef b) false (or_second (is_undef a) (is_undef b || false) h)
 
--- what an answer of a node is where it is reduced
-pub answer_reduced : {t r : Tree} → IsNodeAnswer t r → is_reduced r ≡ true
-answer_reduced h = h.reduces.reduced
-
 -- an overflow of a power that is the inverse of a defined tree
 pub inverse_overflowed : (t b : Tree) (o : Overflow) → t ≡ power b (num minus_one_fraction) → is_undef b ≡ false → (are_rationals (children_of t) ≡ true → IsPlainOverflow (plain_value t) o) → IsNodeOverflow (power b (num minus_one_fraction)) o
 inverse_overflowed t b o e d h = overflow_at {t = t} o e (record { defined = ap (λ (u : Tree). has_undef (children_of u)) e ∙ two_defined b (num minus_one_fraction) d refl; rational = h })

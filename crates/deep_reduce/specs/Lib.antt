@@ -3,4 +3,5 @@ pub mod Halves
 pub mod Unfinished
 pub mod Nodes
 pub mod Reductions
+pub mod Leaves
 pub mod Pairs

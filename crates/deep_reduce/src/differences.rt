@@ -128,7 +128,7 @@ fn inverse(pool: &mut Pool, base: Handle) -> Result<Handle, NumberFault>
     reduce_power(pool, power)
 }
 
-/// The two children of a node, which goes.
+/// The two children of a node, which is released.
 fn take_sides(pool: &mut Pool, tree: Handle) -> (Handle, Handle)
     requires stands { Stands pool.old }
     requires handed { IsHanded tree (forest pool.old) }

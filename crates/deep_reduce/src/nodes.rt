@@ -5,11 +5,11 @@ ghost use Rattle.calc_terms.specs.Trees.{num, is_add, is_mult, has_undef};
 ghost use Rattle.deep_reduce.specs.Nodes.{IsNodeAnswer, IsNodeOverflow};
 ghost use Rattle.tree_handles.specs.Causes.{IsCaused};
 ghost use Rattle.calc_algebra.specs.Reduced.{are_reduced};
-ghost use Rattle.tree_handles.specs.Handed.{tree_of, IsHanded, Gives, KeepsFront};
+ghost use Rattle.tree_handles.specs.Handed.{tree_of, IsHanded, Ends, Gives, KeepsFront};
 ghost use Rattle.tree_handles.specs.Expressions.{IsExpression, plain, children_of};
 ghost use Rattle.tree_handles.specs.Faults.{Faults, IfOverflow};
 ghost use Rattle.tree_handles.specs.Inside.{tree_at};
-ghost use Rattle.tree_handles.specs.Roots.{without_root};
+ghost use Rattle.tree_handles.specs.Roots.{root_tree, without_root};
 ghost use Rattle.tree_handles.specs.Standing.{Stands, forest, KeepsRefusals};
 
 use crate::differences::{divide, negate, subtract};
@@ -19,13 +19,14 @@ use node_pool::{Id, Pool};
 use radical_forms::reduce_root;
 use sum_reduce::reduce_sum;
 use tree_handles::{
-    Handle, NumberFault, children, has_undefined_child, kind, move_last, number, release, undefined,
+    Handle, NumberFault, children, has_undefined_child, kind, number, release, undefined,
 };
 
-/// A node over reduced children, as the rules of its kind reduce it.
+/// The last tree, a node over reduced children, as the rules of its kind reduce it. A leaf is its own answer.
 pub(crate) fn reduce_node(pool: &mut Pool, tree: Handle) -> Result<Handle, NumberFault>
     requires stands { Stands pool.old }
     requires handed { IsHanded tree (forest pool.old) }
+    requires last { Ends tree (root_tree tree (forest pool.old)) (without_root tree (forest pool.old)) (forest pool.old) }
     requires reduced { are_reduced (children_of (tree_of tree pool.old)) ≡ true }
     ensures ok { IfOk result (λ h. Gives (without_root tree (forest pool.old)) (forest pool.new) h (IsNodeAnswer (tree_of tree pool.old))) }
     ensures overflow { IfOverflow result (IsNodeOverflow (tree_of tree pool.old)) }
@@ -47,10 +48,7 @@ pub(crate) fn reduce_node(pool: &mut Pool, tree: Handle) -> Result<Handle, Numbe
         Kind::Neg => negate(pool, tree),
         Kind::Sub => subtract(pool, tree),
         Kind::Div => divide(pool, tree),
-        _ => {
-            move_last(pool, &tree);
-            Ok(tree)
-        }
+        _ => Ok(tree),
     }
 }
 

@@ -1,4 +1,4 @@
-use Rattle.std.proofs.Common.{◌≡◌, ℕ, inl, ap, sym, ◌∙◌, subst, arith, refl}
+use Rattle.std.proofs.Common.{◌≡◌, ℕ, Bool, true, false, inl, ap, sym, ◌∙◌, subst, arith, refl}
 use Rattle.calc_language.specs.Faces.{face}
 use Rattle.calc_terms.specs.Trees.{count, size, AllParts}
 use Rattle.calc_algebra.specs.Rewritings.{KeepsMeanings}
@@ -10,16 +10,52 @@ use Rattle.tree_handles.specs.Roots.{without_root}
 use Rattle.tree_handles.specs.Standing.{forest}
 use Rattle.tree_handles.proofs.Forests.{refuses_after}
 use Rattle.tree_handles.proofs.Fronts.{behind_first, front_same, front_end, front_without, front_after}
-use Rattle.tree_handles.proofs.Given.{given_rest, given_told, given_other, given_handed, gives_as, owned}
-use Rattle.tree_handles.proofs.Lasts.{expression_root, plain_root}
+use Rattle.tree_handles.proofs.Given.{given_rest, given_told, given_other, given_handed, gives, gives_as, owned, represents_handed}
+use Rattle.tree_handles.proofs.Lasts.{expression_root, last_tree, plain_root}
+use Rattle.beautify.specs.OwnFaces.{has_natural_numbers}
 use Rattle.beautify.specs.Showing.{IsShowable}
 use Rattle.beautify.proofs.Faces.{face_keeps, other_gone, keeps_before, first_free, lacks_at_once}
 use Rattle.beautify.proofs.Opens.{gone_under}
+use Rattle.beautify.proofs.OwnFaces.{own_face}
 use Rattle.beautify.proofs.Showables.{reduced_showable}
 use Rattle.beautify.proofs.Sizes.{some_size}
 use Rattle.beautify.proofs.Stacking.{is_stack, stacked_is, given_opens, passed_on, short}
 use Rattle.beautify.proofs.face.face_of.Goals as goal
-use Rattle.beautify.proofs.face.face_of.Goals.{After-release-2}
+use Rattle.beautify.proofs.face.face_of.Goals.{After-has_natural_numbers, After-release-2}
+
+pub has_natural_numbers-requires-clause-expression : goal.has_natural_numbers-requires-clause-expression
+has_natural_numbers-requires-clause-expression c = subst (λ (i : ℕ). IsExpression i (forest c.args.pool.now)) (sym c.id.ensures) (expression_root c.requires.stands c.requires.handed)
+
+-- whether the tree is its own face
+tested : (c : After-has_natural_numbers) → has_natural_numbers (tree_of c.args.reduced c.args.pool.now) ≡ c.has_natural_numbers.result
+tested c =
+    sym (c.has_natural_numbers.ensures ∙ ap (λ (i : ℕ). has_natural_numbers (plain (tree_at i (forest c.args.pool.now)))) c.id.ensures ∙ ap has_natural_numbers (plain_root c.args.reduced c.requires.stands c.requires.handed.root))
+
+another : {b t : Bool} → t ≡ b → b ≡ false → t ≡ true → ⊥
+another e f h = cc
+
+pub returns-then-has_natural_numbers-clause-ok : goal.returns-then-has_natural_numbers-clause-ok
+returns-then-has_natural_numbers-clause-ok c =
+    let own = own_face (tree_of c.args.reduced c.args.pool.now) c.requires.reduced (tested (goal.at.returns-then-has_natural_numbers-clause-ok c).After-has_natural_numbers ∙ c.if-has_natural_numbers.true) in
+    gives c.move_last.ensures.last (represents_handed c.requires.handed) (sym own)
+
+pub returns-then-has_natural_numbers-clause-meanings : goal.returns-then-has_natural_numbers-clause-meanings
+returns-then-has_natural_numbers-clause-meanings c =
+    let t = tree_of c.args.reduced c.args.pool.now in
+    let own = own_face t c.requires.reduced (tested (goal.at.returns-then-has_natural_numbers-clause-meanings c).After-has_natural_numbers ∙ c.if-has_natural_numbers.true) in
+    subst (KeepsMeanings t) (own ∙ sym (ap plain (last_tree c.move_last.ensures.last))) (face_keeps t c.requires.reduced)
+
+pub returns-then-has_natural_numbers-clause-front : goal.returns-then-has_natural_numbers-clause-front
+returns-then-has_natural_numbers-clause-front c = front_end c.move_last.ensures.last (front_without behind_first front_same)
+
+pub returns-in_err-stack-clause-own : goal.returns-in_err-stack-clause-own
+returns-in_err-stack-clause-own c h = absurd (another (tested (goal.at.returns-in_err-stack-clause-own c).After-has_natural_numbers) c.if-has_natural_numbers.false h)
+
+pub returns-in_err-show_tree-clause-own : goal.returns-in_err-show_tree-clause-own
+returns-in_err-show_tree-clause-own c h = absurd (another (tested (goal.at.returns-in_err-show_tree-clause-own c).After-has_natural_numbers) c.if-has_natural_numbers.false h)
+
+pub returns-clause-own : goal.returns-clause-own
+returns-clause-own c h = absurd (another (tested (goal.at.returns-clause-own c).After-has_natural_numbers) c.if-has_natural_numbers.false h)
 
 pub show_tree-requires-clause-stack : goal.show_tree-requires-clause-stack
 show_tree-requires-clause-stack c = is_stack (c.in_ok-stack.ensures.given refl)
@@ -29,12 +65,12 @@ show_tree-requires-clause-empty c = stacked_is (c.in_ok-stack.ensures.given refl
 
 pub show_tree-requires-clause-expression : goal.show_tree-requires-clause-expression
 show_tree-requires-clause-expression c =
-    subst (λ (f : Forest). IsExpression c.id.result f) (sym (given_rest (c.in_ok-stack.ensures.given refl))) (subst (λ (i : ℕ). IsExpression i (forest c.args.pool.now)) (sym c.id.ensures) (expression_root c.requires.stands c.requires.handed))
+    subst (λ (f : Forest). IsExpression c.id-2.result f) (sym (given_rest (c.in_ok-stack.ensures.given refl))) (subst (λ (i : ℕ). IsExpression i (forest c.args.pool.now)) (sym c.id-2.ensures) (expression_root c.requires.stands c.requires.handed))
 
 pub show_tree-requires-clause-showable : goal.show_tree-requires-clause-showable
 show_tree-requires-clause-showable c =
-    let e : plain (tree_at c.id.result (without_root c.in_ok-stack.stack (forest c.node.new.pool))) ≡ tree_of c.args.reduced c.args.pool.now =
-    ap (λ (f : Forest). plain (tree_at c.id.result f)) (given_rest (c.in_ok-stack.ensures.given refl)) ∙ ap (λ (i : ℕ). plain (tree_at i (forest c.args.pool.now))) c.id.ensures ∙ plain_root c.args.reduced c.requires.stands c.requires.handed.root in
+    let e : plain (tree_at c.id-2.result (without_root c.in_ok-stack.stack (forest c.node.new.pool))) ≡ tree_of c.args.reduced c.args.pool.now =
+    ap (λ (f : Forest). plain (tree_at c.id-2.result f)) (given_rest (c.in_ok-stack.ensures.given refl)) ∙ ap (λ (i : ℕ). plain (tree_at i (forest c.args.pool.now))) c.id-2.ensures ∙ plain_root c.args.reduced c.requires.stands c.requires.handed.root in
     subst (AllParts IsShowable) (sym e) (reduced_showable _ c.requires.reduced c.requires.defined)
 
 pub pop-face-requires-clause-stack : goal.pop-face-requires-clause-stack
@@ -60,8 +96,8 @@ given c =
     let stack-gone = c.release.ensures.owned (owned (given_other c.pop-face.ensures.gives (given_handed c.pop-face.ensures.left))) in
     let alone = gives_as (gone_under (given_opens c.pop-face.ensures.left) c.pop-face.ensures.gives stack-gone) base (λ t e. e) in
     let tree-gone = c.release-2.ensures.owned (owned (given_other alone c.requires.handed)) in
-    let e : plain (tree_at c.id.result (without_root c.in_ok-stack.stack (forest c.node.new.pool))) ≡ tree_of c.args.reduced c.args.pool.now =
-    ap (λ (f : Forest). plain (tree_at c.id.result f)) (given_rest (c.in_ok-stack.ensures.given refl)) ∙ ap (λ (i : ℕ). plain (tree_at i (forest c.args.pool.now))) c.id.ensures ∙ plain_root c.args.reduced c.requires.stands c.requires.handed.root in
+    let e : plain (tree_at c.id-2.result (without_root c.in_ok-stack.stack (forest c.node.new.pool))) ≡ tree_of c.args.reduced c.args.pool.now =
+    ap (λ (f : Forest). plain (tree_at c.id-2.result f)) (given_rest (c.in_ok-stack.ensures.given refl)) ∙ ap (λ (i : ℕ). plain (tree_at i (forest c.args.pool.now))) c.id-2.ensures ∙ plain_root c.args.reduced c.requires.stands c.requires.handed.root in
     gives_as (other_gone c.requires.handed alone tree-gone) refl (λ t q. q ∙ ap (nth 0) (stacked_is c.in_ok-show_tree.ensures.ok.gives) ∙ ap face e)
 
 pub returns-clause-ok : goal.returns-clause-ok
@@ -97,6 +133,6 @@ returns-in_err-show_tree-clause-caused c =
 
 pub returns-in_err-show_tree-clause-enough : goal.returns-in_err-show_tree-clause-enough
 returns-in_err-show_tree-clause-enough c h =
-    let e : plain (tree_at c.id.result (without_root c.in_ok-stack.stack (forest c.node.new.pool))) ≡ tree_of c.args.reduced c.args.pool.now =
-    ap (λ (f : Forest). plain (tree_at c.id.result f)) (given_rest (c.in_ok-stack.ensures.given refl)) ∙ ap (λ (i : ℕ). plain (tree_at i (forest c.args.pool.now))) c.id.ensures ∙ plain_root c.args.reduced c.requires.stands c.requires.handed.root in
+    let e : plain (tree_at c.id-2.result (without_root c.in_ok-stack.stack (forest c.node.new.pool))) ≡ tree_of c.args.reduced c.args.pool.now =
+    ap (λ (f : Forest). plain (tree_at c.id-2.result f)) (given_rest (c.in_ok-stack.ensures.given refl)) ∙ ap (λ (i : ℕ). plain (tree_at i (forest c.args.pool.now))) c.id-2.ensures ∙ plain_root c.args.reduced c.requires.stands c.requires.handed.root in
     absurd (omega (arith, h, c.in_err-show_tree.ensures.room, ap size e, first_free c.args.pool.now c.node.new.pool c.requires.stands c.node.ensures.stands c.in_ok-stack.ensures.kept (c.in_ok-stack.ensures.given refl)))

@@ -1,15 +1,14 @@
-use Rattle.std.proofs.Common.{◌≡◌, refl, sym, ap, ◌∙◌, subst, true, false}
+use Rattle.std.proofs.Common.{◌≡◌, refl, sym, ap, ◌∙◌, subst, false}
 use Rattle.calc_measures.specs.PlainValues.{plain_value}
-use Rattle.calc_terms.specs.Trees.{Tree, is_undef, root_kind, has_undef}
-use Rattle.calc_terms.specs.declared.kind.Kind.TheVariants as kind
-use Rattle.deep_reduce.specs.Nodes.{IsNodeAnswer, IsNodeOverflow}
-use Rattle.power_reduce.specs.PowerAnswers.{base_in, exponent_in}
+use Rattle.calc_terms.specs.Trees.{Tree, root_kind, has_undef}
+use Rattle.deep_reduce.specs.Nodes.{IsNodeAnswer}
 use Rattle.tree_handles.specs.Handed.{tree_of}
-use Rattle.tree_handles.proofs.Fronts.{behind_first, front_same, front_end, front_without}
+use Rattle.tree_handles.proofs.Forests.{keeps_none}
+use Rattle.tree_handles.proofs.Fronts.{front_same}
 use Rattle.tree_handles.proofs.Given.{gives, gives_as, represents_handed}
 use Rattle.tree_handles.specs.Expressions.{children_of}
 use Rattle.coefficients.proofs.Steps.{live, expression, seen, kind_of_root}
-use Rattle.deep_reduce.proofs.Results.{answered, answer_as, overflowed, overflow_as, any_overflow}
+use Rattle.deep_reduce.proofs.Results.{answered, answer_as, overflowed, any_overflow}
 use Rattle.deep_reduce.proofs.Steps.{undefined_answer}
 use Rattle.deep_reduce.proofs.Told.{sum_kind, product_kind, power_kind, root_kind_is, neg_kind, sub_kind, div_kind, power_told, power_sides, IsRationalPower, rational_answer, rational_overflow, power_reduced, root_told, root_overflow, argument_reduced, leaf_told}
 use Rattle.deep_reduce.proofs.nodes.reduce_node.Goals as goal
@@ -118,13 +117,13 @@ returns-in_default c =
     let t : Tree = tree_of c.args.tree c.args.pool.now in
     let is = kind-is (goal.at.returns-in_default c).After-kind in
     record {
-      ok = gives c.move_last.ensures.last (represents_handed c.requires.handed)
+      ok = gives c.requires.last (represents_handed c.requires.handed)
           (leaf_told t (λ e. c.in_default.not-Add (is ∙ sym e)) (λ e. c.in_default.not-Mult (is ∙ sym e)) (λ e. c.in_default.not-Pow (is ∙ sym e)) (λ e. c.in_default.not-Root (is ∙ sym e))
           (λ e. c.in_default.not-Neg (is ∙ sym e)) (λ e. c.in_default.not-Sub (is ∙ sym e)) (λ e. c.in_default.not-Div (is ∙ sym e)));
       overflow = tt;
-      front = front_end c.move_last.ensures.last (front_without behind_first front_same);
-      kept = c.move_last.ensures.kept;
+      front = front_same;
+      kept = keeps_none c.args.pool.now;
       faults = tt;
       caused = tt;
-      stands = c.move_last.ensures.stands;
+      stands = c.requires.stands;
     }

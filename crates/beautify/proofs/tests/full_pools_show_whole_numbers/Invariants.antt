@@ -1,0 +1,5 @@
+use Rattle.tree_handles.specs.Standing.{Stands}
+use Rattle.beautify.proofs.tests.full_pools_show_whole_numbers.Given as goal
+
+abbrev pub invariant-loop-bytes : goal.invariant-loop-bytes
+invariant-loop-bytes g l = Stands l.pool
