@@ -22,7 +22,7 @@ Found ts r = MatchResult r (IsShallow ts) (IsFaultOf ts)
 same_depth : (ts : List Token) (x y : Option (List ℕ)) (t u : Tree) → IsLine ts x t → IsLine ts y u → depth t ≡ depth u
 same_depth ts x y t u d e = ap depth ((one_line ts x y t u d e).trees)
 
-not_deep : (ts : List Token) (shape : Shape) → IsShallow ts shape → IsLineOver 64 ts → ⊥
+pub not_deep : (ts : List Token) (shape : Shape) → IsShallow ts shape → IsLineOver 64 ts → ⊥
 not_deep ts shape (s, h) o =
     let same : depth s.tree ≡ depth o.tree = same_depth ts (option_map name_of shape.store) o.store s.tree o.tree s.line o.line in
     omega (arith, s.depth_is, o.over)

@@ -16,3 +16,5 @@ pub mod Leaves
 pub mod UnderWay
 pub mod Sizes
 pub mod NamesOfLines
+pub mod LineSteps
+pub mod LineFaults

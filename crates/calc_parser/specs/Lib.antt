@@ -4,7 +4,10 @@ pub mod Postfix
 pub mod Automaton
 pub mod Reader
 pub mod Depths
+pub mod Steps
 pub mod Outcomes
 pub mod Building
 pub mod Growing
 pub mod Names
+pub mod Kept
+pub mod Refused

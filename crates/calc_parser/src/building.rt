@@ -13,8 +13,9 @@ ghost use Rattle.calc_parser.specs.Growing.{children_in, takes_children, Grows};
 ghost use Rattle.calc_parser.specs.Lines.{IsTreeOf};
 ghost use Rattle.calc_parser.specs.Postfix.{leaf, parent, postfix as postfix_of};
 ghost use Rattle.calc_parser.specs.Reader.{node_of, token_in, tokens_in};
+ghost use Rattle.calc_parser.specs.Steps.{AreStepsOf};
 
-use crate::checking::without_store;
+use crate::checking::{read_line, without_store};
 use crate::postfix::Step;
 use crate::reader::Reader;
 use arrayvec::ArrayVec;
@@ -40,33 +41,46 @@ pub fn build(pool: &mut Pool, tokens: &Tokens) -> Result<Handle, Full>
 
     ensures stands { Stands pool.new }
 {
-    place_line(pool, tokens.items())
+    let mut reader = Reader::new();
+    let Ok(_) = read_line(tokens, &mut reader) else {
+        unreachable!()
+    };
+    let mut places = ArrayVec::new();
+    place_line(pool, tokens, reader.steps(), &mut places)
 }
 
-/// The tree of tokens that are a line.
-fn place_line(pool: &mut Pool, tokens: &[Token]) -> Result<Handle, Full>
+/// The tree of tokens that are a line, by its steps.
+pub(crate) fn place_line(
+    pool: &mut Pool,
+    tokens: &Tokens,
+    steps: &[Step],
+    places: &mut ArrayVec<u32, 2048>,
+) -> Result<Handle, Full>
     requires stands { Stands pool.old }
-    requires few { length tokens.now ≤ 1024 }
-    requires line { (t : Tree) × IsTreeOf (tokens_in tokens.now) t }
-    ensures ok { IfOk result (λ h. Gives (forest pool.old) (forest pool.new) h (IsTreeOf (tokens_in tokens.now))) }
+    requires few { length steps.now ≤ 2048 }
+    requires line { (t : Tree) × IsTreeOf (bare (tokens_of tokens.now)) t }
+    requires made { AreStepsOf steps.now (bare (tokens_of tokens.now)) }
+    ensures ok { IfOk result (λ h. Gives (forest pool.old) (forest pool.new) h (IsTreeOf (bare (tokens_of tokens.now)))) }
     ensures front { KeepsFront [] (forest pool.old) (forest pool.new) }
     ensures kept { OnOk result (KeepsRefusals pool.old pool.new) }
-    ensures room { (t : Tree) → IsTreeOf (tokens_in tokens.now) t → OnOk result (building (free_of pool.old) t ≡ Ok (free_of pool.new)) }
-    ensures full { (t : Tree) → IsTreeOf (tokens_in tokens.now) t → IfErr result (λ full. building (free_of pool.old) t ≡ Err full) }
+    ensures room { (t : Tree) → IsTreeOf (bare (tokens_of tokens.now)) t → OnOk result (building (free_of pool.old) t ≡ Ok (free_of pool.new)) }
+    ensures full { (t : Tree) → IsTreeOf (bare (tokens_of tokens.now)) t → IfErr result (λ full. building (free_of pool.old) t ≡ Err full) }
     ensures refuses { IfErr result (Refuses pool.old pool.new) }
     ensures caused { IfErr result (LacksBytes pool.new) }
     ensures stands { Stands pool.new }
 {
-    let (sum, _) = without_store(tokens);
-    let mut reader = Reader::new();
-    let Ok(()) = reader.read(sum) else {
-        unreachable!()
-    };
-    place_nodes(pool, sum, reader.steps())
+    let (sum, _) = without_store(tokens.items());
+    place_nodes(pool, sum, steps, places)
 }
 
-/// The tree that these steps make.
-fn place_nodes(pool: &mut Pool, tokens: &[Token], steps: &[Step]) -> Result<Handle, Full>
+/// The tree that these steps make, by the places of the trees that stand so far, which take the places of
+/// those in the list.
+fn place_nodes(
+    pool: &mut Pool,
+    tokens: &[Token],
+    steps: &[Step],
+    places: &mut ArrayVec<u32, 2048>,
+) -> Result<Handle, Full>
     requires stands { Stands pool.old }
     requires few { length steps.now ≤ 2048 }
     requires tree { (t : Tree) × (map (node_of (tokens_in tokens.now)) steps.now ≡ postfix_of t) }
@@ -79,10 +93,10 @@ fn place_nodes(pool: &mut Pool, tokens: &[Token], steps: &[Step]) -> Result<Hand
     ensures caused { IfErr result (LacksBytes pool.new) }
     ensures stands { Stands pool.new }
 {
-    let mut places: ArrayVec<u32, 2048> = ArrayVec::new();
+    places.clear();
     let mut root = None;
     for step in steps {
-        let from = begin_of_last(&mut places, step.children(), pool.used());
+        let from = begin_of_last(places, step.children(), pool.used());
         let handle = place(pool, tokens, *step, from)?;
         places.push(from);
         root = Some(handle);

@@ -1,5 +1,5 @@
 //! Whether tokens are a line.
-ghost use Rattle.std.specs.Prelude.{◌≡◌, ◌↔◌, ◌≤◌, ℕ, List, Option, length, Err, IfOk, IsOk, MatchResult};
+ghost use Rattle.std.specs.Prelude.{◌≡◌, ◌↔◌, ◌≤◌, ℕ, List, Option, length, Err, IfOk, IsOk, OnErr, MatchResult};
 ghost use Rattle.std.specs.Option.{option_map};
 ghost use Rattle.calc_terms.specs.Leaf.{name_of};
 ghost use Rattle.calc_terms.specs.Trees.{Tree, depth as depth_of};
@@ -8,10 +8,12 @@ ghost use Rattle.calc_tokens.specs.Tokens.{token_of, tokens_of};
 ghost use Rattle.calc_parser.specs.Lines.{IsLine, IsNoLine, IsLineOver, HasShape};
 ghost use Rattle.calc_parser.specs.Outcomes.{IsShallow, IsFaultOf};
 ghost use Rattle.calc_parser.specs.Stores.{stored, IsSplit};
-ghost use Rattle.calc_parser.specs.Reader.{tokens_in};
+ghost use Rattle.calc_parser.specs.Reader.{steps_in, tokens_in};
+ghost use Rattle.calc_parser.specs.Steps.{AreStepsOf, IsStoredSum};
 
 use crate::depth::depth;
-use crate::reader::Reader;
+use crate::reader::{NoSum, Reader};
+use arrayvec::ArrayVec;
 use calc_terms::Name;
 use calc_tokens::{Token, Tokens, What};
 use thiserror::Error;
@@ -48,21 +50,25 @@ pub fn check(tokens: &Tokens) -> Result<Shape, ParseFault>
     ensures syntax { (result ≡ Err ParseFault.Syntax) ↔ IsNoLine (bare (tokens_of tokens.now)) }
     ensures deep { (result ≡ Err ParseFault.Deep) ↔ IsLineOver 64 (bare (tokens_of tokens.now)) }
 {
-    checked(tokens.items())
+    let mut reader = Reader::new();
+    let mut depths = ArrayVec::new();
+    checked(tokens, &mut reader, &mut depths)
 }
 
-/// The shape of a line, or why it has none.
-fn checked(tokens: &[Token]) -> Result<Shape, ParseFault>
-    requires { length tokens.now ≤ 1024 }
-    ensures { MatchResult result (IsShallow (tokens_in tokens.now)) (IsFaultOf (tokens_in tokens.now)) }
+/// The shape of a line, or why it has none. The reader then holds the steps of its tree.
+pub(crate) fn checked(
+    tokens: &Tokens,
+    reader: &mut Reader,
+    depths: &mut ArrayVec<u32, 2048>,
+) -> Result<Shape, ParseFault>
+    ensures found { MatchResult result (IsShallow (bare (tokens_of tokens.now))) (IsFaultOf (bare (tokens_of tokens.now))) }
+    ensures made { AreStepsOf (steps_in reader.new.postfix) (bare (tokens_of tokens.now)) }
 {
-    let (sum, store) = without_store(tokens);
-    let mut reader = Reader::new();
-    let Ok(()) = reader.read(sum) else {
+    let Ok(store) = read_line(tokens, reader) else {
         return Err(ParseFault::Syntax);
     };
     let steps = reader.steps();
-    let depth = depth(steps);
+    let depth = depth(steps, depths);
     if depth > MAX_DEPTH {
         return Err(ParseFault::Deep);
     }
@@ -72,6 +78,17 @@ fn checked(tokens: &[Token]) -> Result<Shape, ParseFault>
         depth,
         nodes,
     })
+}
+
+/// Reads the sum of a line, and says under which name it is stored, where there is one.
+pub(crate) fn read_line(tokens: &Tokens, reader: &mut Reader) -> Result<Option<Name>, NoSum>
+    ensures line { IfOk result (λ store. IsStoredSum (bare (tokens_of tokens.now)) (option_map name_of store)) }
+    ensures no_line { OnErr result (IsNoLine (bare (tokens_of tokens.now))) }
+    ensures made { AreStepsOf (steps_in reader.new.postfix) (bare (tokens_of tokens.now)) }
+{
+    let (sum, store) = without_store(tokens.items());
+    reader.read(sum)?;
+    Ok(store)
 }
 
 /// The tokens before an arrow and a name, where these end them.

@@ -10,14 +10,15 @@ ghost use Rattle.calc_parser.specs.Reader.{node_of};
 use crate::postfix::Step;
 use arrayvec::ArrayVec;
 
-/// The depth of the tree that these steps make, by the depths of the trees that stand so far.
-pub(crate) fn depth(steps: &[Step]) -> u32
+/// The depth of the tree that these steps make, by the depths of the trees that stand so far, which take
+/// the places of those in the list.
+pub(crate) fn depth(steps: &[Step], depths: &mut ArrayVec<u32, 2048>) -> u32
     requires { length steps.now ≤ 2048 }
     ensures { (ts : List Mark) (t : Tree) → map (node_of ts) steps.now ≡ postfix t → result ≡ depth t }
 {
-    let mut depths: ArrayVec<u32, 2048> = ArrayVec::new();
+    depths.clear();
     for step in steps {
-        add(&mut depths, *step);
+        add(depths, *step);
     }
     depths.as_slice().last().copied().unwrap_or(0)
 }

@@ -8,6 +8,7 @@ mod depth;
 mod laws;
 mod names;
 mod nesting;
+mod parser;
 mod postfix;
 mod reader;
 
@@ -15,3 +16,4 @@ pub use building::build;
 pub use checking::{ParseFault, Shape, check};
 pub use laws::{building_takes_the_size, one_line};
 pub use names::holds_name;
+pub use parser::{LineFault, Parser};

@@ -18,7 +18,7 @@ pub fn holds_name(tokens: &Tokens, name: Name) -> bool
     is_among(tokens.items(), name)
 }
 
-fn is_among(tokens: &[Token], name: Name) -> bool
+pub(crate) fn is_among(tokens: &[Token], name: Name) -> bool
     ensures { result ≡ list_any (λ token. is_that_name_of (name_of name) (token_of token.what)) tokens.now }
 {
     tokens.iter().any(|token| is_that_name(token.what, name))

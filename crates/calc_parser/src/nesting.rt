@@ -103,6 +103,12 @@ impl Nesting {
         }
     }
 
+    pub(crate) fn clear(&mut self)
+        ensures { open_in self.new ≡ [] }
+    {
+        self.items.clear();
+    }
+
     /// What was opened last.
     pub(crate) fn innermost(&self) -> Option<Open>
         ensures { result ≡ innermost (open_in self.now) }

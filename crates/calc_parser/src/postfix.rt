@@ -52,6 +52,12 @@ impl Postfix {
         }
     }
 
+    pub(crate) fn clear(&mut self)
+        ensures { steps_in self.new ≡ [] }
+    {
+        self.steps.clear();
+    }
+
     pub(crate) fn steps(&self) -> &[Step]
         ensures steps { result.now ≡ steps_in self.now }
         ensures fits { length result.now ≤ 2048 }

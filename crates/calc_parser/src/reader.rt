@@ -50,18 +50,27 @@ impl Reader {
         }
     }
 
-    /// Reads tokens that are a sum, the first that come. The nodes of its tree are then whole.
+    /// Reads tokens that are a sum, in place of those that it read before. The nodes of its tree are then whole.
     pub(crate) fn read(&mut self, tokens: &[Token]) -> Result<(), NoSum>
         requires few { length tokens.now ≤ 1024 }
-        requires first { state_in (tokens_in tokens.now) self.old ≡ start }
-        requires room { room_in self.old ≡ 0 }
         ensures sum { OnOk result ((t : Tree) × IsSum (tokens_in tokens.now) t × (nodes_in (tokens_in tokens.now) self.new.postfix ≡ postfix_of t)) }
         ensures no_sum { OnErr result ((t : Tree) → IsSum (tokens_in tokens.now) t → ⊥) }
     {
+        self.clear();
         for (at, token) in tokens.iter().enumerate() {
             self.take(at as u16, token.what)?;
         }
         self.finish()
+    }
+
+    /// Forgets all tokens that came.
+    fn clear(&mut self)
+        ensures state { (ts : List Mark) → state_in ts self.new ≡ start }
+        ensures room { room_in self.new ≡ 0 }
+    {
+        self.expects = Expects::Operand;
+        self.nesting.clear();
+        self.postfix.clear();
     }
 
     /// The nodes that are whole.

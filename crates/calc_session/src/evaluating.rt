@@ -25,9 +25,8 @@ ghost use Rattle.calc_session.specs.Pools.{after};
 use crate::Refusal;
 use beautify::face_of;
 use breakers::{Breaker, Watch};
-use calc_parser::build;
+use calc_parser::Parser;
 use calc_terms::{Kind, Name};
-use calc_tokens::Tokens;
 use name_table::{FillFault, NameTable};
 use node_pool::{Full, Id, Pool};
 use pool_checkpoints::{commit, open_mark, roll_back};
@@ -45,20 +44,20 @@ pub enum Evaluation {
     Refused(Refusal),
 }
 
-/// What the tree of a line comes to. Where a tree is displayed, it stands behind all others, and
+/// What the line that was read last comes to. Where a tree is displayed, it stands behind all others, and
 /// else the nodes are as before.
 pub fn evaluate<R: Reducer, B: Breaker>(
     pool: &mut Pool,
     table: &NameTable,
-    tokens: &Tokens,
+    parser: &mut Parser,
     store: Option<Name>,
     reducer: &R,
     watch: &mut Watch<B>,
 ) -> Evaluation
     requires stands { Stands pool.old }
     requires held { IsHeld table.now (forest pool.old) }
-    requires line { (t : Tree) × IsTreeOf (bare (tokens_of tokens.now)) t }
-    ensures reply { (t : Tree) → IsTreeOf (bare (tokens_of tokens.now)) t
+    requires line { (t : Tree) × IsTreeOf (bare (tokens_of parser.old)) t }
+    ensures reply { (t : Tree) → IsTreeOf (bare (tokens_of parser.old)) t
         → ComesTo (IsReplyTo R.room R.bits (free_of pool.old) (values table.now (forest pool.old)) t (states B.state watch.old) (states B.state watch.new) (name_in store))
         (IsKeepable (name_in store) table.now) (name_in store) (forest pool.old) (forest pool.new) result }
     ensures interrupted { (place : ℕ) → (result ≡ Evaluation.Refused (Refusal.Interrupted place))
@@ -69,7 +68,7 @@ pub fn evaluate<R: Reducer, B: Breaker>(
     ensures stands { Stands pool.new }
 {
     let mark = open_mark(pool);
-    match build_and_reduce(pool, table, tokens, store, reducer, watch) {
+    match build_and_reduce(pool, table, parser, store, reducer, watch) {
         Evaluation::Face(face) => {
             commit(pool, mark);
             Evaluation::Face(face)
@@ -85,20 +84,20 @@ pub fn evaluate<R: Reducer, B: Breaker>(
     }
 }
 
-/// What the tree of a line comes to. It is built behind all others, the stored trees take the places
+/// What the line that was read last comes to. Its tree is built behind all others, the stored trees take the places
 /// of their names, and what it was made into stands there.
 fn build_and_reduce<R: Reducer, B: Breaker>(
     pool: &mut Pool,
     table: &NameTable,
-    tokens: &Tokens,
+    parser: &mut Parser,
     store: Option<Name>,
     reducer: &R,
     watch: &mut Watch<B>,
 ) -> Evaluation
     requires stands { Stands pool.old }
     requires held { IsHeld table.now (forest pool.old) }
-    requires line { (t : Tree) × IsTreeOf (bare (tokens_of tokens.now)) t }
-    ensures reply { (t : Tree) → IsTreeOf (bare (tokens_of tokens.now)) t
+    requires line { (t : Tree) × IsTreeOf (bare (tokens_of parser.old)) t }
+    ensures reply { (t : Tree) → IsTreeOf (bare (tokens_of parser.old)) t
         → ComesTo (IsReplyTo R.room R.bits (free_of pool.old) (values table.now (forest pool.old)) t (states B.state watch.old) (states B.state watch.new) (name_in store))
         (IsKeepable (name_in store) table.now) (name_in store) (forest pool.old) (forest pool.new) result }
     ensures interrupted { (place : ℕ) → (result ≡ Evaluation.Refused (Refusal.Interrupted place))
@@ -107,7 +106,7 @@ fn build_and_reduce<R: Reducer, B: Breaker>(
     ensures front { KeepsFront [] (forest pool.old) (forest pool.new) }
     ensures stands { Stands pool.new }
 {
-    let tree = match build(pool, tokens) {
+    let tree = match parser.build(pool) {
         Ok(tree) => tree,
         Err(full) => return Evaluation::Refused(refused(full)),
     };

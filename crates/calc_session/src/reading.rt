@@ -5,6 +5,7 @@ ghost use Rattle.calc_language.specs.Tokens.{is_blank as is_blank_of};
 ghost use Rattle.calc_terms.specs.Leaf.{name_of};
 ghost use Rattle.calc_terms.specs.Trees.{Tree};
 ghost use Rattle.calc_parser.specs.Outcomes.{IsFaultOf as IsLineFault};
+ghost use Rattle.calc_parser.specs.Refused.{IsLineFaultOf};
 ghost use Rattle.calc_tokens.specs.Faults.{IsFaultOf};
 ghost use Rattle.calc_tokens.specs.Placed.{Placed, bare};
 ghost use Rattle.calc_tokens.specs.Scanned.{AreTokensOf};
@@ -16,34 +17,29 @@ ghost use Rattle.calc_session.specs.Reading.{is_blank_line as is_blank_line_of, 
 ghost use Rattle.calc_session.specs.Replies.{refusal_in};
 
 use crate::Refusal;
-use calc_parser::{ParseFault, check};
+use calc_parser::{LineFault, ParseFault, Parser};
 use calc_terms::Name;
-use calc_tokens::{TokenFault, Tokens, scan_into};
+use calc_tokens::TokenFault;
 use name_table::NameTable;
 
 /// The most bytes of a line.
 pub const LINE_LIMIT: usize = 1024;
 
-/// Puts the tokens of a line that is read by the grammar in place of those of the list. The name is that
-/// under which the line's answer is to be stored.
+/// Reads a line by the grammar. The name is that under which its answer is to be stored.
 pub fn read_line(
     line: &[u8],
     table: &NameTable,
-    tokens: &mut Tokens,
+    parser: &mut Parser,
 ) -> Result<Option<Name>, Refusal>
     requires { IsText line.now }
-    ensures tree { IfOk result (λ store. (t : Tree) × ReadsTree table.now line.now (tokens_of tokens.new) (name_in store) t) }
+    ensures tree { IfOk result (λ store. (t : Tree) × ReadsTree table.now line.now (tokens_of parser.new) (name_in store) t) }
     ensures refused { IfErr result (λ refusal. IsReplyUnread table.now line.now (reply_of refusal)) }
     ensures no_pool { IfErr result (λ refusal. refusal_in (reply_of refusal) ≡ None) }
     ensures no_breaker { IfErr result (λ refusal. (place : ℕ) → refusal ≡ Refusal.Interrupted place → ⊥) }
 {
-    match scan_into(tokens, line) {
-        Ok(()) => {}
-        Err(fault) => return Err(token_refusal(fault)),
-    }
-    let shape = match check(tokens) {
+    let shape = match parser.read(line) {
         Ok(shape) => shape,
-        Err(fault) => return Err(line_refusal(fault)),
+        Err(fault) => return Err(refusal_to_read(fault)),
     };
     check_store(shape.store, table)
 }
@@ -66,6 +62,17 @@ fn check_store(store: Option<Name>, table: &NameTable) -> Result<Option<Name>, R
         return Err(Refusal::NamesFull);
     }
     Ok(store)
+}
+
+fn refusal_to_read(fault: LineFault) -> Refusal
+    ensures refused { (table : Table) (line : List ℕ) → IsText line → IsLineFaultOf line fault → IsReplyUnread table line (reply_of result) }
+    ensures no_pool { refusal_in (reply_of result) ≡ None }
+    ensures no_breaker { (place : ℕ) → result ≡ Refusal.Interrupted place → ⊥ }
+{
+    match fault {
+        LineFault::Token(fault) => token_refusal(fault),
+        LineFault::Parse(fault) => line_refusal(fault),
+    }
 }
 
 fn token_refusal(fault: TokenFault) -> Refusal

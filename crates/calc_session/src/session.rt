@@ -19,8 +19,8 @@ use crate::{DrawFault, LineAnswer, Refusal};
 use breakers::{Breaker, Watch};
 use calc_commands::is_command;
 use calc_edges::Sink;
+use calc_parser::Parser;
 use calc_terms::{Name, Rat};
-use calc_tokens::Tokens;
 use line_text::{Text, write_text};
 use name_table::NameTable;
 use node_pool::{Id, Pool};
@@ -29,14 +29,14 @@ use std::alloc::{AllocError, Global};
 use std::marker::Model;
 use tree_handles::number;
 
-/// A pool, and the table of the trees that stand in it: the last answer and the stored ones. The list
-/// of a line's tokens is taken once, and each line is cut into it.
+/// A pool, the table of the trees that stand in it, which are the last answer and the stored ones, and the
+/// parser that each line is read by.
 #[derive(Drop)]
 pub struct Session {
     pool: Pool,
     table: NameTable,
     text: Text,
-    tokens: Tokens,
+    parser: Parser,
 }
 
 impl Model for Session {
@@ -65,12 +65,13 @@ impl Session {
     {
         let mut pool = Pool::open(alloc, size)?;
         let text = Text::open(alloc, 3 * size + 256)?;
+        let parser = Parser::open(alloc)?;
         let answer = number(&mut pool, Rat::whole(0)).unwrap();
         Ok(Session {
             pool,
             table: NameTable::new(answer),
             text,
-            tokens: Tokens::none(),
+            parser,
         })
     }
 
@@ -139,14 +140,14 @@ impl Session {
             ↔ TripsRose (states B.state watch.old) (states B.state watch.new) place }
         ensures counted { Counts (refusal_of_pool result) self.old self.new }
     {
-        let store = match read_line(line, &self.table, &mut self.tokens) {
+        let store = match read_line(line, &self.table, &mut self.parser) {
             Ok(store) => store,
             Err(refusal) => return LineAnswer::Refused(refusal),
         };
         match evaluate(
             &mut self.pool,
             &self.table,
-            &self.tokens,
+            &mut self.parser,
             store,
             reducer,
             watch,

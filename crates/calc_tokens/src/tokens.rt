@@ -75,7 +75,8 @@ impl Tokens {
         self.items.as_slice()
     }
 
-    pub(crate) fn clear(&mut self)
+    /// Removes all tokens.
+    pub fn clear(&mut self)
         ensures { tokens_of self.new ≡ [] }
     {
         self.items.clear();

@@ -15,8 +15,8 @@ pub loop-step-init : goal.loop-step-init
 loop-step-init c =
     let f = node_of (tokens_in c.args.tokens.now) in
     let (t, is) = c.requires.tree in
-    let none : length c.new-places.result.items ≡ 0 = ap length c.new-places.ensures in
-    (subst (λ (ps : List ℕ). IsUnderWay c.args.pool.now c.args.pool.now ps (map f c.args.steps.now) (map f c.args.steps.now)) (sym c.new-places.ensures) (begins c.args.pool.now (map f c.args.steps.now) t is c.requires.stands), omega arith, refl)
+    let none : length c.clear.new.self.items ≡ 0 = ap length c.clear.ensures in
+    (subst (λ (ps : List ℕ). IsUnderWay c.args.pool.now c.args.pool.now ps (map f c.args.steps.now) (map f c.args.steps.now)) (sym c.clear.ensures) (begins c.args.pool.now (map f c.args.steps.now) t is c.requires.stands), omega arith, refl)
 
 at_place : (c : goal.After-place-arg-in-loop-step-1) → IsReady (node_of (tokens_in c.args.tokens.now) (get_or c.args.steps.now c.loop-step.step-index (Leaf 0))) c.loop-step.pool c.begin_of_last-from.result
 at_place c =

@@ -3,43 +3,35 @@ use Rattle.std.specs.Option.{option_map}
 use Rattle.std.proofs.Common.{sym, ap, ◌∙◌, arith}
 use Rattle.calc_terms.specs.Leaf.{name_of}
 use Rattle.calc_terms.specs.Trees.{depth}
-use Rattle.calc_parser.specs.Reader.{tokens_in, node_of}
+use Rattle.calc_tokens.specs.Placed.{bare}
+use Rattle.calc_tokens.specs.Tokens.{tokens_of}
+use Rattle.calc_parser.specs.Reader.{node_of}
 use Rattle.calc_parser.specs.Postfix.{postfix}
-use Rattle.calc_parser.proofs.Checks.{line_of_sum, sum_of_line}
+use Rattle.calc_parser.proofs.Checks.{line_of_sum}
 use Rattle.calc_parser.proofs.Measures.{nodes_found, length_map}
 use Rattle.calc_parser.proofs.checking.checked.Goals as goal
 
-pub returns-in_default : goal.returns-in_default
-returns-in_default c = λ store t d.
-    let sum = c.without_store-store.result.0.now in
-    c.in_default.ensures.no_sum t (sum_of_line (tokens_in c.args.tokens.now) (tokens_in sum) (option_map name_of c.without_store-store.result.1) store t c.without_store-store.ensures.split d)
-
-pub returns-then-depth-gt-MAX_DEPTH : goal.returns-then-depth-gt-MAX_DEPTH
-returns-then-depth-gt-MAX_DEPTH c =
-    let us = tokens_in c.without_store-store.result.0.now in
-    let (t, d, e) = c.in-Ok.ensures.sum in
-    let steps : map (node_of us) c.steps-steps.result.now ≡ postfix t = ap (map (node_of us)) c.steps-steps.ensures.steps ∙ e in
-    let deep : c.depth-depth.result ≡ depth t = c.depth-depth.ensures us t steps in
+pub returns-then-depth-gt-MAX_DEPTH-clause-found : goal.returns-then-depth-gt-MAX_DEPTH-clause-found
+returns-then-depth-gt-MAX_DEPTH-clause-found c =
+    let s = c.in-Ok.ensures.line in
+    let steps : map (node_of s.sum) c.steps-steps.result.now ≡ postfix s.tree = ap (map (node_of s.sum)) c.steps-steps.ensures.steps ∙ c.read_line.ensures.made s.sum (option_map name_of c.in-Ok.store) s.tree s.split s.is_sum in
+    let deep : c.depth-depth.result ≡ depth s.tree = c.depth-depth.ensures s.sum s.tree steps in
     record {
-      store = option_map name_of c.without_store-store.result.1;
-      tree = t;
-      line = line_of_sum (tokens_in c.args.tokens.now) us (option_map name_of c.without_store-store.result.1) t c.without_store-store.ensures.split d;
+      store = option_map name_of c.in-Ok.store;
+      tree = s.tree;
+      line = line_of_sum (bare (tokens_of c.args.tokens.now)) s.sum (option_map name_of c.in-Ok.store) s.tree s.split s.is_sum;
       over = omega (arith, c.if-depth-gt-MAX_DEPTH.true);
     }
 
-pub returns : goal.returns
-returns c =
-    let us = tokens_in c.without_store-store.result.0.now in
-    let (t, d, e) = c.in-Ok.ensures.sum in
-    let steps : map (node_of us) c.steps-steps.result.now ≡ postfix t = ap (map (node_of us)) c.steps-steps.ensures.steps ∙ e in (
+pub returns-clause-found : goal.returns-clause-found
+returns-clause-found c =
+    let s = c.in-Ok.ensures.line in
+    let steps : map (node_of s.sum) c.steps-steps.result.now ≡ postfix s.tree = ap (map (node_of s.sum)) c.steps-steps.ensures.steps ∙ c.read_line.ensures.made s.sum (option_map name_of c.in-Ok.store) s.tree s.split s.is_sum in (
       record {
-        tree = t;
-        line = line_of_sum (tokens_in c.args.tokens.now) us (option_map name_of c.without_store-store.result.1) t c.without_store-store.ensures.split d;
-        depth_is = c.depth-depth.ensures us t steps;
-        nodes_are = sym (length_map (node_of us) c.steps-steps.result.now) ∙ ap length steps ∙ nodes_found t;
+        tree = s.tree;
+        line = line_of_sum (bare (tokens_of c.args.tokens.now)) s.sum (option_map name_of c.in-Ok.store) s.tree s.split s.is_sum;
+        depth_is = c.depth-depth.ensures s.sum s.tree steps;
+        nodes_are = sym (length_map (node_of s.sum) c.steps-steps.result.now) ∙ ap length steps ∙ nodes_found s.tree;
       },
       c.if-depth-gt-MAX_DEPTH.false,
     )
-
-pub read-requires-clause-first : goal.read-requires-clause-first
-read-requires-clause-first c = c.new-reader.ensures.state (tokens_in c.without_store-store.result.0.now)

@@ -31,7 +31,7 @@ returns-in-Err-clause-interrupted g c = λ place. calm_unbuilt c.refused.result 
 
 pub returns-in-Ok-fill-clause-reply : goal.returns-in-Ok-fill-clause-reply
 returns-in-Ok-fill-clause-reply g c = λ t is.
-    comes_filled g.R.Reducer.room g.R.Reducer.bits (states g.B.Breaker.state c.args.watch.now) (states g.B.Breaker.state c.reduce_tree.new.watch) (name_in c.args.store) c.args.table.now c.args.pool.now c.build.new.pool c.fill.new.pool (forest c.reduce_tree.new.pool) (bare (tokens_of c.args.tokens.now)) t c.reduce_tree.result
+    comes_filled g.R.Reducer.room g.R.Reducer.bits (states g.B.Breaker.state c.args.watch.now) (states g.B.Breaker.state c.reduce_tree.new.watch) (name_in c.args.store) c.args.table.now c.args.pool.now c.build.new.pool c.fill.new.pool (forest c.reduce_tree.new.pool) (bare (tokens_of c.args.parser.now)) t c.reduce_tree.result
     c.requires.stands c.fill.ensures.stands (c.in-Ok-fill.ensures.kept.size ∙ c.in-Ok.ensures.kept.size) c.in-Ok.ensures.ok is (c.in-Ok.ensures.room t is) c.in-Ok-fill.ensures.ok c.in-Ok-fill.ensures.ok_room c.in-Ok-fill.ensures.clear c.reduce_tree.ensures.reply
 
 pub returns-in-Ok-fill-clause-counted : goal.returns-in-Ok-fill-clause-counted
@@ -42,7 +42,7 @@ returns-in-Ok-fill-clause-front g c = front_over c.in-Ok.ensures.ok (front_in_pl
 
 pub returns-in-Err-fill-clause-reply : goal.returns-in-Err-fill-clause-reply
 returns-in-Err-fill-clause-reply g c = λ t is.
-    unfilled_reply g.R.Reducer.room g.R.Reducer.bits (states g.B.Breaker.state c.args.watch.now) (states g.B.Breaker.state c.args.watch.now) (name_in c.args.store) c.args.table.now c.args.pool.now c.build.new.pool (bare (tokens_of c.args.tokens.now)) t c.in-Err-fill.fault c.unfilled.result
+    unfilled_reply g.R.Reducer.room g.R.Reducer.bits (states g.B.Breaker.state c.args.watch.now) (states g.B.Breaker.state c.args.watch.now) (name_in c.args.store) c.args.table.now c.args.pool.now c.build.new.pool (bare (tokens_of c.args.parser.now)) t c.in-Err-fill.fault c.unfilled.result
     c.in-Ok.ensures.ok is (c.in-Ok.ensures.room t is) c.in-Err-fill.ensures.refused refl c.unfilled.ensures
 
 pub returns-in-Err-fill-clause-interrupted : goal.returns-in-Err-fill-clause-interrupted

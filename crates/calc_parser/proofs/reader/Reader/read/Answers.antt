@@ -1,9 +1,9 @@
 use Rattle.std.specs.Prelude.{◌≡◌, ◌<◌, ◌≤◌, length}
-use Rattle.std.proofs.Common.{arith}
+use Rattle.std.proofs.Common.{ap, arith}
 use Rattle.calc_terms.specs.Trees.{Tree}
 use Rattle.calc_language.specs.Grammar.{IsSum}
 use Rattle.calc_tokens.specs.Tokens.{token_of}
-use Rattle.calc_parser.specs.Automaton.{run, start}
+use Rattle.calc_parser.specs.Automaton.{State, run, start}
 use Rattle.calc_parser.specs.Reader.{tokens_in, token_in, nodes_in, state_in}
 use Rattle.calc_parser.proofs.Runs.{count_tokens, token_at_place, run_on, run_stops, run_all, no_sum, on_err, finished_sum, finished_none}
 use Rattle.calc_parser.proofs.reader.Reader.read.Goals as goal
@@ -16,6 +16,9 @@ returns-in_err-take-clause-no_sum c =
     let inside : c.loop-at.at < length ts = omega (arith, count_tokens tokens) in
     on_err ((t : Tree) → IsSum ts t → ⊥) c.from_residual.result
     (no_sum ts (run_stops ts (state_in ts c.loop-at.self) c.loop-at.at _ inside here (run start ts) (c.in_err-take.ensures.step ts here) (c.loop-at.invariant.0)))
+
+pub loop-at-init : goal.loop-at-init
+loop-at-init c = let ts = tokens_in c.args.tokens.now in (ap (λ (s : State). run s ts) (c.clear.ensures.state ts), omega (arith, c.clear.ensures.room))
 
 pub loop-at-preserved : goal.loop-at-preserved
 loop-at-preserved c =

@@ -71,19 +71,19 @@ returns-in-Face-clause-answers g c =
     let leaves = leaves_answer old c.evaluate.new.pool c.keep.new.pool c.self.inside.table c.keep.new.self c.in-Face.face u (name_in c.in-Ok.store) c.self.invariant.stands c.evaluate.ensures.stands gives c.keep.ensures.stands (c.keep.ensures.kept.size ∙ c.in-Face.ensures.counted.size) c.keep.ensures.table c.keep.ensures.forest in
     subst (λ (x : LineAnswer). AnswersUntold g.R.Reducer.room g.R.Reducer.bits c.args.self.now.state (states g.B.Breaker.state c.args.watch.now) c.args.line.now x c.write_text.new.text.bytes (state_of c.keep.new.pool c.keep.new.self) (states g.B.Breaker.state c.evaluate.new.watch)) (sym c.answer_with.ensures)
     (subst (λ (o : Seen). AnswersUntold g.R.Reducer.room g.R.Reducer.bits o.state (states g.B.Breaker.state c.args.watch.now) c.args.line.now (answer_to (name_in c.in-Ok.store)) c.write_text.new.text.bytes (state_of c.keep.new.pool c.keep.new.self) (states g.B.Breaker.state c.evaluate.new.watch)) c.self.view_is
-    (answers_face g.R.Reducer.room g.R.Reducer.bits (states g.B.Breaker.state c.args.watch.now) (states g.B.Breaker.state c.evaluate.new.watch) c.args.line.now old c.keep.new.pool c.self.inside.table c.keep.new.self (tokens_of c.read_line.new.tokens) (name_in c.in-Ok.store) t u c.write_text.new.text.bytes
+    (answers_face g.R.Reducer.room g.R.Reducer.bits (states g.B.Breaker.state c.args.watch.now) (states g.B.Breaker.state c.evaluate.new.watch) c.args.line.now old c.keep.new.pool c.self.inside.table c.keep.new.self (tokens_of c.read_line.new.parser) (name_in c.in-Ok.store) t u c.write_text.new.text.bytes
     c.self.invariant.stands s is leaves told))
 
 pub returns-in-Undefined-clause-answers : goal.returns-in-Undefined-clause-answers
 returns-in-Undefined-clause-answers g c =
     let (t, s) = c.in-Ok.ensures.tree in
     subst (λ (o : Seen). AnswersUntold g.R.Reducer.room g.R.Reducer.bits o.state (states g.B.Breaker.state c.args.watch.now) c.args.line.now answer.Undef c.write_undef.new.text.bytes (state_of c.evaluate.new.pool c.self.inside.table) (states g.B.Breaker.state c.evaluate.new.watch)) c.self.view_is
-    (answers_undefined g.R.Reducer.room g.R.Reducer.bits (states g.B.Breaker.state c.args.watch.now) (states g.B.Breaker.state c.evaluate.new.watch) c.args.line.now c.self.inside.pool c.evaluate.new.pool c.self.inside.table (tokens_of c.read_line.new.tokens) (name_in c.in-Ok.store) t c.write_undef.new.text.bytes
+    (answers_undefined g.R.Reducer.room g.R.Reducer.bits (states g.B.Breaker.state c.args.watch.now) (states g.B.Breaker.state c.evaluate.new.watch) c.args.line.now c.self.inside.pool c.evaluate.new.pool c.self.inside.table (tokens_of c.read_line.new.parser) (name_in c.in-Ok.store) t c.write_undef.new.text.bytes
     c.self.invariant.stands s (c.in-Undefined.ensures.reply t (name_in c.in-Ok.store, s.reads.line-is)) c.in-Undefined.ensures.as_before c.write_undef.ensures.text)
 
 pub returns-in-Refused-clause-answers : goal.returns-in-Refused-clause-answers
 returns-in-Refused-clause-answers g c =
     let (t, s) = c.in-Ok.ensures.tree in
     subst (λ (o : Seen). AnswersUntold g.R.Reducer.room g.R.Reducer.bits o.state (states g.B.Breaker.state c.args.watch.now) c.args.line.now (answer.Refused c.in-Refused.refusal) c.self.inside.text.bytes (state_of c.evaluate.new.pool c.self.inside.table) (states g.B.Breaker.state c.evaluate.new.watch)) c.self.view_is
-    (answers_refusal g.R.Reducer.room g.R.Reducer.bits (states g.B.Breaker.state c.args.watch.now) (states g.B.Breaker.state c.evaluate.new.watch) c.args.line.now c.self.inside.pool c.evaluate.new.pool c.self.inside.table (tokens_of c.read_line.new.tokens) (name_in c.in-Ok.store) t c.in-Refused.refusal c.self.inside.text.bytes
+    (answers_refusal g.R.Reducer.room g.R.Reducer.bits (states g.B.Breaker.state c.args.watch.now) (states g.B.Breaker.state c.evaluate.new.watch) c.args.line.now c.self.inside.pool c.evaluate.new.pool c.self.inside.table (tokens_of c.read_line.new.parser) (name_in c.in-Ok.store) t c.in-Refused.refusal c.self.inside.text.bytes
     c.self.invariant.stands s (c.in-Refused.ensures.reply t (name_in c.in-Ok.store, s.reads.line-is)) c.in-Refused.ensures.as_before (ap (λ (o : Seen). o.text) c.self.view_is ∙ c.requires.clear))

@@ -1,0 +1,64 @@
+-- What `Parser::read` answers, from what it found.
+use Rattle.std.specs.Prelude.{ℕ, ◌≡◌, ◌≤◌, ◌↔◌, List, Option, Result, Ok, Err, MatchResult, IsOk}
+use Rattle.std.specs.Option.{option_map}
+use Rattle.std.proofs.Common.{refl, ap, subst}
+use Rattle.calc_language.specs.Tokens.{Token}
+use Rattle.calc_terms.specs.Leaf.{name_of}
+use Rattle.calc_terms.specs.Trees.{Tree, depth}
+use Rattle.calc_tokens.specs.Faults.{IsFaultOf as IsTokenFaultOf}
+use Rattle.calc_tokens.specs.Placed.{Placed, bare}
+use Rattle.calc_tokens.specs.Scanned.{AreTokensOf}
+use Rattle.calc_tokens.specs.declared.tokens.TokenFault.{TokenFault}
+use Rattle.calc_tokens.specs.declared.tokens.TokenFault.TheVariants.{Character, Number}
+use Rattle.calc_tokens.proofs.OneScan.{character_or_all, wide_or_all, character_or_wide, one_character, one_wide, one_list}
+use Rattle.calc_parser.specs.Lines.{IsLine}
+use Rattle.calc_parser.specs.Outcomes.{IsShallow, IsFaultOf}
+use Rattle.calc_parser.specs.Refused.{IsLineFaultOf}
+use Rattle.calc_parser.specs.declared.checking.ParseFault.{ParseFault}
+use Rattle.calc_parser.specs.declared.checking.ParseFault.TheVariants.{Syntax, Deep}
+use Rattle.calc_parser.specs.declared.checking.Shape.{Shape}
+use Rattle.calc_parser.specs.declared.parser.LineFault.{LineFault}
+use Rattle.calc_parser.specs.declared.parser.LineFault.TheVariants as line_fault
+use Rattle.calc_parser.proofs.Answered.{accepted, not_deep}
+
+-- the tokens of a line and what the line is like, or its fault
+abbrev pub Answers : List ℕ → Result Shape LineFault → Type 0
+Answers line r = MatchResult r (λ shape. (ts : List Placed) × AreTokensOf ts line × IsShallow (bare ts) shape) (IsLineFaultOf line)
+
+-- a line with tokens has no fault of a token
+no_token_fault : (line : List ℕ) (ts : List Placed) (fault : TokenFault) → AreTokensOf ts line → IsTokenFaultOf line fault → ⊥
+no_token_fault line ts (Character at) d f = character_or_all line at ts f d
+no_token_fault line ts (Number at) d f = wide_or_all line at ts f d
+
+one_token_fault : (line : List ℕ) (f g : TokenFault) → IsTokenFaultOf line f → IsTokenFaultOf line g → f ≡ g
+one_token_fault line (Character p) (Character q) h k = ap Character (one_character line p q h k)
+one_token_fault line (Character p) (Number q) h k = absurd (character_or_wide line p q h k)
+one_token_fault line (Number p) (Character q) h k = absurd (character_or_wide line q p k h)
+one_token_fault line (Number p) (Number q) h k = ap Number (one_wide line p q h k)
+
+no_parse_fault : (ts : List Token) (shape : Shape) (fault : ParseFault) → IsShallow ts shape → IsFaultOf ts fault → ⊥
+no_parse_fault ts shape Syntax h n = n (option_map name_of shape.store) h.0.tree h.0.line
+no_parse_fault ts shape Deep h o = not_deep ts shape h o
+
+one_parse_fault : (ts : List Token) (f g : ParseFault) → IsFaultOf ts f → IsFaultOf ts g → f ≡ g
+one_parse_fault ts Syntax Syntax h k = refl
+one_parse_fault ts Syntax Deep n o = absurd (n o.store o.tree o.line)
+one_parse_fault ts Deep Syntax o n = absurd (n o.store o.tree o.line)
+one_parse_fault ts Deep Deep h k = refl
+
+pub faults_exact : (line : List ℕ) (r : Result Shape LineFault) → Answers line r → (fault : LineFault) → (r ≡ Err fault) ↔ IsLineFaultOf line fault
+faults_exact line r h fault = (λ e. subst (Answers line) e h, back r h fault)
+  where
+    back : (r : Result Shape LineFault) → Answers line r → (fault : LineFault) → IsLineFaultOf line fault → r ≡ Err fault
+    back (Ok shape) (ts, d, s) (line_fault.Token f) k = absurd (no_token_fault line ts f d k)
+    back (Ok shape) (ts, d, s) (line_fault.Parse f) (us, e, k) = absurd (no_parse_fault (bare ts) shape f s (subst (λ xs. IsFaultOf (bare xs) f) (one_list line us ts e d) k))
+    back (Err (line_fault.Token f)) h (line_fault.Token g) k = ap (λ x. Err (line_fault.Token x)) (one_token_fault line f g h k)
+    back (Err (line_fault.Token f)) h (line_fault.Parse g) (us, e, k) = absurd (no_token_fault line us f e h)
+    back (Err (line_fault.Parse f)) (ts, d, h) (line_fault.Token g) k = absurd (no_token_fault line ts g d k)
+    back (Err (line_fault.Parse f)) (ts, d, h) (line_fault.Parse g) (us, e, k) =
+        ap (λ x. Err (line_fault.Parse x)) (one_parse_fault (bare ts) f g h (subst (λ xs. IsFaultOf (bare xs) g) (one_list line us ts e d) k))
+
+pub line_accepted : (line : List ℕ) (r : Result Shape LineFault) → Answers line r → (ts : List Placed) (x : Option (List ℕ)) (t : Tree) → AreTokensOf ts line → IsLine (bare ts) x t → depth t ≤ 64 → IsOk r
+line_accepted line (Ok shape) h ts x t d l s = refl
+line_accepted line (Err (line_fault.Token f)) h ts x t d l s = absurd (no_token_fault line ts f d h)
+line_accepted line (Err (line_fault.Parse f)) (us, e, h) ts x t d l s = accepted (bare us) (Err f) h x t (subst (λ xs. IsLine (bare xs) x t) (one_list line ts us d e) l) s

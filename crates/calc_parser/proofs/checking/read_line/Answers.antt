@@ -1,0 +1,41 @@
+use Rattle.std.specs.Prelude.{◌≡◌, map}
+use Rattle.std.specs.Option.{option_map}
+use Rattle.std.proofs.Common.{ap, ◌∙◌}
+use Rattle.calc_terms.specs.Leaf.{name_of}
+use Rattle.calc_tokens.specs.Placed.{bare}
+use Rattle.calc_tokens.specs.Tokens.{tokens_of}
+use Rattle.calc_parser.specs.Lines.{IsNoLine}
+use Rattle.calc_parser.specs.Reader.{steps_in, tokens_in}
+use Rattle.calc_parser.specs.Stores.{IsSplit}
+use Rattle.calc_parser.proofs.Checks.{sum_of_line}
+use Rattle.calc_parser.proofs.Runs.{on_err}
+use Rattle.calc_parser.proofs.LineSteps.{same_split, steps_of_none, steps_of_sum}
+use Rattle.calc_parser.proofs.checking.read_line.Goals as goal
+use Rattle.calc_parser.proofs.checking.read_line.Goals.{After-read}
+
+-- the tokens before the store
+split : (c : After-read) → IsSplit (bare (tokens_of c.args.tokens.now)) (tokens_in c.without_store-store.result.0.now) (option_map name_of c.without_store-store.result.1)
+split c = same_split c.items.result.now (tokens_of c.args.tokens.now) (tokens_in c.without_store-store.result.0.now) (option_map name_of c.without_store-store.result.1) c.items.ensures.tokens c.without_store-store.ensures.split
+
+pub returns-in_err-read-clause-no_line : goal.returns-in_err-read-clause-no_line
+returns-in_err-read-clause-no_line c =
+    let ts = bare (tokens_of c.args.tokens.now) in
+    let us = tokens_in c.without_store-store.result.0.now in
+    on_err (IsNoLine ts) c.from_residual.result
+    (λ store t d. c.in_err-read.ensures.no_sum t (sum_of_line ts us (option_map name_of c.without_store-store.result.1) store t (split (goal.at.returns-in_err-read-clause-no_line c).After-read) d))
+
+pub returns-in_err-read-clause-made : goal.returns-in_err-read-clause-made
+returns-in_err-read-clause-made c =
+    steps_of_none (steps_in c.read.new.self.postfix) (bare (tokens_of c.args.tokens.now)) (tokens_in c.without_store-store.result.0.now) (option_map name_of c.without_store-store.result.1)
+    (split (goal.at.returns-in_err-read-clause-made c).After-read) c.in_err-read.ensures.no_sum
+
+pub returns-clause-line : goal.returns-clause-line
+returns-clause-line c =
+    let (t, d, e) = c.in_ok-read.ensures.sum in
+    record { sum = tokens_in c.without_store-store.result.0.now; tree = t; split = split (goal.at.returns-clause-line c).After-read; is_sum = d }
+
+pub returns-clause-made : goal.returns-clause-made
+returns-clause-made c =
+    let (t, d, e) = c.in_ok-read.ensures.sum in
+    steps_of_sum (steps_in c.read.new.self.postfix) (bare (tokens_of c.args.tokens.now)) (tokens_in c.without_store-store.result.0.now) (option_map name_of c.without_store-store.result.1) t
+    (split (goal.at.returns-clause-made c).After-read) d e

@@ -1,0 +1,11 @@
+use Rattle.std.proofs.Common.{ap}
+use Rattle.calc_tokens.specs.Placed.{bare}
+use Rattle.calc_tokens.specs.Tokens.{tokens_of}
+use Rattle.calc_parser.specs.Reader.{steps_in}
+use Rattle.calc_parser.proofs.LineSteps.{steps_of_nothing}
+use Rattle.calc_parser.proofs.parser.Parser.open.Goals as goal
+
+pub invariant_of-result : goal.invariant_of-result
+invariant_of-result c =
+    steps_of_nothing (steps_in c.in_ok-reader.reader.value.postfix) (bare (tokens_of c.in_ok-tokens.tokens.value))
+    (ap bare c.in_ok-tokens.ensures)

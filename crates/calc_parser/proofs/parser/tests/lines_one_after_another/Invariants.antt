@@ -1,0 +1,5 @@
+use Rattle.tree_handles.specs.Standing.{Stands}
+use Rattle.calc_parser.proofs.parser.tests.lines_one_after_another.Given as goal
+
+abbrev pub invariant-loop-line : goal.invariant-loop-line
+invariant-loop-line g l = Stands l.pool

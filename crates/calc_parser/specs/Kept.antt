@@ -1,0 +1,14 @@
+-- What a parser keeps of a line.
+use Rattle.calc_tokens.specs.Placed.{bare}
+use Rattle.calc_tokens.specs.Tokens.{tokens_of}
+use Rattle.calc_tokens.specs.declared.tokens.Tokens.{Tokens}
+use Rattle.calc_parser.specs.Reader.{steps_in}
+use Rattle.calc_parser.specs.Steps.{AreStepsOf}
+use Rattle.calc_parser.specs.declared.parser.Parser.TheInside.{Inside}
+
+abbrev pub kept_tokens : Inside → Tokens
+kept_tokens p = p.tokens.value
+
+-- its steps are those of its tokens
+abbrev pub KeepsSteps : Inside → Type 0
+KeepsSteps p = AreStepsOf (steps_in p.reader.value.postfix) (bare (tokens_of (kept_tokens p)))

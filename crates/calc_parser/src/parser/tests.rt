@@ -1,0 +1,95 @@
+//! One parser over several lines.
+ghost use Rattle.std.specs.Prelude.{◌≤◌, length, IfOk};
+ghost use Rattle.node_pool.specs.State.{IsPoolSize};
+ghost use Rattle.tree_handles.specs.Standing.{Stands};
+
+use super::*;
+use std::test::Fail;
+
+fn opened(alloc: Global, size: u32) -> Result<Pool, AllocError>
+    requires { IsPoolSize size }
+    ensures { IfOk result Stands }
+{
+    let pool = Pool::open(alloc, size)?;
+    Ok(pool)
+}
+
+/// The depth and the number of nodes of a line and the bytes that its tree takes; or why it has none.
+fn answered(
+    alloc: Global,
+    parser: &mut Parser,
+    pool: &mut Pool,
+    line: &[u8],
+) -> Result<String, AllocError>
+    requires stands { Stands pool.old }
+    requires short { length line.now ≤ 1024 }
+    ensures { Stands pool.new }
+{
+    let before = pool.free();
+    match parser.read(line) {
+        Ok(shape) => {
+            let built = parser.build(pool);
+            let after = pool.free();
+            let (depth, nodes) = (shape.depth, shape.nodes);
+            match built {
+                Ok(_) => format!(in alloc; "{depth} {nodes} {before} {after}"),
+                Err(full) => {
+                    let (needed, free) = (full.needed, full.free);
+                    format!(in alloc; "{depth} {nodes} full {needed} {free}")
+                }
+            }
+        }
+        Err(LineFault::Token(TokenFault::Character { at })) => {
+            format!(in alloc; "character {at}")
+        }
+        Err(LineFault::Token(TokenFault::Number { at })) => format!(in alloc; "number {at}"),
+        Err(LineFault::Parse(ParseFault::Syntax)) => format!(in alloc; "syntax"),
+        Err(LineFault::Parse(ParseFault::Deep)) => format!(in alloc; "deep"),
+    }
+}
+
+// A number takes 16 bytes, a name 16 and any other node 8.
+#[test]
+fn lines_one_after_another(rt: HostRuntime) -> Result<(), Fail> {
+    let rows = [
+        ("1+2×x", "3 5 136 72"),
+        ("2+", "syntax"),
+        ("x", "1 1 72 56"),
+        ("x$", "character 2"),
+        (
+            "----------------------------------------------------------------1",
+            "deep",
+        ),
+        ("√(x)^2→y", "3 4 56 8"),
+        ("x", "1 1 full 16 8"),
+    ];
+    let mut pool = opened(rt.alloc(), 136)?;
+    let mut parser = Parser::open(rt.alloc())?;
+    for (line, want) in rows {
+        let line = line.as_bytes();
+        assert!(rt; line.len() <= 1024);
+        let got = answered(rt.alloc(), &mut parser, &mut pool, line)?;
+        assert_eq!(rt; got.as_str(), want);
+    }
+    Ok(())
+}
+
+/// Whether the line that was read last holds the name that these bytes are.
+fn holds(parser: &Parser, bytes: &[u8]) -> bool {
+    match Name::read(bytes) {
+        Some(name) => parser.holds_name(name),
+        None => false,
+    }
+}
+
+#[test]
+fn names_of_the_line_read_last(rt: HostRuntime) -> Result<(), Fail> {
+    let mut parser = Parser::open(rt.alloc())?;
+    assert!(rt; parser.read(b"x+1").is_ok());
+    assert!(rt; holds(&parser, b"x"));
+    assert!(rt; !holds(&parser, b"y"));
+    assert!(rt; parser.read(b"2y").is_ok());
+    assert!(rt; !holds(&parser, b"x"));
+    assert!(rt; holds(&parser, b"y"));
+    Ok(())
+}
