@@ -1,0 +1,14 @@
+pub mod Calculations
+pub mod Arithmetic
+pub mod Worths
+pub mod Steps
+pub mod SideWorths
+pub mod Meanings
+pub mod Theorem
+pub mod Entries
+pub mod TreeLists
+pub mod LinearNodes
+pub mod Walks
+pub mod RowLists
+pub mod EquationRows
+pub mod Results

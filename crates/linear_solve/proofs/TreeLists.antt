@@ -1,0 +1,64 @@
+-- The children of a node as a list.
+use Rattle.std.proofs.Common.{◌≡◌, ◌<◌, ◌≤◌, ℕ, zero, suc, ◌+◌, List, [], ◌∷◌, ◌++◌, length, get_or, take, sym, refl, ap, ◌∙◌, arith}
+use Rattle.std.proofs.lemmas.List.{take_more, take_all}
+use Rattle.calc_terms.specs.Trees.{Tree, num, symbol, undef, add, mult, power, root, neg, sub, div, Trees, none, more, count, nodes, nodes_of}
+use Rattle.tree_handles.specs.Expressions.{nth, children_of}
+
+abbrev pub listed : Trees → List Tree
+listed none = []
+listed (more t ts) = t ∷ listed ts
+
+abbrev pub parts_below : Tree → List Tree
+parts_below t = listed (children_of t)
+
+pub length-listed : (ts : Trees) → length (listed ts) ≡ count ts
+length-listed none = refl
+length-listed (more t ts) = ap suc (length-listed ts)
+
+pub get_or-listed : (ts : Trees) (i : ℕ) → get_or (listed ts) i undef ≡ nth i ts
+get_or-listed none i = refl
+get_or-listed (more t ts) zero = refl
+get_or-listed (more t ts) (suc i) = get_or-listed ts i
+
+-- their nodes
+abbrev pub node_sum : List Tree → ℕ
+node_sum [] = 0
+node_sum (t ∷ ts) = nodes t + node_sum ts
+
+node_sum-push : (ts : List Tree) (t : Tree) → node_sum (ts ++ t ∷ []) ≡ node_sum ts + nodes t
+node_sum-push [] t = omega arith
+node_sum-push (u ∷ ts) t = let h = node_sum-push ts t in omega (arith, h)
+
+-- with the next child
+pub node_sum_more : (ts : Trees) (i : ℕ) → i < count ts → node_sum (take (i + 1) (listed ts)) ≡ node_sum (take i (listed ts)) + nodes (nth i ts)
+node_sum_more ts i l =
+    ap node_sum (take_more (listed ts) i undef (omega (arith, length-listed ts))) ∙ node_sum-push (take i (listed ts)) (get_or (listed ts) i undef) ∙ ap (λ t. node_sum (take i (listed ts)) + nodes t) (get_or-listed ts i)
+
+pub node_sum_all : (ts : Trees) (i : ℕ) → count ts ≤ i → node_sum (take i (listed ts)) ≡ node_sum (listed ts)
+node_sum_all ts i l = ap node_sum (take_all i (listed ts) (omega (arith, length-listed ts)))
+
+nodes-listed : (ts : Trees) → node_sum (listed ts) ≡ nodes_of ts
+nodes-listed none = refl
+nodes-listed (more t ts) = ap (λ n. nodes t + n) (nodes-listed ts)
+
+-- a tree has one node more than its children
+pub nodes_below : (t : Tree) → nodes t ≡ suc (node_sum (listed (children_of t)))
+nodes_below (num q) = refl
+nodes_below (symbol x) = refl
+nodes_below undef = refl
+nodes_below (add ts) = ap suc (sym (nodes-listed ts))
+nodes_below (mult ts) = ap suc (sym (nodes-listed ts))
+nodes_below (power b e) = omega arith
+nodes_below (root a) = omega arith
+nodes_below (neg a) = omega arith
+nodes_below (sub a b) = omega arith
+nodes_below (div a b) = omega arith
+
+at_most_all : (ts : List Tree) (i : ℕ) → i < length ts → nodes (get_or ts i undef) ≤ node_sum ts
+at_most_all [] i l = absurd (omega arith)
+at_most_all (t ∷ ts) zero l = omega arith
+at_most_all (t ∷ ts) (suc i) l = let h = at_most_all ts i (omega arith) in omega (arith, h)
+
+pub fewer_nodes : (t : Tree) (i : ℕ) → i < count (children_of t) → nodes (nth i (children_of t)) < nodes t
+fewer_nodes t i l =
+    omega (arith, nodes_below t, at_most_all (listed (children_of t)) i (omega (arith, length-listed (children_of t))), ap nodes (get_or-listed (children_of t) i))

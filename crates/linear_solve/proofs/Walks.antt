@@ -1,0 +1,198 @@
+-- The rows of a node's children, one after another, and the checks between.
+use Rattle.std.proofs.Common.{◌≡◌, ◌<◌, ◌≤◌, ℕ, zero, suc, ◌+◌, true, false, List, [], ◌∷◌, ◌++◌, length, map, take, Result, Ok, Err, refl, sym, ap, ◌∙◌, subst, arith, Some, None, IfErr, IsErrAnd}
+use Rattle.std.proofs.lemmas.Result.{err_from_is_err_and}
+use Rattle.rational128.specs.declared.overflow.Overflow.{Overflow}
+use Rattle.std.proofs.lemmas.Bool.{and_parts, not-true}
+use Rattle.std.proofs.lemmas.List.{get_or-map, get_or_at, length-append, length-map, length_push}
+use Rattle.breakers.proofs.Runs.{CalmChecks-append}
+use Rattle.breakers.specs.Breakers.{Check, CalmChecks}
+use Rattle.breakers.specs.State.{State}
+use Rattle.calc_terms.proofs.FractionFacts.{no_zero, zero_test}
+use Rattle.calc_terms.specs.declared.kind.Kind.{Kind}
+use Rattle.calc_terms.specs.declared.kind.Kind.TheVariants as kind
+use Rattle.calc_terms.specs.Fractions.{Fraction, negative, is_zero_fraction, zero_fraction}
+use Rattle.calc_terms.specs.Trees.{Tree, num, symbol, undef, add, mult, power, root, neg, sub, div, Trees, none, more, count, nodes, root_kind}
+use Rattle.linear_solve.specs.declared.fault.SolveFault.{SolveFault}
+use Rattle.linear_solve.specs.declared.fault.SolveFault.TheVariants as fault
+use Rattle.linear_solve.specs.Checks.{TripsWithin}
+use Rattle.linear_solve.specs.Faults.{OfOverflow, StopsWithin}
+use Rattle.linear_solve.specs.Fitting.{Misfit, and_then, each}
+use Rattle.linear_solve.specs.Linear.{are_linear, is_divisor, is_linear, is_nonzero}
+use Rattle.linear_solve.specs.Rows.{entry, negated}
+use Rattle.linear_solve.specs.Sides.{Names, Side, bare_row, constant_of, constant_row, joined_from, joined_row, joined_rows, own_row, row_of, rows_of, signed_row}
+use Rattle.linear_solve.proofs.Arithmetic.{negative_twice, negative_zero}
+use Rattle.linear_solve.proofs.Calculations.{each_all, each_more, each_stops, ok_is, then_err, then_ok}
+use Rattle.linear_solve.proofs.LinearNodes.{divisor_linear}
+use Rattle.linear_solve.proofs.TreeLists.{get_or-listed, length-listed, listed, node_sum, node_sum_all, node_sum_more, nodes_below}
+use Rattle.tree_handles.specs.Expressions.{children_of, nth}
+
+-- ---- a tree's row by those of its children
+
+rows_listed : (xs : Names) (ts : Trees) → rows_of xs ts ≡ each (row_of xs) (listed ts)
+rows_listed xs none = refl
+rows_listed xs (more t ts) = ap (λ z. and_then (row_of xs t) (λ r. and_then z (λ rs. Ok (r ∷ rs)))) (rows_listed xs ts)
+
+one_row : {B : Type 0} (r : Result Side Misfit) (g : List Side → Result B Misfit) → and_then r (λ x. g (x ∷ [])) ≡ and_then (and_then r (λ y. Ok (y ∷ []))) g
+one_row (Ok x) g = refl
+one_row (Err m) g = refl
+
+two_rows : {B : Type 0} (r s : Result Side Misfit) (g : List Side → Result B Misfit) → and_then r (λ x. and_then s (λ y. g (x ∷ y ∷ []))) ≡ and_then (and_then r (λ y. and_then (and_then s (λ z. Ok (z ∷ []))) (λ ys. Ok (y ∷ ys)))) g
+two_rows (Ok x) (Ok y) g = refl
+two_rows (Ok x) (Err m) g = refl
+two_rows (Err m) s g = refl
+
+pub by_children : (xs : Names) (t : Tree) → row_of xs t ≡ and_then (each (row_of xs) (listed (children_of t))) (λ rs. own_row xs t rs)
+by_children xs (num q) = refl
+by_children xs (symbol x) = refl
+by_children xs undef = refl
+by_children xs (add ts) = ap (λ z. and_then z (λ rs. own_row xs (add ts) rs)) (rows_listed xs ts)
+by_children xs (mult ts) = ap (λ z. and_then z (λ rs. own_row xs (mult ts) rs)) (rows_listed xs ts)
+by_children xs (power b e) = two_rows (row_of xs b) (row_of xs e) (λ rs. own_row xs (power b e) rs)
+by_children xs (root a) = one_row (row_of xs a) (λ rs. own_row xs (root a) rs)
+by_children xs (neg a) = one_row (row_of xs a) (λ rs. own_row xs (neg a) rs)
+by_children xs (sub a b) = two_rows (row_of xs a) (row_of xs b) (λ rs. own_row xs (sub a b) rs)
+by_children xs (div a b) = two_rows (row_of xs a) (row_of xs b) (λ rs. own_row xs (div a b) rs)
+
+-- ---- rows joined so far
+
+joined_push : (join : Side → Side → Result Side Misfit) (r : Side) (rs : List Side) (s : Side) → joined_rows join r (rs ++ s ∷ []) ≡ and_then (joined_rows join r rs) (λ t. join t s)
+joined_push join r [] s = by (join r s)
+  where
+    by : (x : Result Side Misfit) → and_then x (λ t. Ok t) ≡ x
+    by (Ok t) = refl
+    by (Err m) = refl
+joined_push join r (u ∷ rs) s = by (join r u) (λ t. joined_push join t rs s)
+  where
+    by : (x : Result Side Misfit) → ((t : Side) → joined_rows join t (rs ++ s ∷ []) ≡ and_then (joined_rows join t rs) (λ t. join t s))
+        → and_then x (λ t. joined_rows join t (rs ++ s ∷ [])) ≡ and_then (and_then x (λ t. joined_rows join t rs)) (λ t. join t s)
+    by (Ok t) go = go t
+    by (Err m) go = refl
+
+-- the rows of the first children, joined
+pub record AreMade (xs : Names) (k : Kind) (t : Tree) (at : ℕ) (row : Result Side Misfit) : Type 0 where
+  pub rows : List Side
+  pub made : each (row_of xs) (take at (listed (children_of t))) ≡ Ok rows
+  pub long : length rows ≡ at
+  pub joined : row ≡ joined_from (joined_row (length xs) k) (bare_row xs t) rows
+
+pub none_made : (xs : Names) (k : Kind) (t : Tree) (bare : Side) → bare ≡ bare_row xs t → AreMade xs k t 0 (Ok bare)
+none_made xs k t bare e = record { rows = []; made = refl; long = refl; joined = ap Ok e }
+
+pub next_made : (xs : Names) (k : Kind) (t : Tree) (at n : ℕ) (row new : Result Side Misfit) (s : Side) → n ≡ length xs → at < count (children_of t) → AreMade xs k t at row → row_of xs (nth at (children_of t)) ≡ Ok s
+    → (at ≡ 0 → new ≡ and_then row (λ so_far. Ok s)) → (0 < at → new ≡ and_then row (λ so_far. joined_row n k so_far s)) → AreMade xs k t (at + 1) new
+next_made xs k t at n row new s en l h e first later = record {
+  rows = h.rows ++ s ∷ [];
+  made = each_more (row_of xs) (listed (children_of t)) at undef h.rows s (omega (arith, length-listed (children_of t))) h.made (ap (row_of xs) (get_or-listed (children_of t) at) ∙ e);
+  long = length_push h.rows s ∙ ap (λ m. m + 1) h.long;
+  joined = by h.rows h.long h.joined;
+}
+  where
+    by : (rs : List Side) → length rs ≡ at → row ≡ joined_from (joined_row (length xs) k) (bare_row xs t) rs → new ≡ joined_from (joined_row (length xs) k) (bare_row xs t) (rs ++ s ∷ [])
+    by [] m j = first (sym m) ∙ ap (λ z. and_then z (λ so_far. Ok s)) j
+    by (r ∷ rs) m j = later (omega (arith, m)) ∙ ap (λ z. and_then z (λ so_far. joined_row n k so_far s)) j ∙ ap (λ m. and_then (joined_rows (joined_row (length xs) k) r rs) (λ so_far. joined_row m k so_far s)) en ∙ sym (joined_push (joined_row (length xs) k) r rs s)
+
+-- the row of a child does not fit
+pub child_misfit : (xs : Names) (k : Kind) (t : Tree) (at : ℕ) (row : Result Side Misfit) (m : Misfit) → at < count (children_of t) → AreMade xs k t at row → row_of xs (nth at (children_of t)) ≡ Err m → row_of xs t ≡ Err m
+child_misfit xs k t at row m l h e =
+    by_children xs t ∙ then_err _ _ m (each_stops (row_of xs) (listed (children_of t)) at undef h.rows m (omega (arith, length-listed (children_of t))) h.made (ap (row_of xs) (get_or-listed (children_of t) at) ∙ e))
+
+-- all rows are made
+all_made : (xs : Names) (k : Kind) (t : Tree) (at : ℕ) (row : Result Side Misfit) → k ≡ root_kind t → count (children_of t) ≤ at → AreMade xs k t at row → row_of xs t ≡ and_then row (λ r. Ok (signed_row (root_kind t) r))
+all_made xs k t at row ek l h =
+    by_children xs t ∙ then_ok _ _ h.rows (each_all (row_of xs) (listed (children_of t)) at (Ok h.rows) (omega (arith, length-listed (children_of t))) h.made)
+    ∙ ap (λ z. and_then z (λ r. Ok (signed_row (root_kind t) r))) (ap (λ j. joined_from (joined_row (length xs) j) (bare_row xs t) h.rows) (sym ek) ∙ sym h.joined)
+
+pub own_misfit : (xs : Names) (k : Kind) (t : Tree) (at : ℕ) (row : Result Side Misfit) (m : Misfit) → k ≡ root_kind t → count (children_of t) ≤ at → AreMade xs k t at row → row ≡ Err m → row_of xs t ≡ Err m
+own_misfit xs k t at row m ek l h e = all_made xs k t at row ek l h ∙ then_err _ _ m e
+
+pub own_made : (xs : Names) (k : Kind) (t : Tree) (at : ℕ) (row : Result Side Misfit) (r s : Side) → k ≡ root_kind t → count (children_of t) ≤ at → AreMade xs k t at row → row ≡ Ok r → s ≡ signed_row k r → row_of xs t ≡ Ok s
+own_made xs k t at row r s ek l h e f = all_made xs k t at row ek l h ∙ then_ok _ _ r e ∙ ap Ok (ap (λ j. signed_row j r) (sym ek) ∙ sym f)
+
+-- ---- children of linear trees
+
+linear_in : (ts : Trees) (i : ℕ) → are_linear ts ≡ true → i < count ts → is_linear (nth i ts) ≡ true
+linear_in none i h l = absurd (omega arith)
+linear_in (more t ts) zero h l = (and_parts (is_linear t) (are_linear ts) h).0
+linear_in (more t ts) (suc i) h l = linear_in ts i (and_parts (is_linear t) (are_linear ts) h).1 (omega arith)
+
+pub child_linear : (t : Tree) (i : ℕ) → is_linear t ≡ true → i < count (children_of t) → is_linear (nth i (children_of t)) ≡ true
+child_linear (num q) i h l = absurd (omega arith)
+child_linear (symbol x) i h l = absurd (omega arith)
+child_linear undef i h l = absurd (omega arith)
+child_linear (add ts) i h l = linear_in ts i h l
+child_linear (mult ts) i h l = linear_in ts i (and_parts (are_linear ts) _ h).0 l
+child_linear (power b e) i h l = cc
+child_linear (root a) i h l = cc
+child_linear (neg a) zero h l = h
+child_linear (neg a) (suc i) h l = absurd (omega arith)
+child_linear (sub a b) zero h l = (and_parts (is_linear a) (is_linear b) h).0
+child_linear (sub a b) (suc zero) h l = (and_parts (is_linear a) (is_linear b) h).1
+child_linear (sub a b) (suc (suc i)) h l = absurd (omega arith)
+child_linear (div a c) zero h l = (and_parts (is_linear a) (is_divisor c) h).0
+child_linear (div a c) (suc zero) h l = (divisor_linear c (and_parts (is_linear a) (is_divisor c) h).1).0
+child_linear (div a c) (suc (suc i)) h l = absurd (omega arith)
+
+-- the constant of a divisor is not 0
+constant_entry : (xs : Names) (q : Fraction) → constant_of (length xs) (constant_row xs q) ≡ q
+constant_entry xs q = get_or_at (map (λ (x : List ℕ). zero_fraction) xs) q [] zero_fraction (length xs) (length-map xs _)
+
+opposite_entry : (xs : Names) (q : Fraction) → entry (length xs) (negated (constant_row xs q).entries) ≡ negative q
+opposite_entry xs q =
+    get_or-map negative (constant_row xs q).entries (length xs) zero_fraction zero_fraction (inside (length-append (map (λ (x : List ℕ). zero_fraction) xs) (q ∷ [])) (length-map xs _)) ∙ ap negative (constant_entry xs q)
+  where
+    inside : length (map (λ (x : List ℕ). zero_fraction) xs ++ q ∷ []) ≡ length (map (λ (x : List ℕ). zero_fraction) xs) + 1 → length (map (λ (x : List ℕ). zero_fraction) xs) ≡ length xs → length xs < length (map (λ (x : List ℕ). zero_fraction) xs ++ q ∷ [])
+    inside a b = omega arith
+
+nonzero_row : (xs : Names) (a : Tree) (r : Side) → is_nonzero a ≡ true → row_of xs a ≡ Ok r → is_zero_fraction (constant_of (length xs) r) ≡ false
+nonzero_row xs (num q) r h e = ap (λ x. is_zero_fraction (constant_of (length xs) x)) (sym (ok_is _ _ e)) ∙ ap is_zero_fraction (constant_entry xs q) ∙ not-true (is_zero_fraction q) h
+nonzero_row xs a r h e = cc
+
+opposite_nonzero : (xs : Names) (a : Tree) (r : Side) → is_nonzero a ≡ true → row_of xs (neg a) ≡ Ok r → is_zero_fraction (constant_of (length xs) r) ≡ false
+opposite_nonzero xs (num q) r h e =
+    ap (λ x. is_zero_fraction (constant_of (length xs) x)) (sym (ok_is _ _ e)) ∙ ap is_zero_fraction (opposite_entry xs q)
+    ∙ zero_test (negative q) (λ z. no_zero q h (sym (negative_twice q) ∙ ap negative z ∙ negative_zero))
+opposite_nonzero xs a r h e = cc
+
+divisor_row : (xs : Names) (c : Tree) (r : Side) → is_divisor c ≡ true → row_of xs c ≡ Ok r → is_zero_fraction (constant_of (length xs) r) ≡ false
+divisor_row xs (neg a) r h e = opposite_nonzero xs a r h e
+divisor_row xs c r h e = nonzero_row xs c r h e
+
+pub divisor_at : (xs : Names) (t : Tree) (i n : ℕ) (r : Side) → n ≡ length xs → root_kind t ≡ kind.Div → is_linear t ≡ true → 0 < i → i < count (children_of t) → row_of xs (nth i (children_of t)) ≡ Ok r → is_zero_fraction (constant_of n r) ≡ false
+divisor_at xs (div a c) zero n r en k h z l e = absurd (omega arith)
+divisor_at xs (div a c) (suc zero) n r en k h z l e = ap (λ m. is_zero_fraction (constant_of m r)) en ∙ divisor_row xs c r (and_parts (is_linear a) (is_divisor c) h).1 e
+divisor_at xs (div a c) (suc (suc i)) n r en k h z l e = absurd (omega arith)
+divisor_at xs t i n r en k h z l e = cc
+
+-- ---- checks
+
+pub one_calm : (old new : List State) → Check old new None → CalmChecks 1 old new
+one_calm old new c = (new, c, refl)
+
+pub stops_after : (n m most : ℕ) (old between new : List State) (f : SolveFault) → n + m ≤ most → CalmChecks n old between → StopsWithin m between new f → StopsWithin most old new f
+stops_after n m most old between new (fault.Overflow o) l c h = record { checks = n + h.checks; few = omega (arith, h.few); calm = CalmChecks-append n h.checks old between new c h.calm }
+stops_after n m most old between new (fault.Interrupted i) l c h = record { passed = n + h.passed; few = omega (arith, h.few); between = h.between; calm = CalmChecks-append n h.passed old between h.between c h.calm; trips = h.trips }
+
+pub trips_after : (n most : ℕ) (old between new : List State) (place : ℕ) → n < most → CalmChecks n old between → Check between new (Some place) → TripsWithin most old new place
+trips_after n most old between new place l c t = record { passed = n; few = l; between = between; calm = c; trips = t }
+
+-- one node more
+pub more_nodes : (t : Tree) (at : ℕ) → at < count (children_of t) → node_sum (take at (listed (children_of t))) + nodes (nth at (children_of t)) ≤ nodes t
+more_nodes t at l = omega (arith, node_sum_more (children_of t) at l, nodes_below t, at_most (at + 1) (listed (children_of t)))
+  where
+    at_most : (n : ℕ) (ts : List Tree) → node_sum (take n ts) ≤ node_sum ts
+    at_most zero ts = omega arith
+    at_most (suc n) [] = omega arith
+    at_most (suc n) (u ∷ ts) = let h = at_most n ts in omega (arith, h)
+
+pub all_nodes : (t : Tree) (at : ℕ) → count (children_of t) ≤ at → node_sum (take at (listed (children_of t))) + 1 ≡ nodes t
+all_nodes t at l = omega (arith, node_sum_all (children_of t) at l, nodes_below t)
+
+-- ---- faults
+
+pub overflow_as : (f : SolveFault) {P Q : Overflow → Type 0} → ((o : Overflow) → P o → Q o) → OfOverflow P f → OfOverflow Q f
+overflow_as (fault.Overflow o) h p = h o p
+overflow_as (fault.Interrupted i) h p = tt
+
+-- what a `?` hands on
+pub handed_on : {A : Type 0} {E : Type 0} (r : Result A E) (e : E) (P : E → Type 0) → IsErrAnd r (λ y. y ≡ e) → P e → IfErr r P
+handed_on r e P h p = let (y, q, k) = err_from_is_err_and r h in subst (λ s. IfErr s P) (sym q) (subst P (sym k) p)

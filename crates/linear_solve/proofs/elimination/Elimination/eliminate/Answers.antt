@@ -1,0 +1,26 @@
+use Rattle.std.proofs.Common.{◌+◌, ap, ◌∙◌, arith}
+use Rattle.breakers.proofs.Runs.{CalmChecks-append}
+use Rattle.breakers.specs.Watch.{states}
+use Rattle.linear_solve.specs.declared.fault.SolveFault.TheVariants as fault
+use Rattle.linear_solve.specs.States.{rows_told}
+use Rattle.linear_solve.specs.Told.{misfit_of}
+use Rattle.linear_solve.proofs.RowLists.{settled_next, settled_stops}
+use Rattle.linear_solve.proofs.Walks.{handed_on, one_calm}
+use Rattle.linear_solve.proofs.elimination.Elimination.eliminate.Goals as goal
+
+pub returns-in_err-settle-clause-overflow : goal.returns-in_err-settle-clause-overflow
+returns-in_err-settle-clause-overflow g c =
+    handed_on c.from_residual-in_err-settle.result (fault.Overflow c.in_err-settle.field-0.0) _ c.from_residual-in_err-settle.ensures.1
+    (settled_stops c.args.names c.loop-name.name (rows_told c.args.self.now) (rows_told c.loop-name.self) (misfit_of c.in_err-settle.field-0.0) c.loop-name.invariant.reached c.in_err-settle.ensures.overflow c.loop-name-test.true)
+
+pub returns-in_err-settle-clause-stops : goal.returns-in_err-settle-clause-stops
+returns-in_err-settle-clause-stops g c =
+    handed_on c.from_residual-in_err-settle.result (fault.Overflow c.in_err-settle.field-0.0) _ c.from_residual-in_err-settle.ensures.1
+    (record { checks = c.loop-name.name + 1; few = omega (arith, c.loop-name-test.true); calm = CalmChecks-append c.loop-name.name 1 (states g.B.Breaker.state c.args.watch.now) (states g.B.Breaker.state c.loop-name.watch) (states g.B.Breaker.state c.check.new.self) c.loop-name.invariant.checks (one_calm (states g.B.Breaker.state c.loop-name.watch) (states g.B.Breaker.state c.check.new.self) c.in_ok-check.ensures.calm) })
+
+pub loop-name-preserved : goal.loop-name-preserved
+loop-name-preserved g c = record {
+  reached = settled_next c.loop-name.name (rows_told c.args.self.now) (rows_told c.loop-name.self) (rows_told c.settle.new.self) c.loop-name.invariant.reached c.in_ok-settle.ensures.ok;
+  long = c.in_ok-settle.ensures.one_more ∙ ap (λ n. n + 1) c.loop-name.invariant.long;
+  checks = CalmChecks-append c.loop-name.name 1 (states g.B.Breaker.state c.args.watch.now) (states g.B.Breaker.state c.loop-name.watch) (states g.B.Breaker.state c.check.new.self) c.loop-name.invariant.checks (one_calm (states g.B.Breaker.state c.loop-name.watch) (states g.B.Breaker.state c.check.new.self) c.in_ok-check.ensures.calm);
+}

@@ -1,0 +1,11 @@
+use Rattle.std.proofs.Common.{◌≡◌, ◌+◌, ◌-◌, Ok, length, map, take}
+use Rattle.linear_solve.specs.Elimination.{cleared, others}
+use Rattle.linear_solve.specs.Fitting.{each}
+use Rattle.linear_solve.specs.Told.{entries_of}
+use Rattle.linear_solve.proofs.elimination.cleared_others.Given as goal
+
+abbrev pub invariant-loop-place : goal.invariant-loop-place
+invariant-loop-place l = record {
+  made : each (cleared l.name (entries_of l.pivot)) (take (l.place - 1) (others l.at (map entries_of l.rows))) ≡ Ok (map entries_of l.left.items);
+  long : length l.left.items + 1 ≡ l.place;
+}

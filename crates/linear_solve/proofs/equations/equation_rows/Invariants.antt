@@ -1,0 +1,20 @@
+use Rattle.std.proofs.Common.{◌≡◌, ◌+◌, ℕ, Ok, length, map, take}
+use Rattle.std.specs.Prelude.{sum_by}
+use Rattle.std.specs.List.{enumerate_from}
+use Rattle.breakers.specs.Breakers.{CalmChecks}
+use Rattle.breakers.specs.Watch.{states}
+use Rattle.calc_terms.specs.Leaf.{name_of}
+use Rattle.calc_terms.specs.Trees.{nodes}
+use Rattle.linear_solve.specs.Elimination.{equation_row}
+use Rattle.linear_solve.specs.Equations.{Equation, equations_in}
+use Rattle.linear_solve.specs.Fitting.{each}
+use Rattle.linear_solve.specs.Told.{entries_of}
+use Rattle.tree_handles.specs.Standing.{forest}
+use Rattle.linear_solve.proofs.equations.equation_rows.Given as goal
+
+abbrev pub invariant-loop-at : goal.invariant-loop-at
+invariant-loop-at g l = record {
+  made : each (λ (p : ℕ × Equation). equation_row (map name_of l.fn.names) (length (equations_in (forest l.fn.pool) l.fn.left l.fn.right)) p.0 p.1) (take l.at (enumerate_from 0 (equations_in (forest l.fn.pool) l.fn.left l.fn.right))) ≡ Ok (map entries_of l.rows.items);
+  long : length l.rows.items ≡ l.at;
+  checks : CalmChecks (sum_by (λ e. nodes e.left + nodes e.right) (take l.at (equations_in (forest l.fn.pool) l.fn.left l.fn.right))) (states g.B.Breaker.state l.fn.watch) (states g.B.Breaker.state l.watch);
+}

@@ -1,0 +1,20 @@
+use Rattle.std.proofs.Common.{◌≡◌, ◌<◌, ◌++◌, ◌∷◌, [], length, take, sym, ap, ◌∙◌, append_assoc, arith}
+use Rattle.std.proofs.lemmas.List.{take_all, take_more}
+use Rattle.calc_terms.specs.Fractions.{zero_fraction}
+use Rattle.calc_terms.specs.Rat.{value_of}
+use Rattle.linear_solve.specs.Elimination.{unit}
+use Rattle.linear_solve.specs.Rows.{entry}
+use Rattle.linear_solve.specs.Told.{entries_of}
+use Rattle.linear_solve.proofs.RowLists.{unit_entry}
+use Rattle.linear_solve.proofs.Worths.{length-unit}
+use Rattle.linear_solve.proofs.equations.push_unit.Goals as goal
+
+pub loop-at-preserved : goal.loop-at-preserved
+loop-at-preserved c =
+    let l : c.loop-at.at < length (unit c.args.equations c.args.own) = omega (arith, length-unit c.args.equations c.args.own, c.loop-at-test.true) in
+    let value : value_of c.one_where.result ≡ entry c.loop-at.at (unit c.args.equations c.args.own) = c.one_where.ensures ∙ sym (unit_entry c.args.equations c.args.own c.loop-at.at c.loop-at-test.true) in
+    c.push.ensures ∙ (λ i. c.loop-at.invariant i ++ value i ∷ []) ∙ append_assoc (entries_of c.args.row.now) (take c.loop-at.at (unit c.args.equations c.args.own)) _
+    ∙ ap (λ xs. entries_of c.args.row.now ++ xs) (sym (take_more (unit c.args.equations c.args.own) c.loop-at.at zero_fraction l))
+
+pub returns : goal.returns
+returns c = c.loop-at.invariant ∙ ap (λ xs. entries_of c.args.row.now ++ xs) (take_all c.loop-at.at (unit c.args.equations c.args.own) (omega (arith, length-unit c.args.equations c.args.own, c.loop-at-test.false)))

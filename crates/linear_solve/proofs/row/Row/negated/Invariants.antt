@@ -1,0 +1,10 @@
+use Rattle.std.proofs.Common.{◌≡◌, length, map, take}
+use Rattle.calc_terms.specs.Fractions.{negative}
+use Rattle.linear_solve.specs.Told.{entries_of}
+use Rattle.linear_solve.proofs.row.Row.negated.Given as goal
+
+abbrev pub invariant-loop-at : goal.invariant-loop-at
+invariant-loop-at l = record {
+  made : entries_of l.opposites ≡ map negative (take l.at (entries_of l.self));
+  long : length (entries_of l.opposites) ≡ l.at;
+}

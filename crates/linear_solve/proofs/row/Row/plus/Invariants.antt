@@ -1,0 +1,12 @@
+use Rattle.std.proofs.Common.{◌≡◌, length, take, Ok}
+use Rattle.std.specs.Prelude.{zip}
+use Rattle.calc_terms.specs.Fractions.{Fraction}
+use Rattle.linear_solve.specs.Fitting.{each, sum_of}
+use Rattle.linear_solve.specs.Told.{entries_of}
+use Rattle.linear_solve.proofs.row.Row.plus.Given as goal
+
+abbrev pub invariant-loop-at : goal.invariant-loop-at
+invariant-loop-at l = record {
+  made : each (λ (p : Fraction × Fraction). sum_of p.0 p.1) (take l.at (zip (entries_of l.self) (entries_of l.other))) ≡ Ok (entries_of l.sums);
+  long : length (entries_of l.sums) ≡ l.at;
+}

@@ -1,0 +1,11 @@
+use Rattle.std.proofs.Common.{◌≡◌, length, take, Ok}
+use Rattle.calc_terms.specs.Rat.{value_of}
+use Rattle.linear_solve.specs.Fitting.{each, product_of}
+use Rattle.linear_solve.specs.Told.{entries_of}
+use Rattle.linear_solve.proofs.row.Row.scaled.Given as goal
+
+abbrev pub invariant-loop-at : goal.invariant-loop-at
+invariant-loop-at l = record {
+  made : each (λ e. product_of e (value_of l.fn.factor)) (take l.at (entries_of l.self)) ≡ Ok (entries_of l.products);
+  long : length (entries_of l.products) ≡ l.at;
+}

@@ -1,0 +1,13 @@
+use Rattle.std.proofs.Common.{◌≡◌, length, take, Ok}
+use Rattle.std.specs.Prelude.{zip}
+use Rattle.calc_terms.specs.Fractions.{Fraction, negative}
+use Rattle.calc_terms.specs.Rat.{value_of}
+use Rattle.linear_solve.specs.Fitting.{and_then, each, product_of, sum_of}
+use Rattle.linear_solve.specs.Told.{entries_of}
+use Rattle.linear_solve.proofs.row.Row.without.Given as goal
+
+abbrev pub invariant-loop-at : goal.invariant-loop-at
+invariant-loop-at l = record {
+  made : each (λ (p : Fraction × Fraction). and_then (product_of (negative (value_of l.fn.multiple)) p.1) (λ m. sum_of p.0 m)) (take l.at (zip (entries_of l.self) (entries_of l.other))) ≡ Ok (entries_of l.rest);
+  long : length (entries_of l.rest) ≡ l.at;
+}

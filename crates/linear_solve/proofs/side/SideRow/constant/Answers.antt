@@ -1,0 +1,14 @@
+use Rattle.std.proofs.Common.{◌<◌, ℕ, List, [], length, map, arith}
+use Rattle.std.proofs.lemmas.List.{length-map}
+use Rattle.calc_terms.specs.Fractions.{zero_fraction}
+use Rattle.calc_terms.specs.Leaf.{name_of}
+use Rattle.linear_solve.proofs.Entries.{longer, mapped_more, zero_value}
+use Rattle.linear_solve.proofs.side.SideRow.constant.Goals as goal
+
+pub loop-preserved : goal.loop-preserved
+loop-preserved c =
+    let l : c.loop.index < length (map name_of c.args.names.now) = omega (arith, length-map c.args.names.now name_of, c.loop-test.true) in
+    record {
+      made = mapped_more (λ (x : List ℕ). zero_fraction) (map name_of c.args.names.now) c.loop.index [] _ _ _ l c.push.ensures c.loop.invariant.made (zero_value c.whole.result c.whole.ensures);
+      long = longer _ _ _ c.loop.index c.push.ensures c.loop.invariant.long;
+    }

@@ -1,0 +1,11 @@
+use Rattle.std.proofs.Common.{◌≡◌, ℕ, List, length, map, take}
+use Rattle.calc_terms.specs.Fractions.{zero_fraction}
+use Rattle.calc_terms.specs.Leaf.{name_of}
+use Rattle.linear_solve.specs.Told.{entries_of}
+use Rattle.linear_solve.proofs.side.SideRow.constant.Given as goal
+
+abbrev pub invariant-loop : goal.invariant-loop
+invariant-loop l = record {
+  made : entries_of l.row ≡ map (λ (x : List ℕ). zero_fraction) (take l.index (map name_of l.names));
+  long : length (entries_of l.row) ≡ l.index;
+}

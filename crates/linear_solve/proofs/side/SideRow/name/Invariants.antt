@@ -1,0 +1,12 @@
+use Rattle.std.proofs.Common.{◌≡◌, length, map, take, if◌then◌else◌}
+use Rattle.std.specs.Str.{bytes_eq}
+use Rattle.calc_terms.specs.Fractions.{one_fraction, zero_fraction}
+use Rattle.calc_terms.specs.Leaf.{name_of}
+use Rattle.linear_solve.specs.Told.{entries_of}
+use Rattle.linear_solve.proofs.side.SideRow.name.Given as goal
+
+abbrev pub invariant-loop-other : goal.invariant-loop-other
+invariant-loop-other l = record {
+  made : entries_of l.row ≡ map (λ y. if bytes_eq y (name_of l.fn.name) then one_fraction else zero_fraction) (take l.other-index (map name_of l.names));
+  long : length (entries_of l.row) ≡ l.other-index;
+}

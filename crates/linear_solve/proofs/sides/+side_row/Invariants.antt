@@ -1,0 +1,21 @@
+use Rattle.std.proofs.Common.{map, take}
+use Rattle.breakers.specs.Breakers.{CalmChecks}
+use Rattle.breakers.specs.Watch.{states}
+use Rattle.calc_terms.specs.Leaf.{name_of}
+use Rattle.calc_terms.specs.Trees.{nodes}
+use Rattle.linear_solve.specs.Told.{side_told}
+use Rattle.linear_solve.proofs.TreeLists.{listed, node_sum}
+use Rattle.linear_solve.proofs.Walks.{AreMade}
+use Rattle.tree_handles.specs.Expressions.{plain, children_of}
+use Rattle.tree_handles.specs.Inside.{tree_at}
+use Rattle.tree_handles.specs.Standing.{forest}
+use Rattle.linear_solve.proofs.sides.+side_row.Given as goal
+
+abbrev pub decreases-side_row : goal.decreases-side_row
+decreases-side_row g l = nodes (plain (tree_at l.t (forest l.pool.now)))
+
+abbrev pub invariant-loop-at : goal.invariant-loop-at
+invariant-loop-at g l = record {
+  rows : AreMade (map name_of l.names) l.kind (plain (tree_at l.t (forest l.pool))) l.at (side_told l.row);
+  checks : CalmChecks (node_sum (take l.at (listed (children_of (plain (tree_at l.t (forest l.pool))))))) (states g.B.Breaker.state l.fn.watch) (states g.B.Breaker.state l.watch);
+}

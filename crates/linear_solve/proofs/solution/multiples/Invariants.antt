@@ -1,0 +1,13 @@
+use Rattle.std.proofs.Common.{◌≡◌, length, map, if◌then◌else◌}
+use Rattle.std.specs.Prelude.{◌==◌}
+use Rattle.std.specs.List.{range_with_len}
+use Rattle.calc_terms.specs.Fractions.{negative, zero_fraction}
+use Rattle.linear_solve.specs.Rows.{entry}
+use Rattle.linear_solve.specs.Told.{entries_of}
+use Rattle.linear_solve.proofs.solution.multiples.Given as goal
+
+abbrev pub invariant-loop-at : goal.invariant-loop-at
+invariant-loop-at l = record {
+  made : entries_of l.coefs ≡ map (λ j. if j == l.own then zero_fraction else negative (entry j (entries_of l.row))) (range_with_len 0 l.at);
+  long : length (entries_of l.coefs) ≡ l.at;
+}

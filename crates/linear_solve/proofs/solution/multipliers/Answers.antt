@@ -1,0 +1,7 @@
+use Rattle.std.proofs.Common.{ap, ◌∙◌}
+use Rattle.calc_terms.specs.Fractions.{is_zero_fraction}
+use Rattle.linear_solve.proofs.Entries.{nonzero_numerator}
+use Rattle.linear_solve.proofs.solution.multipliers.Goals as goal
+
+pub invert-requires : goal.invert-requires
+invert-requires c = nonzero_numerator c.get.result (ap is_zero_fraction c.get.ensures ∙ c.requires.constant)

@@ -1,0 +1,13 @@
+pub mod Fitting
+pub mod Rows
+pub mod Linear
+pub mod Sides
+pub mod Equations
+pub mod Elimination
+pub mod Forms
+pub mod Solving
+pub mod Checks
+pub mod Faults
+pub mod Told
+pub mod States
+pub mod Solutions

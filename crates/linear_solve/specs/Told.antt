@@ -1,0 +1,29 @@
+-- The values of the code as those of the definitions.
+use Rattle.std.specs.Prelude.{map, Option, Some, None, Result, Ok, Err}
+use Rattle.calc_terms.specs.Rat.{value_of}
+use Rattle.rational128.specs.Refusals.{operation_of}
+use Rattle.rational128.specs.declared.overflow.Overflow.{Overflow}
+use Rattle.linear_solve.specs.declared.row.Row.{Row as RowOfCode}
+use Rattle.linear_solve.specs.declared.side.SideRow.{SideRow}
+use Rattle.linear_solve.specs.Fitting.{Misfit}
+use Rattle.linear_solve.specs.Rows.{Row}
+use Rattle.linear_solve.specs.Sides.{Side}
+
+-- its entries
+abbrev pub entries_of : RowOfCode → Row
+entries_of r = map (λ e. value_of e.value) r.entries.items
+
+abbrev pub side_of : SideRow → Side
+side_of r = record { named = r.named; entries = entries_of r.row }
+
+abbrev pub pivot_of : Option RowOfCode → Option Row
+pivot_of None = None
+pivot_of (Some r) = Some (entries_of r)
+
+-- the operation with the values of its operands
+abbrev pub misfit_of : Overflow → Misfit
+misfit_of o = record { op = operation_of o.op; a = value_of o.a; b = value_of o.b }
+
+abbrev pub side_told : Result SideRow Overflow → Result Side Misfit
+side_told (Ok r) = Ok (side_of r)
+side_told (Err o) = Err (misfit_of o)

@@ -1,0 +1,27 @@
+//! Laws of linear equations, each the contract of a function without a body.
+ghost use Rattle.std.specs.Prelude.{◌≡◌, ◌↔◌, List, Ok, All};
+ghost use Rattle.calc_algebra.specs.Meanings.{Assignment, IsAssignment};
+ghost use Rattle.calc_terms.specs.Fractions.{Fraction};
+ghost use Rattle.linear_solve.specs.Equations.{AreDistinct, Assigns, Equation, IsLinearIn, SolvesAll};
+ghost use Rattle.linear_solve.specs.Forms.{ComeToOne, Form, HaveTheirValues, HoldLaterFreeNames, never, solved};
+ghost use Rattle.linear_solve.specs.Sides.{Names};
+ghost use Rattle.linear_solve.specs.Solving.{solving};
+
+/// What is calculated for equations says which assignments solve them.
+pub fn answers_tell_what_solves()
+    // Forms: exactly those that give each bound name the value of its form, in which only free names that come later stand.
+    ensures solved { (xs : Names) (es : List Equation) (forms : List Form) → AreDistinct xs → All (IsLinearIn xs) es
+        → solving xs es ≡ Ok (solved forms)
+        → (f : Assignment) (vs : List Fraction) → IsAssignment f → Assigns f xs vs → SolvesAll f es ↔ HaveTheirValues forms vs }
+    ensures later_free { (xs : Names) (es : List Equation) (forms : List Form) → AreDistinct xs → All (IsLinearIn xs) es
+        → solving xs es ≡ Ok (solved forms)
+        → HoldLaterFreeNames forms }
+
+    // Multipliers: they bring left minus right to 1, so that no assignment does.
+    ensures never { (xs : Names) (es : List Equation) (cs : List Fraction) → AreDistinct xs → All (IsLinearIn xs) es
+        → solving xs es ≡ Ok (never cs)
+        → ComeToOne cs xs es }
+    ensures unsolvable { (xs : Names) (es : List Equation) (cs : List Fraction) → AreDistinct xs → All (IsLinearIn xs) es
+        → solving xs es ≡ Ok (never cs)
+        → (f : Assignment) (vs : List Fraction) → IsAssignment f → Assigns f xs vs → ¬ SolvesAll f es }
+{}
