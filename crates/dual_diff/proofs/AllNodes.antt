@@ -1,0 +1,60 @@
+-- Trees whose nodes are all derivable.
+use Rattle.std.proofs.Common.{ℕ, zero, suc, ◌<◌, ◌≤◌, List, subst, arith}
+use Rattle.calc_terms.specs.Trees.{Tree, num, symbol, undef, add, mult, power, root, neg, sub, div, Trees, none, more, count, AllParts, AllPartsOf}
+use Rattle.tree_handles.specs.Expressions.{nth, children_of}
+use Rattle.dual_diff.specs.Derivatives.{HasDerivative, IsDerivable}
+use Rattle.dual_diff.specs.Lists.{first}
+use Rattle.dual_diff.proofs.Forms.{first_all}
+
+pub of_root : (x : List ℕ) (t : Tree) → HasDerivative x t → IsDerivable x t
+of_root x (num q) h = tt
+of_root x (symbol y) h = tt
+of_root x undef h = tt
+of_root x (add ts) h = tt
+of_root x (mult ts) h = tt
+of_root x (power b e) h = h.0
+of_root x (root a) h = tt
+of_root x (neg a) h = tt
+of_root x (sub a b) h = tt
+of_root x (div a b) h = tt
+
+pub of_children : (x : List ℕ) (t : Tree) → HasDerivative x t → AllPartsOf (IsDerivable x) (children_of t)
+of_children x (num q) h = tt
+of_children x (symbol y) h = tt
+of_children x undef h = tt
+of_children x (add ts) h = h.1
+of_children x (mult ts) h = h.1
+of_children x (power b e) h = (h.1, (h.2, tt))
+of_children x (root a) h = (h.1, tt)
+of_children x (neg a) h = (h.1, tt)
+of_children x (sub a b) h = (h.1, (h.2, tt))
+of_children x (div a b) h = (h.1, (h.2, tt))
+
+pub of_node : (x : List ℕ) (t : Tree) → IsDerivable x t → AllPartsOf (IsDerivable x) (children_of t) → HasDerivative x t
+of_node x (num q) h k = tt
+of_node x (symbol y) h k = tt
+of_node x undef h k = tt
+of_node x (add ts) h k = (tt, k)
+of_node x (mult ts) h k = (tt, k)
+of_node x (power b e) h k = (h, k.0, k.1.0)
+of_node x (root a) h k = (tt, k.0)
+of_node x (neg a) h k = (tt, k.0)
+of_node x (sub a b) h k = (tt, k.0, k.1.0)
+of_node x (div a b) h k = (tt, k.0, k.1.0)
+
+pub at_place : (P : Tree → Type 0) (n : ℕ) (ts : Trees) → n < count ts → AllPartsOf P ts → AllParts P (nth n ts)
+at_place P n none l h = absurd (omega arith)
+at_place P zero (more t ts) l h = h.0
+at_place P (suc n) (more t ts) l h = at_place P n ts (omega arith) h.1
+
+-- a child of a tree that has a derivative has one
+pub of_child : (x : List ℕ) (n : ℕ) (t : Tree) → n < count (children_of t) → HasDerivative x t → HasDerivative x (nth n (children_of t))
+of_child x n t l h = at_place (IsDerivable x) n (children_of t) l (of_children x t h)
+
+pub one_more : (P : Tree → Type 0) (n : ℕ) (ts : Trees) → n < count ts → AllPartsOf P (first n ts) → AllParts P (nth n ts) → AllPartsOf P (first (suc n) ts)
+one_more P n none l h k = absurd (omega arith)
+one_more P zero (more t ts) l h k = (k, tt)
+one_more P (suc n) (more t ts) l h k = (h.0, one_more P n ts (omega arith) h.1 k)
+
+pub all_of : (P : Tree → Type 0) (n : ℕ) (ts : Trees) → count ts ≤ n → AllPartsOf P (first n ts) → AllPartsOf P ts
+all_of P n ts l h = subst (AllPartsOf P) (first_all n ts l) h

@@ -1,0 +1,104 @@
+-- Exponents that are whole literals, and the powers that are derivable.
+use Rattle.std.proofs.Common.{◌≡◌, ℕ, List, ℤ, ◌≤◌, Bool, true, false, refl, sym, ap, ◌∙◌, subst}
+use Rattle.std.specs.Prelude.{◌==◌, ◌↔◌, Contains, IsTrue, Some, None, neg_ℤ, nat_abs, if◌then◌else◌}
+use Rattle.std.proofs.lemmas.Bool.{eqb-true, eq-eqb}
+use Rattle.calc_measures.specs.Literals.{whole_value, opposite, whole_literal}
+use Rattle.calc_terms.specs.declared.kind.Kind.TheVariants as kind
+use Rattle.calc_terms.specs.declared.rat.Rat.{Rat}
+use Rattle.calc_terms.specs.Fractions.{Fraction, negative}
+use Rattle.calc_terms.specs.Rat.{ratio_of, value_of}
+use Rattle.calc_terms.specs.Trees.{Tree, num, symbol, undef, add, mult, power, root, neg, sub, div, names, root_kind}
+use Rattle.rational128.proofs.LowestTerms.{ratio_parts}
+use Rattle.rational128.proofs.Reciprocals.{negative_parts}
+use Rattle.tree_handles.specs.Expressions.{nth, children_of}
+use Rattle.tree_handles.proofs.Outcomes.{by_test}
+use Rattle.dual_diff.specs.Derivatives.{IsDerivable, IsDerivableExponent, exponent_limit}
+use Rattle.dual_diff.specs.Occurring.{occurs}
+use Rattle.dual_diff.proofs.Occurring.{told, names_occur}
+
+-- ---- whole numbers
+
+value_by : (b : Bool) (q : Fraction) → (q.den == 1) ≡ b → whole_value q ≡ (if b then Some q.num else None)
+value_by b q e = ap (λ (k : Bool). if k then Some q.num else None) e
+
+pub whole_some : (q : Fraction) (z : ℤ) → z ≡ q.num → q.den ≡ 1 → Some z ≡ whole_value q
+whole_some q z e d = ap Some e ∙ sym (value_by true q (eq-eqb q.den 1 d))
+
+pub whole_none : (q : Fraction) (b : Bool) → (IsTrue b ↔ (q.den ≡ 1)) → b ≡ false → None ≡ whole_value q
+whole_none q b h f =
+    by_test (λ t. (q.den == 1) ≡ t → None ≡ whole_value q) (q.den == 1)
+    (λ e d. let yes : b ≡ true = h.1 (eqb-true q.den 1 d) in absurd cc)
+    (λ e d. sym (value_by false q d)) refl
+
+pub rat_whole : (r : Rat) (b : Bool) → (IsTrue b ↔ ((ratio_of r).den ≡ 1)) → (IsTrue b ↔ ((value_of r).den ≡ 1))
+rat_whole r b h = (λ t. (ratio_parts r).den ∙ h.0 t, λ d. h.1 (sym (ratio_parts r).den ∙ d))
+
+opposite_by : (b : Bool) (q : Fraction) → (if b then Some (neg_ℤ q.num) else None) ≡ opposite (if b then Some q.num else None)
+opposite_by true q = refl
+opposite_by false q = refl
+
+pub opposite_whole : (q : Fraction) → whole_value (negative q) ≡ opposite (whole_value q)
+opposite_whole q =
+    let p = negative_parts q q.num q.den refl refl in
+    (λ i. if p.den i == 1 then Some (p.num i) else None) ∙ opposite_by (q.den == 1) q
+
+-- ---- literals by the kind of the root
+
+pub no_literal : (t : Tree) → (root_kind t ≡ kind.Num → ⊥) → (root_kind t ≡ kind.Neg → ⊥) → whole_literal t ≡ None
+no_literal (num q) h k = absurd (h refl)
+no_literal (neg a) h k = absurd (k refl)
+no_literal t h k = refl
+
+pub no_opposite : (t : Tree) → (root_kind t ≡ kind.Num → ⊥) → whole_literal (neg t) ≡ None
+no_opposite (num q) h = absurd (h refl)
+no_opposite t h = refl
+
+-- ---- derivable powers
+
+pub power_derivable : (x : List ℕ) (t : Tree) → root_kind t ≡ kind.Pow → IsDerivableExponent (nth 1 (children_of t)) → IsDerivable x t
+power_derivable x (power b e) h d = λ o. d
+power_derivable x t h d = absurd cc
+
+pub derivable_exponent : (x : List ℕ) (t : Tree) → root_kind t ≡ kind.Pow → occurs x t ≡ true → IsDerivable x t → IsDerivableExponent (nth 1 (children_of t))
+derivable_exponent x (power b e) h o d = d o
+derivable_exponent x t h o d = absurd cc
+
+pub absent_derivable : (x : List ℕ) (t : Tree) → occurs x t ≡ false → IsDerivable x t
+absent_derivable x (num q) o = tt
+absent_derivable x (symbol y) o = tt
+absent_derivable x undef o = tt
+absent_derivable x (add ts) o = tt
+absent_derivable x (mult ts) o = tt
+absent_derivable x (power b e) o = λ held. absurd (cc (held, o))
+absent_derivable x (root a) o = tt
+absent_derivable x (neg a) o = tt
+absent_derivable x (sub a b) o = tt
+absent_derivable x (div a b) o = tt
+
+pub other_derivable : (x : List ℕ) (t : Tree) → (root_kind t ≡ kind.Pow → ⊥) → IsDerivable x t
+other_derivable x (num q) o = tt
+other_derivable x (symbol y) o = tt
+other_derivable x undef o = tt
+other_derivable x (add ts) o = tt
+other_derivable x (mult ts) o = tt
+other_derivable x (power b e) o = absurd (o refl)
+other_derivable x (root a) o = tt
+other_derivable x (neg a) o = tt
+other_derivable x (sub a b) o = tt
+other_derivable x (div a b) o = tt
+
+-- what a reader tells
+pub held : (b : Bool) (x : List ℕ) (t : Tree) → (IsTrue b ↔ Contains (names t) x) → occurs x t ≡ b
+held b x t h = sym (told b (occurs x t) (Contains (names t) x) h (names_occur x t))
+
+pub exponent_some : (t : Tree) (z : ℤ) → Some z ≡ whole_literal t → nat_abs z ≤ exponent_limit → IsDerivableExponent t
+exponent_some t z e l = record { number = z; literal = sym e; small = l }
+
+pub exponent_small : (t : Tree) (z : ℤ) → Some z ≡ whole_literal t → IsDerivableExponent t → nat_abs z ≤ exponent_limit
+exponent_small t z e d =
+    let both : Some z ≡ Some d.number = e ∙ d.literal in
+    let same : d.number ≡ z = cc in
+    subst (λ (n : ℤ). nat_abs n ≤ exponent_limit) same d.small
+
+pub exponent_none : (t : Tree) → None ≡ whole_literal t → IsDerivableExponent t → ⊥
+exponent_none t e d = let both : None ≡ Some d.number = e ∙ d.literal in absurd cc

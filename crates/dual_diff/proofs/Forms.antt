@@ -1,0 +1,155 @@
+-- The form of a tree by the kind of its root, and its children.
+use Rattle.std.proofs.Common.{◌≡◌, ℕ, zero, suc, ◌+◌, ◌<◌, ◌≤◌, refl, sym, ap, ◌∙◌, arith}
+use Rattle.calc_terms.specs.declared.kind.Kind.TheVariants as kind
+use Rattle.calc_terms.specs.Trees.{Tree, num, symbol, undef, add, mult, power, root, neg, sub, div, Trees, none, more, append, count, root_kind, root_size, nodes, nodes_of, size, sizes}
+use Rattle.tree_handles.specs.Expressions.{nth, children_of}
+use Rattle.tree_handles.proofs.Room.{least_size}
+use Rattle.dual_diff.specs.Lists.{behind, first}
+
+pub quotient_form : (t : Tree) → root_kind t ≡ kind.Div → t ≡ div (nth 0 (children_of t)) (nth 1 (children_of t))
+quotient_form (div a b) h = refl
+quotient_form t h = absurd cc
+
+pub power_form : (t : Tree) → root_kind t ≡ kind.Pow → t ≡ power (nth 0 (children_of t)) (nth 1 (children_of t))
+power_form (power b e) h = refl
+power_form t h = absurd cc
+
+pub root_form : (t : Tree) → root_kind t ≡ kind.Root → t ≡ root (nth 0 (children_of t))
+root_form (root a) h = refl
+root_form t h = absurd cc
+
+pub opposite_form : (t : Tree) → root_kind t ≡ kind.Neg → t ≡ neg (nth 0 (children_of t))
+opposite_form (neg a) h = refl
+opposite_form t h = absurd cc
+
+pub product_form : (t : Tree) → root_kind t ≡ kind.Mult → t ≡ mult (children_of t)
+product_form (mult ts) h = refl
+product_form t h = absurd cc
+
+pub two_children : (t : Tree) → root_kind t ≡ kind.Div → count (children_of t) ≡ 2
+two_children (div a b) h = refl
+two_children t h = absurd cc
+
+pub base_and_exponent : (t : Tree) → root_kind t ≡ kind.Pow → count (children_of t) ≡ 2
+base_and_exponent (power b e) h = refl
+base_and_exponent t h = absurd cc
+
+pub one_argument : (t : Tree) → root_kind t ≡ kind.Root → count (children_of t) ≡ 1
+one_argument (root a) h = refl
+one_argument t h = absurd cc
+
+pub one_child : (t : Tree) → root_kind t ≡ kind.Neg → count (children_of t) ≡ 1
+one_child (neg a) h = refl
+one_child t h = absurd cc
+
+-- ---- children by their places
+
+pub nodes_children : (t : Tree) → nodes t ≡ suc (nodes_of (children_of t))
+nodes_children (num q) = refl
+nodes_children (symbol x) = refl
+nodes_children undef = refl
+nodes_children (add ts) = refl
+nodes_children (mult ts) = refl
+nodes_children (power b e) = omega arith
+nodes_children (root a) = omega arith
+nodes_children (neg a) = omega arith
+nodes_children (sub a b) = omega arith
+nodes_children (div a b) = omega arith
+
+nodes_nth : (n : ℕ) (ts : Trees) → n < count ts → nodes (nth n ts) ≤ nodes_of ts
+nodes_nth n none h = absurd (omega arith)
+nodes_nth zero (more t ts) h = omega arith
+nodes_nth (suc n) (more t ts) h = omega (arith, nodes_nth n ts (omega arith))
+
+-- a child has fewer nodes
+pub fewer : (n : ℕ) (t : Tree) → n < count (children_of t) → nodes (nth n (children_of t)) < nodes t
+fewer n t h = omega (arith, nodes_children t, nodes_nth n (children_of t) h)
+
+pub first_all : (n : ℕ) (ts : Trees) → count ts ≤ n → first n ts ≡ ts
+first_all zero none h = refl
+first_all (suc n) none h = refl
+first_all zero (more t ts) h = absurd (omega arith)
+first_all (suc n) (more t ts) h = ap (more t) (first_all n ts (omega arith))
+
+pub first_next : (n : ℕ) (ts : Trees) → n < count ts → first (suc n) ts ≡ append (first n ts) (more (nth n ts) none)
+first_next n none h = absurd (omega arith)
+first_next zero (more t ts) h = refl
+first_next (suc n) (more t ts) h = ap (more t) (first_next n ts (omega arith))
+
+pub behind_at : (n : ℕ) (ts : Trees) → n < count ts → behind n ts ≡ more (nth n ts) (behind (suc n) ts)
+behind_at n none h = absurd (omega arith)
+behind_at zero (more t ts) h = refl
+behind_at (suc n) (more t ts) h = behind_at n ts (omega arith)
+
+pub behind_all : (n : ℕ) (ts : Trees) → count ts ≤ n → behind n ts ≡ none
+behind_all zero none h = refl
+behind_all (suc n) none h = refl
+behind_all zero (more t ts) h = absurd (omega arith)
+behind_all (suc n) (more t ts) h = behind_all n ts (omega arith)
+
+pub count_first : (n : ℕ) (ts : Trees) → n ≤ count ts → count (first n ts) ≡ n
+count_first zero ts h = refl
+count_first (suc n) none h = absurd (omega arith)
+count_first (suc n) (more t ts) h = ap suc (count_first n ts (omega arith))
+
+pub count_behind : (n : ℕ) (ts : Trees) → n ≤ count ts → count (behind n ts) + n ≡ count ts
+count_behind zero ts h = omega arith
+count_behind (suc n) none h = absurd (omega arith)
+count_behind (suc n) (more t ts) h = omega (arith, count_behind n ts (omega arith))
+
+pub first_behind : (n : ℕ) (ts : Trees) → append (first n ts) (behind n ts) ≡ ts
+first_behind zero ts = refl
+first_behind (suc n) none = refl
+first_behind (suc n) (more t ts) = ap (more t) (first_behind n ts)
+
+pub nth_behind : (n m : ℕ) (ts : Trees) → nth m (behind n ts) ≡ nth (n + m) ts
+nth_behind zero m ts = ap (λ (k : ℕ). nth k ts) (omega arith)
+nth_behind (suc n) m none = nth_none m ∙ sym (nth_none (suc n + m))
+  where
+    nth_none : (k : ℕ) → nth k none ≡ undef
+    nth_none k = refl
+nth_behind (suc n) m (more t ts) = nth_behind n m ts ∙ ap (λ (k : ℕ). nth k (more t ts)) (let e : suc (n + m) ≡ suc n + m = omega arith in e)
+
+pub count_append : (ts us : Trees) → count (append ts us) ≡ count ts + count us
+count_append none us = omega arith
+count_append (more t ts) us = omega (arith, count_append ts us)
+
+pub sizes_append : (ts us : Trees) → sizes (append ts us) ≡ sizes ts + sizes us
+sizes_append none us = omega arith
+sizes_append (more t ts) us = omega (arith, sizes_append ts us)
+
+pub append_one : (ts : Trees) (t : Tree) (us : Trees) → append (append ts (more t none)) us ≡ append ts (more t us)
+append_one none t us = refl
+append_one (more u ts) t us = ap (more u) (append_one ts t us)
+
+pub append_assoc : (ts us vs : Trees) → append (append ts us) vs ≡ append ts (append us vs)
+append_assoc none us vs = refl
+append_assoc (more t ts) us vs = ap (more t) (append_assoc ts us vs)
+
+pub size_children : (t : Tree) → size t ≡ root_size t + sizes (children_of t)
+size_children (num q) = omega arith
+size_children (symbol x) = refl
+size_children undef = refl
+size_children (add ts) = refl
+size_children (mult ts) = refl
+size_children (power b e) = omega arith
+size_children (root a) = omega arith
+size_children (neg a) = omega arith
+size_children (sub a b) = omega arith
+size_children (div a b) = omega arith
+
+size_nth : (n : ℕ) (ts : Trees) → n < count ts → size (nth n ts) ≤ sizes ts
+size_nth n none h = absurd (omega arith)
+size_nth zero (more t ts) h = omega arith
+size_nth (suc n) (more t ts) h = omega (arith, size_nth n ts (omega arith))
+
+-- a child has no more bytes
+pub child_size : (n : ℕ) (t : Tree) → n < count (children_of t) → size (nth n (children_of t)) ≤ size t
+child_size n t h = omega (arith, size_children t, size_nth n (children_of t) h)
+
+count_sizes : (ts : Trees) → count ts ≤ sizes ts
+count_sizes none = omega arith
+count_sizes (more t ts) = omega (arith, count_sizes ts, least_size t)
+
+pub count_size : (t : Tree) → count (children_of t) ≤ size t
+count_size t = omega (arith, size_children t, count_sizes (children_of t))

@@ -1,0 +1,13 @@
+pub mod Occurring
+pub mod SlopeLaws
+pub mod Still
+pub mod Derived
+pub mod PairLaws
+pub mod Forms
+pub mod AllNodes
+pub mod Added
+pub mod Exponents
+pub mod Products
+pub mod Numbers
+pub mod Slices
+pub mod Rules

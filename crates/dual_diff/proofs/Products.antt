@@ -1,0 +1,137 @@
+-- The products of a product's derivative, factor by factor.
+use Rattle.std.proofs.Common.{◌≡◌, ℕ, suc, ◌+◌, ◌<◌, ◌≤◌, List, Bool, true, false, refl, sym, ap, ◌∙◌, arith}
+use Rattle.std.specs.Prelude.{◌||◌, if◌then◌else◌}
+use Rattle.calc_terms.specs.Trees.{mult, Trees, none, more, append, count, size, sizes}
+use Rattle.tree_handles.specs.Expressions.{nth}
+use Rattle.dual_diff.specs.Derivatives.{derivative, derivatives, products, sum_of_products, with_derivative}
+use Rattle.dual_diff.specs.Lists.{behind, first}
+use Rattle.dual_diff.specs.Occurring.{occurs, occurs_in}
+use Rattle.dual_diff.specs.Placing.{capped}
+use Rattle.dual_diff.proofs.Forms.{append_assoc, behind_all, behind_at, count_append, first_all, first_behind, first_next, sizes_append}
+
+pub append_none : (ts : Trees) → append ts none ≡ ts
+append_none none = refl
+append_none (more t ts) = ap (more t) (append_none ts)
+
+-- ---- derivatives of children
+
+derivatives_append : (x : List ℕ) (ts us : Trees) → derivatives x (append ts us) ≡ append (derivatives x ts) (derivatives x us)
+derivatives_append x none us = refl
+derivatives_append x (more t ts) us = ap (more (derivative x t)) (derivatives_append x ts us)
+
+pub derivatives_next : (x : List ℕ) (n : ℕ) (ts : Trees) → n < count ts → derivatives x (first (suc n) ts) ≡ append (derivatives x (first n ts)) (more (derivative x (nth n ts)) none)
+derivatives_next x n ts h = ap (derivatives x) (first_next n ts h) ∙ derivatives_append x (first n ts) (more (nth n ts) none)
+
+pub derivatives_all : (x : List ℕ) (n : ℕ) (ts : Trees) → count ts ≤ n → derivatives x (first n ts) ≡ derivatives x ts
+derivatives_all x n ts h = ap (derivatives x) (first_all n ts h)
+
+pub count_derivatives : (x : List ℕ) (ts : Trees) → count (derivatives x ts) ≡ count ts
+count_derivatives x none = refl
+count_derivatives x (more t ts) = ap suc (count_derivatives x ts)
+
+pub derivatives_room : (x : List ℕ) (n : ℕ) (ts : Trees) → n < count ts → sizes (derivatives x (first n ts)) + size (derivative x (nth n ts)) ≤ sizes (derivatives x ts)
+derivatives_room x n ts h =
+    let whole : derivatives x ts ≡ append (derivatives x (first (suc n) ts)) (derivatives x (behind (suc n) ts)) = ap (derivatives x) (sym (first_behind (suc n) ts)) ∙ derivatives_append x (first (suc n) ts) (behind (suc n) ts) in
+    omega (arith, ap sizes whole, sizes_append (derivatives x (first (suc n) ts)) (derivatives x (behind (suc n) ts)), ap sizes (derivatives_next x n ts h), sizes_append (derivatives x (first n ts)) (more (derivative x (nth n ts)) none))
+
+-- ---- products
+
+-- those of the first factors, before those of the others
+pub record AreMade (x : List ℕ) (n : ℕ) (made ts : Trees) : Type 0 where
+  pub all : products x none ts ≡ append made (products x (first n ts) (behind n ts))
+
+pub made_none : (x : List ℕ) (ts : Trees) → AreMade x 0 none ts
+made_none x ts = record { all = refl }
+
+step_by : (x : List ℕ) (n : ℕ) (ts : Trees) → n < count ts
+    → products x (first n ts) (behind n ts) ≡ (if occurs x (nth n ts) then more (with_derivative x n ts) (products x (first (suc n) ts) (behind (suc n) ts)) else products x (first (suc n) ts) (behind (suc n) ts))
+step_by x n ts h =
+    ap (products x (first n ts)) (behind_at n ts h)
+    ∙ (λ i. if occurs x (nth n ts) then more (mult (append (first n ts) (more (derivative x (nth n ts)) (behind (place i) ts)))) (products x (next i) (behind (suc n) ts)) else products x (next i) (behind (suc n) ts))
+  where
+    place : suc n ≡ n + 1
+    place = omega arith
+
+    next : append (first n ts) (more (nth n ts) none) ≡ first (suc n) ts
+    next = sym (first_next n ts h)
+
+pub made_more : (x : List ℕ) (n : ℕ) (made ts : Trees) → n < count ts → occurs x (nth n ts) ≡ true → AreMade x n made ts → AreMade x (suc n) (append made (more (with_derivative x n ts) none)) ts
+made_more x n made ts h o m =
+    let rest = products x (first (suc n) ts) (behind (suc n) ts) in
+    record { all = m.all ∙ ap (append made) (step_by x n ts h ∙ ap (λ (b : Bool). if b then more (with_derivative x n ts) rest else rest) o) ∙ sym (append_assoc made (more (with_derivative x n ts) none) rest) }
+
+pub made_same : (x : List ℕ) (n : ℕ) (made ts : Trees) → n < count ts → occurs x (nth n ts) ≡ false → AreMade x n made ts → AreMade x (suc n) made ts
+made_same x n made ts h o m =
+    let rest = products x (first (suc n) ts) (behind (suc n) ts) in
+    record { all = m.all ∙ ap (append made) (step_by x n ts h ∙ ap (λ (b : Bool). if b then more (with_derivative x n ts) rest else rest) o) }
+
+pub made_all : (x : List ℕ) (n : ℕ) (made ts : Trees) → count ts ≤ n → AreMade x n made ts → products x none ts ≡ made
+made_all x n made ts h m = m.all ∙ ap (λ (us : Trees). append made (products x (first n ts) us)) (behind_all n ts h) ∙ append_none made
+
+-- the bytes of a product with the derivative of a factor
+pub with_size : (x : List ℕ) (n : ℕ) (ts : Trees) → n < count ts → size (with_derivative x n ts) + size (nth n ts) ≡ size (mult ts) + size (derivative x (nth n ts))
+with_size x n ts h =
+    let whole : append (first n ts) (more (nth n ts) (behind (suc n) ts)) ≡ ts = ap (append (first n ts)) (sym (behind_at n ts h)) ∙ first_behind n ts in
+    let one : n + 1 ≡ suc n = omega arith in
+    let place : behind (n + 1) ts ≡ behind (suc n) ts = ap (λ (k : ℕ). behind k ts) one in
+    omega (arith, ap sizes whole, ap sizes place, sizes_append (first n ts) (more (nth n ts) (behind (suc n) ts)), sizes_append (first n ts) (more (derivative x (nth n ts)) (behind (n + 1) ts)))
+
+-- ---- counted
+
+-- so many products of the first factors, with so many bytes
+pub record IsCounted (x : List ℕ) (n many bytes : ℕ) (ts : Trees) : Type 0 where
+  pub made : Trees
+  pub is : AreMade x n made ts
+  pub many-is : many ≡ count made
+  pub few : many ≤ n
+  pub bytes-are : bytes ≡ capped (sizes made)
+
+pub counted_none : (x : List ℕ) (ts : Trees) → IsCounted x 0 0 0 ts
+counted_none x ts = record { made = none; is = made_none x ts; many-is = refl; few = omega arith; bytes-are = refl }
+
+pub counted_more : {x : List ℕ} {n many bytes : ℕ} {ts : Trees} (others slope product total : ℕ) → n < count ts → occurs x (nth n ts) ≡ true → IsCounted x n many bytes ts
+    → others + size (nth n ts) ≡ size (mult ts) → slope ≡ capped (size (derivative x (nth n ts))) → product ≡ capped (others + slope) → total ≡ capped (bytes + product) → IsCounted x (suc n) (many + 1) total ts
+counted_more {x} {n} {many} {bytes} {ts} others slope product total h o k e d p t =
+    record {
+      made = append k.made (more (with_derivative x n ts) none);
+      is = made_more x n k.made ts h o k.is;
+      many-is = omega (arith, k.many-is, count_append k.made (more (with_derivative x n ts) none));
+      few = omega (arith, k.few);
+      bytes-are = omega (arith, t, p, d, k.bytes-are, e, with_size x n ts h, sizes_append k.made (more (with_derivative x n ts) none));
+    }
+
+pub counted_same : {x : List ℕ} {n many bytes : ℕ} {ts : Trees} → n < count ts → occurs x (nth n ts) ≡ false → IsCounted x n many bytes ts → IsCounted x (suc n) many bytes ts
+counted_same {x} {n} {ts = ts} h o k = record { made = k.made; is = made_same x n k.made ts h o k.is; many-is = k.many-is; few = omega (arith, k.few); bytes-are = k.bytes-are }
+
+pub sum_bytes_one : (us : Trees) (bytes : ℕ) → count us ≡ 1 → bytes ≡ capped (sizes us) → bytes ≡ capped (size (sum_of_products us))
+sum_bytes_one none bytes c b = absurd (omega arith)
+sum_bytes_one (more t none) bytes c b = omega (arith, b)
+sum_bytes_one (more t (more u us)) bytes c b = absurd (omega arith)
+
+pub sum_bytes_more : (us : Trees) (bytes node total : ℕ) → 1 < count us → bytes ≡ capped (sizes us) → node ≡ 8 → total ≡ capped (bytes + node) → total ≡ capped (size (sum_of_products us))
+sum_bytes_more none bytes node total c b n t = absurd (omega arith)
+sum_bytes_more (more t none) bytes node total c b n t' = absurd (omega arith)
+sum_bytes_more (more t (more u us)) bytes node total c b n t' = omega (arith, b, t')
+
+-- some product is there where some factor holds the name
+pub some_product : (x : List ℕ) (earlier ts : Trees) → occurs_in x ts ≡ true → 1 ≤ count (products x earlier ts)
+some_product x earlier none o = absurd cc
+some_product x earlier (more t ts) o = by (occurs x t) (occurs_in x ts) o (λ r. some_product x (append earlier (more t none)) ts r)
+  where
+    by : (b c : Bool) → (b || c) ≡ true → (c ≡ true → 1 ≤ count (products x (append earlier (more t none)) ts))
+        → 1 ≤ count (if b then more (mult (append earlier (more (derivative x t) ts))) (products x (append earlier (more t none)) ts) else products x (append earlier (more t none)) ts)
+    by true c h r = omega arith
+    by false c h r = r h
+
+-- ---- room
+
+pub sum_room : (us : Trees) → sizes us ≤ size (sum_of_products us)
+sum_room none = omega arith
+sum_room (more t none) = omega arith
+sum_room (more t (more u us)) = omega arith
+
+pub products_room : (x : List ℕ) (n : ℕ) (made ts : Trees) → n < count ts → occurs x (nth n ts) ≡ true → AreMade x n made ts → sizes made + size (with_derivative x n ts) ≤ sizes (products x none ts)
+products_room x n made ts h o m =
+    let k = made_more x n made ts h o m in
+    let rest = products x (first (suc n) ts) (behind (suc n) ts) in
+    omega (arith, ap sizes k.all, sizes_append (append made (more (with_derivative x n ts) none)) rest, sizes_append made (more (with_derivative x n ts) none))

@@ -1,0 +1,5 @@
+use Rattle.dual_diff.proofs.Numbers.{told_one}
+use Rattle.dual_diff.proofs.derivable.is_one.Goals as goal
+
+pub returns : goal.returns
+returns c = told_one c.args.number c.requires

@@ -1,0 +1,10 @@
+use Rattle.std.proofs.Common.{◌∙◌, ap, sym}
+use Rattle.calc_measures.specs.Literals.{whole_literal, whole_value}
+use Rattle.calc_terms.specs.Rat.{value_of}
+use Rattle.calc_terms.specs.Trees.{Tree, neg}
+use Rattle.dual_diff.proofs.Exponents.{opposite_whole}
+use Rattle.dual_diff.proofs.derivable.opposite_number.Goals as goal
+
+pub returns-in-Num-clause-value : goal.returns-in-Num-clause-value
+returns-in-Num-clause-value c =
+    c.whole_number.ensures.value ∙ ap whole_value c.neg.ensures ∙ opposite_whole (value_of c.rational.result) ∙ ap (λ (t : Tree). whole_literal (neg t)) (sym c.rational.ensures.plain)

@@ -1,0 +1,16 @@
+use Rattle.std.proofs.Common.{◌∙◌, sym, rules}
+use Rattle.std.specs.Prelude.{FitsSigned}
+use Rattle.std.specs.Int.{w128}
+use Rattle.std.proofs.lemmas.Int.{to_z-of_z}
+use Rattle.calc_terms.specs.Rat.{value_of}
+use Rattle.rational128.proofs.LowestTerms.{ratio_parts}
+use Rattle.dual_diff.proofs.Exponents.{whole_some, whole_none, rat_whole}
+use Rattle.dual_diff.proofs.derivable.whole_number.Goals as goal
+
+pub returns-then-is_whole-clause-value : goal.returns-then-is_whole-clause-value
+returns-then-is_whole-clause-value c =
+    let fits : FitsSigned w128 c.num.result = search rules in
+    whole_some (value_of c.args.value) _ (to_z-of_z w128 _ fits ∙ c.num.ensures.value ∙ sym (ratio_parts c.args.value).num) ((rat_whole c.args.value c.is_whole.result c.is_whole.ensures).0 c.if-is_whole.true)
+
+pub returns-else-is_whole-clause-value : goal.returns-else-is_whole-clause-value
+returns-else-is_whole-clause-value c = whole_none (value_of c.args.value) c.is_whole.result (rat_whole c.args.value c.is_whole.result c.is_whole.ensures) c.if-is_whole.false

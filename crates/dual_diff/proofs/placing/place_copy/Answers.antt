@@ -1,0 +1,17 @@
+use Rattle.std.proofs.Common.{◌≤◌, arith}
+use Rattle.node_pool.specs.State.{free_of}
+use Rattle.tree_handles.specs.Forest.{bytes_in}
+use Rattle.tree_handles.specs.Inside.{tree_at}
+use Rattle.tree_handles.specs.Standing.{forest}
+use Rattle.tree_handles.proofs.Measures.{one_at}
+use Rattle.tree_handles.proofs.Plains.{size-plain}
+use Rattle.dual_diff.proofs.placing.place_copy.Goals as goal
+
+pub returns : goal.returns
+returns c = record { gives = c.in-Ok.ensures.given c.requires.expression; kept = c.in-Ok.ensures.kept; stands = c.in-Ok.ensures.stands }
+
+pub unreachable-requires : goal.unreachable-requires
+unreachable-requires c =
+    let t = tree_at c.args.source (forest c.args.pool.now) in
+    let room : bytes_in t ≤ free_of c.args.pool.now = omega (arith, c.requires.room, size-plain t (one_at c.args.source (forest c.args.pool.now) c.requires.expression.live) c.requires.expression.whole) in
+    absurd (cc (c.in-Err.ensures.exactly.1 room))

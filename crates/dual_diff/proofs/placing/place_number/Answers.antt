@@ -1,0 +1,20 @@
+use Rattle.std.proofs.Common.{◌≤◌, ◌∙◌, ap, refl, arith}
+use Rattle.calc_terms.specs.Payload.{rational, size_of_payload}
+use Rattle.calc_terms.specs.Rat.{ratio_of}
+use Rattle.calc_terms.specs.Trees.{num}
+use Rattle.node_pool.specs.State.{free_of}
+use Rattle.tree_handles.proofs.Given.{gives_as}
+use Rattle.dual_diff.proofs.Numbers.{placed_value, placed_size}
+use Rattle.dual_diff.proofs.placing.place_number.Goals as goal
+
+pub returns : goal.returns
+returns c = record {
+  gives = gives_as c.in-Ok.ensures.given refl (λ t e. e ∙ ap num (placed_value c.whole.result c.args.value c.requires.fits c.whole.ensures));
+  kept = c.in-Ok.ensures.kept;
+  stands = c.in-Ok.ensures.stands;
+}
+
+pub unreachable-requires : goal.unreachable-requires
+unreachable-requires c =
+    let room : size_of_payload (rational (ratio_of c.whole.result)) ≤ free_of c.args.pool.now = omega (arith, c.requires.room, placed_size c.whole.result c.args.value c.requires.fits c.whole.ensures) in
+    absurd (cc (c.in-Err.ensures.exactly.1 room))

@@ -1,0 +1,5 @@
+use Rattle.tree_handles.proofs.Given.{given_handed}
+use Rattle.dual_diff.proofs.tests.refusal.Goals as goal
+
+pub root_of-id-requires-clause-handed : goal.root_of-id-requires-clause-handed
+root_of-id-requires-clause-handed g c = given_handed c.in_ok-tree.ensures.ok

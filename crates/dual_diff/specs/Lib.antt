@@ -1,0 +1,5 @@
+pub mod Occurring
+pub mod Pairs
+pub mod Derivatives
+pub mod Placing
+pub mod Lists

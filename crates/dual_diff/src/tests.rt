@@ -1,0 +1,298 @@
+//! Derivatives of trees of a table with respect to x, worked by hand.
+ghost use Rattle.std.specs.Prelude.{◌≡◌, IfOk, true, ⊤};
+ghost use Rattle.node_pool.specs.State.{IsPoolSize};
+ghost use Rattle.tree_handles.specs.Expressions.{IsExpression, takes_kind};
+ghost use Rattle.tree_handles.specs.Handed.{Gives, IsHanded};
+ghost use Rattle.tree_handles.specs.Standing.{Stands, forest};
+
+use crate::{derive, has_derivative};
+use calc_terms::{Kind, Name, Rat};
+use node_pool::{Full, Id, Pool};
+use std::alloc::{AllocError, Global};
+use std::process::Abort;
+use std::test::Fail;
+use tree_handles::{
+    Handle, child_ids, kind, name, node, node_over, node_over_two, number, rational, symbol,
+};
+use tree_walks::is_deeper;
+
+/// A node with two children.
+#[derive(Clone, Copy, Debug)]
+enum Pair {
+    Sum,
+    Difference,
+    Product,
+    Quotient,
+    Power,
+}
+
+impl Pair {
+    fn kind(self) -> Kind
+        ensures { takes_kind result 2 ≡ true }
+    {
+        match self {
+            Pair::Sum => Kind::Add,
+            Pair::Difference => Kind::Sub,
+            Pair::Product => Kind::Mult,
+            Pair::Quotient => Kind::Div,
+            Pair::Power => Kind::Pow,
+        }
+    }
+}
+
+/// A node with one child.
+#[derive(Clone, Copy, Debug)]
+enum Single {
+    Opposite,
+    Root,
+}
+
+impl Single {
+    fn kind(self) -> Kind
+        ensures { takes_kind result 1 ≡ true }
+    {
+        match self {
+            Single::Opposite => Kind::Neg,
+            Single::Root => Kind::Root,
+        }
+    }
+}
+
+/// A tree, by its root and its children.
+#[derive(Clone, Copy)]
+enum Shape<'a> {
+    X,
+    Y,
+    Undef,
+    Number(i8),
+    Two(Pair, &'a Shape<'a>, &'a Shape<'a>),
+    One(Single, &'a Shape<'a>),
+}
+
+/// A pool with no tree in it.
+fn opened(alloc: Global, size: u32) -> Result<Pool, AllocError>
+    requires { IsPoolSize size }
+    ensures { IfOk result Stands }
+{
+    let pool = Pool::open(alloc, size)?;
+    Ok(pool)
+}
+
+/// A new last tree of that shape.
+fn grow(pool: &mut Pool, shape: &Shape) -> Result<Handle, Full>
+    requires { Stands pool.old }
+    ensures ok { IfOk result (λ h. Gives (forest pool.old) (forest pool.new) h (λ t. ⊤)) }
+    ensures stands { Stands pool.new }
+{
+    match shape {
+        Shape::X => named(pool, b"x"),
+        Shape::Y => named(pool, b"y"),
+        Shape::Undef => undefined(pool),
+        Shape::Number(value) => whole(pool, *value),
+        Shape::Two(pair, left, right) => {
+            let left = grow(pool, left)?;
+            let right = grow(pool, right)?;
+            let tree = node_over_two(pool, pair.kind(), left, right)?;
+            Ok(tree)
+        }
+        Shape::One(single, child) => {
+            let child = grow(pool, child)?;
+            let tree = node_over(pool, single.kind(), child)?;
+            Ok(tree)
+        }
+    }
+}
+
+/// A symbol, `ans` where the bytes are no name.
+fn named(pool: &mut Pool, bytes: &[u8]) -> Result<Handle, Full>
+    requires { Stands pool.old }
+    ensures ok { IfOk result (λ h. Gives (forest pool.old) (forest pool.new) h (λ t. ⊤)) }
+    ensures stands { Stands pool.new }
+{
+    let name = match Name::read(bytes) {
+        Some(name) => name,
+        None => Name::ans(),
+    };
+    let tree = symbol(pool, name)?;
+    Ok(tree)
+}
+
+fn whole(pool: &mut Pool, value: i8) -> Result<Handle, Full>
+    requires { Stands pool.old }
+    ensures ok { IfOk result (λ h. Gives (forest pool.old) (forest pool.new) h (λ t. ⊤)) }
+    ensures stands { Stands pool.new }
+{
+    let tree = number(pool, Rat::whole(i128::from(value)))?;
+    Ok(tree)
+}
+
+fn undefined(pool: &mut Pool) -> Result<Handle, Full>
+    requires { Stands pool.old }
+    ensures ok { IfOk result (λ h. Gives (forest pool.old) (forest pool.new) h (λ t. ⊤)) }
+    ensures stands { Stands pool.new }
+{
+    let tree = node(pool, Kind::Undef)?;
+    Ok(tree)
+}
+
+/// The letters of a tree's nodes in prefix order: `r` for a root, `~` for an opposite, and `a`, `b`, .. for -1, -2, ..
+fn add_letters(pool: &Pool, id: Id, letters: &mut Vec<u8>) -> Result<(), AllocError>
+    requires stands { Stands pool.now }
+    requires expression { IsExpression id (forest pool.now) }
+{
+    letters.push(letter(pool, id))?;
+    for child in child_ids(pool, id, 0) {
+        add_letters(pool, child, letters)?;
+    }
+    Ok(())
+}
+
+fn letter(pool: &Pool, id: Id) -> u8
+    requires stands { Stands pool.now }
+    requires expression { IsExpression id (forest pool.now) }
+{
+    match kind(pool, id) {
+        Kind::Num => digit(rational(pool, id)),
+        Kind::Sym => name(pool, id).bytes().first().copied().unwrap_or(b'?'),
+        Kind::Add => b'+',
+        Kind::Mult => b'*',
+        Kind::Pow => b'^',
+        Kind::Root => b'r',
+        Kind::Neg => b'~',
+        Kind::Sub => b'-',
+        Kind::Div => b'/',
+        _ => b'?',
+    }
+}
+
+fn digit(value: Rat) -> u8 {
+    match value.num() {
+        -4 => b'd',
+        -3 => b'c',
+        -2 => b'b',
+        -1 => b'a',
+        0 => b'0',
+        1 => b'1',
+        2 => b'2',
+        3 => b'3',
+        4 => b'4',
+        7 => b'7',
+        _ => b'?',
+    }
+}
+
+/// The identifier of a tree that a handle owns.
+fn root_of(_pool: &Pool, tree: &Handle) -> Id
+    requires stands { Stands _pool.now }
+    requires handed { IsHanded tree.now (forest _pool.now) }
+    ensures { IsExpression result (forest _pool.now) }
+{
+    tree.id()
+}
+
+/// The letters of the derivative, or none where there is none.
+fn derivative_letters(rt: &impl Abort, alloc: Global, shape: &Shape) -> Result<Vec<u8>, Fail> {
+    let x = Name::read(b"x").expect(rt, "x is a name");
+    let mut pool = opened(alloc, 4096)?;
+    let mut letters = Vec::new(alloc);
+    let tree = grow(&mut pool, shape)?;
+    let id = root_of(&pool, &tree);
+    if is_deeper(&pool, id) || !has_derivative(&pool, id, x) {
+        return Ok(letters);
+    }
+    let derived = derive(&mut pool, id, x)?;
+    let root = root_of(&pool, &derived);
+    add_letters(&pool, root, &mut letters)?;
+    Ok(letters)
+}
+
+const X: Shape<'static> = Shape::X;
+
+const Y: Shape<'static> = Shape::Y;
+
+const ONE: Shape<'static> = Shape::Number(1);
+
+const TWO: Shape<'static> = Shape::Number(2);
+
+const THREE: Shape<'static> = Shape::Number(3);
+
+const SUM: Shape<'static> = Shape::Two(Pair::Sum, &X, &ONE);
+
+const SQUARE: Shape<'static> = Shape::Two(Pair::Product, &X, &X);
+
+const PRODUCT: Shape<'static> = Shape::Two(Pair::Product, &X, &Y);
+
+const ROOT: Shape<'static> = Shape::One(Single::Root, &X);
+
+const ROWS: [(Shape<'static>, &str); 22] = [
+    (X, "1"),
+    (Y, "0"),
+    (Shape::Number(7), "0"),
+    (Shape::Undef, "0"),
+    (SUM, "+10"),
+    (Shape::Two(Pair::Sum, &Y, &ONE), "0"),
+    (Shape::Two(Pair::Difference, &TWO, &X), "-01"),
+    (Shape::One(Single::Opposite, &X), "~1"),
+    (PRODUCT, "*1y"),
+    (Shape::Two(Pair::Product, &Y, &X), "*y1"),
+    (SQUARE, "+*1x*x1"),
+    (Shape::Two(Pair::Product, &PRODUCT, &X), "+**1yx**xy1"),
+    (Shape::Two(Pair::Quotient, &X, &Y), "/1y"),
+    (Shape::Two(Pair::Quotient, &ONE, &X), "/-*0x*11^x2"),
+    (Shape::Two(Pair::Power, &X, &THREE), "*3^x21"),
+    (Shape::Two(Pair::Power, &X, &ONE), "1"),
+    (Shape::Two(Pair::Power, &X, &Shape::Number(0)), "0"),
+    (Shape::Two(Pair::Power, &X, &Shape::Number(-2)), "*b^xc1"),
+    (
+        Shape::Two(Pair::Power, &SUM, &Shape::One(Single::Opposite, &ONE)),
+        "*a^+x1b+10",
+    ),
+    (Shape::Two(Pair::Power, &Y, &Y), "0"),
+    (ROOT, "/1*2rx"),
+    (Shape::Two(Pair::Power, &X, &Y), ""),
+];
+
+#[test]
+fn derivatives_of_a_table(rt: HostRuntime) -> Result<(), Fail> {
+    for (shape, expected) in &ROWS {
+        let letters = derivative_letters(&rt, rt.alloc(), shape)?;
+        assert_eq!(rt; letters.as_slice(), expected.as_bytes(), "{expected}");
+    }
+    Ok(())
+}
+
+/// How many bytes a refused derivative needs, and how many are free; none where it finds room.
+fn refusal(rt: &impl Abort, alloc: Global, shape: &Shape, size: u32) -> Result<Option<Full>, Fail>
+    requires { IsPoolSize size }
+{
+    let x = Name::read(b"x").expect(rt, "x is a name");
+    let mut pool = opened(alloc, size)?;
+    let tree = grow(&mut pool, shape)?;
+    let id = root_of(&pool, &tree);
+    if is_deeper(&pool, id) || !has_derivative(&pool, id, x) {
+        return Ok(None);
+    }
+    let used = pool.used();
+    match derive(&mut pool, id, x) {
+        Ok(_) => Ok(None),
+        Err(full) => {
+            assert_eq!(rt; (pool.used(), pool.refusals()), (used, 0));
+            Ok(Some(full))
+        }
+    }
+}
+
+/// The product of x and itself takes 40 bytes, and its derivative 88: two products of 40, and their sum.
+#[test]
+fn small_pools_refuse(rt: HostRuntime) -> Result<(), Fail> {
+    for size in [64u32, 72, 80, 88, 96, 104, 112, 120] {
+        let full = Full {
+            needed: 88,
+            free: size - 40,
+        };
+        let refused = refusal(&rt, rt.alloc(), &SQUARE, size)?;
+        assert_eq!(rt; refused, Some(full), "{size}");
+    }
+    assert_eq!(rt; refusal(&rt, rt.alloc(), &SQUARE, 128)?, None);
+    Ok(())
+}
