@@ -1,0 +1,12 @@
+pub mod Nodes
+pub mod Numbers
+pub mod Arithmetic
+pub mod ValueLaws
+pub mod TreeMeanings
+pub mod MonomialTrees
+pub mod NormalForms
+pub mod AllMonomials
+pub mod TreeMonomials
+pub mod FactorTrees
+pub mod ExpandedMeanings
+pub mod ReducedExpansions

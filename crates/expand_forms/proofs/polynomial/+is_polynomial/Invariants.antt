@@ -1,0 +1,19 @@
+use Rattle.std.proofs.Common.{◌≡◌, length}
+use Rattle.calc_terms.specs.Trees.{nodes}
+use Rattle.expand_forms.specs.PolynomialTrees.{are_polynomials, is_polynomial}
+use Rattle.expand_forms.proofs.Nodes.{from}
+use Rattle.tree_handles.specs.Children.{root_ids}
+use Rattle.tree_handles.specs.Expressions.{children_of, plain}
+use Rattle.tree_handles.specs.Forest.{rest_trees}
+use Rattle.tree_handles.specs.Inside.{tree_at, kids_of}
+use Rattle.tree_handles.specs.Standing.{forest}
+use Rattle.expand_forms.proofs.polynomial.+is_polynomial.Given as goal
+
+abbrev pub decreases-is_polynomial : goal.decreases-is_polynomial
+decreases-is_polynomial l = nodes (plain (tree_at l.tree (forest l.pool.now)))
+
+abbrev pub invariant-loop-child : goal.invariant-loop-child
+invariant-loop-child l = record {
+  ids : l.child-iterator ≡ root_ids (rest_trees (length l.yielded) (kids_of l.fn.tree (forest l.pool)));
+  left : are_polynomials (from (length l.yielded) (children_of (plain (tree_at l.fn.tree (forest l.pool))))) ≡ is_polynomial (plain (tree_at l.fn.tree (forest l.pool)));
+}

@@ -1,0 +1,12 @@
+use Rattle.std.proofs.Common.{◌∙◌, ap, sym}
+use Rattle.calc_measures.specs.Literals.{whole_literal, whole_value}
+use Rattle.calc_terms.specs.Rat.{value_of}
+use Rattle.calc_terms.specs.Trees.{Tree, neg}
+use Rattle.expand_forms.specs.PolynomialTrees.{is_small}
+use Rattle.expand_forms.proofs.Numbers.{opposite_whole}
+use Rattle.expand_forms.proofs.polynomial.is_opposite_exponent.Goals as goal
+
+pub returns-in-Num : goal.returns-in-Num
+returns-in-Num c =
+    c.is_small.ensures ∙ ap (λ q. is_small (whole_value q)) c.neg.ensures ∙ ap is_small (opposite_whole (value_of c.rational.result))
+    ∙ ap (λ (t : Tree). is_small (whole_literal (neg t))) (sym c.rational.ensures.plain)

@@ -1,0 +1,8 @@
+use Rattle.std.proofs.Common.{ℕ, sym, subst}
+use Rattle.tree_handles.proofs.Lasts.{expression_root}
+use Rattle.tree_handles.specs.Expressions.{IsExpression}
+use Rattle.tree_handles.specs.Standing.{forest}
+use Rattle.expand_forms.proofs.tests.root_of.Goals as goal
+
+pub returns : goal.returns
+returns c = subst (λ (j : ℕ). IsExpression j (forest c.args._pool.now)) (sym c.id.ensures) (expression_root c.requires.stands c.requires.handed)

@@ -1,0 +1,61 @@
+-- A bound on the bytes that an expansion takes.
+use Rattle.std.specs.Prelude.{ℕ, suc, ◌+◌, ◌*◌, ◌^◌, max, Bool, false, ◌||◌, List, [], ◌∷◌, if◌then◌else◌}
+use Rattle.std.specs.Str.{bytes_eq}
+use Rattle.calc_terms.specs.Trees.{Tree, num, symbol, add, mult, power, root, neg, sub, div, Trees, none, more, names, nodes}
+use Rattle.expand_forms.specs.PolynomialTrees.{exponent_of}
+
+-- ---- terms
+
+-- how many terms the polynomial of a tree has, before any are joined
+abbrev mutual
+  pub terms : Tree → ℕ
+  terms (num q) = 1
+  terms (symbol x) = 1
+  terms (add ts) = sum_of_terms ts
+  terms (mult ts) = product_of_terms ts
+  terms (power b e) = terms b ^ exponent_of e
+  terms (neg a) = terms a
+  terms (sub a b) = terms a + terms b
+  terms (div a c) = terms a
+  terms _ = 0
+
+  pub sum_of_terms : Trees → ℕ
+  sum_of_terms none = 0
+  sum_of_terms (more t ts) = terms t + sum_of_terms ts
+
+  pub product_of_terms : Trees → ℕ
+  product_of_terms none = 1
+  product_of_terms (more t ts) = terms t * product_of_terms ts
+
+-- the largest of the tree and its parts
+abbrev mutual
+  pub most_terms : Tree → ℕ
+  most_terms (add ts) = max (terms (add ts)) (most_terms_of ts)
+  most_terms (mult ts) = max (terms (mult ts)) (most_terms_of ts)
+  most_terms (power b e) = max (terms (power b e)) (max (most_terms b) (most_terms e))
+  most_terms (root a) = max (terms (root a)) (most_terms a)
+  most_terms (neg a) = max (terms (neg a)) (most_terms a)
+  most_terms (sub a b) = max (terms (sub a b)) (max (most_terms a) (most_terms b))
+  most_terms (div a b) = max (terms (div a b)) (max (most_terms a) (most_terms b))
+  most_terms t = terms t
+
+  pub most_terms_of : Trees → ℕ
+  most_terms_of none = 0
+  most_terms_of (more t ts) = max (most_terms t) (most_terms_of ts)
+
+-- ---- names
+
+abbrev pub is_among : List ℕ → List (List ℕ) → Bool
+is_among x [] = false
+is_among x (y ∷ ys) = bytes_eq y x || is_among x ys
+
+-- how many distinct names there are
+abbrev pub count_distinct : List (List ℕ) → ℕ
+count_distinct [] = 0
+count_distinct (x ∷ xs) = if is_among x xs then count_distinct xs else suc (count_distinct xs)
+
+-- ---- room
+
+-- the bytes within which the tree is expanded
+abbrev pub expansion_room : Tree → ℕ
+expansion_room t = 512 * suc (count_distinct (names t)) * most_terms t * nodes t

@@ -1,0 +1,46 @@
+//! Laws of polynomials, each the contract of a function without a body.
+ghost use Rattle.std.specs.Prelude.{◌≡◌, true};
+ghost use Rattle.calc_algebra.specs.Meanings.{Assignment, IsAssignment, Means};
+ghost use Rattle.calc_algebra.specs.Reduced.{is_reduced};
+ghost use Rattle.calc_algebra.specs.Rewritings.{KeepsMeanings};
+ghost use Rattle.calc_algebra.specs.SquareClasses.{Same};
+ghost use Rattle.calc_algebra.specs.Surds.{Surd, surd_of};
+ghost use Rattle.calc_terms.specs.Trees.{Tree};
+ghost use Rattle.expand_forms.specs.ExpandedTrees.{IsNormal, expanded, normal};
+ghost use Rattle.expand_forms.specs.Polynomials.{AreMonomials, Monomial, Polynomial, coefficient_at};
+ghost use Rattle.expand_forms.specs.PolynomialTrees.{is_polynomial, polynomial_of};
+ghost use Rattle.expand_forms.specs.Values.{polynomial_value};
+
+/// The polynomial of a tree has monomials only.
+pub fn polynomial_has_monomials()
+    ensures { (t : Tree) → AreMonomials (polynomial_of t) }
+{}
+
+/// Each meaning of a tree that is a polynomial is what its polynomial is worth.
+pub fn polynomial_has_the_meaning()
+    ensures { (t : Tree) (f : Assignment) (v : Surd) → IsAssignment f → is_polynomial t ≡ true → Means t f v
+        → Same v (surd_of (polynomial_value f (polynomial_of t))) }
+{}
+
+/// The normal polynomial has the same coefficients, none of which is written where it is 0, and no other one has them.
+pub fn one_normal_polynomial()
+    ensures normal { (v : Polynomial) → IsNormal (normal v) }
+    ensures coefficients { (m : Monomial) (v : Polynomial) → coefficient_at m (normal v) ≡ coefficient_at m v }
+    ensures only { (v w : Polynomial) → IsNormal v → IsNormal w
+        → ((m : Monomial) → coefficient_at m v ≡ coefficient_at m w) → v ≡ w }
+{}
+
+/// The expanded tree is a function of the coefficients alone.
+pub fn one_expanded_tree()
+    ensures { (v w : Polynomial) → ((m : Monomial) → coefficient_at m v ≡ coefficient_at m w) → expanded v ≡ expanded w }
+{}
+
+/// Each meaning of a tree that is a polynomial is one of its expanded tree.
+pub fn expanded_keeps_meanings()
+    ensures { (t : Tree) → is_polynomial t ≡ true → KeepsMeanings t (expanded (polynomial_of t)) }
+{}
+
+/// The expanded tree of a tree is reduced.
+pub fn expanded_is_reduced()
+    ensures { (t : Tree) → is_reduced (expanded (polynomial_of t)) ≡ true }
+{}

@@ -1,0 +1,210 @@
+//! Trees of a table that are polynomials, and trees that are none.
+ghost use Rattle.std.specs.Prelude.{◌≡◌, IfOk, true, ⊤};
+ghost use Rattle.node_pool.specs.State.{IsPoolSize};
+ghost use Rattle.tree_handles.specs.Expressions.{IsExpression, takes_kind};
+ghost use Rattle.tree_handles.specs.Handed.{Gives, IsHanded};
+ghost use Rattle.tree_handles.specs.Standing.{Stands, forest};
+
+use crate::is_polynomial;
+use calc_terms::{Kind, Name, Rat};
+use node_pool::{Full, Id, Pool};
+use std::alloc::{AllocError, Global};
+use std::test::Fail;
+use tree_handles::{Handle, node, node_over, node_over_two, number, symbol};
+
+/// A node with two children.
+#[derive(Clone, Copy, Debug)]
+enum Pair {
+    Sum,
+    Difference,
+    Product,
+    Quotient,
+    Power,
+}
+
+impl Pair {
+    fn kind(self) -> Kind
+        ensures { takes_kind result 2 ≡ true }
+    {
+        match self {
+            Pair::Sum => Kind::Add,
+            Pair::Difference => Kind::Sub,
+            Pair::Product => Kind::Mult,
+            Pair::Quotient => Kind::Div,
+            Pair::Power => Kind::Pow,
+        }
+    }
+}
+
+/// A node with one child.
+#[derive(Clone, Copy, Debug)]
+enum Single {
+    Opposite,
+    Root,
+}
+
+impl Single {
+    fn kind(self) -> Kind
+        ensures { takes_kind result 1 ≡ true }
+    {
+        match self {
+            Single::Opposite => Kind::Neg,
+            Single::Root => Kind::Root,
+        }
+    }
+}
+
+/// A tree, by its root and its children.
+#[derive(Clone, Copy)]
+enum Shape<'a> {
+    X,
+    Y,
+    Undef,
+    Number(i8),
+    Two(Pair, &'a Shape<'a>, &'a Shape<'a>),
+    One(Single, &'a Shape<'a>),
+}
+
+/// A pool with no tree in it.
+fn opened(alloc: Global, size: u32) -> Result<Pool, AllocError>
+    requires { IsPoolSize size }
+    ensures { IfOk result Stands }
+{
+    let pool = Pool::open(alloc, size)?;
+    Ok(pool)
+}
+
+/// A new last tree of that shape.
+fn grow(pool: &mut Pool, shape: &Shape) -> Result<Handle, Full>
+    requires { Stands pool.old }
+    ensures ok { IfOk result (λ h. Gives (forest pool.old) (forest pool.new) h (λ t. ⊤)) }
+    ensures stands { Stands pool.new }
+{
+    match shape {
+        Shape::X => named(pool, b"x"),
+        Shape::Y => named(pool, b"y"),
+        Shape::Undef => undefined(pool),
+        Shape::Number(value) => whole(pool, *value),
+        Shape::Two(pair, left, right) => {
+            let left = grow(pool, left)?;
+            let right = grow(pool, right)?;
+            let tree = node_over_two(pool, pair.kind(), left, right)?;
+            Ok(tree)
+        }
+        Shape::One(single, child) => {
+            let child = grow(pool, child)?;
+            let tree = node_over(pool, single.kind(), child)?;
+            Ok(tree)
+        }
+    }
+}
+
+/// A symbol, `ans` where the bytes are no name.
+fn named(pool: &mut Pool, bytes: &[u8]) -> Result<Handle, Full>
+    requires { Stands pool.old }
+    ensures ok { IfOk result (λ h. Gives (forest pool.old) (forest pool.new) h (λ t. ⊤)) }
+    ensures stands { Stands pool.new }
+{
+    let name = match Name::read(bytes) {
+        Some(name) => name,
+        None => Name::ans(),
+    };
+    let tree = symbol(pool, name)?;
+    Ok(tree)
+}
+
+fn whole(pool: &mut Pool, value: i8) -> Result<Handle, Full>
+    requires { Stands pool.old }
+    ensures ok { IfOk result (λ h. Gives (forest pool.old) (forest pool.new) h (λ t. ⊤)) }
+    ensures stands { Stands pool.new }
+{
+    let tree = number(pool, Rat::whole(i128::from(value)))?;
+    Ok(tree)
+}
+
+fn undefined(pool: &mut Pool) -> Result<Handle, Full>
+    requires { Stands pool.old }
+    ensures ok { IfOk result (λ h. Gives (forest pool.old) (forest pool.new) h (λ t. ⊤)) }
+    ensures stands { Stands pool.new }
+{
+    let tree = node(pool, Kind::Undef)?;
+    Ok(tree)
+}
+
+/// The identifier of a tree that a handle owns.
+fn root_of(_pool: &Pool, tree: &Handle) -> Id
+    requires stands { Stands _pool.now }
+    requires handed { IsHanded tree.now (forest _pool.now) }
+    ensures { IsExpression result (forest _pool.now) }
+{
+    tree.id()
+}
+
+/// Whether a tree of that shape is a polynomial.
+fn answer(alloc: Global, shape: &Shape) -> Result<bool, Fail> {
+    let mut pool = opened(alloc, 4096)?;
+    let tree = grow(&mut pool, shape)?;
+    Ok(is_polynomial(&pool, root_of(&pool, &tree)))
+}
+
+const X: Shape<'static> = Shape::X;
+
+const Y: Shape<'static> = Shape::Y;
+
+const TWO: Shape<'static> = Shape::Number(2);
+
+const SUM: Shape<'static> = Shape::Two(Pair::Sum, &X, &Y);
+
+const ROOT: Shape<'static> = Shape::One(Single::Root, &TWO);
+
+const MINUS_TWO: Shape<'static> = Shape::One(Single::Opposite, &TWO);
+
+const POLYNOMIALS: [Shape<'static>; 12] = [
+    X,
+    TWO,
+    SUM,
+    MINUS_TWO,
+    Shape::Two(Pair::Difference, &SUM, &SUM),
+    Shape::Two(Pair::Product, &SUM, &X),
+    Shape::Two(Pair::Power, &SUM, &Shape::Number(1)),
+    Shape::Two(Pair::Power, &SUM, &Shape::Number(32)),
+    Shape::Two(
+        Pair::Power,
+        &SUM,
+        &Shape::One(Single::Opposite, &Shape::Number(-3)),
+    ),
+    Shape::Two(Pair::Quotient, &SUM, &TWO),
+    Shape::Two(Pair::Quotient, &SUM, &MINUS_TWO),
+    Shape::One(Single::Opposite, &SUM),
+];
+
+const OTHERS: [Shape<'static>; 12] = [
+    Shape::Undef,
+    ROOT,
+    Shape::Two(Pair::Sum, &X, &ROOT),
+    Shape::Two(Pair::Product, &Shape::Undef, &X),
+    Shape::Two(Pair::Power, &X, &Shape::Number(0)),
+    Shape::Two(Pair::Power, &X, &Shape::Number(33)),
+    Shape::Two(Pair::Power, &X, &MINUS_TWO),
+    Shape::Two(Pair::Power, &X, &Y),
+    Shape::Two(Pair::Power, &ROOT, &TWO),
+    Shape::Two(Pair::Quotient, &TWO, &X),
+    Shape::Two(Pair::Quotient, &X, &Shape::Number(0)),
+    Shape::Two(Pair::Quotient, &ROOT, &TWO),
+];
+
+#[test]
+fn polynomials(rt: HostRuntime) -> Result<(), Fail> {
+    for (at, shape) in POLYNOMIALS.iter().enumerate() {
+        assert!(rt; answer(rt.alloc(), shape)?, "polynomial {at}");
+    }
+    Ok(())
+}
+
+#[test]
+fn other_trees(rt: HostRuntime) -> Result<(), Fail> {
+    for (at, shape) in OTHERS.iter().enumerate() {
+        assert!(rt; !answer(rt.alloc(), shape)?, "other tree {at}");
+    }
+    Ok(())
+}
