@@ -2,6 +2,8 @@ mod fixtures;
 mod program_rows;
 mod reduced_lines;
 mod round_trips;
+mod samples;
+mod scripts;
 mod sessions;
 mod silent_breakers;
 mod small_faces;

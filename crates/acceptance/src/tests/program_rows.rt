@@ -1,94 +1,9 @@
-//! Whole sessions of the program, with their words, over a source and a sink in memory.
+//! The rows of the program, with their words.
 mod table;
 
-ghost use Rattle.std.specs.Prelude.{◌≡◌, vec_len, IfOk};
-
-use breakers::CountBreaker;
-use calc_edges::{CalmSource, MemSink};
-use poincare_run::run;
-use std::alloc::{AllocError, Global};
+use crate::tests::scripts::first_other;
 use std::test::Fail;
 use table::{GENERATED, ROWS};
-
-/// The bytes that a session may write.
-const ROOM: usize = 10_000;
-
-/// A session: its words, its lines and what it is to write.
-#[derive(Drop)]
-struct Script {
-    words: Vec<String>,
-    lines: Vec<u8>,
-    output: Vec<u8>,
-}
-
-/// A session without words and lines.
-fn empty(alloc: Global) -> Script {
-    Script {
-        words: Vec::new(alloc),
-        lines: Vec::new(alloc),
-        output: Vec::new(alloc),
-    }
-}
-
-/// Appends a text and a newline.
-fn push_line(bytes: &mut Vec<u8>, text: &str) -> Result<(), AllocError> {
-    bytes.extend_from_slice(text.as_bytes())?;
-    bytes.push(b'\n')?;
-    Ok(())
-}
-
-/// Appends what a row says.
-fn push_row(alloc: Global, script: &mut Script, row: &str) -> Result<(), AllocError> {
-    if let Some(words) = row.strip_prefix("$ ") {
-        for word in words.split(' ') {
-            script.words.push(String::from_str(alloc, word)?)?;
-        }
-        return Ok(());
-    }
-    if let Some(text) = row.strip_prefix("| ") {
-        return push_line(&mut script.output, text);
-    }
-    let Some((line, text)) = row.split_once(" = ") else {
-        return push_line(&mut script.lines, row);
-    };
-    push_line(&mut script.lines, line)?;
-    push_line(&mut script.output, text)
-}
-
-/// The breakers of the program.
-fn two_breakers(alloc: Global) -> Result<Vec<CountBreaker>, AllocError>
-    ensures { IfOk result (λ breakers. vec_len breakers ≡ 2) }
-{
-    let mut breakers = Vec::new(alloc);
-    breakers.push(CountBreaker::new())?;
-    breakers.push(CountBreaker::new())?;
-    Ok(breakers)
-}
-
-/// Whether the input is read to its end and all that is to be written is, and nothing else.
-fn is_written(alloc: Global, script: Script) -> Result<bool, AllocError> {
-    let mut source = CalmSource::new(script.lines);
-    let mut sink = MemSink::new(alloc, ROOM, ROOM, Vec::new(alloc))?;
-    let words = script.words.as_slice();
-    let status = run(alloc, words, &mut source, &mut sink, two_breakers(alloc)?);
-    Ok(status == 0 && sink.bytes() == script.output.as_slice())
-}
-
-/// The place of the first empty row whose session writes something else.
-fn first_other(alloc: Global, table: &str) -> Result<Option<usize>, AllocError> {
-    let mut script = empty(alloc);
-    for (place, row) in table.lines().enumerate() {
-        if !row.is_empty() {
-            push_row(alloc, &mut script, row)?;
-        } else {
-            if !is_written(alloc, script)? {
-                return Ok(Some(place));
-            }
-            script = empty(alloc);
-        }
-    }
-    Ok(None)
-}
 
 #[test]
 fn sessions_are_written(rt: HostRuntime) -> Result<(), Fail> {

@@ -1,5 +1,4 @@
-/// Sessions, which an empty row ends. A row that begins with `$` has the words. Another row is a line, with its
-/// answer behind an equals sign where it has one; a row that begins with `|` is one more row of the output.
+/// Sessions in the form that `scripts` reads.
 pub const ROWS: &str = "\
 1+2+3 = 6
 

@@ -1,0 +1,12 @@
+//! The samples of README.md and docs/LANGUAGE.md. `tests/samples.py table` writes their rows.
+mod table;
+
+use crate::tests::scripts::first_other;
+use std::test::Fail;
+use table::SAMPLES;
+
+#[test]
+fn samples_are_answered(rt: HostRuntime) -> Result<(), Fail> {
+    assert_eq!(rt; first_other(rt.alloc(), SAMPLES)?, None);
+    Ok(())
+}
