@@ -19,7 +19,7 @@ use node_pool::Pool;
 use tree_handles::{Handle, NumberFault, kind, move_last, number, rational, release};
 
 /// A coefficient times a reduced part, as it is written: zero is the answer itself, 1 is not
-/// written, another rational goes into each term of a sum, and any other coefficient is spliced
+/// written, another rational is multiplied into each term of a sum, and any other coefficient is spliced
 /// before the factors.
 pub fn put_coefficient(
     pool: &mut Pool,

@@ -140,7 +140,7 @@ impl Buffer {
         node::write_children(&mut self.store, at, children);
     }
 
-    /// The nodes in the `len` bytes at `at` go, and those behind them close up.
+    /// The nodes in the `len` bytes at `at` are removed, and those behind them close up.
     pub fn remove(&mut self, at: u32, len: u32)
         requires from { IsBoundary at self.old.nodes }
         requires to { IsBoundary (at + len) self.old.nodes }

@@ -3,7 +3,7 @@ ghost use Rattle.std.specs.Prelude.{◌≡◌};
 
 use std::marker::Model;
 
-/// An identifier of a node. A node keeps its own while others come, move and go.
+/// An identifier of a node. A node keeps its own while others are placed, moved and removed.
 #[derive(Clone, Copy, Debug, Default, PartialEq, Eq)]
 pub struct Id {
     value: u16,

@@ -235,7 +235,7 @@ impl Pool {
         self.buffer.set_children(id.value(), at, children);
     }
 
-    /// The nodes in the `len` bytes at `from` go before the node that begins at `to` now, or to
+    /// The nodes in the `len` bytes at `from` are moved before the node that begins at `to` now, or to
     /// the end.
     pub fn move_block(&mut self, from: u32, len: u32, to: u32)
         requires from { IsBoundary from self.old.nodes }
@@ -253,7 +253,7 @@ impl Pool {
         }
     }
 
-    /// The nodes in the `len` bytes at `from` go before the node that begins at `to`, which is
+    /// The nodes in the `len` bytes at `from` are moved before the node that begins at `to`, which is
     /// before them or is their first.
     fn bring_forward(&mut self, from: u32, len: u32, to: u32)
         requires from { IsBoundary from self.old.nodes }
@@ -310,7 +310,7 @@ impl Pool {
         note_block(&mut self.places, buffer, second, end);
     }
 
-    /// The nodes in the `len` bytes at `at` go, those behind them close up, and their identifiers
+    /// The nodes in the `len` bytes at `at` are removed, those behind them close up, and their identifiers
     /// are free.
     pub fn remove_block(&mut self, at: u32, len: u32)
         requires from { IsBoundary at self.old.nodes }

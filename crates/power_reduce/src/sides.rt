@@ -66,7 +66,7 @@ pub(crate) fn is_one(pool: &Pool, id: Id) -> bool
     }
 }
 
-/// The base, and the rest of the power goes.
+/// The base; the rest of the power is released.
 pub(crate) fn take_base(pool: &mut Pool, power: Handle) -> Handle
     requires stands { Stands pool.old }
     requires handed { IsHanded power (forest pool.old) }
@@ -81,7 +81,7 @@ pub(crate) fn take_base(pool: &mut Pool, power: Handle) -> Handle
     base
 }
 
-/// The base and the exponent, whose node goes.
+/// The base and the exponent, whose node is released.
 pub(crate) fn take_sides(pool: &mut Pool, power: Handle) -> (Handle, Handle)
     requires stands { Stands pool.old }
     requires handed { IsHanded power (forest pool.old) }

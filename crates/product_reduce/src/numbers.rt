@@ -62,7 +62,7 @@ fn take_first_number(pool: &mut Pool, product: &Handle) -> Result<Handle, Full>
     }
 }
 
-/// The Number at a place goes into the product of those before it.
+/// The Number at a place is multiplied into the product of those before it.
 fn multiply_in(
     pool: &mut Pool,
     product: &Handle,

@@ -388,7 +388,7 @@ fn a_coefficient_stands_in_front(rt: HostRuntime) -> Result<(), Fail> {
         // One of two classes is one factor.
         (&[OneAndRoot, X], Form::Product(&[OneAndRoot, X])),
         (&[X, OneAndRoot], Form::Product(&[OneAndRoot, X])),
-        // A rational goes into the terms of a sum that stands alone behind it.
+        // A rational is multiplied into the terms of a sum that stands alone behind it.
         (&[TWO, More(b'x')], Form::Sum(TWO, Multiple(2, b'x'))),
         (
             &[TWO, Letters],
