@@ -14,7 +14,7 @@ import time
 TOP = pathlib.Path(__file__).resolve().parent.parent
 PROGRAM = TOP / "poincare"
 USAGE = b"usage: poincare"
-MOST_REQUESTS = 64
+MOST_REQUESTS = 128
 
 
 def run(words=(), given=b"1+1\n", **edges):

@@ -1,4 +1,6 @@
 pub mod SettingLemmas
+pub mod ClapLemmas
+pub mod CommandLineLemmas
 pub mod BufferLemmas
 pub mod LineLemmas
 pub mod StepLemmas

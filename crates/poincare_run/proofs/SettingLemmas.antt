@@ -1,5 +1,5 @@
 -- The options of words are those that the words ask for.
-use Rattle.std.proofs.Common.{◌≡◌, ◌∙◌, ◌⊎◌, ◌↔◌, ℕ, zero, suc, ◌+◌, ◌<◌, ◌≤◌, ◌^◌, ◌%◌, ◌&&◌, ◌==◌, List, [], ◌∷◌, ◌++◌, length, drop, take, Bool, true, false, Option, Some, None, cond, is_some, not, nat_le, nat_lt, if◌then◌else◌, refl, sym, ap, subst, inl, inr, codes, arith}
+use Rattle.std.proofs.Common.{◌≡◌, ◌∙◌, ◌↔◌, ℕ, zero, suc, ◌<◌, ◌^◌, ◌&&◌, List, [], ◌∷◌, ◌++◌, length, drop, Bool, true, false, Option, Some, None, is_some, if◌then◌else◌, refl, sym, ap, subst, inl, inr, codes, arith}
 use Rattle.std.specs.Prelude.{eqb, unwrap_or, IfSome}
 use Rattle.std.specs.List.{starts_with}
 use Rattle.std.specs.Option.{option_and_then, option_map}
@@ -9,32 +9,29 @@ use Rattle.std.proofs.lemmas.Bool.Decides.{Decides-eqb}
 use Rattle.std.proofs.lemmas.Slice.Eq.{bytes_eq-Decides, starts_is}
 use Rattle.node_pool.specs.State.{IsPoolSize}
 use Rattle.calc_commands.specs.Numbers.{value_of}
-use Rattle.poincare_run.specs.Options.{is_pool_size, is_session_number, key_of, named_in, no_values, options_of, options_with, read, settled, size_in, with_draw, with_generated, with_interrupt, with_number, with_pool, with_value, with_word, with_next}
+use Rattle.poincare_run.specs.Options.{Key, Pool, Interrupt, Generated, Reading, is_pool_size, is_session_number, key_of, named_in, no_values, options_of, options_with, read, settled, size_in, with_draw, with_generated, with_interrupt, with_number, with_pool, with_value, with_word, with_next}
 use Rattle.poincare_run.specs.Settings.{Asks, IsDrawn, IsNumber, IsSpelled, OptionsAreAsked, Setting, Spells, OrderIsFree, value, draw, draws_of, name_of, text_in, texts_of}
-use Rattle.poincare_run.specs.declared.words.Key.{Key}
-use Rattle.poincare_run.specs.declared.words.Key.TheVariants.{Pool, Interrupt, Generated}
 use Rattle.poincare_run.specs.declared.words.Values.{Values}
-use Rattle.poincare_run.specs.declared.words.Reading.{Reading}
 use Rattle.poincare_run.specs.declared.words.Options.{Options}
 
 -- ---- what is named before settings and behind them
 
 -- an option's number before texts that stand as its value, and behind them
-abbrev Joined : Option ℕ → List (List ℕ) → Option ℕ → Type 0
+abbrev pub Joined : Option ℕ → List (List ℕ) → Option ℕ → Type 0
 Joined old [] new = new ≡ old
 Joined old (text ∷ []) new = (old ≡ None) × ((n : ℕ) × (value_of text ≡ Some n) × (new ≡ Some n))
 Joined old (text ∷ other ∷ more) new = ⊥
 
-abbrev Drawn : Bool → ℕ → Bool → Type 0
+abbrev pub Drawn : Bool → ℕ → Bool → Type 0
 Drawn old zero new = new ≡ old
 Drawn old (suc zero) new = (old ≡ false) × (new ≡ true)
 Drawn old (suc (suc more)) new = ⊥
 
-record Follows (v : Values) (ss : List Setting) (w : Values) : Type 0 where
-  pool : Joined v.pool (texts_of Pool ss) w.pool
-  interrupt : Joined v.interrupt (texts_of Interrupt ss) w.interrupt
-  generated : Joined v.generated (texts_of Generated ss) w.generated
-  draws : Drawn v.draw (draws_of ss) w.draw
+pub record Follows (v : Values) (ss : List Setting) (w : Values) : Type 0 where
+  pub pool : Joined v.pool (texts_of Pool ss) w.pool
+  pub interrupt : Joined v.interrupt (texts_of Interrupt ss) w.interrupt
+  pub generated : Joined v.generated (texts_of Generated ss) w.generated
+  pub draws : Drawn v.draw (draws_of ss) w.draw
 
 joined_cons : (old : Option ℕ) (text : List ℕ) (texts : List (List ℕ)) (n : ℕ) (new : Option ℕ) → is_some old ≡ false → value_of text ≡ Some n → Joined (Some n) texts new → Joined old (text ∷ texts) new
 joined_cons (Some m) text texts n new e h j = absurd cc
@@ -51,7 +48,7 @@ drawn_cons old zero new e d = (e, d)
 drawn_cons old (suc zero) new e d = let bad : true ≡ false = d.0 in absurd cc
 drawn_cons old (suc (suc more)) new e d = absurd d
 
-drawn_uncons : (old : Bool) (more : ℕ) (new : Bool) → Drawn old (suc more) new → (old ≡ false) × Drawn true more new
+pub drawn_uncons : (old : Bool) (more : ℕ) (new : Bool) → Drawn old (suc more) new → (old ≡ false) × Drawn true more new
 drawn_uncons old zero new d = d
 drawn_uncons old (suc more) new d = absurd d
 
@@ -61,19 +58,19 @@ of_choice : {X : Type 0} (b : Bool) (x y : X) → (if b then None else Some x) �
 of_choice true x y e = absurd cc
 of_choice false x y e = (refl, cc)
 
-of_test : {X : Type 0} (b : Bool) (x y : X) → (if b then Some x else None) ≡ Some y → (b ≡ true) × (x ≡ y)
+pub of_test : {X : Type 0} (b : Bool) (x y : X) → (if b then Some x else None) ≡ Some y → (b ≡ true) × (x ≡ y)
 of_test true x y e = (refl, cc)
 of_test false x y e = absurd cc
 
-of_both : (a b : Bool) → (a && b) ≡ true → (a ≡ true) × (b ≡ true)
+pub of_both : (a b : Bool) → (a && b) ≡ true → (a ≡ true) × (b ≡ true)
 of_both true b e = (refl, e)
 of_both false b e = absurd cc
 
-of_then : {A B : Type 0} (f : A → Option B) (o : Option A) (y : B) → option_and_then f o ≡ Some y → (x : A) × (o ≡ Some x) × (f x ≡ Some y)
+pub of_then : {A B : Type 0} (f : A → Option B) (o : Option A) (y : B) → option_and_then f o ≡ Some y → (x : A) × (o ≡ Some x) × (f x ≡ Some y)
 of_then f None y e = absurd cc
 of_then f (Some x) y e = (x, refl, e)
 
-of_map : {A B : Type 0} (f : A → B) (o : Option A) (y : B) → option_map f o ≡ Some y → (x : A) × (o ≡ Some x) × (f x ≡ y)
+pub of_map : {A B : Type 0} (f : A → B) (o : Option A) (y : B) → option_map f o ≡ Some y → (x : A) × (o ≡ Some x) × (f x ≡ y)
 of_map f None y e = absurd cc
 of_map f (Some x) y e = (x, refl, cc)
 
@@ -104,7 +101,7 @@ drawn v u w more h e f =
     record { pool = g.pool; interrupt = g.interrupt; generated = g.generated; draws = drawn_cons v.draw (draws_of more) w.draw h g.draws }
 
 -- an option that a first setting names may be given its number
-taken : (key : Key) (text : List ℕ) (v w : Values) (more : List Setting) → Follows v (value key text ∷ more) w → (u : Values) × (with_value key text v ≡ Some u) × Follows u more w
+pub taken : (key : Key) (text : List ℕ) (v w : Values) (more : List Setting) → Follows v (value key text ∷ more) w → (u : Values) × (with_value key text v ≡ Some u) × Follows u more w
 taken Pool text v w more f =
     let k = joined_uncons v.pool text (texts_of Pool more) w.pool f.pool in
     let n = k.1.0 in
@@ -201,7 +198,7 @@ between : (o : Option Values) (words : List (List ℕ)) (w : Values) → option_
 between None words w e = absurd cc
 between (Some u) words w e = (u, refl, e)
 
-abbrev Given : List (List ℕ) → Type 0
+abbrev pub Given : List (List ℕ) → Type 0
 Given words = (v w : Values) → option_and_then named_in (read (settled v) words) ≡ Some w → (ss : List Setting) × Spells words ss × Follows v ss w
 
 reads_none : Given []
@@ -236,7 +233,7 @@ reads_two : (word text : List ℕ) (words : List (List ℕ)) (k : Option Key) �
 reads_two word text words (Some key) p behind later = reads_value key word text words p behind
 reads_two word text words None p behind later = reads_setting word (text ∷ words) p later
 
-reads : (words : List (List ℕ)) → Given words
+pub reads : (words : List (List ℕ)) → Given words
 reads [] = reads_none
 reads (word ∷ []) = reads_one word (key_of word) refl
 reads (word ∷ text ∷ words) = reads_two word text words (key_of word) refl (reads words) (reads (text ∷ words))
@@ -265,7 +262,7 @@ values_same : (v w : Values) → w.pool ≡ v.pool → w.interrupt ≡ v.interru
 values_same v w p q r s = sym (λ i. record { pool = p i; interrupt = q i; generated = r i; draw = s i })
 
 -- settings that follow are read
-spelled : (ss : List Setting) (words : List (List ℕ)) (v w : Values) → Spells words ss → Follows v ss w → option_and_then named_in (read (settled v) words) ≡ Some w
+pub spelled : (ss : List Setting) (words : List (List ℕ)) (v w : Values) → Spells words ss → Follows v ss w → option_and_then named_in (read (settled v) words) ≡ Some w
 spelled [] words v w sp f = rw sp (ap (λ x. Some x) (values_same v w f.pool f.interrupt f.generated f.draws))
 spelled (value key text ∷ more) words v w (first, rest, is, s, sp) f =
     let t = taken key text v w more f in
@@ -275,7 +272,7 @@ spelled (draw ∷ more) words v w (first, rest, is, s, sp) f =
     rw (is, s, alone v rest, d.0) (spelled more rest (record v { draw = true }) w sp (record { pool = f.pool; interrupt = f.interrupt; generated = f.generated; draws = d.1 }))
 
 -- settings that are read follow
-followed : (ss : List Setting) (words : List (List ℕ)) (v w : Values) → Spells words ss → option_and_then named_in (read (settled v) words) ≡ Some w → Follows v ss w
+pub followed : (ss : List Setting) (words : List (List ℕ)) (v w : Values) → Spells words ss → option_and_then named_in (read (settled v) words) ≡ Some w → Follows v ss w
 followed [] words v w sp e =
     let end : ◌≡◌ {A = Option Values} (Some v) (Some w) = subst (λ ws. option_and_then named_in (read (settled v) ws) ≡ Some w) sp e in
     let same : v ≡ w = cc in
@@ -417,7 +414,7 @@ exchanged words other before behind s t o sp sq e =
       draw_once = subst (λ d. IsDrawn d o.draw) (draws_exchanged before behind s t) (subst (λ ss. IsDrawn (draws_of ss) o.draw) k.1 a.draw_once);
     })
 
-same_options : (a b : Option Options) → ((o : Options) → a ≡ Some o → b ≡ Some o) → ((o : Options) → b ≡ Some o → a ≡ Some o) → b ≡ a
+pub same_options : {X : Type 0} (a b : Option X) → ((o : X) → a ≡ Some o → b ≡ Some o) → ((o : X) → b ≡ Some o → a ≡ Some o) → b ≡ a
 same_options None None there back = refl
 same_options None (Some o) there back = sym (back o refl)
 same_options (Some o) b there back = there o refl

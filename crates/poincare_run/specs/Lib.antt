@@ -2,6 +2,7 @@ pub mod Lines
 pub mod Steps
 pub mod Buffer
 pub mod Options
+pub mod CommandLine
 pub mod Settings
 pub mod Beginnings
 pub mod Generated

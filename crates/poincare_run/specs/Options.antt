@@ -3,13 +3,21 @@ use Rattle.std.specs.Prelude.{ℕ, ◌^◌, ◌%◌, List, [], ◌∷◌, drop, 
 use Rattle.std.specs.List.{starts_with}
 use Rattle.std.specs.Option.{option_and_then, option_map}
 use Rattle.calc_commands.specs.Numbers.{value_of}
-use Rattle.poincare_run.specs.declared.words.Key.{Key}
-use Rattle.poincare_run.specs.declared.words.Key.TheVariants.{Pool, Interrupt, Generated}
 use Rattle.poincare_run.specs.declared.words.Values.{Values}
-use Rattle.poincare_run.specs.declared.words.Reading.{Reading}
 use Rattle.poincare_run.specs.declared.words.Options.{Options}
 
 -- ---- what the words name
+
+-- an option that has a value
+pub data Key : Type 0 where
+  Pool : Key
+  Interrupt : Key
+  Generated : Key
+
+-- what is named so far, and the option whose value the next word is
+pub record Reading : Type 0 where
+  pub values : Values
+  pub waiting : Option Key
 
 -- no option is named
 abbrev pub no_values : Values

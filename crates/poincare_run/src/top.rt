@@ -1,4 +1,4 @@
-ghost use Rattle.std.specs.Prelude.{◌≡◌, ◌≢◌, ℕ, ◌≤◌, ◌<◌, ◌^◌, ◌⊎◌, ◌↔◌, List, [], ◌∷◌, ◌++◌, length, map, vec_len, Contains, None, Some};
+ghost use Rattle.std.specs.Prelude.{◌≡◌, ◌≢◌, ℕ, ◌≤◌, ◌<◌, ◌^◌, ◌⊎◌, List, [], ◌∷◌, ◌++◌, length, map, vec_len, Contains, None, Some};
 ghost use Rattle.breakers.specs.Watch.{states};
 ghost use Rattle.calc_edges.specs.Faults.{Rose, StopsAtFailure};
 ghost use Rattle.poincare_run.specs.Beginnings.{armed as armed_by, beginning_of, begun, IfReads, IfGenerates};
@@ -34,8 +34,9 @@ pub fn run<S: Source, K: Sink, B: Breaker>(
     requires few { vec_len breakers < 2 ^ 32 }
     ensures status { Contains (0 ∷ 2 ∷ 3 ∷ 4 ∷ 5 ∷ 6 ∷ []) result }
 
-    // Status 2: the words are no form of the command line. Status 5: there was no memory to begin with.
-    ensures usage { (result ≡ 2) ↔ (beginning_of B.state words.now breakers.items ≡ None) }
+    // Status 2: the words are no form of the command line. Status 5: there was no memory to read them, or to begin with.
+    ensures usage { result ≡ 2 → beginning_of B.state words.now breakers.items ≡ None }
+    ensures usage_or_no_memory { beginning_of B.state words.now breakers.items ≡ None → (result ≡ 2) ⊎ (result ≡ 5) }
     ensures untouched { (result ≡ 2) ⊎ (result ≡ 5) → (source.new ≡ source.old) × (sink.new ≡ sink.old) }
 
     // Status 0: the input was read to its end, and the answers to all its lines were written.
@@ -73,8 +74,10 @@ pub fn run<S: Source, K: Sink, B: Breaker>(
     ensures summed_up_in_part { result ≡ 4 → IfGenerates (beginning_of B.state words.now breakers.items) (λ start number.
         SumsUpInPart start number (K.taken sink.old) (K.taken sink.new)) }
 {
-    let Some(options) = options_in(words) else {
-        return 2;
+    let options = match options_in(alloc, words) {
+        Ok(Some(options)) => options,
+        Ok(None) => return 2,
+        Err(_) => return 5,
     };
     let Ok(session) = Session::open(alloc, options.size) else {
         return 5;

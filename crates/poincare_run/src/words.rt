@@ -1,35 +1,29 @@
 //! The words of the command line.
-ghost use Rattle.std.specs.Prelude.{◌≡◌, ◌<◌, ◌^◌, map, string_bytes, IfSome, Some, None};
+ghost use Rattle.std.specs.Prelude.{◌≡◌, ◌<◌, ◌^◌, Bool, map, codes, string_bytes, option_map, option_and_then, IfOk, IfSome, Some};
+ghost use Rattle.std.specs.List.{list_any};
+ghost use Rattle.std.specs.Str.{bytes_eq};
+ghost use Rattle.clap.specs.Simple.{app_of, with_rule};
+ghost use Rattle.clap.specs.Matches.{first_value, found_of, one_text};
+ghost use Rattle.clap.specs.Values.{bool_text};
 ghost use Rattle.node_pool.specs.State.{IsPoolSize};
-ghost use Rattle.poincare_run.specs.Options.{is_pool_size as is_pool_size_of, is_session_number as is_session_number_of, key_of as key_named, named_in as all_named, no_values, options_of, options_with as options_named, read as all_read, settled, with_number as number_named, with_value as value_named, with_generated as generated_named, with_interrupt as interrupt_named, with_pool as pool_named, with_draw as draw_named, with_next, with_word as word_named};
+ghost use Rattle.poincare_run.specs.CommandLine.{command_line, number_in as number_named, option_named, values_named};
+ghost use Rattle.poincare_run.specs.Options.{is_pool_size as is_pool_size_of, is_session_number as is_session_number_of, options_of, options_with as options_named};
 
 use calc_commands::read_number;
+use clap::error::ErrorKind;
+use clap::{Arg, ArgAction, ArgMatches, Command};
+use std::alloc::{AllocError, Global};
 
 /// The bytes of a pool whose size no word names.
 const DEFAULT_SIZE: u64 = 32_768;
 
-/// An option of the command line that has a value.
-#[derive(Clone, Copy)]
-pub enum Key {
-    Pool,
-    Interrupt,
-    Generated,
-}
-
-/// What is named so far.
+/// What the words name.
 #[derive(Clone, Copy)]
 pub struct Values {
     pub pool: Option<u64>,
     pub interrupt: Option<u64>,
     pub generated: Option<u64>,
     pub draw: bool,
-}
-
-/// What is named so far, and the option whose value the next word is.
-#[derive(Clone, Copy)]
-pub struct Reading {
-    pub values: Values,
-    pub waiting: Option<Key>,
 }
 
 /// What the words ask for.
@@ -46,167 +40,77 @@ pub struct Options {
 }
 
 /// What the words ask for, where they are a form of the command line.
-#[tactic(auto, unfolding(crate::specs::Options::options_of))]
-pub fn options_in(words: &[String]) -> Option<Options>
-    ensures value { result ≡ options_of (map string_bytes words.now) }
+pub fn options_in(alloc: Global, words: &[String]) -> Result<Option<Options>, AllocError>
+    ensures value { IfOk result (λ options. options ≡ options_of (map string_bytes words.now)) }
+    ensures size { IfOk result (λ options. IfSome options (λ o. IsPoolSize o.size)) }
+{
+    if has_separator(words) {
+        return Ok(None);
+    }
+    match command(alloc)?.try_get_matches_from(words) {
+        Ok(matches) => Ok(options_from(&matches)),
+        Err(error) => match error.kind() {
+            ErrorKind::OutOfMemory => Err(AllocError),
+            _ => Ok(None),
+        },
+    }
+}
+
+/// Whether a word is the one behind which no word is an option.
+fn has_separator(words: &[String]) -> bool
+    ensures { result ≡ list_any (λ word. bytes_eq (string_bytes word) (codes "--")) words.now }
+{
+    words.iter().any(|word| word.as_str() == "--")
+}
+
+/// The command line: four options and nothing else, each at most once.
+fn command<'a>(alloc: Global) -> Result<Command<'a>, AllocError>
+    ensures { IfOk result (λ command. app_of command ≡ command_line) }
+{
+    let command = Command::new(alloc, "poincare")
+        .no_binary_name(true)
+        .disable_help_flag(true)
+        .disable_version_flag(true);
+    let command = with_option(alloc, command, "pool", ArgAction::Set)?;
+    let command = with_option(alloc, command, "interrupt", ArgAction::Set)?;
+    let command = with_option(alloc, command, "gen", ArgAction::Set)?;
+    with_option(alloc, command, "draw", ArgAction::SetTrue)
+}
+
+/// The command with one more option.
+fn with_option<'a>(
+    alloc: Global,
+    command: Command<'a>,
+    name: &'a str,
+    action: ArgAction,
+) -> Result<Command<'a>, AllocError>
+    ensures { IfOk result (λ more. app_of more ≡ with_rule (app_of command.entry) (option_named name.entry.now action)) }
+{
+    command.arg(Arg::new(alloc, name).long(name).action(action))
+}
+
+/// What the matches ask for, where each value is a number in range.
+fn options_from(matches: &ArgMatches) -> Option<Options>
+    ensures value { (drawn : Bool) → one_text (found_of matches.now) (codes "draw") ≡ Some (bool_text drawn)
+        → result ≡ option_and_then options_named (values_named (first_value (found_of matches.now) (codes "pool"))
+        (first_value (found_of matches.now) (codes "interrupt")) (first_value (found_of matches.now) (codes "gen")) drawn) }
     ensures size { IfSome result (λ o. IsPoolSize o.size) }
 {
-    options_with(named_in(read(words)?)?)
-}
-
-/// Reads the words one after another.
-fn read(words: &[String]) -> Option<Reading>
-    ensures { result ≡ all_read (settled no_values) (map string_bytes words.now) }
-{
-    let mut reading = Reading {
-        values: Values {
-            pool: None,
-            interrupt: None,
-            generated: None,
-            draw: false,
-        },
-        waiting: None,
-    };
-    for word in words {
-        reading = read_word(reading, word.as_bytes())?;
-    }
-    Some(reading)
-}
-
-/// What is named, where no option is without its value.
-fn named_in(reading: Reading) -> Option<Values>
-    ensures { result ≡ all_named reading }
-{
-    match reading.waiting {
-        Some(_) => None,
-        None => Some(reading.values),
-    }
-}
-
-/// Reads one more word.
-fn read_word(reading: Reading, word: &[u8]) -> Option<Reading>
-    ensures { result ≡ with_next word.now reading }
-{
-    match reading.waiting {
-        Some(key) => Some(Reading {
-            values: with_value(reading.values, key, word)?,
-            waiting: None,
-        }),
-        None => read_option(reading.values, word),
-    }
-}
-
-/// Reads a word for which no option waits.
-fn read_option(values: Values, word: &[u8]) -> Option<Reading>
-    ensures { result ≡ with_next word.now (settled values) }
-{
-    match key_of(word) {
-        Some(key) => Some(Reading {
-            values,
-            waiting: Some(key),
-        }),
-        None => Some(Reading {
-            values: with_word(values, word)?,
-            waiting: None,
-        }),
-    }
-}
-
-/// The option whose name the word is.
-fn key_of(word: &[u8]) -> Option<Key>
-    ensures { result ≡ key_named word.now }
-{
-    if word == b"--pool".as_slice() {
-        Some(Key::Pool)
-    } else if word == b"--interrupt".as_slice() {
-        Some(Key::Interrupt)
-    } else if word == b"--gen".as_slice() {
-        Some(Key::Generated)
-    } else {
-        None
-    }
-}
-
-/// What is named, with the option that is the word, or whose value stands in it.
-fn with_word(values: Values, word: &[u8]) -> Option<Values>
-    ensures { result ≡ word_named word.now values }
-{
-    if word == b"--draw".as_slice() {
-        return with_draw(values);
-    }
-    with_pool(values, word)
-}
-
-/// The same with the option that has no value, where it is not named yet.
-fn with_draw(values: Values) -> Option<Values>
-    ensures { result ≡ draw_named values }
-{
-    if values.draw {
-        return None;
-    }
-    Some(Values {
-        draw: true,
-        ..values
+    options_with(Values {
+        pool: number_in(matches.get_str("pool"))?,
+        interrupt: number_in(matches.get_str("interrupt"))?,
+        generated: number_in(matches.get_str("gen"))?,
+        draw: matches.get_flag("draw"),
     })
 }
 
-fn with_pool(values: Values, word: &[u8]) -> Option<Values>
-    ensures { result ≡ pool_named word.now values }
+/// The number that stands as a value, where a value is given.
+fn number_in(text: Option<&str>) -> Option<Option<u64>>
+    ensures { result ≡ number_named (option_map (λ s. s.now) text.entry) }
 {
-    if let Some(text) = word.strip_prefix(b"--pool=") {
-        return with_value(values, Key::Pool, text);
-    }
-    with_interrupt(values, word)
-}
-
-fn with_interrupt(values: Values, word: &[u8]) -> Option<Values>
-    ensures { result ≡ interrupt_named word.now values }
-{
-    if let Some(text) = word.strip_prefix(b"--interrupt=") {
-        return with_value(values, Key::Interrupt, text);
-    }
-    with_generated(values, word)
-}
-
-fn with_generated(values: Values, word: &[u8]) -> Option<Values>
-    ensures { result ≡ generated_named word.now values }
-{
-    with_value(values, Key::Generated, word.strip_prefix(b"--gen=")?)
-}
-
-fn with_value(values: Values, key: Key, text: &[u8]) -> Option<Values>
-    ensures { result ≡ value_named key text.now values }
-{
-    with_number(values, key, read_number(text)?)
-}
-
-/// The numbers, with that of an option that had none.
-fn with_number(values: Values, key: Key, number: u64) -> Option<Values>
-    ensures { result ≡ number_named key number values }
-{
-    let number = Some(number);
-    match key {
-        Key::Pool => match values.pool {
-            None => Some(Values {
-                pool: number,
-                ..values
-            }),
-            Some(_) => None,
-        },
-        Key::Interrupt => match values.interrupt {
-            None => Some(Values {
-                interrupt: number,
-                ..values
-            }),
-            Some(_) => None,
-        },
-        Key::Generated => match values.generated {
-            None => Some(Values {
-                generated: number,
-                ..values
-            }),
-            Some(_) => None,
-        },
+    match text {
+        Some(text) => Some(Some(read_number(text.as_bytes())?)),
+        None => Some(None),
     }
 }
 

@@ -7,8 +7,20 @@ use Rattle.poincare_run.specs.Progress.{place_of}
 use Rattle.poincare_run.proofs.StatusLemmas.{nothing_read, not_there, begins_at, is_status, is_no_memory, no_usage, early, all_read_if, read_in_part_if, written_in_part_if, limit_reached_if, summed_up_if, summed_up_in_part_if, unread_if, within_limit_if, read_stops, reads_calm, write_stops, writes_calm, stopped_rose}
 use Rattle.poincare_run.proofs.top.run.Goals as goal
 
+pub returns-in-Ok-None-clause-limit : goal.returns-in-Ok-None-clause-limit
+returns-in-Ok-None-clause-limit g c = λ input rest before after. nothing_read _ input rest 2 before after
+
+pub returns-in-Err-clause-status : goal.returns-in-Err-clause-status
+returns-in-Err-clause-status g c = is_no_memory
+
+pub returns-in-Err-clause-limit : goal.returns-in-Err-clause-limit
+returns-in-Err-clause-limit g c = λ input rest before after. nothing_read _ input rest 5 before after
+
+pub returns-in_default-clause-status : goal.returns-in_default-clause-status
+returns-in_default-clause-status g c = is_no_memory
+
 pub returns-in_default-clause-limit : goal.returns-in_default-clause-limit
-returns-in_default-clause-limit g c = λ input rest before after. nothing_read _ input rest 2 before after
+returns-in_default-clause-limit g c = λ input rest before after. nothing_read _ input rest 5 before after
 
 pub returns-in_default-open-clause-status : goal.returns-in_default-open-clause-status
 returns-in_default-open-clause-status g c = is_no_memory
@@ -16,17 +28,11 @@ returns-in_default-open-clause-status g c = is_no_memory
 pub returns-in_default-open-clause-limit : goal.returns-in_default-open-clause-limit
 returns-in_default-open-clause-limit g c = λ input rest before after. nothing_read _ input rest 5 before after
 
-pub returns-in_default-open-2-clause-status : goal.returns-in_default-open-2-clause-status
-returns-in_default-open-2-clause-status g c = is_no_memory
-
-pub returns-in_default-open-2-clause-limit : goal.returns-in_default-open-2-clause-limit
-returns-in_default-open-2-clause-limit g c = λ input rest before after. nothing_read _ input rest 5 before after
-
 -- the program begins as the words say
-start_is : (g : _) (c : goal.After-status_of g) → beginning_of g.B.Breaker.state c.args.words.now c.args.breakers.items ≡ Some (begun (place_of g.B.Breaker.state c.new-dialog.result).now c.in-Some.options.generated)
+start_is : (g : _) (c : goal.After-status_of g) → beginning_of g.B.Breaker.state c.args.words.now c.args.breakers.items ≡ Some (begun (place_of g.B.Breaker.state c.new-dialog.result).now c.in-Ok-Some.options.generated)
 start_is g c =
-    ap (option_map (beginning_with (map g.B.Breaker.state c.args.breakers.items))) (sym c.in-Some.ensures.value)
-    ∙ ap (λ m. Some (begun m c.in-Some.options.generated))
+    ap (option_map (beginning_with (map g.B.Breaker.state c.args.breakers.items))) (sym (rw c.in-Ok-Some.field-0-is at c.in-Ok-Some.ensures.value))
+    ∙ ap (λ m. Some (begun m c.in-Ok-Some.options.generated))
     (begins_at (place_of g.B.Breaker.state c.new-dialog.result).now _ _ _ (ap (λ (s : Seen). s.state) (c.new-dialog.ensures.session ∙ c.in-Ok.ensures))
     (ap (states g.B.Breaker.state) c.new-dialog.ensures.watch ∙ c.armed-watch.ensures) c.new-dialog.ensures.draws)
 
@@ -34,7 +40,10 @@ pub returns-clause-status : goal.returns-clause-status
 returns-clause-status g c = subst (Contains (0 ∷ 2 ∷ 3 ∷ 4 ∷ 5 ∷ 6 ∷ [])) (sym c.status_of.ensures) (is_status c.answer.result)
 
 pub returns-clause-usage : goal.returns-clause-usage
-returns-clause-usage g c = (λ e. absurd (no_usage c.answer.result (sym c.status_of.ensures ∙ e)), λ none. absurd (not_there _ _ (start_is g c) none))
+returns-clause-usage g c = λ e. absurd (no_usage c.answer.result (sym c.status_of.ensures ∙ e))
+
+pub returns-clause-usage_or_no_memory : goal.returns-clause-usage_or_no_memory
+returns-clause-usage_or_no_memory g c = λ none. absurd (not_there _ _ (start_is g c) none)
 
 pub returns-clause-untouched : goal.returns-clause-untouched
 returns-clause-untouched g c = λ e. early c.answer.result _ (subst (λ s. (s ≡ 2) ⊎ (s ≡ 5)) c.status_of.ensures e) c.answer.ensures.untouched
