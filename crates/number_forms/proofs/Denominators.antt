@@ -1,16 +1,13 @@
 -- Common denominators stay those of the whole, from one joined term to the next.
-use Rattle.std.proofs.Common.{◌≡◌, ℕ, zero, suc, ◌<◌, ◌∷◌, ◌++◌, Some, map, sym, subst, arith, append_assoc}
+use Rattle.std.proofs.Common.{◌≡◌, ℕ, zero, suc, ◌<◌, ◌∷◌, ◌++◌, sym, subst, arith, append_assoc}
 use Rattle.std.specs.Int.{◌∣◌}
-use Rattle.std.specs.Prelude.{slice_get}
 use Rattle.calc_algebra.specs.Numbers.{term_of, terms_of}
-use Rattle.calc_algebra.specs.Surds.{Term, Surd, term_times, surd_times}
+use Rattle.calc_algebra.specs.Surds.{Term, Surd}
 use Rattle.calc_bits.specs.Denominators.{AreWholeOver, Parts, SharesDenominators}
 use Rattle.calc_bits.proofs.MassLaws.{parts_append}
 use Rattle.calc_bits.proofs.Parts.{parts_left, parts_right}
 use Rattle.calc_terms.specs.Trees.{Tree, Trees, none, more, count}
-use Rattle.number_forms.specs.Overflows.{terms_from}
 use Rattle.number_forms.specs.Sums.{removed}
-use Rattle.number_forms.proofs.Worth.{from_next}
 use Rattle.surd_terms.specs.Products.{IsExtracted}
 use Rattle.surd_bits.proofs.Steps.{extracted_den}
 use Rattle.tree_handles.specs.Expressions.{nth, inserted}
@@ -29,13 +26,10 @@ parts_step t u left rest w y e h k = λ d p.
 pub parts_end : (t left w : Surd) → SharesDenominators w (t ++ left) → SharesDenominators w t
 parts_end t left w k = λ d p. parts_left d t left (k d p)
 
--- the products of a term that was still to come were joined
-pub parts_row : (t u v w : Surd) (n : ℕ) (x : Term) (whole : Surd) → slice_get v n ≡ Some x → SharesDenominators (t ++ map (term_times x) w) u → SharesDenominators whole (t ++ surd_times (terms_from n v) w)
-    → SharesDenominators whole (u ++ surd_times (terms_from (suc n) v) w)
-parts_row t u v w n x whole e h k = λ d p.
-    let row : Surd = map (term_times x) w in
-    let rest : Surd = surd_times (terms_from (suc n) v) w in
-    let q : Parts d (t ++ (row ++ rest)) = subst (λ (y : Surd). Parts d (t ++ surd_times y w)) (from_next v n x e) (k d p) in
+-- terms that were still to come were joined
+pub parts_part : (t u left row rest whole : Surd) → left ≡ row ++ rest → SharesDenominators (t ++ row) u → SharesDenominators whole (t ++ left) → SharesDenominators whole (u ++ rest)
+parts_part t u left row rest whole e h k = λ d p.
+    let q : Parts d (t ++ (row ++ rest)) = subst (λ (y : Surd). Parts d (t ++ y)) e (k d p) in
     let r : Parts d ((t ++ row) ++ rest) = subst (Parts d) (sym (append_assoc t row rest)) q in
     parts_append d u rest (h d (parts_left d (t ++ row) rest r)) (parts_right d (t ++ row) rest r)
 

@@ -23,6 +23,11 @@ pub mod ListedTerms
 pub mod FreeBytes
 pub mod Rooms
 pub mod Over
+pub mod Rows
+pub mod Kept
+pub mod Twice
+pub mod Squares
 pub mod WithinBits
+pub mod PowersWithin
 pub mod RationalBits
 pub mod InverseBits

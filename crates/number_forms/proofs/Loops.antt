@@ -1,9 +1,8 @@
 -- Sums to which the terms of a list are joined one by one.
-use Rattle.std.proofs.Common.{◌≡◌, ℕ, zero, suc, ◌+◌, ◌-◌, ◌^◌, min, ◌≤◌, [], ◌∷◌, ◌++◌, true, length, Some, map, refl, sym, ap, ◌∙◌, subst, arith}
-use Rattle.std.specs.Prelude.{slice_get}
+use Rattle.std.proofs.Common.{◌≡◌, ℕ, zero, suc, ◌+◌, ◌-◌, ◌^◌, min, ◌≤◌, [], ◌∷◌, ◌++◌, true, length, refl, sym, ap, ◌∙◌, subst, arith}
 use Rattle.calc_algebra.specs.Numbers.{value}
 use Rattle.calc_algebra.specs.SquareClasses.{Same}
-use Rattle.calc_algebra.specs.Surds.{Term, Surd, term_times, surd_times}
+use Rattle.calc_algebra.specs.Surds.{Term, Surd}
 use Rattle.calc_bits.specs.Denominators.{SharesDenominators}
 use Rattle.calc_terms.specs.Trees.{Tree}
 use Rattle.calc_algebra.proofs.SquareClassLaws.{Same-trans}
@@ -11,8 +10,8 @@ use Rattle.calc_algebra.proofs.TermLaws.{Same-refl}
 use Rattle.node_pool.specs.declared.full.Full.{Full}
 use Rattle.node_pool.specs.State.{State}
 use Rattle.number_forms.specs.Sums.{IsSum, IsSumOf}
-use Rattle.number_forms.proofs.Denominators.{shares_eq, parts_step, parts_end, parts_row}
-use Rattle.number_forms.proofs.Worth.{terms_from, join_step, join_end, row_step}
+use Rattle.number_forms.proofs.Denominators.{shares_eq, parts_step, parts_end, parts_part}
+use Rattle.number_forms.proofs.Worth.{terms_from, join_step, join_end, part_step}
 use Rattle.tree_handles.specs.declared.fault.NumberFault.{NumberFault}
 use Rattle.tree_handles.specs.declared.fault.NumberFault.TheVariants as fault
 use Rattle.tree_handles.specs.Expressions.{plain, IsExpression}
@@ -70,14 +69,13 @@ joined_more i left rest whole w y old now new j e s p g f k st = record {
   stands = st;
 }
 
-pub joined_row : (i n : ℕ) (v u whole : Surd) (x : Term) (old now new : State) → IsJoined i (surd_times (terms_from n v) u) whole old now → slice_get v n ≡ Some x
-    → Gives (without_root i (forest now)) (forest new) i (IsSumOf (value (plain (root_tree i (forest now))) ++ map (term_times x) u)) → KeepsFront (i ∷ []) (forest now) (forest new) → KeepsRefusals now new → Stands new
-    → IsJoined i (surd_times (terms_from (suc n) v) u) whole old new
-joined_row i n v u whole x old now new j e g f k st = record {
+pub joined_part : (i : ℕ) (left row rest whole : Surd) (old now new : State) → IsJoined i left whole old now → left ≡ row ++ rest → Gives (without_root i (forest now)) (forest new) i (IsSumOf (value (plain (root_tree i (forest now))) ++ row))
+    → KeepsFront (i ∷ []) (forest now) (forest new) → KeepsRefusals now new → Stands new → IsJoined i rest whole old new
+joined_part i left row rest whole old now new j e g f k st = record {
   gives = gives_as g (given_rest j.gives) (λ t h. record {
     sum = h.sum;
-    worth = row_step (value (plain (root_tree i (forest now)))) (value t) v u n x whole e h.worth (given_told j.gives).worth;
-    parts = parts_row (value (plain (root_tree i (forest now)))) (value t) v u n x whole e h.parts (given_told j.gives).parts;
+    worth = part_step (value (plain (root_tree i (forest now)))) (value t) left row rest whole e h.worth (given_told j.gives).worth;
+    parts = parts_part (value (plain (root_tree i (forest now)))) (value t) left row rest whole e h.parts (given_told j.gives).parts;
   });
   front = front_after_one behind_first j.front f;
   kept = kept_after j.kept k;

@@ -1,5 +1,5 @@
 -- What a call on Numbers is refused for, from the call that was refused.
-use Rattle.std.proofs.Common.{◌≡◌, ℕ, ◌+◌, ◌*◌, ◌/◌, ◌<◌, ◌≤◌, false, true, Some, Result, Ok, Err, sym, ap, ◌∙◌, subst, arith}
+use Rattle.std.proofs.Common.{◌≡◌, ℕ, ◌+◌, ◌*◌, ◌/◌, ◌<◌, ◌≤◌, false, true, Some, Result, Ok, Err, inl, inr, refl, sym, ap, ◌∙◌, subst, arith}
 use Rattle.std.specs.Prelude.{IfErr, IsErr, IsErrAnd}
 use Rattle.calc_algebra.specs.Numbers.{term_of, value}
 use Rattle.calc_algebra.specs.SquareClasses.{Same}
@@ -10,7 +10,7 @@ use Rattle.calc_algebra.proofs.TermLaws.{Same-append, Same-refl}
 use Rattle.calc_bits.specs.Denominators.{SharesDenominators}
 use Rattle.number_forms.specs.Answers.{IsNumberOver, IsPowerOver}
 use Rattle.number_forms.proofs.Over.{shares_append, squared_power}
-use Rattle.number_forms.specs.Overflows.{JoinOverflows, SumOverflows, ProductOverflows, PowerOverflows}
+use Rattle.number_forms.specs.Overflows.{JoinOverflows, SumOverflows, ProductOverflows, SquareOverflows, PowerOverflows}
 use Rattle.tree_handles.specs.Faults.{OfOverflow}
 use Rattle.rational128.specs.declared.overflow.Overflow.{Overflow}
 use Rattle.surd_terms.specs.Calculations.{calculation_of, first_misfit, joining_calculations}
@@ -65,7 +65,7 @@ power_overflows_more v m n o l p = record {
   product = p.product;
 }
 
-pub square_overflows : (v : Surd) (h : Tree) (n : ℕ) (o : Overflow) → 1 ≤ n / 2 → IsPowerOver v (n / 2) h → ProductOverflows (value h) (value h) o → PowerOverflows v n o
+pub square_overflows : (v : Surd) (h : Tree) (n : ℕ) (o : Overflow) → 1 ≤ n / 2 → IsPowerOver v (n / 2) h → SquareOverflows (value h) o → PowerOverflows v n o
 square_overflows v h n o l i p = record {
   low = n / 2;
   high = n / 2;
@@ -76,7 +76,7 @@ square_overflows v h n o l i p = record {
   second = h;
   first_power = i;
   second_power = i;
-  product = p;
+  product = inr (refl, p);
 }
 
 pub last_overflows : (h q a : Tree) (n : ℕ) (o : Overflow) → 1 ≤ n / 2 → 2 * (n / 2) + 1 ≤ n → IsPowerOver (value a) (n / 2) h → IsNumberOver (surd_times (value h) (value h)) q → IsPowerOver (value a) 1 a
@@ -91,5 +91,5 @@ last_overflows h q a n o l w s i j p = record {
   second = a;
   first_power = squared_power (value a) h q (n / 2) s i;
   second_power = j;
-  product = p;
+  product = inl p;
 }

@@ -1,7 +1,6 @@
 -- No operation overflows on Numbers whose sum, product, power or inverse has few bits.
 use Rattle.std.proofs.Common.{◌≡◌, ℕ, zero, suc, ◌+◌, ◌*◌, ◌/◌, ◌^◌, ◌≤◌, ◌<◌, [], ◌∷◌, ◌++◌, Bool, true, false, Some, None, inl, inr, pos, map, max, if◌then◌else◌, refl, sym, ap, ◌∙◌, subst, arith, append_assoc}
 use Rattle.std.specs.Prelude.{slice_get}
-use Rattle.std.proofs.lemmas.Nat.{mul-le}
 use Rattle.calc_algebra.specs.Numbers.{Rises, is_number, term_of, terms_of, value}
 use Rattle.calc_algebra.specs.SquareClasses.{Same}
 use Rattle.calc_algebra.specs.Surds.{Term, Surd, term_times, surd_times}
@@ -11,13 +10,12 @@ use Rattle.calc_algebra.proofs.SurdLaws.{map-append', surd_times-append}
 use Rattle.calc_bits.specs.Bounds.{HasFewBits}
 use Rattle.calc_bits.specs.Denominators.{SharesDenominators, magnitude_over}
 use Rattle.calc_bits.specs.Masses.{root_above, term_mass, mass, IsHeld}
-use Rattle.calc_bits.proofs.Held.{held_times}
-use Rattle.calc_bits.proofs.NoLarger.{no_larger_power, held_so_far}
+use Rattle.calc_bits.proofs.NoLarger.{held_so_far}
 use Rattle.calc_bits.proofs.Parts.{held_left, held_right, held_pair}
 use Rattle.calc_terms.specs.Gcd.{gcd}
 use Rattle.calc_terms.specs.Fractions.{whole_fraction}
 use Rattle.calc_terms.specs.Trees.{Tree, add, count}
-use Rattle.number_forms.specs.Overflows.{terms_from, SumOverflows, RowOverflows, ProductOverflows, PowerOverflows, InverseOverflows, inverting_calculations}
+use Rattle.number_forms.specs.Overflows.{terms_from, SumOverflows, RowOverflows, ProductOverflows, InverseOverflows, inverting_calculations}
 use Rattle.number_forms.specs.Sums.{IsSum}
 use Rattle.number_forms.proofs.LastSums.{sum_is}
 use Rattle.number_forms.proofs.Shaped.{nth_of_terms}
@@ -50,32 +48,32 @@ before_from (suc n) (x ∷ v) = ap (λ (w : Surd). x ∷ w) (before_from n v)
 at_place : (n : ℕ) (v : Surd) (x : Term) → slice_get v n ≡ Some x → v ≡ before n v ++ (x ∷ terms_from (suc n) v)
 at_place n v x e = before_from n v ∙ ap (λ (w : Surd). before n v ++ w) (from_next v n x e)
 
-proper_at : (v : Surd) (n : ℕ) (x : Term) → AreProper v → slice_get v n ≡ Some x → IsProper x
+pub proper_at : (v : Surd) (n : ℕ) (x : Term) → AreProper v → slice_get v n ≡ Some x → IsProper x
 proper_at [] n x a e = cc
 proper_at (y ∷ v) zero x (a, b) e = let f : y ≡ x = cc in subst IsProper f a
 proper_at (y ∷ v) (suc n) x (a, b) e = proper_at v n x b e
 
 -- ---- sums
 
-sum_proper : (t : Tree) → IsSum t → AreProper (value t)
+pub sum_proper : (t : Tree) → IsSum t → AreProper (value t)
 sum_proper t h = let s : IsSum (add (children_of t)) = subst IsSum (sum_is t h) h in subst AreProper (sym (sum_value t h)) (terms_proper (children_of t) s.0)
 
-sum_rises : (t : Tree) → IsSum t → Rises (value t)
+pub sum_rises : (t : Tree) → IsSum t → Rises (value t)
 sum_rises t h = let s : IsSum (add (children_of t)) = subst IsSum (sum_is t h) h in subst Rises (sym (sum_value t h)) s.1
 
 -- a term of the sum with the one behind it
-pair_held : (t : Tree) (b : Term) (rest : Surd) (at h l : ℕ) → IsSum t → at < count (children_of t) → IsHeld (value t ++ (b ∷ rest)) h l → IsHeld (term_of (nth at (children_of t)) ∷ b ∷ []) h l
+pub pair_held : (t : Tree) (b : Term) (rest : Surd) (at h l : ℕ) → IsSum t → at < count (children_of t) → IsHeld (value t ++ (b ∷ rest)) h l → IsHeld (term_of (nth at (children_of t)) ∷ b ∷ []) h l
 pair_held t b rest at h l is within k =
     let ts : Surd = terms_of (children_of t) in
     let a : Term = term_of (nth at (children_of t)) in
     let split : value t ≡ before at ts ++ (a ∷ terms_from (suc at) ts) = sum_value t is ∙ at_place at ts a (nth_of_terms (children_of t) at within) in
     held_pair (before at ts) a (terms_from (suc at) ts) [] b rest h l (subst (λ (v : Surd). IsHeld (v ++ (b ∷ rest)) h l) split k)
 
-no_misfit : (a b : Term) (h l : ℕ) (o : Overflow) → IsHeld (a ∷ b ∷ []) h l → 2 * h + 4 * l ≤ 124 → Some (calculation_of o) ≡ first_misfit (joining_calculations a b) → ⊥
+pub no_misfit : (a b : Term) (h l : ℕ) (o : Overflow) → IsHeld (a ∷ b ∷ []) h l → 2 * h + 4 * l ≤ 124 → Some (calculation_of o) ≡ first_misfit (joining_calculations a b) → ⊥
 no_misfit a b h l o k few m = let n : first_misfit (joining_calculations a b) ≡ None = joins_fit a b h l k few in cc
 
 -- the sum so far, with what is left
-so_far : (t : Tree) (v w : Surd) (h l : ℕ) (whole : Surd) → whole ≡ v ++ w → IsSum t → Same (value t ++ w) whole → SharesDenominators whole (value t ++ w) → IsHeld whole h l → IsHeld (value t ++ w) h l
+pub so_far : (t : Tree) (v w : Surd) (h l : ℕ) (whole : Surd) → whole ≡ v ++ w → IsSum t → Same (value t ++ w) whole → SharesDenominators whole (value t ++ w) → IsHeld whole h l → IsHeld (value t ++ w) h l
 so_far t v w h l whole e is s f k =
     held_so_far (value t) v w h l (sum_proper t is) (sum_rises t is) (subst (λ (x : Surd). Same (value t ++ w) x) e s) (subst (λ (x : Surd). SharesDenominators x (value t ++ w)) e f) (subst (λ (x : Surd). IsHeld x h l) e k)
 
@@ -95,7 +93,7 @@ rest_positive n root (suc rest) p e = omega arith
 product_positive : (a b : ℕ) → 0 < a → 0 < b → 0 < a * b
 product_positive a b h k = grind arith
 
-no_product_misfit : (a b : Term) (h l : ℕ) (c : Calculation) → IsProper a → IsProper b → IsHeld (term_times a b ∷ []) h l → 2 * h + 4 * l ≤ 124 → IsProductMisfit a b (Some c) → ⊥
+pub no_product_misfit : (a b : Term) (h l : ℕ) (c : Calculation) → IsProper a → IsProper b → IsHeld (term_times a b ∷ []) h l → 2 * h + 4 * l ≤ 124 → IsProductMisfit a b (Some c) → ⊥
 no_product_misfit a b h l c p q k few m =
     let root : a.radicand * b.radicand ≡ m.root * m.root * m.rest = m.square radicands in
     let rest : 0 < m.rest = rest_positive (a.radicand * b.radicand) m.root m.rest (product_positive a.radicand b.radicand p.positive q.positive) root in
@@ -110,7 +108,7 @@ no_product_misfit a b h l c p q k few m =
     radicands = by (has_rational a b)
 
 -- a term with another, once a square is taken before the root of that
-extracted_held : (a t u : Term) (h l : ℕ) → IsExtracted t u → IsHeld (a ∷ u ∷ []) h l → IsHeld (a ∷ t ∷ []) h l
+pub extracted_held : (a t u : Term) (h l : ℕ) → IsExtracted t u → IsHeld (a ∷ u ∷ []) h l → IsHeld (a ∷ t ∷ []) h l
 extracted_held a t u h l x k = record {
   denominator = k.denominator;
   parts = record { positive = k.parts.positive; whole = (k.parts.whole.0, (extracted_den t u k.denominator x k.parts.whole.1.0, tt)) };
@@ -129,7 +127,7 @@ extracted_held a t u h l x k = record {
     same : mass k.scale (a ∷ t ∷ []) ≡ mass k.scale (a ∷ u ∷ [])
     same = ap (λ n. term_mass k.scale k.scale a + (max k.scale (root_above n) + 0)) (ap (λ n. n * n * t.radicand) magnitude ∙ square (magnitude_over k.scale u.coefficient) x.root t.radicand u.radicand x.square)
 
-row_within : (p : Tree) (x : Term) (w : Surd) (h l : ℕ) (o : Overflow) → IsSum p → IsProper x → AreProper w → IsHeld (value p ++ map (term_times x) w) h l → 2 * h + 4 * l ≤ 124 → RowOverflows (value p) x w o → ⊥
+pub row_within : (p : Tree) (x : Term) (w : Surd) (h l : ℕ) (o : Overflow) → IsSum p → IsProper x → AreProper w → IsHeld (value p ++ map (term_times x) w) h l → 2 * h + 4 * l ≤ 124 → RowOverflows (value p) x w o → ⊥
 row_within p x w h l o is proper are k few r = elim r.cause [
   | inl m ↦
       let row : IsHeld (map (term_times x) w) h l = held_right (value p) (map (term_times x) w) h l k in
@@ -164,22 +162,6 @@ product_within v w o pv pw b p =
 -- of two Numbers
 pub numbers_within : (a b : Tree) (o : Overflow) → is_number a ≡ true → is_number b ≡ true → HasFewBits (surd_times (value a) (value b)) → ProductOverflows (value a) (value b) o → ⊥
 numbers_within a b o p q = product_within (value a) (value b) o (value_proper a (number_words a p)) (value_proper b (number_words b q))
-
--- ---- powers
-
-few_together : (a b n h l : ℕ) → a + b ≤ n → n * (2 * h + 4 * l) ≤ 124 → 2 * (a * h + b * h) + 4 * (a * l + b * l) ≤ 124
-few_together a b n h l w few = let x : (a + b) * (2 * h + 4 * l) ≤ n * (2 * h + 4 * l) = mul-le (a + b) (2 * h + 4 * l) n (2 * h + 4 * l) w (omega arith) in omega arith
-
-pub power_within : (v : Surd) (n h l : ℕ) (o : Overflow) → IsHeld v h l → n * (2 * h + 4 * l) ≤ 124 → PowerOverflows v n o → ⊥
-power_within v n h l o k few p =
-    let first : IsHeld (value p.first) (p.low * h) (p.low * l) = (no_larger_power p.first v p.low p.low_positive p.first_power.number p.first_power.worth p.first_power.parts).held h l k in
-    let second : IsHeld (value p.second) (p.high * h) (p.high * l) = (no_larger_power p.second v p.high p.high_positive p.second_power.number p.second_power.worth p.second_power.parts).held h l k in
-    numbers_within p.first p.second o p.first_power.number p.second_power.number (record {
-      high = p.low * h + p.high * h;
-      low = p.low * l + p.high * l;
-      held = held_times (value p.first) (value p.second) (p.low * h) (p.high * h) (p.low * l) (p.high * l) first second;
-      few = few_together p.low p.high n h l p.within few;
-    }) p.product
 
 -- ---- inverses
 

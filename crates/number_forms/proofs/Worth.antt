@@ -1,5 +1,5 @@
 -- What a sum is worth, from one joined term to the next.
-use Rattle.std.proofs.Common.{◌≡◌, ℕ, zero, suc, [], ◌∷◌, ◌++◌, Some, length, map, refl, ap, subst, append_assoc}
+use Rattle.std.proofs.Common.{◌≡◌, ℕ, zero, suc, ◌-◌, ◌≤◌, [], ◌∷◌, ◌++◌, Some, length, map, refl, ap, ◌∙◌, subst, append_assoc, arith}
 use Rattle.std.specs.Prelude.{slice_get}
 pub use Rattle.number_forms.specs.Overflows.{terms_from}
 use Rattle.calc_algebra.specs.SquareClasses.{Same}
@@ -23,6 +23,23 @@ pub from_end : (v : Surd) → terms_from (length v) v ≡ []
 from_end [] = refl
 from_end (x ∷ v) = from_end v
 
+-- terms from a place on, from a later one on
+pub from_from : (m n : ℕ) (v : Surd) → m ≤ n → terms_from (n - m) (terms_from m v) ≡ terms_from n v
+from_from zero n v l = ap (λ k. terms_from k v) (omega arith)
+from_from (suc m) zero v l = absurd (omega arith)
+from_from (suc m) (suc n) [] l = nothing (suc n - suc m)
+  where
+    nothing : (k : ℕ) → terms_from k [] ≡ []
+    nothing zero = refl
+    nothing (suc k) = refl
+from_from (suc m) (suc n) (x ∷ v) l = ap (λ k. terms_from k (terms_from m v)) (omega arith) ∙ from_from m n v (omega arith)
+
+pub get_from : (m n : ℕ) (v : Surd) → m ≤ n → slice_get (terms_from m v) (n - m) ≡ slice_get v n
+get_from zero n v l = ap (slice_get v) (omega arith)
+get_from (suc m) zero v l = absurd (omega arith)
+get_from (suc m) (suc n) [] l = refl
+get_from (suc m) (suc n) (x ∷ v) l = ap (slice_get (terms_from m v)) (omega arith) ∙ get_from m n v (omega arith)
+
 -- a term that was still to come was joined
 pub join_step : (t u left rest w : Surd) (y : Term) → left ≡ y ∷ rest → Same u (y ∷ t) → Same (t ++ left) w → Same (u ++ rest) w
 join_step t u left rest w y e h k =
@@ -40,11 +57,11 @@ same_first p q t u h k = Same-trans k (Same-append h (Same-refl t))
 pub products_next : (x : Term) (v : Surd) (n : ℕ) (y : Term) → slice_get v n ≡ Some y → map (term_times x) (terms_from n v) ≡ term_times x y ∷ map (term_times x) (terms_from (suc n) v)
 products_next x v n y e = ap (map (term_times x)) (from_next v n y e)
 
--- the products of a term that was still to come were joined
-pub row_step : (t u v w : Surd) (n : ℕ) (x : Term) (whole : Surd) → slice_get v n ≡ Some x → Same u (t ++ map (term_times x) w) → Same (t ++ surd_times (terms_from n v) w) whole → Same (u ++ surd_times (terms_from (suc n) v) w) whole
-row_step t u v w n x whole e h k =
-    let row = map (term_times x) w in
-    let rest = surd_times (terms_from (suc n) v) w in
-    let next : surd_times (terms_from n v) w ≡ row ++ rest = ap (λ (y : Surd). surd_times y w) (from_next v n x e) in
+pub rows_next : (v w : Surd) (n : ℕ) (x : Term) → slice_get v n ≡ Some x → surd_times (terms_from n v) w ≡ map (term_times x) w ++ surd_times (terms_from (suc n) v) w
+rows_next v w n x e = ap (λ (y : Surd). surd_times y w) (from_next v n x e)
+
+-- terms that were still to come were joined
+pub part_step : (t u left row rest whole : Surd) → left ≡ row ++ rest → Same u (t ++ row) → Same (t ++ left) whole → Same (u ++ rest) whole
+part_step t u left row rest whole e h k =
     let one : Same (u ++ rest) ((t ++ row) ++ rest) = Same-append h (Same-refl rest) in
-    Same-trans one (Same-trans (Same-eq (append_assoc t row rest)) (subst (λ (y : Surd). Same (t ++ y) whole) next k))
+    Same-trans one (Same-trans (Same-eq (append_assoc t row rest)) (subst (λ (y : Surd). Same (t ++ y) whole) e k))

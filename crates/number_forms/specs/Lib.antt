@@ -1,7 +1,9 @@
 pub mod Shapes
 pub mod Readers
 pub mod Sums
+pub mod Squares
 pub mod Answers
+pub mod Kept
 pub mod Joins
 pub mod Inverses
 pub mod Overflows

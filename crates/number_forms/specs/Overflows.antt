@@ -6,7 +6,8 @@ use Rattle.calc_algebra.specs.Surds.{Term, Surd, term_times, surd_times}
 use Rattle.calc_bits.specs.Denominators.{SharesDenominators}
 use Rattle.calc_terms.specs.Trees.{Tree, count}
 use Rattle.number_forms.specs.Answers.{IsPowerOver}
-use Rattle.number_forms.specs.Sums.{IsSum}
+use Rattle.number_forms.specs.Squares.{twice, square_terms}
+use Rattle.number_forms.specs.Sums.{IsSum, IsSumOf}
 use Rattle.rational128.specs.declared.overflow.Overflow.{Overflow}
 use Rattle.surd_terms.specs.Calculations.{Calculation, calculation_of, first_misfit, joining_calculations, inverse_calculations, inverse_of_sum_calculations, IsProductMisfit}
 use Rattle.surd_terms.specs.Products.{IsExtracted}
@@ -66,7 +67,35 @@ pub record ProductOverflows (v w : Surd) (o : Overflow) : Type 0 where
   pub parts : SharesDenominators (surd_times v w) (value partial ++ surd_times (terms_from at v) w)
   pub row : RowOverflows (value partial) factor w o
 
--- the product of two powers cannot be made, whose exponents are at most n together
+-- x times x cannot be joined to a sum
+pub record OwnJoinOverflows (sum : Tree) (x : Term) (o : Overflow) : Type 0 where
+  pub product : Term
+  pub extracted : IsExtracted product (term_times x x)
+  pub joined : JoinOverflows sum product o
+
+-- the square of x is joined to a sum, and then the product of twice x and a term of w cannot be made, or not be joined
+pub record MixedOverflows (sum : Tree) (x : Term) (w : Surd) (o : Overflow) : Type 0 where
+  pub partial : Tree
+  pub with_square : IsSumOf (term_times x x ∷ value sum) partial
+  pub row : RowOverflows (value partial) (twice x) w o
+
+-- the square of x cannot be made, or not be joined to a sum, or the products of twice x and the terms of w cannot
+abbrev pub SquareRowOverflows : Tree → Term → Surd → Overflow → Type 0
+SquareRowOverflows sum x w o = IsProductMisfit x x (Some (calculation_of o)) ⊎ OwnJoinOverflows sum x o ⊎ MixedOverflows sum x w o
+
+-- the square of each term of v is made, and twice its product with each later one; at one of them the sum so far is worth, with the square of the terms
+-- that are left, the whole, over its common denominators, and a product of that term cannot be made or joined
+pub record SquareOverflows (v : Surd) (o : Overflow) : Type 0 where
+  pub at : ℕ
+  pub factor : Term
+  pub here : slice_get v at ≡ Some factor
+  pub partial : Tree
+  pub sum : IsSum partial
+  pub worth : Same (value partial ++ square_terms (terms_from at v)) (square_terms v)
+  pub parts : SharesDenominators (square_terms v) (value partial ++ square_terms (terms_from at v))
+  pub row : SquareRowOverflows partial factor (terms_from (suc at) v) o
+
+-- the product of two powers cannot be made, or the square of one, whose exponents are at most n together
 pub record PowerOverflows (v : Surd) (n : ℕ) (o : Overflow) : Type 0 where
   pub low : ℕ
   pub high : ℕ
@@ -77,7 +106,7 @@ pub record PowerOverflows (v : Surd) (n : ℕ) (o : Overflow) : Type 0 where
   pub second : Tree
   pub first_power : IsPowerOver v low first
   pub second_power : IsPowerOver v high second
-  pub product : ProductOverflows (value first) (value second) o
+  pub product : ProductOverflows (value first) (value second) o ⊎ ((first ≡ second) × SquareOverflows (value first) o)
 
 -- the calculations of the inverse of one term, or of two
 abbrev pub inverting_calculations : Surd → List Calculation

@@ -10,8 +10,10 @@ ghost use Rattle.calc_room.specs.Spans.{Spans, SpansTree};
 ghost use Rattle.calc_terms.specs.Trees.{num, is_num, is_add, size};
 ghost use Rattle.node_pool.specs.State.{free_of};
 ghost use Rattle.number_forms.specs.Answers.{IsNumberOf, AnswersRationals, IsNumberOver};
+ghost use Rattle.number_forms.specs.Kept.{AnswersItself};
 ghost use Rattle.number_forms.specs.Listings.{Lists};
 ghost use Rattle.number_forms.specs.Overflows.{SumOverflows};
+ghost use Rattle.number_forms.specs.Readers.{is_zero};
 ghost use Rattle.number_forms.specs.Rooms.{LacksRoom, joining_need};
 ghost use Rattle.number_forms.specs.Sums.{IsSum, IsSumOf};
 ghost use Rattle.tree_handles.specs.Standing.{LacksBytes, Stands, forest, KeepsRefusals, Refuses};
@@ -22,7 +24,7 @@ ghost use Rattle.tree_handles.specs.Roots.{without_root};
 
 use crate::joining::join_term;
 use crate::listing::{FEW, Listing, MANY, NONE};
-use crate::rationals::{is_rational, take_rationals};
+use crate::rationals::{is_rational, keep_other, take_rationals};
 use crate::read::{is_zero, term_count};
 use crate::term::listed_term;
 use calc_terms::{Kind, Rat};
@@ -32,7 +34,7 @@ use tree_handles::{
     Handle, NumberFault, add_child, children, kind, move_last, node, number, release, take_child,
 };
 
-/// The sum of two Numbers, which are consumed.
+/// The sum of two Numbers, which are consumed. 0 and a Number that is no rational are that tree as it stands.
 pub fn add_numbers(pool: &mut Pool, a: Handle, b: Handle) -> Result<Handle, NumberFault>
     requires stands { Stands pool.old }
     requires first { IsHanded a (forest pool.old) }
@@ -46,6 +48,8 @@ pub fn add_numbers(pool: &mut Pool, a: Handle, b: Handle) -> Result<Handle, Numb
     ensures kept { OnOk result (KeepsRefusals pool.old pool.new) }
     ensures faults { IfErr result (Faults pool.old pool.new) }
     ensures overflow { (is_num (tree_of a pool.old) && is_num (tree_of b pool.old)) ≡ false → IfErr result (OfOverflow (SumOverflows (value (tree_of a pool.old)) (value (tree_of b pool.old)))) }
+    ensures first_zero { is_zero (tree_of a pool.old) ≡ true → is_num (tree_of b pool.old) ≡ false → AnswersItself b pool.old pool.new result }
+    ensures second_zero { is_zero (tree_of b pool.old) ≡ true → is_num (tree_of a pool.old) ≡ false → AnswersItself a pool.old pool.new result }
     ensures measured { IfOk result (λ h. IsNoLarger (value (tree_of a pool.old) ++ value (tree_of b pool.old)) (value (tree_of h pool.new))) }
     ensures bits { HasFewBits (value (tree_of a pool.old) ++ value (tree_of b pool.old)) → IfErr result (OfOverflow (λ o. ⊥)) }
     ensures caused { IfErr result (IsCaused pool.new) }
@@ -82,8 +86,38 @@ fn add_rationals(pool: &mut Pool, a: Handle, b: Handle) -> Result<Handle, Number
     Ok(number(pool, sum)?)
 }
 
-/// The same by their terms.
+/// The same where one is no rational: 0 and a Number are that tree.
 fn add_terms(pool: &mut Pool, a: Handle, b: Handle) -> Result<Handle, NumberFault>
+    requires stands { Stands pool.old }
+    requires first { IsHanded a (forest pool.old) }
+    requires second { IsHanded b (forest pool.old) }
+    requires apart { (a == b) ≡ false }
+    requires first_number { is_number (tree_of a pool.old) ≡ true }
+    requires second_number { is_number (tree_of b pool.old) ≡ true }
+    ensures ok { IfOk result (λ h. Gives (without_root b (without_root a (forest pool.old))) (forest pool.new) h (IsNumberOver (value (tree_of a pool.old) ++ value (tree_of b pool.old)))) }
+    ensures front { KeepsFront (a ∷ b ∷ []) (forest pool.old) (forest pool.new) }
+    ensures kept { OnOk result (KeepsRefusals pool.old pool.new) }
+    ensures faults { IfErr result (Faults pool.old pool.new) }
+    ensures overflow { IfErr result (OfOverflow (SumOverflows (value (tree_of a pool.old)) (value (tree_of b pool.old)))) }
+    ensures caused { IfErr result (IsCaused pool.new) }
+    ensures room { (gs : List ℕ) → SpansTree gs (tree_of a pool.old) → SpansTree gs (tree_of b pool.old) → IfErr result (LacksRoom sum_need (free_of pool.old + size (tree_of a pool.old) + size (tree_of b pool.old)) gs) }
+    ensures first_zero { is_zero (tree_of a pool.old) ≡ true → AnswersItself b pool.old pool.new result }
+    ensures second_zero { is_zero (tree_of a pool.old) ≡ false → is_zero (tree_of b pool.old) ≡ true → AnswersItself a pool.old pool.new result }
+    ensures stands { Stands pool.new }
+{
+    if is_zero(pool, a.id()) {
+        keep_other(pool, a, &b);
+        Ok(b)
+    } else if is_zero(pool, b.id()) {
+        keep_other(pool, b, &a);
+        Ok(a)
+    } else {
+        add_others(pool, a, b)
+    }
+}
+
+/// The same by their terms.
+fn add_others(pool: &mut Pool, a: Handle, b: Handle) -> Result<Handle, NumberFault>
     requires stands { Stands pool.old }
     requires first { IsHanded a (forest pool.old) }
     requires second { IsHanded b (forest pool.old) }

@@ -14,6 +14,7 @@ mod rationals;
 mod read;
 mod recognize;
 mod shape;
+mod squaring;
 mod term;
 
 pub use adding::add_numbers;

@@ -5,14 +5,16 @@ ghost use Rattle.calc_terms.specs.Fractions.{Fraction};
 ghost use Rattle.calc_algebra.specs.Numbers.{is_number, value};
 ghost use Rattle.calc_bits.specs.Bounds.{HasFewBits, IsNoLarger};
 ghost use Rattle.calc_measures.specs.PlainValues.{calculated};
+ghost use Rattle.calc_algebra.specs.Reduced.{is_num_one};
 ghost use Rattle.calc_algebra.specs.Surds.{term_times, surd_times};
 ghost use Rattle.calc_room.specs.Needs.{product_need};
 ghost use Rattle.calc_room.specs.Spans.{IsSpanned, Spans, SpansTree};
 ghost use Rattle.calc_terms.specs.Trees.{num, is_num, size};
 ghost use Rattle.node_pool.specs.State.{free_of};
 ghost use Rattle.number_forms.specs.Answers.{IsNumberOf, AnswersRationals, IsNumberOver};
+ghost use Rattle.number_forms.specs.Kept.{AnswersItself};
 ghost use Rattle.number_forms.specs.Listings.{Lists};
-ghost use Rattle.number_forms.specs.Overflows.{RowOverflows, ProductOverflows};
+ghost use Rattle.number_forms.specs.Overflows.{terms_from, RowOverflows, ProductOverflows};
 ghost use Rattle.number_forms.specs.Rooms.{LacksRoom, joining_need};
 ghost use Rattle.number_forms.specs.Sums.{IsSum, IsSumOf};
 ghost use Rattle.tree_handles.specs.Causes.{IsCaused};
@@ -25,8 +27,8 @@ ghost use Rattle.tree_handles.specs.Standing.{Stands, forest, KeepsRefusals};
 use crate::adding::number_of;
 use crate::joining::{clean_radicand, join_term};
 use crate::listing::{FEW, Listing, MANY, NONE};
-use crate::rationals::{is_rational, take_rationals};
-use crate::read::term_count;
+use crate::rationals::{is_rational, keep_other, take_rationals};
+use crate::read::{is_num_one, term_count};
 use crate::term::{listed_term, nth_term};
 use calc_terms::Kind;
 use node_pool::{Id, Pool};
@@ -34,7 +36,7 @@ use rational128::mul;
 use surd_terms::{Term, product_with};
 use tree_handles::{Handle, NumberFault, node, number, release};
 
-/// The product of two Numbers, which are consumed.
+/// The product of two Numbers, which are consumed. 1 times a Number that is no rational is that tree as it stands.
 pub fn multiply_numbers(pool: &mut Pool, a: Handle, b: Handle) -> Result<Handle, NumberFault>
     requires stands { Stands pool.old }
     requires first { IsHanded a (forest pool.old) }
@@ -48,6 +50,8 @@ pub fn multiply_numbers(pool: &mut Pool, a: Handle, b: Handle) -> Result<Handle,
     ensures kept { OnOk result (KeepsRefusals pool.old pool.new) }
     ensures faults { IfErr result (Faults pool.old pool.new) }
     ensures overflow { (is_num (tree_of a pool.old) && is_num (tree_of b pool.old)) ≡ false → IfErr result (OfOverflow (ProductOverflows (value (tree_of a pool.old)) (value (tree_of b pool.old)))) }
+    ensures first_one { is_num_one (tree_of a pool.old) ≡ true → is_num (tree_of b pool.old) ≡ false → AnswersItself b pool.old pool.new result }
+    ensures second_one { is_num_one (tree_of b pool.old) ≡ true → is_num (tree_of a pool.old) ≡ false → AnswersItself a pool.old pool.new result }
     ensures measured { IfOk result (λ h. IsNoLarger (surd_times (value (tree_of a pool.old)) (value (tree_of b pool.old))) (value (tree_of h pool.new))) }
     ensures bits { HasFewBits (surd_times (value (tree_of a pool.old)) (value (tree_of b pool.old))) → IfErr result (OfOverflow (λ o. ⊥)) }
     ensures caused { IfErr result (IsCaused pool.new) }
@@ -84,8 +88,38 @@ fn multiply_rationals(pool: &mut Pool, a: Handle, b: Handle) -> Result<Handle, N
     Ok(number(pool, product)?)
 }
 
-/// The same by their terms.
+/// The same where one is no rational: 1 times a Number is that tree.
 fn multiply_terms(pool: &mut Pool, a: Handle, b: Handle) -> Result<Handle, NumberFault>
+    requires stands { Stands pool.old }
+    requires first { IsHanded a (forest pool.old) }
+    requires second { IsHanded b (forest pool.old) }
+    requires apart { (a == b) ≡ false }
+    requires first_number { is_number (tree_of a pool.old) ≡ true }
+    requires second_number { is_number (tree_of b pool.old) ≡ true }
+    ensures ok { IfOk result (λ h. Gives (without_root b (without_root a (forest pool.old))) (forest pool.new) h (IsNumberOver (surd_times (value (tree_of a pool.old)) (value (tree_of b pool.old))))) }
+    ensures front { KeepsFront (a ∷ b ∷ []) (forest pool.old) (forest pool.new) }
+    ensures kept { OnOk result (KeepsRefusals pool.old pool.new) }
+    ensures faults { IfErr result (Faults pool.old pool.new) }
+    ensures overflow { IfErr result (OfOverflow (ProductOverflows (value (tree_of a pool.old)) (value (tree_of b pool.old)))) }
+    ensures caused { IfErr result (IsCaused pool.new) }
+    ensures room { (gs : List ℕ) → SpansTree gs (tree_of a pool.old) → SpansTree gs (tree_of b pool.old) → IfErr result (LacksRoom product_need (free_of pool.old + size (tree_of a pool.old) + size (tree_of b pool.old)) gs) }
+    ensures first_one { is_num_one (tree_of a pool.old) ≡ true → AnswersItself b pool.old pool.new result }
+    ensures second_one { is_num_one (tree_of a pool.old) ≡ false → is_num_one (tree_of b pool.old) ≡ true → AnswersItself a pool.old pool.new result }
+    ensures stands { Stands pool.new }
+{
+    if is_num_one(pool, a.id()) {
+        keep_other(pool, a, &b);
+        Ok(b)
+    } else if is_num_one(pool, b.id()) {
+        keep_other(pool, b, &a);
+        Ok(a)
+    } else {
+        multiply_others(pool, a, b)
+    }
+}
+
+/// The same by their terms.
+fn multiply_others(pool: &mut Pool, a: Handle, b: Handle) -> Result<Handle, NumberFault>
     requires stands { Stands pool.old }
     requires first { IsHanded a (forest pool.old) }
     requires second { IsHanded b (forest pool.old) }
@@ -193,19 +227,20 @@ fn join_rows<const N: usize>(
 {
     for at in 0..term_count(pool, a) {
         let term = nth_term(pool, a, at);
-        join_products(pool, sum, list, term, b, terms)?;
+        join_products(pool, sum, list, term, b, terms, 0)?;
     }
     Ok(())
 }
 
-/// Joins the product of a term and each term of a Number, another root, to a sum.
-fn join_products<const N: usize>(
+/// Joins the product of a term and each term of a Number, another root, from a place on to a sum.
+pub(crate) fn join_products<const N: usize>(
     pool: &mut Pool,
     sum: &Handle,
     list: &mut Listing<N>,
     term: Term,
     number: Id,
     terms: &Listing<N>,
+    from: u16,
 ) -> Result<(), NumberFault>
     requires stands { Stands pool.old }
     requires sum { Gives (without_root sum.now (forest pool.old)) (forest pool.old) sum.now IsSum }
@@ -213,17 +248,17 @@ fn join_products<const N: usize>(
     requires handed { IsHanded number (without_root sum.now (forest pool.old)) }
     requires number { is_number (tree_of number pool.old) ≡ true }
     requires terms { Lists terms.now number (forest pool.old) }
-    ensures ok { OnOk result (Gives (without_root sum.now (forest pool.old)) (forest pool.new) sum.now (IsSumOf (value (tree_of sum.now pool.old) ++ map (term_times (term_of term)) (value (tree_of number pool.old))))) }
+    ensures ok { OnOk result (Gives (without_root sum.now (forest pool.old)) (forest pool.new) sum.now (IsSumOf (value (tree_of sum.now pool.old) ++ map (term_times (term_of term)) (terms_from from (value (tree_of number pool.old)))))) }
     ensures lists { OnOk result (Lists list.new sum.now (forest pool.new)) }
     ensures front { KeepsFront (sum.now ∷ []) (forest pool.old) (forest pool.new) }
     ensures kept { OnOk result (KeepsRefusals pool.old pool.new) }
     ensures faults { IfErr result (Faults pool.old pool.new) }
-    ensures overflow { IfErr result (OfOverflow (RowOverflows (value (tree_of sum.now pool.old)) (term_of term) (value (tree_of number pool.old)))) }
+    ensures overflow { IfErr result (OfOverflow (RowOverflows (value (tree_of sum.now pool.old)) (term_of term) (terms_from from (value (tree_of number pool.old))))) }
     ensures caused { IfErr result (IsCaused pool.new) }
     ensures room { (gs : List ℕ) → Spans gs (value (tree_of sum.now pool.old)) → IsSpanned gs (term_of term).radicand → Spans gs (value (tree_of number pool.old)) → IfErr result (LacksRoom joining_need (free_of pool.old + size (tree_of sum.now pool.old)) gs) }
     ensures stands { Stands pool.new }
 {
-    for at in 0..term_count(pool, number) {
+    for at in from..term_count(pool, number) {
         let other = listed_term(pool, number, terms, at);
         let clean = clean_radicand(pool, sum.id(), list, term, other);
         let product = product_with(term, other, clean)?;

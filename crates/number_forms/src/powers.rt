@@ -12,7 +12,7 @@ ghost use Rattle.calc_room.specs.Spans.{SpansTree};
 ghost use Rattle.calc_terms.specs.Trees.{num, is_num, size};
 ghost use Rattle.node_pool.specs.State.{free_of};
 ghost use Rattle.number_forms.specs.Answers.{IsNumberOf, AnswersRationals, IsNumberOver, IsPowerOver};
-ghost use Rattle.number_forms.specs.Overflows.{ProductOverflows, PowerOverflows};
+ghost use Rattle.number_forms.specs.Overflows.{ProductOverflows, SquareOverflows, PowerOverflows};
 ghost use Rattle.number_forms.specs.Rooms.{LacksRoom, joining_need, raising_need};
 ghost use Rattle.tree_handles.specs.Causes.{IsCaused};
 ghost use Rattle.tree_handles.specs.Handed.{tree_of, IsHanded, Gives, KeepsFront};
@@ -22,6 +22,7 @@ ghost use Rattle.tree_handles.specs.Standing.{Stands, forest, KeepsRefusals};
 
 use crate::multiplying::product_of;
 use crate::rationals::{is_rational, take_rational};
+use crate::squaring::square_of;
 use node_pool::Pool;
 use rational128::pow;
 use tree_handles::{Handle, NumberFault, move_last, number, release};
@@ -121,7 +122,7 @@ fn square_or_cube(pool: &mut Pool, a: &Handle, n: u128) -> Result<Handle, Number
     ensures room { (gs : List ℕ) → SpansTree gs (tree_of a.now pool.old) → IfErr result (LacksRoom raising_need (free_of pool.old) gs) }
     ensures stands { Stands pool.new }
 {
-    let square = product_of(pool, a, a)?;
+    let square = square_of(pool, a)?;
     if n == 2 {
         Ok(square)
     } else {
@@ -138,12 +139,12 @@ fn squared(pool: &mut Pool, a: Handle) -> Result<Handle, NumberFault>
     ensures front { KeepsFront (a ∷ []) (forest pool.old) (forest pool.new) }
     ensures kept { OnOk result (KeepsRefusals pool.old pool.new) }
     ensures faults { IfErr result (Faults pool.old pool.new) }
-    ensures overflow { IfErr result (OfOverflow (ProductOverflows (value (tree_of a pool.old)) (value (tree_of a pool.old)))) }
+    ensures overflow { IfErr result (OfOverflow (SquareOverflows (value (tree_of a pool.old)))) }
     ensures caused { IfErr result (IsCaused pool.new) }
     ensures room { (gs : List ℕ) → SpansTree gs (tree_of a pool.old) → IfErr result (LacksRoom joining_need (free_of pool.old) gs) }
     ensures stands { Stands pool.new }
 {
-    let square = product_of(pool, &a, &a)?;
+    let square = square_of(pool, &a)?;
     release(pool, a);
     Ok(square)
 }

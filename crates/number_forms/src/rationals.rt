@@ -3,7 +3,7 @@ ghost use Rattle.std.specs.Prelude.{◌≡◌, ◌==◌, ◌≤◌, ◌∷◌, [
 ghost use Rattle.calc_terms.specs.Rat.{value_of};
 ghost use Rattle.calc_terms.specs.Trees.{num, is_num, size};
 ghost use Rattle.node_pool.specs.State.{free_of};
-ghost use Rattle.tree_handles.specs.Handed.{tree_of, IsHanded, KeepsFront};
+ghost use Rattle.tree_handles.specs.Handed.{tree_of, IsHanded, Gives, KeepsFront};
 ghost use Rattle.tree_handles.specs.Expressions.{IsExpression, plain};
 ghost use Rattle.tree_handles.specs.Inside.{tree_at};
 ghost use Rattle.tree_handles.specs.Roots.{without_root};
@@ -11,7 +11,7 @@ ghost use Rattle.tree_handles.specs.Standing.{Stands, forest, KeepsRefusals};
 
 use calc_terms::{Kind, Rat};
 use node_pool::{Id, Pool};
-use tree_handles::{Handle, kind, rational, release};
+use tree_handles::{Handle, kind, move_last, rational, release};
 
 /// Whether a tree is a rational.
 pub(crate) fn is_rational(pool: &Pool, id: Id) -> bool
@@ -23,6 +23,22 @@ pub(crate) fn is_rational(pool: &Pool, id: Id) -> bool
         Kind::Num => true,
         _ => false,
     }
+}
+
+/// One tree is consumed, and another moved to the end.
+pub(crate) fn keep_other(pool: &mut Pool, gone: Handle, kept: &Handle)
+    requires stands { Stands pool.old }
+    requires gone { IsHanded gone (forest pool.old) }
+    requires handed { IsHanded kept.now (forest pool.old) }
+    requires apart { (gone == kept.now) ≡ false }
+    ensures tree { tree_of kept.now pool.new ≡ tree_of kept.now pool.old }
+    ensures gives { Gives (without_root kept.now (without_root gone (forest pool.old))) (forest pool.new) kept.now (λ t. t ≡ tree_of kept.now pool.old) }
+    ensures front { KeepsFront (gone ∷ kept.now ∷ []) (forest pool.old) (forest pool.new) }
+    ensures kept { KeepsRefusals pool.old pool.new }
+    ensures stands { Stands pool.new }
+{
+    release(pool, gone);
+    move_last(pool, kept);
 }
 
 /// The rational that a tree is, which is consumed.

@@ -3,13 +3,14 @@ ghost use Rattle.std.specs.Prelude.{◌≡◌, ◌==◌, ◌<◌, ◌^◌, true,
 ghost use Rattle.calc_terms.specs.Fractions.{whole_fraction};
 ghost use Rattle.calc_algebra.specs.Numbers.{is_number, classes};
 ghost use Rattle.calc_terms.specs.Rat.{value_of};
-ghost use Rattle.calc_algebra.specs.Reduced.{is_reduced, is_half_num, is_whole_num};
+ghost use Rattle.calc_algebra.specs.Reduced.{is_reduced, is_half_num, is_num_one, is_whole_num};
 ghost use Rattle.calc_terms.specs.Trees.{num};
 ghost use Rattle.number_forms.specs.Readers.{is_zero, numerator};
 ghost use Rattle.tree_handles.specs.Expressions.{IsExpression, plain};
 ghost use Rattle.tree_handles.specs.Inside.{tree_at};
 ghost use Rattle.tree_handles.specs.Standing.{Stands, forest};
 
+use crate::recognize::is_one;
 use crate::shape::has_term_shape;
 use calc_terms::{Kind, Rat};
 use node_pool::{Id, Pool};
@@ -23,6 +24,18 @@ pub fn is_zero(pool: &Pool, id: Id) -> bool
 {
     match kind(pool, id) {
         Kind::Num => rational(pool, id).num() == 0,
+        _ => false,
+    }
+}
+
+/// Whether the tree is the rational 1.
+pub(crate) fn is_num_one(pool: &Pool, id: Id) -> bool
+    requires stands { Stands pool.now }
+    requires expression { IsExpression id (forest pool.now) }
+    ensures { result ≡ is_num_one (plain (tree_at id (forest pool.now))) }
+{
+    match kind(pool, id) {
+        Kind::Num => is_one(rational(pool, id)),
         _ => false,
     }
 }

@@ -98,7 +98,8 @@ fn is_zero_rational(q: Rat) -> bool
     q.num() == 0
 }
 
-fn is_one(q: Rat) -> bool
+/// Whether a rational is 1.
+pub(crate) fn is_one(q: Rat) -> bool
     ensures { result ≡ is_one_fraction (value_of q) }
 {
     if q.num() != 1 {

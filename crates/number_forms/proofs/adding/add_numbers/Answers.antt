@@ -2,6 +2,7 @@ use Rattle.std.proofs.Common.{◌≡◌, true, sym, ap, ◌∙◌}
 use Rattle.std.specs.Prelude.{◌&&◌}
 use Rattle.tree_handles.specs.Handed.{tree_of}
 use Rattle.calc_terms.specs.Trees.{is_num}
+use Rattle.number_forms.proofs.Kept.{no_zero}
 use Rattle.number_forms.proofs.Over.{if_number, if_no_larger, of_over}
 use Rattle.number_forms.proofs.Overflows.{refused_as}
 use Rattle.number_forms.proofs.RationalBits.{sum_not_refused}
@@ -74,3 +75,19 @@ returns-then-is_rational-2-clause-bits c = λ few.
 
 pub returns-else-is_rational-clause-bits : goal.returns-else-is_rational-clause-bits
 returns-else-is_rational-clause-bits c = λ few. refused_as c.add_terms.result c.add_terms.ensures.overflow (λ o s. absurd (sum_within _ _ o few s))
+
+-- ---- a tree that stays as it is
+
+pub returns-then-is_rational-2-clause-first_zero : goal.returns-then-is_rational-2-clause-first_zero
+returns-then-is_rational-2-clause-first_zero c = λ zero other.
+    absurd (cc (sym (c.is_rational-then-is_rational.ensures ∙ ap is_num (same_plain _ c.args.b c.args.pool.now c.id-then-is_rational.ensures c.requires.stands c.requires.second.root)) ∙ c.if-is_rational-2.true, other))
+
+pub returns-then-is_rational-2-clause-second_zero : goal.returns-then-is_rational-2-clause-second_zero
+returns-then-is_rational-2-clause-second_zero c = λ zero other.
+    absurd (cc (sym (c.is_rational.ensures ∙ ap is_num (same_plain _ c.args.a c.args.pool.now c.id.ensures c.requires.stands c.requires.first.root)) ∙ c.if-is_rational.true, other))
+
+pub returns-else-is_rational-clause-first_zero : goal.returns-else-is_rational-clause-first_zero
+returns-else-is_rational-clause-first_zero c = λ zero other. c.add_terms.ensures.first_zero zero
+
+pub returns-else-is_rational-clause-second_zero : goal.returns-else-is_rational-clause-second_zero
+returns-else-is_rational-clause-second_zero c = λ zero other. c.add_terms.ensures.second_zero (no_zero (tree_of c.args.a c.args.pool.now) other) zero

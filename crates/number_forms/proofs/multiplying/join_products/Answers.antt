@@ -1,4 +1,4 @@
-use Rattle.std.proofs.Common.{◌≡◌, ℕ, ◌≤◌, ◌∷◌, Some, length, map, sym, ap, ◌∙◌, arith, add-one, rules, ◌+◌}
+use Rattle.std.proofs.Common.{◌≡◌, ℕ, ◌≤◌, ◌∷◌, Some, length, map, sym, ap, ◌∙◌, arith, add-one, rules, ◌+◌, ◌-◌}
 use Rattle.std.specs.Prelude.{slice_get}
 use Rattle.calc_algebra.specs.Numbers.{is_number, value, classes}
 use Rattle.calc_algebra.specs.Surds.{term_times}
@@ -6,7 +6,7 @@ use Rattle.calc_terms.specs.Trees.{Tree, size}
 use Rattle.calc_algebra.proofs.TermLaws.{Same-refl}
 use Rattle.number_forms.proofs.Denominators.{parts_extracted}
 use Rattle.number_forms.proofs.Loops.{joined_none, joined_more, joined_all, from_all, other_plain, other_read, other_expression, gives_rest}
-use Rattle.number_forms.proofs.Worth.{terms_from, products_next, same_first}
+use Rattle.number_forms.proofs.Worth.{terms_from, products_next, same_first, get_from, from_from}
 use Rattle.number_forms.proofs.ListedTerms.{lists_at, lists_kept}
 use Rattle.number_forms.proofs.SumChanges.{read_expression, read_sum}
 use Rattle.tree_handles.proofs.Fronts.{behind_first, front_after_one}
@@ -18,6 +18,7 @@ use Rattle.std.proofs.Common.{inl, inr}
 use Rattle.number_forms.specs.Overflows.{RowOverflows}
 use Rattle.tree_handles.specs.Faults.{OfOverflow}
 use Rattle.number_forms.proofs.Overflows.{passed_on, overflow_as}
+use Rattle.number_forms.proofs.Rows.{product_join_overflows}
 use Rattle.number_forms.proofs.multiplying.join_products.Goals.{After-listed_term-other}
 use Rattle.tree_handles.proofs.Given.{given_told}
 use Rattle.tree_handles.specs.declared.fault.NumberFault.TheVariants as fault
@@ -35,7 +36,7 @@ returns-in_err-product-clause-room g c = λ gs s x t.
 pub returns-in_err-join_term-clause-room : goal.returns-in_err-join_term-clause-room
 returns-in_err-join_term-clause-room g c = λ gs s x t.
     let v = value (tree_of c.args.number c.args.pool.now) in
-    let row = spans_row gs (term_of c.args.term) v x t in
+    let row = spans_row gs (term_of c.args.term) (terms_from c.args.from v) x (spans_from gs v c.args.from t) in
     let left = spans_row gs (term_of c.args.term) (terms_from c.loop-at.at v) x (spans_from gs v c.loop-at.at t) in
     passed_on c.from_residual-in_err-join_term.result c.in_err-join_term.field-0.0 (LacksRoom joining_need (free_of c.args.pool.now + size (tree_of c.args.sum.now c.args.pool.now)) gs) c.from_residual-in_err-join_term.ensures.0 c.from_residual-in_err-join_term.ensures.1
     (full_as c.in_err-join_term.field-0.0 c.in_err-join_term.ensures.room (λ full few. term_lacks gs c.loop-at.invariant.joined c.requires.stands (given_handed c.requires.sum) (spans_append gs _ _ s row) left few))
@@ -47,7 +48,7 @@ pub term_count-at-end-requires-clause-number : goal.term_count-at-end-requires-c
 term_count-at-end-requires-clause-number g c = ap is_number (plain_root c.args.number c.requires.stands (given_other c.requires.sum c.requires.handed).root) ∙ c.requires.number
 
 pub loop-at-init : goal.loop-at-init
-loop-at-init g c = record { joined = joined_none c.args.sum.now (map (term_times (term_of c.args.term)) (value (tree_of c.args.number c.args.pool.now))) c.args.pool.now c.requires.stands c.requires.sum; lists = c.requires.lists }
+loop-at-init g c = record { joined = joined_none c.args.sum.now (map (term_times (term_of c.args.term)) (terms_from c.args.from (value (tree_of c.args.number c.args.pool.now)))) c.args.pool.now c.requires.stands c.requires.sum; begun = omega arith; lists = c.requires.lists }
 
 pub listed_term-other-requires : goal.listed_term-other-requires
 listed_term-other-requires g c = (search rules, (c.loop-at.invariant.joined.stands, (other_expression c.args.number c.loop-at.pool c.loop-at.invariant.joined.stands c.loop-at.invariant.joined.gives c.requires.handed, ((let same = other_read c.args.number c.loop-at.pool c.loop-at.invariant.joined.stands c.loop-at.invariant.joined.gives c.requires.handed ∙ sym (other_plain c.args.number c.requires.sum c.requires.handed.root) in ap is_number same ∙ c.requires.number), (lists_kept c.args.terms.now c.args.number c.args.pool.now c.loop-at.pool c.requires.stands c.loop-at.invariant.joined.stands c.requires.sum c.loop-at.invariant.joined.gives c.requires.handed c.requires.terms, (let same = ap classes (other_read c.args.number c.loop-at.pool c.loop-at.invariant.joined.stands c.loop-at.invariant.joined.gives c.requires.handed ∙ sym (other_plain c.args.number c.requires.sum c.requires.handed.root)) in let all = ap classes (plain_root c.args.number c.requires.stands (given_other c.requires.sum c.requires.handed).root) in omega (arith, same, all, c.term_count-at-end.ensures, c.loop-at-test.true)))))))
@@ -70,6 +71,7 @@ loop-at-preserved g c =
       joined = joined_more c.args.sum.now _ _ _ _ (term_times x y) c.args.pool.now c.loop-at.pool c.join_term.new.pool c.loop-at.invariant.joined next (same_first (term_of c.in_ok-product.product) (term_times x y) _ _ c.in_ok-product.ensures.product (Same-refl _))
           (parts_extracted (term_of c.in_ok-product.product) (term_times x y) _ c.in_ok-product.ensures.extracted)
           c.in_ok-join_term.ensures.ok c.join_term.ensures.front c.in_ok-join_term.ensures.kept c.join_term.ensures.stands;
+      begun = omega (arith, c.loop-at.invariant.begun);
       lists = c.in_ok-join_term.ensures.lists;
     }
 
@@ -79,33 +81,29 @@ returns-clause-ok g c =
     let end : length (value (tree_of c.args.number c.args.pool.now)) ≤ c.loop-at.at = omega (arith, all, c.term_count-at-end.ensures, c.loop-at-test.false) in
     joined_all c.loop-at.invariant.joined (ap (map (term_times (term_of c.args.term))) (from_all (value (tree_of c.args.number c.args.pool.now)) c.loop-at.at end))
 
-read : (g : Over) (c : After-listed_term-other g) → slice_get (value (tree_of c.args.number c.args.pool.now)) c.loop-at.at ≡ Some (term_of c.listed_term-other.result)
-read g c =
+-- the place among the terms from the first on
+here : (g : Over) (c : After-listed_term-other g) → c.args.from ≤ c.loop-at.at → slice_get (terms_from c.args.from (value (tree_of c.args.number c.args.pool.now))) (c.loop-at.at - c.args.from) ≡ Some (term_of c.listed_term-other.result)
+here g c begun =
+    let v = value (tree_of c.args.number c.args.pool.now) in
     let same = other_read c.args.number c.loop-at.pool c.loop-at.invariant.joined.stands c.loop-at.invariant.joined.gives c.requires.handed ∙ sym (other_plain c.args.number c.requires.sum c.requires.handed.root) in
-    ap (λ (t : Tree). slice_get (value t) c.loop-at.at) (sym same) ∙ c.listed_term-other.ensures
+    get_from c.args.from c.loop-at.at v begun ∙ ap (λ (t : Tree). slice_get (value t) c.loop-at.at) (sym same) ∙ c.listed_term-other.ensures
 
 pub returns-in_err-product-clause-overflow : goal.returns-in_err-product-clause-overflow
 returns-in_err-product-clause-overflow g c =
-    passed_on c.from_residual.result (fault.Overflow c.in_err-product.field-0.0) (OfOverflow (RowOverflows (value (tree_of c.args.sum.now c.args.pool.now)) (term_of c.args.term) (value (tree_of c.args.number c.args.pool.now)))) c.from_residual.ensures.0 c.from_residual.ensures.1
-    (record { at = c.loop-at.at; other = term_of c.listed_term-other.result; here = read g (goal.at.returns-in_err-product-clause-overflow g c).After-listed_term-other; cause = inl c.in_err-product.ensures.overflow })
+    passed_on c.from_residual.result (fault.Overflow c.in_err-product.field-0.0) (OfOverflow (RowOverflows (value (tree_of c.args.sum.now c.args.pool.now)) (term_of c.args.term) (terms_from c.args.from (value (tree_of c.args.number c.args.pool.now))))) c.from_residual.ensures.0 c.from_residual.ensures.1
+    (record { at = c.loop-at.at - c.args.from; other = term_of c.listed_term-other.result; here = here g (goal.at.returns-in_err-product-clause-overflow g c).After-listed_term-other c.loop-at.invariant.begun; cause = inl c.in_err-product.ensures.overflow })
 
 pub returns-in_err-join_term-clause-overflow : goal.returns-in_err-join_term-clause-overflow
 returns-in_err-join_term-clause-overflow g c =
+    let v = value (tree_of c.args.number c.args.pool.now) in
     let told = given_told c.loop-at.invariant.joined.gives in
-    passed_on c.from_residual-in_err-join_term.result c.in_err-join_term.field-0.0 (OfOverflow (RowOverflows (value (tree_of c.args.sum.now c.args.pool.now)) (term_of c.args.term) (value (tree_of c.args.number c.args.pool.now)))) c.from_residual-in_err-join_term.ensures.0 c.from_residual-in_err-join_term.ensures.1
+    let left : terms_from (c.loop-at.at - c.args.from) (terms_from c.args.from v) ≡ terms_from c.loop-at.at v = from_from c.args.from c.loop-at.at v c.loop-at.invariant.begun in
+    passed_on c.from_residual-in_err-join_term.result c.in_err-join_term.field-0.0 (OfOverflow (RowOverflows (value (tree_of c.args.sum.now c.args.pool.now)) (term_of c.args.term) (terms_from c.args.from v))) c.from_residual-in_err-join_term.ensures.0 c.from_residual-in_err-join_term.ensures.1
     (overflow_as c.in_err-join_term.field-0.0 c.in_err-join_term.ensures.overflow (λ o j. record {
-      at = c.loop-at.at;
+      at = c.loop-at.at - c.args.from;
       other = term_of c.listed_term-other.result;
-      here = read g (goal.at.returns-in_err-join_term-clause-overflow g c).After-listed_term-other;
-      cause = inr (record {
-        product = term_of c.in_ok-product.product;
-        extracted = c.in_ok-product.ensures.extracted;
-        partial = tree_of c.args.sum.now c.loop-at.pool;
-        sum = told.sum;
-        worth = told.worth;
-        parts = told.parts;
-        joined = j;
-      });
+      here = here g (goal.at.returns-in_err-join_term-clause-overflow g c).After-listed_term-other c.loop-at.invariant.begun;
+      cause = inr (product_join_overflows (sym left) (term_of c.in_ok-product.product) (tree_of c.args.sum.now c.loop-at.pool) c.in_ok-product.ensures.extracted told j);
     }))
 
 pub returns-clause-lists : goal.returns-clause-lists

@@ -6,8 +6,8 @@ use Rattle.calc_terms.specs.Trees.{Tree, size}
 use Rattle.calc_bits.specs.Denominators.{SharesDenominators}
 use Rattle.number_forms.specs.Sums.{IsSumOf}
 use Rattle.number_forms.proofs.ListedTerms.{lists_kept}
-use Rattle.number_forms.proofs.Loops.{IsJoined, joined_none, joined_row, joined_all, from_all, other_plain, other_read, other_expression, gives_rest}
-use Rattle.number_forms.proofs.Worth.{terms_from}
+use Rattle.number_forms.proofs.Loops.{IsJoined, joined_none, joined_part, joined_all, from_all, other_plain, other_read, other_expression, gives_rest}
+use Rattle.number_forms.proofs.Worth.{terms_from, rows_next}
 use Rattle.tree_handles.specs.Handed.{tree_of, Gives}
 use Rattle.surd_terms.specs.Terms.{term_of}
 use Rattle.tree_handles.specs.Roots.{without_root}
@@ -75,7 +75,7 @@ loop-at-preserved g c =
     let here : slice_get (value a) c.loop-at.at ≡ Some x = ap (λ (t : Tree). slice_get (value t) c.loop-at.at) (sym same) ∙ c.nth_term-term.ensures in
     let other = other_plain c.args.b c.loop-at.invariant.joined.gives c.requires.second.root ∙ sym (other_plain c.args.b c.requires.sum c.requires.second.root) in
     let joined = subst (λ (t : Tree). Gives (without_root c.args.sum.now (forest c.loop-at.pool)) (forest c.join_products.new.pool) c.args.sum.now (IsSumOf (value (tree_of c.args.sum.now c.loop-at.pool) ++ map (term_times x) (value t)))) other c.in_ok-join_products.ensures.ok in
-    let next = joined_row c.args.sum.now c.loop-at.at (value a) (value b) _ x c.args.pool.now c.loop-at.pool c.join_products.new.pool c.loop-at.invariant.joined here joined c.join_products.ensures.front c.in_ok-join_products.ensures.kept c.join_products.ensures.stands in
+    let next = joined_part c.args.sum.now _ _ _ _ c.args.pool.now c.loop-at.pool c.join_products.new.pool c.loop-at.invariant.joined (rows_next (value a) (value b) c.loop-at.at x here) joined c.join_products.ensures.front c.in_ok-join_products.ensures.kept c.join_products.ensures.stands in
     record { joined = subst (λ (n : ℕ). IsJoined c.args.sum.now (surd_times (terms_from n (value a)) (value b)) (value (tree_of c.args.sum.now c.args.pool.now) ++ surd_times (value a) (value b)) c.args.pool.now c.join_products.new.pool) (sym (add-one c.loop-at.at)) next; lists = c.in_ok-join_products.ensures.lists }
 
 pub returns-clause-ok : goal.returns-clause-ok

@@ -2,6 +2,7 @@ use Rattle.std.proofs.Common.{◌≡◌, true, sym, ap, ◌∙◌}
 use Rattle.std.specs.Prelude.{◌&&◌}
 use Rattle.tree_handles.specs.Handed.{tree_of}
 use Rattle.calc_terms.specs.Trees.{is_num}
+use Rattle.number_forms.proofs.Kept.{no_one}
 use Rattle.number_forms.proofs.Over.{if_number, if_no_larger, of_over}
 use Rattle.number_forms.proofs.Overflows.{refused_as}
 use Rattle.number_forms.proofs.RationalBits.{product_not_refused}
@@ -74,3 +75,19 @@ returns-then-is_rational-2-clause-bits c = λ few.
 
 pub returns-else-is_rational-clause-bits : goal.returns-else-is_rational-clause-bits
 returns-else-is_rational-clause-bits c = λ few. refused_as c.multiply_terms.result c.multiply_terms.ensures.overflow (λ o s. absurd (numbers_within (tree_of c.args.a c.args.pool.now) (tree_of c.args.b c.args.pool.now) o c.requires.first_number c.requires.second_number few s))
+
+-- ---- a tree that stays as it is
+
+pub returns-then-is_rational-2-clause-first_one : goal.returns-then-is_rational-2-clause-first_one
+returns-then-is_rational-2-clause-first_one c = λ one other.
+    absurd (cc (sym (c.is_rational-then-is_rational.ensures ∙ ap is_num (same_plain _ c.args.b c.args.pool.now c.id-then-is_rational.ensures c.requires.stands c.requires.second.root)) ∙ c.if-is_rational-2.true, other))
+
+pub returns-then-is_rational-2-clause-second_one : goal.returns-then-is_rational-2-clause-second_one
+returns-then-is_rational-2-clause-second_one c = λ one other.
+    absurd (cc (sym (c.is_rational.ensures ∙ ap is_num (same_plain _ c.args.a c.args.pool.now c.id.ensures c.requires.stands c.requires.first.root)) ∙ c.if-is_rational.true, other))
+
+pub returns-else-is_rational-clause-first_one : goal.returns-else-is_rational-clause-first_one
+returns-else-is_rational-clause-first_one c = λ one other. c.multiply_terms.ensures.first_one one
+
+pub returns-else-is_rational-clause-second_one : goal.returns-else-is_rational-clause-second_one
+returns-else-is_rational-clause-second_one c = λ one other. c.multiply_terms.ensures.second_one (no_one (tree_of c.args.a c.args.pool.now) other) one

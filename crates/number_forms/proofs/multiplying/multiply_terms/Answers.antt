@@ -1,39 +1,46 @@
-use Rattle.std.proofs.Common.{inl, ◌+◌}
-use Rattle.number_forms.proofs.Loops.{gives_without}
-use Rattle.tree_handles.proofs.Fronts.{behind_first, behind_later, front_same, front_at, front_without, front_after}
-use Rattle.tree_handles.proofs.Given.{given_other, handed_beside, handed_at, owned}
-use Rattle.calc_room.specs.Needs.{product_need}
-use Rattle.calc_terms.specs.Trees.{size}
-use Rattle.node_pool.specs.State.{free_of}
-use Rattle.number_forms.specs.Rooms.{LacksRoom}
-use Rattle.number_forms.proofs.Overflows.{passed_on}
-use Rattle.number_forms.proofs.Rooms.{full_as, product_lacks}
+use Rattle.std.proofs.Common.{◌≡◌, refl, sym, ap, ◌∙◌}
+use Rattle.calc_algebra.specs.Reduced.{is_num_one}
+use Rattle.number_forms.proofs.Kept.{one_with, with_one}
+use Rattle.number_forms.proofs.SumChanges.{same_plain, read_expression}
 use Rattle.tree_handles.specs.Handed.{tree_of}
+use Rattle.tree_handles.proofs.Given.{gives_as}
+use Rattle.tree_handles.proofs.Roots.{without-swap}
 use Rattle.number_forms.proofs.multiplying.multiply_terms.Goals as goal
+use Rattle.number_forms.proofs.multiplying.multiply_terms.Goals.{After-is_num_one, After-is_num_one-else-is_num_one}
 
-pub returns-in_err-product-clause-room : goal.returns-in_err-product-clause-room
-returns-in_err-product-clause-room c = λ gs s t.
-    passed_on c.from_residual.result c.in_err-product.field-0.0 (LacksRoom product_need (free_of c.args.pool.now + size (tree_of c.args.a c.args.pool.now) + size (tree_of c.args.b c.args.pool.now)) gs) c.from_residual.ensures.0 c.from_residual.ensures.1
-    (full_as c.in_err-product.field-0.0 (c.in_err-product.ensures.room gs s t) (λ full few. product_lacks gs _ _ _ c.requires.first_number c.requires.second_number s t few))
+-- what was read of each
+first : (c : After-is_num_one) → c.is_num_one.result ≡ is_num_one (tree_of c.args.a c.args.pool.now)
+first c = c.is_num_one.ensures ∙ ap is_num_one (same_plain _ c.args.a c.args.pool.now c.id.ensures c.requires.stands c.requires.first.root)
 
-pub release-requires-clause-releasable : goal.release-requires-clause-releasable
-release-requires-clause-releasable c = inl (given_other c.in_ok-product.ensures.ok c.requires.first).root
+second : (c : After-is_num_one-else-is_num_one) → c.is_num_one-else-is_num_one.result ≡ is_num_one (tree_of c.args.b c.args.pool.now)
+second c = c.is_num_one-else-is_num_one.ensures ∙ ap is_num_one (same_plain _ c.args.b c.args.pool.now c.id-else-is_num_one.ensures c.requires.stands c.requires.second.root)
 
-pub release-requires-2-clause-releasable : goal.release-requires-2-clause-releasable
-release-requires-2-clause-releasable c =
-    let gone = c.release.ensures.owned (owned (given_other c.in_ok-product.ensures.ok c.requires.first)) in
-    inl (handed_at (handed_beside c.args.a c.requires.apart (given_other c.in_ok-product.ensures.ok c.requires.second)) gone).root
+pub is_num_one-requires-clause-expression : goal.is_num_one-requires-clause-expression
+is_num_one-requires-clause-expression c = read_expression _ c.args.a c.args.pool.now c.id.ensures c.requires.stands c.requires.first
 
-pub returns-clause-ok : goal.returns-clause-ok
-returns-clause-ok c =
-    let product = c.in_ok-product.ensures.ok in
-    let gone = c.release.ensures.owned (owned (given_other product c.requires.first)) in
-    let b = handed_at (handed_beside c.args.a c.requires.apart (given_other product c.requires.second)) gone in
-    gives_without c.args.b (gives_without c.args.a product c.requires.first.root gone) (handed_beside c.args.a c.requires.apart c.requires.second).root (c.release-2.ensures.owned (owned b))
+pub is_num_one-requires-else-is_num_one-clause-expression : goal.is_num_one-requires-else-is_num_one-clause-expression
+is_num_one-requires-else-is_num_one-clause-expression c = read_expression _ c.args.b c.args.pool.now c.id-else-is_num_one.ensures c.requires.stands c.requires.second
 
-pub returns-clause-front : goal.returns-clause-front
-returns-clause-front c =
-    let product = c.in_ok-product.ensures.ok in
-    let gone = c.release.ensures.owned (owned (given_other product c.requires.first)) in
-    let b = handed_at (handed_beside c.args.a c.requires.apart (given_other product c.requires.second)) gone in
-    front_at (front_without (behind_later behind_first) (front_at (front_without behind_first (front_after front_same c.product_of.ensures.front)) gone)) (c.release-2.ensures.owned (owned b))
+pub returns-then-is_num_one-clause-ok : goal.returns-then-is_num_one-clause-ok
+returns-then-is_num_one-clause-ok c =
+    let at = (goal.at.returns-then-is_num_one-clause-ok c).After-is_num_one in
+    gives_as c.keep_other.ensures.gives refl (λ t e. one_with (tree_of c.args.a c.args.pool.now) (tree_of c.args.b c.args.pool.now) t (sym (first at) ∙ c.if-is_num_one.true) c.requires.second_number e)
+
+pub returns-then-is_num_one-2-clause-ok : goal.returns-then-is_num_one-2-clause-ok
+returns-then-is_num_one-2-clause-ok c =
+    let at = (goal.at.returns-then-is_num_one-2-clause-ok c).After-is_num_one-else-is_num_one in
+    gives_as c.keep_other-then-is_num_one-2.ensures.gives (without-swap c.args.a c.args.b _ c.requires.apart) (λ t e. with_one (tree_of c.args.a c.args.pool.now) (tree_of c.args.b c.args.pool.now) t (sym (second at) ∙ c.if-is_num_one-2.true) c.requires.first_number e)
+
+-- ---- which tree is the answer
+
+pub returns-then-is_num_one-clause-second_one : goal.returns-then-is_num_one-clause-second_one
+returns-then-is_num_one-clause-second_one c = λ no yes. absurd (cc (sym (first (goal.at.returns-then-is_num_one-clause-second_one c).After-is_num_one) ∙ c.if-is_num_one.true, no))
+
+pub returns-then-is_num_one-2-clause-first_one : goal.returns-then-is_num_one-2-clause-first_one
+returns-then-is_num_one-2-clause-first_one c = λ yes. absurd (cc (sym (first (goal.at.returns-then-is_num_one-2-clause-first_one c).After-is_num_one) ∙ c.if-is_num_one.false, yes))
+
+pub returns-else-is_num_one-2-clause-first_one : goal.returns-else-is_num_one-2-clause-first_one
+returns-else-is_num_one-2-clause-first_one c = λ yes. absurd (cc (sym (first (goal.at.returns-else-is_num_one-2-clause-first_one c).After-is_num_one) ∙ c.if-is_num_one.false, yes))
+
+pub returns-else-is_num_one-2-clause-second_one : goal.returns-else-is_num_one-2-clause-second_one
+returns-else-is_num_one-2-clause-second_one c = λ no yes. absurd (cc (sym (second (goal.at.returns-else-is_num_one-2-clause-second_one c).After-is_num_one-else-is_num_one) ∙ c.if-is_num_one-2.false, yes))

@@ -22,7 +22,7 @@ use Rattle.tree_handles.specs.Expressions.{plain}
 use Rattle.tree_handles.specs.Forest.{Forest}
 use Rattle.number_forms.proofs.Over.{of_power, power_itself}
 use Rattle.number_forms.proofs.RationalBits.{at_least_one, power_no_larger, if_power_no_larger, power_not_refused}
-use Rattle.number_forms.proofs.WithinBits.{power_within}
+use Rattle.number_forms.proofs.PowersWithin.{power_within}
 use Rattle.calc_bits.specs.Bounds.{IsNoLargerThanPower}
 use Rattle.tree_handles.specs.Faults.{OfOverflow}
 use Rattle.number_forms.specs.Answers.{IsNumberOf, IsPowerOver}

@@ -20,25 +20,25 @@ use Rattle.number_forms.specs.Rooms.{LacksRoom, raising_need}
 use Rattle.number_forms.proofs.Rooms.{full_as, refusal_as, product_spans, step_lacks, few_for_raising}
 use Rattle.tree_handles.proofs.Room.{given_free}
 use Rattle.number_forms.proofs.powers.square_or_cube.Goals as goal
-use Rattle.number_forms.proofs.powers.square_or_cube.Goals.{After-product_of}
+use Rattle.number_forms.proofs.powers.square_or_cube.Goals.{After-square_of}
 
 pub returns-in_err-square-clause-room : goal.returns-in_err-square-clause-room
 returns-in_err-square-clause-room c = λ gs s.
     passed_on c.from_residual.result c.in_err-square.field-0.0 (LacksRoom raising_need (free_of c.args.pool.now) gs) c.from_residual.ensures.0 c.from_residual.ensures.1
-    (full_as c.in_err-square.field-0.0 (c.in_err-square.ensures.room gs s s) (λ full few. few_for_raising gs _ few))
+    (full_as c.in_err-square.field-0.0 (c.in_err-square.ensures.room gs s) (λ full few. few_for_raising gs _ few))
 
 pub returns-else-n-eq2-clause-room : goal.returns-else-n-eq2-clause-room
 returns-else-n-eq2-clause-room c = λ gs s.
     let square = c.in_ok-square.ensures.ok in
     let a : Tree = tree_of c.args.a.now c.args.pool.now in
-    let q : Tree = tree_of c.in_ok-square.square c.product_of.new.pool in
+    let q : Tree = tree_of c.in_ok-square.square c.square_of.new.pool in
     let same = other_plain c.args.a.now square c.requires.handed.root in
     let spanned = product_spans gs a a q c.requires.number c.requires.number (of_over (given_told square)) s s in
     let free = given_free c.requires.stands c.in_ok-square.ensures.stands c.in_ok-square.ensures.kept square in
     refusal_as c.multiplied.result (c.multiplied.ensures.room gs spanned (subst (SpansTree gs) (sym same) s))
     (λ e p. full_as e p (λ full few. step_lacks gs _ _ q (given_told square).number spanned free few))
 
-half : (c : After-product_of) → IsPowerOver (value (tree_of c.args.a.now c.args.pool.now)) (c.args.n / 2) (tree_of c.args.a.now c.args.pool.now)
+half : (c : After-square_of) → IsPowerOver (value (tree_of c.args.a.now c.args.pool.now)) (c.args.n / 2) (tree_of c.args.a.now c.args.pool.now)
 half c =
     let a : Tree = tree_of c.args.a.now c.args.pool.now in
     subst (λ (n : ℕ). IsPowerOver (value a) n a) (sym (half_one c.args.n c.requires.twice c.requires.few)) (power_itself a (record { number = c.requires.number; worth = Same-refl (value a) }))
@@ -47,7 +47,7 @@ pub returns-in_err-square-clause-overflow : goal.returns-in_err-square-clause-ov
 returns-in_err-square-clause-overflow c =
     passed_on c.from_residual.result c.in_err-square.field-0.0 (OfOverflow (PowerOverflows (value (tree_of c.args.a.now c.args.pool.now)) c.args.n)) c.from_residual.ensures.0 c.from_residual.ensures.1
     (overflow_as c.in_err-square.field-0.0 c.in_err-square.ensures.overflow
-    (λ o p. square_overflows _ (tree_of c.args.a.now c.args.pool.now) c.args.n o (half_twice c.args.n c.requires.twice) (half (goal.at.returns-in_err-square-clause-overflow c).After-product_of) p))
+    (λ o p. square_overflows _ (tree_of c.args.a.now c.args.pool.now) c.args.n o (half_twice c.args.n c.requires.twice) (half (goal.at.returns-in_err-square-clause-overflow c).After-square_of) p))
 
 pub multiplied-requires-clause-first : goal.multiplied-requires-clause-first
 multiplied-requires-clause-first c = given_handed c.in_ok-square.ensures.ok
@@ -64,26 +64,26 @@ multiplied-requires-clause-second_number c = ap is_number (other_plain c.args.a.
 pub returns-then-n-eq2-clause-ok : goal.returns-then-n-eq2-clause-ok
 returns-then-n-eq2-clause-ok c =
     let a : Tree = tree_of c.args.a.now c.args.pool.now in
-    gives_as c.in_ok-square.ensures.ok refl (λ t h. even_power (value a) a t c.args.n (omega (arith, c.if-n-eq2.true)) (half (goal.at.returns-then-n-eq2-clause-ok c).After-product_of) h)
+    gives_as c.in_ok-square.ensures.ok refl (λ t h. even_power (value a) a t c.args.n (omega (arith, c.if-n-eq2.true)) (half (goal.at.returns-then-n-eq2-clause-ok c).After-square_of) h)
 
 pub returns-else-n-eq2-clause-ok : goal.returns-else-n-eq2-clause-ok
 returns-else-n-eq2-clause-ok c =
     let square = c.in_ok-square.ensures.ok in
     let a : Tree = tree_of c.args.a.now c.args.pool.now in
-    let q : Tree = tree_of c.in_ok-square.square c.product_of.new.pool in
+    let q : Tree = tree_of c.in_ok-square.square c.square_of.new.pool in
     let same = other_plain c.args.a.now square c.requires.handed.root in
     if_given _ _ _ _ _ c.multiplied.result c.multiplied.ensures.ok (given_rest square)
-    (λ t h. odd_power a q a t c.args.n (three_odd c.args.n c.requires.twice c.requires.few c.if-n-eq2.false) (half (goal.at.returns-else-n-eq2-clause-ok c).After-product_of) (given_told square) (subst (λ (x : Tree). IsNumberOver (surd_times (value q) (value x)) t) same h))
+    (λ t h. odd_power a q a t c.args.n (three_odd c.args.n c.requires.twice c.requires.few c.if-n-eq2.false) (half (goal.at.returns-else-n-eq2-clause-ok c).After-square_of) (given_told square) (subst (λ (x : Tree). IsNumberOver (surd_times (value q) (value x)) t) same h))
 
 pub returns-else-n-eq2-clause-front : goal.returns-else-n-eq2-clause-front
-returns-else-n-eq2-clause-front c = front_after_one (behind_new c.in_ok-square.ensures.ok.ends front_same) c.product_of.ensures.front c.multiplied.ensures.front
+returns-else-n-eq2-clause-front c = front_after_one (behind_new c.in_ok-square.ensures.ok.ends front_same) c.square_of.ensures.front c.multiplied.ensures.front
 
 pub returns-else-n-eq2-clause-overflow : goal.returns-else-n-eq2-clause-overflow
 returns-else-n-eq2-clause-overflow c =
     let square = c.in_ok-square.ensures.ok in
     let a : Tree = tree_of c.args.a.now c.args.pool.now in
-    let q : Tree = tree_of c.in_ok-square.square c.product_of.new.pool in
+    let q : Tree = tree_of c.in_ok-square.square c.square_of.new.pool in
     let same = other_plain c.args.a.now square c.requires.handed.root in
     refused_as c.multiplied.result c.multiplied.ensures.overflow
-    (λ o p. last_overflows a q a c.args.n o (half_twice c.args.n c.requires.twice) (half_odd_within c.args.n (three_odd c.args.n c.requires.twice c.requires.few c.if-n-eq2.false)) (half (goal.at.returns-else-n-eq2-clause-overflow c).After-product_of) (given_told square)
+    (λ o p. last_overflows a q a c.args.n o (half_twice c.args.n c.requires.twice) (half_odd_within c.args.n (three_odd c.args.n c.requires.twice c.requires.few c.if-n-eq2.false)) (half (goal.at.returns-else-n-eq2-clause-overflow c).After-square_of) (given_told square)
     (power_itself a (record { number = c.requires.number; worth = Same-refl (value a) })) (subst (λ (t : Tree). ProductOverflows (value q) (value t) o) same p))

@@ -9,7 +9,7 @@ use Rattle.number_forms.proofs.powers.squared.Goals as goal
 
 pub returns-in_err-square-clause-room : goal.returns-in_err-square-clause-room
 returns-in_err-square-clause-room c = λ gs s.
-    passed_on c.from_residual.result c.in_err-square.field-0.0 (LacksRoom joining_need (free_of c.args.pool.now) gs) c.from_residual.ensures.0 c.from_residual.ensures.1 (c.in_err-square.ensures.room gs s s)
+    passed_on c.from_residual.result c.in_err-square.field-0.0 (LacksRoom joining_need (free_of c.args.pool.now) gs) c.from_residual.ensures.0 c.from_residual.ensures.1 (c.in_err-square.ensures.room gs s)
 
 pub release-requires-clause-releasable : goal.release-requires-clause-releasable
 release-requires-clause-releasable c = inl (given_other c.in_ok-square.ensures.ok c.requires.handed).root
@@ -18,4 +18,4 @@ pub returns-clause-ok : goal.returns-clause-ok
 returns-clause-ok c = gives_without c.args.a c.in_ok-square.ensures.ok c.requires.handed.root (c.release.ensures.owned (owned (given_other c.in_ok-square.ensures.ok c.requires.handed)))
 
 pub returns-clause-front : goal.returns-clause-front
-returns-clause-front c = front_at (front_without behind_first (front_after front_same c.product_of.ensures.front)) (c.release.ensures.owned (owned (given_other c.in_ok-square.ensures.ok c.requires.handed)))
+returns-clause-front c = front_at (front_without behind_first (front_after front_same c.square_of.ensures.front)) (c.release.ensures.owned (owned (given_other c.in_ok-square.ensures.ok c.requires.handed)))

@@ -1,0 +1,88 @@
+-- Numbers that are answered as they stand.
+use Rattle.std.proofs.Common.{◌≡◌, ℕ, [], ◌∷◌, ◌++◌, Bool, true, false, eqb, if◌then◌else◌, refl, sym, ap, ◌∙◌, subst}
+use Rattle.std.specs.Int.{◌∣◌}
+use Rattle.calc_algebra.specs.Numbers.{is_number, value}
+use Rattle.calc_algebra.specs.Reduced.{is_num_one}
+use Rattle.calc_algebra.specs.SquareClasses.{Same}
+use Rattle.calc_algebra.specs.Surds.{Surd, surd_of, surd_one, surd_times}
+use Rattle.calc_algebra.proofs.SurdLaws.{Agree-sym, Agree-Same, surd_times-one, surd_times-surd_one}
+use Rattle.calc_algebra.proofs.TermLaws.{Same-eq}
+use Rattle.calc_bits.specs.Denominators.{Parts, AreWholeOver}
+use Rattle.calc_algebra.proofs.NumberClasses.{one_not_zero}
+use Rattle.calc_terms.proofs.FractionFacts.{one_is, zero_test}
+use Rattle.calc_terms.specs.FractionLaws.{one_times, times_comm}
+use Rattle.calc_terms.specs.Fractions.{Fraction, one_fraction, is_zero_fraction, times}
+use Rattle.calc_terms.specs.Trees.{Tree, num, is_num}
+use Rattle.number_forms.specs.Answers.{IsNumberOver}
+use Rattle.number_forms.specs.Readers.{is_zero}
+use Rattle.number_forms.proofs.Denominators.{shares_eq}
+use Rattle.number_forms.proofs.Rows.{nothing_more}
+use Rattle.tree_handles.specs.Expressions.{plain}
+use Rattle.tree_handles.specs.Forest.{Forest}
+use Rattle.tree_handles.specs.Handed.{IsHanded, Ends, Gives}
+use Rattle.tree_handles.specs.Roots.{root_tree, without_root}
+use Rattle.tree_handles.proofs.Given.{gives, gives_as, handed_at, handed_beside, represents_handed}
+use Rattle.tree_handles.proofs.Roots.{tree-without}
+
+-- ---- one is released, and another moved to the end
+
+pub kept_last : {j : ℕ} {f g h : Forest} (i : ℕ) → eqb i j ≡ false → IsHanded j f → g ≡ without_root i f → Ends j (root_tree j g) (without_root j g) h → Gives (without_root j (without_root i f)) h j (λ t. t ≡ plain (root_tree j f))
+kept_last {j} {f} {g} {h} i apart handed gone last =
+    let same : plain (root_tree j g) ≡ plain (root_tree j f) = ap (λ (x : Forest). plain (root_tree j x)) gone ∙ ap plain (tree-without i j f apart) in
+    gives_as (gives last (represents_handed (handed_at (handed_beside i apart handed) gone)) same) (ap (without_root j) gone) (λ t e. e)
+
+-- ---- nothing is added
+
+pub zero_value : (t : Tree) → is_zero t ≡ true → value t ≡ []
+zero_value (num q) h = by (is_zero_fraction q) h
+  where
+    by : (b : Bool) → b ≡ true → (if b then [] else surd_of q) ≡ []
+    by true e = refl
+    by false e = cc
+zero_value _ h = cc
+
+pub with_zero : (a b t : Tree) → is_zero a ≡ true → is_number b ≡ true → t ≡ b → IsNumberOver (value a ++ value b) t
+with_zero a b t h k e =
+    let same : value a ++ value b ≡ value b = ap (λ (v : Surd). v ++ value b) (zero_value a h) in
+    subst (IsNumberOver (value a ++ value b)) (sym e) (record { number = k; worth = Same-eq (sym same); parts = shares_eq same })
+
+pub zero_with : (a b t : Tree) → is_zero b ≡ true → is_number a ≡ true → t ≡ a → IsNumberOver (value a ++ value b) t
+zero_with a b t h k e =
+    let same : value a ++ value b ≡ value a = ap (λ (v : Surd). value a ++ v) (zero_value b h) ∙ sym (nothing_more (value a)) in
+    subst (IsNumberOver (value a ++ value b)) (sym e) (record { number = k; worth = Same-eq (sym same); parts = shares_eq same })
+
+pub no_zero : (t : Tree) → is_num t ≡ false → is_zero t ≡ false
+no_zero (num q) h = cc
+no_zero _ h = refl
+
+-- ---- 1 times a Number
+
+pub one_value : (t : Tree) → is_num_one t ≡ true → value t ≡ surd_one
+one_value (num q) h =
+    ap (λ (x : Fraction). value (num x)) (one_is q h)
+    ∙ ap (λ (b : Bool). if b then [] else surd_of one_fraction) (zero_test one_fraction one_not_zero)
+one_value _ h = cc
+
+pub one_with : (a b t : Tree) → is_num_one a ≡ true → is_number b ≡ true → t ≡ b → IsNumberOver (surd_times (value a) (value b)) t
+one_with a b t h k e =
+    let same : surd_times (value a) (value b) ≡ value b = ap (λ (v : Surd). surd_times v (value b)) (one_value a h) ∙ surd_times-surd_one (value b) in
+    subst (IsNumberOver (surd_times (value a) (value b))) (sym e) (record { number = k; worth = Same-eq (sym same); parts = shares_eq same })
+
+whole_by_one : (d : ℕ) (v : Surd) → Parts d (surd_times v surd_one) → AreWholeOver d v
+whole_by_one d [] p = tt
+whole_by_one d (x ∷ v) p =
+    let own : times x.coefficient one_fraction ≡ x.coefficient = times_comm x.coefficient one_fraction ∙ one_times x.coefficient in
+    (subst (λ (q : Fraction). q.den ∣ d) own p.whole.0, whole_by_one d v (record { positive = p.positive; whole = p.whole.1 }))
+
+pub with_one : (a b t : Tree) → is_num_one b ≡ true → is_number a ≡ true → t ≡ a → IsNumberOver (surd_times (value a) (value b)) t
+with_one a b t h k e =
+    let same : surd_times (value a) (value b) ≡ surd_times (value a) surd_one = ap (surd_times (value a)) (one_value b h) in
+    subst (IsNumberOver (surd_times (value a) (value b))) (sym e) (record {
+      number = k;
+      worth = subst (Same (value a)) (sym same) (Agree-Same (Agree-sym (surd_times-one (value a))));
+      parts = λ d p. let q = subst (Parts d) same p in record { positive = q.positive; whole = whole_by_one d (value a) q };
+    })
+
+pub no_one : (t : Tree) → is_num t ≡ false → is_num_one t ≡ false
+no_one (num q) h = cc
+no_one _ h = refl

@@ -1,0 +1,6 @@
+use Rattle.std.proofs.Common.{sym, ap, ◌∙◌}
+use Rattle.calc_algebra.specs.Reduced.{is_num_one}
+use Rattle.number_forms.proofs.read.is_num_one.Goals as goal
+
+pub returns-in-Num : goal.returns-in-Num
+returns-in-Num c = c.is_one.ensures ∙ ap is_num_one (sym c.rational.ensures.plain)

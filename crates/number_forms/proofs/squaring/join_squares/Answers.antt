@@ -1,0 +1,116 @@
+use Rattle.std.proofs.Common.{◌≡◌, ℕ, ◌≤◌, ◌++◌, Some, length, sym, ap, ◌∙◌, arith, add-one, subst, rules, ◌+◌}
+use Rattle.std.specs.Prelude.{slice_get}
+use Rattle.calc_algebra.specs.Numbers.{is_number, value, classes}
+use Rattle.calc_algebra.specs.SquareClasses.{Same}
+use Rattle.calc_algebra.specs.Surds.{Surd}
+use Rattle.calc_bits.specs.Denominators.{SharesDenominators}
+use Rattle.calc_room.proofs.NumberSpans.{spans_append}
+use Rattle.calc_room.specs.Spans.{Spans}
+use Rattle.calc_terms.specs.Trees.{Tree, size}
+use Rattle.node_pool.specs.State.{free_of}
+use Rattle.number_forms.specs.Overflows.{SquareRowOverflows, SquareOverflows}
+use Rattle.number_forms.specs.Rooms.{LacksRoom, joining_need}
+use Rattle.number_forms.specs.Squares.{square_row, square_terms}
+use Rattle.number_forms.specs.Sums.{IsSumOf}
+use Rattle.number_forms.proofs.ListedTerms.{lists_kept}
+use Rattle.number_forms.proofs.Loops.{joined_none, joined_part, joined_all, from_all, other_plain, other_read, other_expression, gives_rest}
+use Rattle.number_forms.proofs.Overflows.{passed_on, overflow_as}
+use Rattle.number_forms.proofs.Rooms.{full_as, spans_from, spans_nth, partial_spanned, row_lacks}
+use Rattle.number_forms.proofs.Squares.{spans_square}
+use Rattle.number_forms.proofs.Worth.{terms_from, from_next}
+use Rattle.surd_terms.specs.Terms.{term_of}
+use Rattle.tree_handles.specs.Faults.{OfOverflow}
+use Rattle.tree_handles.specs.Handed.{tree_of, Gives}
+use Rattle.tree_handles.specs.Roots.{without_root}
+use Rattle.tree_handles.specs.Standing.{forest}
+use Rattle.tree_handles.proofs.Given.{given_other, given_rest, handed_at, given_handed, given_told}
+use Rattle.tree_handles.proofs.Lasts.{plain_root}
+use Rattle.number_forms.proofs.squaring.join_squares.Goals as goal
+use Rattle.number_forms.proofs.squaring.join_squares.Goals.{After-listed_term-term}
+use Rattle.number_forms.proofs.squaring.join_squares.Given.{Over}
+
+-- the Number as it stands now
+same : (g : Over) (c : After-listed_term-term g) → tree_of c.args.number c.loop-at.pool ≡ tree_of c.args.number c.args.pool.now
+same g c = other_plain c.args.number c.loop-at.invariant.joined.gives c.requires.handed.root ∙ sym (other_plain c.args.number c.requires.sum c.requires.handed.root)
+
+here : (g : Over) (c : After-listed_term-term g) → slice_get (value (tree_of c.args.number c.args.pool.now)) c.loop-at.at ≡ Some (term_of c.listed_term-term.result)
+here g c =
+    let read = other_read c.args.number c.loop-at.pool c.loop-at.invariant.joined.stands c.loop-at.invariant.joined.gives c.requires.handed ∙ sym (other_plain c.args.number c.requires.sum c.requires.handed.root) in
+    ap (λ (t : Tree). slice_get (value t) c.loop-at.at) (sym read) ∙ c.listed_term-term.ensures
+
+pub returns-in_err-join_square_row-clause-room : goal.returns-in_err-join_square_row-clause-room
+returns-in_err-join_square_row-clause-room g c = λ gs s t.
+    let at = (goal.at.returns-in_err-join_square_row-clause-room g c).After-listed_term-term in
+    let v = value (tree_of c.args.number c.args.pool.now) in
+    let joined = c.loop-at.invariant.joined in
+    let left = spans_square gs (terms_from c.loop-at.at v) (spans_from gs v c.loop-at.at t) in
+    let partial = partial_spanned gs _ _ (tree_of c.args.sum.now c.loop-at.pool) (given_told joined.gives) (spans_append gs _ _ s (spans_square gs v t)) left in
+    passed_on c.from_residual.result c.in_err-join_square_row.field-0.0 (LacksRoom joining_need (free_of c.args.pool.now + size (tree_of c.args.sum.now c.args.pool.now)) gs) c.from_residual.ensures.0 c.from_residual.ensures.1
+    (full_as c.in_err-join_square_row.field-0.0 (c.in_err-join_square_row.ensures.room gs partial (spans_nth gs v c.loop-at.at _ (here g at) t) (subst (λ (x : Tree). Spans gs (value x)) (sym (same g at)) t))
+    (λ full few. row_lacks gs joined c.requires.stands (given_handed c.requires.sum) few))
+
+pub term_count-at-end-requires-clause-expression : goal.term_count-at-end-requires-clause-expression
+term_count-at-end-requires-clause-expression g c = other_expression c.args.number c.args.pool.now c.requires.stands c.requires.sum c.requires.handed
+
+pub term_count-at-end-requires-clause-number : goal.term_count-at-end-requires-clause-number
+term_count-at-end-requires-clause-number g c = ap is_number (plain_root c.args.number c.requires.stands (given_other c.requires.sum c.requires.handed).root) ∙ c.requires.number
+
+pub loop-at-init : goal.loop-at-init
+loop-at-init g c = record { joined = joined_none c.args.sum.now (square_terms (value (tree_of c.args.number c.args.pool.now))) c.args.pool.now c.requires.stands c.requires.sum; lists = c.requires.lists }
+
+pub listed_term-term-requires : goal.listed_term-term-requires
+listed_term-term-requires g c =
+    let joined = c.loop-at.invariant.joined in
+    let read = other_read c.args.number c.loop-at.pool joined.stands joined.gives c.requires.handed ∙ sym (other_plain c.args.number c.requires.sum c.requires.handed.root) in
+    let all = ap classes (plain_root c.args.number c.requires.stands (given_other c.requires.sum c.requires.handed).root) in
+    (search rules, (joined.stands, (other_expression c.args.number c.loop-at.pool joined.stands joined.gives c.requires.handed, (ap is_number read ∙ c.requires.number, (lists_kept c.args.terms.now c.args.number c.args.pool.now c.loop-at.pool c.requires.stands joined.stands c.requires.sum joined.gives c.requires.handed c.requires.terms, omega (arith, ap classes read, all, c.term_count-at-end.ensures, c.loop-at-test.true))))))
+
+pub join_square_row-requires : goal.join_square_row-requires
+join_square_row-requires g c =
+    let joined = c.loop-at.invariant.joined in
+    let at = (goal.at.join_square_row-requires g c).After-listed_term-term in
+    (search rules, (joined.stands, (gives_rest joined.gives (λ t h. h.sum), (c.loop-at.invariant.lists, (handed_at c.requires.handed (given_rest joined.gives), (ap is_number (same g at) ∙ c.requires.number, lists_kept c.args.terms.now c.args.number c.args.pool.now c.loop-at.pool c.requires.stands joined.stands c.requires.sum joined.gives c.requires.handed c.requires.terms))))))
+
+pub loop-at-preserved : goal.loop-at-preserved
+loop-at-preserved g c =
+    let at = (goal.at.loop-at-preserved g c).After-listed_term-term in
+    let v = value (tree_of c.args.number c.args.pool.now) in
+    let x = term_of c.listed_term-term.result in
+    let later : c.loop-at.at + 1 ≡ _ = add-one c.loop-at.at in
+    let row = subst (λ (t : Tree). Gives (without_root c.args.sum.now (forest c.loop-at.pool)) (forest c.join_square_row.new.pool) c.args.sum.now (IsSumOf (value (tree_of c.args.sum.now c.loop-at.pool) ++ square_row x (terms_from (c.loop-at.at + 1) (value t))))) (same g at) c.in_ok-join_square_row.ensures.ok in
+    let next : square_terms (terms_from c.loop-at.at v) ≡ square_row x (terms_from (c.loop-at.at + 1) v) ++ square_terms (terms_from (c.loop-at.at + 1) v) =
+    ap square_terms (from_next v c.loop-at.at x (here g at)) ∙ ap (λ (n : ℕ). square_row x (terms_from n v) ++ square_terms (terms_from n v)) (sym later) in
+    record {
+      joined = joined_part c.args.sum.now _ _ _ _ c.args.pool.now c.loop-at.pool c.join_square_row.new.pool c.loop-at.invariant.joined next row c.join_square_row.ensures.front c.in_ok-join_square_row.ensures.kept c.join_square_row.ensures.stands;
+      lists = c.in_ok-join_square_row.ensures.lists;
+    }
+
+pub returns-clause-ok : goal.returns-clause-ok
+returns-clause-ok g c =
+    let v = value (tree_of c.args.number c.args.pool.now) in
+    let all = ap classes (plain_root c.args.number c.requires.stands (given_other c.requires.sum c.requires.handed).root) in
+    let end : length v ≤ c.loop-at.at = omega (arith, all, c.term_count-at-end.ensures, c.loop-at-test.false) in
+    joined_all c.loop-at.invariant.joined (ap square_terms (from_all v c.loop-at.at end))
+
+pub returns-in_err-join_square_row-clause-overflow : goal.returns-in_err-join_square_row-clause-overflow
+returns-in_err-join_square_row-clause-overflow g c = λ empty.
+    let at = (goal.at.returns-in_err-join_square_row-clause-overflow g c).After-listed_term-term in
+    let v = value (tree_of c.args.number c.args.pool.now) in
+    let partial : Tree = tree_of c.args.sum.now c.loop-at.pool in
+    let left = square_terms (terms_from c.loop-at.at v) in
+    let x = term_of c.listed_term-term.result in
+    let told = given_told c.loop-at.invariant.joined.gives in
+    passed_on c.from_residual.result c.in_err-join_square_row.field-0.0 (OfOverflow (SquareOverflows v)) c.from_residual.ensures.0 c.from_residual.ensures.1
+    (overflow_as c.in_err-join_square_row.field-0.0 c.in_err-join_square_row.ensures.overflow (λ o r. record {
+      at = c.loop-at.at;
+      factor = x;
+      here = here g at;
+      partial = partial;
+      sum = told.sum;
+      worth = subst (λ (u : Surd). Same (value partial ++ left) (u ++ square_terms v)) empty told.worth;
+      parts = subst (λ (u : Surd). SharesDenominators (u ++ square_terms v) (value partial ++ left)) empty told.parts;
+      row = subst (λ (n : ℕ). SquareRowOverflows partial x (terms_from n v) o) (add-one c.loop-at.at) (subst (λ (t : Tree). SquareRowOverflows partial x (terms_from (c.loop-at.at + 1) (value t)) o) (same g at) r);
+    }))
+
+pub returns-clause-lists : goal.returns-clause-lists
+returns-clause-lists g c = c.loop-at.invariant.lists

@@ -1,0 +1,98 @@
+use Rattle.std.proofs.Common.{◌≡◌, ℕ, ◌++◌, refl, sym, ap, ◌∙◌, subst, arith, ◌*◌, ◌^◌, ◌<◌, length}
+use Rattle.calc_algebra.specs.Numbers.{is_number, value}
+use Rattle.calc_algebra.specs.Surds.{Surd}
+use Rattle.number_forms.specs.Squares.{square_terms}
+use Rattle.number_forms.proofs.Squares.{square_same, square_parts}
+use Rattle.calc_algebra.proofs.SquareClassLaws.{Same-trans}
+use Rattle.calc_algebra.proofs.TermLaws.{Same-eq}
+use Rattle.number_forms.specs.Sums.{IsSum}
+use Rattle.number_forms.proofs.ListedTerms.{lists_none, lists_at}
+use Rattle.tree_handles.specs.Forest.{arity}
+use Rattle.tree_handles.proofs.Lasts.{kids_of_last, expression_root}
+use Rattle.calc_terms.specs.Trees.{Tree}
+use Rattle.number_forms.proofs.Loops.{other_plain, gives_rest, kept_after}
+use Rattle.number_forms.proofs.Denominators.{shares_eq}
+use Rattle.number_forms.proofs.Over.{over_as}
+use Rattle.tree_handles.specs.Handed.{tree_of, IsHanded}
+use Rattle.tree_handles.specs.Expressions.{IsExpression}
+use Rattle.tree_handles.specs.Roots.{without_root}
+use Rattle.tree_handles.specs.Standing.{forest}
+use Rattle.tree_handles.proofs.Fronts.{behind_new, front_same, front_after_one}
+use Rattle.tree_handles.proofs.Given.{given_told, given_other, given_rest, gives_as, handed_at}
+use Rattle.number_forms.specs.Overflows.{SquareOverflows}
+use Rattle.tree_handles.specs.Faults.{OfOverflow}
+use Rattle.number_forms.proofs.Overflows.{passed_on, overflow_as}
+use Rattle.calc_room.specs.Spans.{Spans}
+use Rattle.node_pool.specs.State.{free_of}
+use Rattle.number_forms.specs.Rooms.{LacksRoom, joining_need}
+use Rattle.number_forms.proofs.FreeBytes.{refused_below}
+use Rattle.number_forms.proofs.Rooms.{full_as, few_for_joining, number_spans}
+use Rattle.tree_handles.proofs.Room.{given_free}
+use Rattle.tree_handles.specs.declared.fault.NumberFault.TheVariants as fault
+use Rattle.number_forms.proofs.squaring.square_within.Goals as goal
+
+pub returns-in_err-sum-clause-room : goal.returns-in_err-sum-clause-room
+returns-in_err-sum-clause-room g c = λ gs s.
+    let few : free_of c.args.pool.now < 8 = refused_below c.in_err-sum.ensures.full in
+    passed_on c.from_residual.result (fault.Full c.in_err-sum.field-0.0) (LacksRoom joining_need (free_of c.args.pool.now) gs) c.from_residual.ensures.0 c.from_residual.ensures.1 (few_for_joining gs _ (omega arith))
+
+pub returns-in_err-join_squares-clause-room : goal.returns-in_err-join_squares-clause-room
+returns-in_err-join_squares-clause-room g c = λ gs s.
+    let new = c.in_ok-sum.ensures.given refl in
+    let free = given_free c.requires.stands c.in_ok-sum.ensures.stands c.in_ok-sum.ensures.kept new in
+    let a : tree_of c.id-2.result c.node.new.pool ≡ tree_of c.args.a.now c.args.pool.now = ap (λ (i : ℕ). tree_of i c.node.new.pool) c.id-2.ensures ∙ other_plain c.args.a.now new c.requires.handed.root in
+    let none = subst (λ (u : Tree). Spans gs (value u)) (sym (given_told new)) tt in
+    let number = subst (λ (u : Tree). Spans gs (value u)) (sym a) (number_spans gs _ c.requires.number s) in
+    passed_on c.from_residual-in_err-join_squares.result c.in_err-join_squares.field-0.0 (LacksRoom joining_need (free_of c.args.pool.now) gs) c.from_residual-in_err-join_squares.ensures.0 c.from_residual-in_err-join_squares.ensures.1
+    (full_as c.in_err-join_squares.field-0.0 (c.in_err-join_squares.ensures.room gs none number) (λ full few. subst (λ (n : ℕ). n < joining_need * 2 ^ length gs) (sym free) few))
+
+pub returns-in_err-number_of-clause-room : goal.returns-in_err-number_of-clause-room
+returns-in_err-number_of-clause-room g c = λ gs s.
+    let squares = gives_as c.in_ok-join_squares.ensures.ok (given_rest (c.in_ok-sum.ensures.given refl)) (λ t h. h) in
+    let free = given_free c.requires.stands c.in_ok-join_squares.ensures.stands (kept_after c.in_ok-sum.ensures.kept c.in_ok-join_squares.ensures.kept) squares in
+    passed_on c.from_residual-in_err-number_of.result (fault.Full c.in_err-number_of.field-0.0) (LacksRoom joining_need (free_of c.args.pool.now) gs) c.from_residual-in_err-number_of.ensures.0 c.from_residual-in_err-number_of.ensures.1
+    (few_for_joining gs _ (subst (λ (n : ℕ). n < 40) (sym free) c.in_err-number_of.ensures.room))
+
+pub join_squares-requires : goal.join_squares-requires
+join_squares-requires g c =
+    let new = c.in_ok-sum.ensures.given refl in
+    (omega (arith, c.requires.few), (c.in_ok-sum.ensures.stands, (gives_rest new (λ t e. subst IsSum (sym e) (tt, tt)), (lists_none c.new-list.result c.in_ok-sum.sum (forest c.node.new.pool) c.new-list.ensures (ap arity (kids_of_last c.in_ok-sum.ensures.stands c.in_ok-sum.ensures.ok)), (subst (λ (i : ℕ). IsHanded i (without_root c.in_ok-sum.sum (forest c.node.new.pool))) (sym c.id-2.ensures) (handed_at c.requires.handed (given_rest new)), (ap (λ (i : ℕ). is_number (tree_of i c.node.new.pool)) c.id-2.ensures ∙ ap is_number (other_plain c.args.a.now new c.requires.handed.root) ∙ c.requires.number, lists_at {N = g.row.N} _ _ _ _ (c.id-2.ensures ∙ sym c.id.ensures) c.of-terms.ensures))))))
+
+pub returns-in_err-join_squares-clause-front : goal.returns-in_err-join_squares-clause-front
+returns-in_err-join_squares-clause-front g c = front_after_one (behind_new (c.in_ok-sum.ensures.given refl).ends front_same) c.node.ensures.front c.join_squares.ensures.front
+
+pub number_of-requires-clause-sum : goal.number_of-requires-clause-sum
+number_of-requires-clause-sum g c = gives_rest c.in_ok-join_squares.ensures.ok (λ t h. h.sum)
+
+pub returns-in_err-number_of-clause-front : goal.returns-in_err-number_of-clause-front
+returns-in_err-number_of-clause-front g c =
+    let sum = behind_new (c.in_ok-sum.ensures.given refl).ends front_same in
+    front_after_one sum (front_after_one sum c.node.ensures.front c.join_squares.ensures.front) c.number_of.ensures.front
+
+pub returns-clause-front : goal.returns-clause-front
+returns-clause-front g c =
+    let sum = behind_new (c.in_ok-sum.ensures.given refl).ends front_same in
+    front_after_one sum (front_after_one sum c.node.ensures.front c.join_squares.ensures.front) c.number_of.ensures.front
+
+pub returns-clause-ok : goal.returns-clause-ok
+returns-clause-ok g c =
+    let new = c.in_ok-sum.ensures.given refl in
+    let squares = c.in_ok-join_squares.ensures.ok in
+    let a : tree_of c.id-2.result c.node.new.pool ≡ tree_of c.args.a.now c.args.pool.now = ap (λ (i : ℕ). tree_of i c.node.new.pool) c.id-2.ensures ∙ other_plain c.args.a.now new c.requires.handed.root in
+    let v : Surd = value (tree_of c.args.a.now c.args.pool.now) in
+    let same : value (tree_of c.in_ok-sum.sum c.node.new.pool) ++ square_terms (value (tree_of c.id-2.result c.node.new.pool)) ≡ square_terms v = λ i. value (given_told new i) ++ square_terms (value (a i)) in
+    gives_as c.in_ok-number_of.ensures.ok (given_rest squares ∙ given_rest new)
+    (λ t h. over_as h (Same-trans (given_told squares).worth (Same-trans (Same-eq same) (square_same v))) (λ d p. (given_told squares).parts d (shares_eq (sym same) d (square_parts v d p))))
+
+pub returns-in_err-join_squares-clause-overflow : goal.returns-in_err-join_squares-clause-overflow
+returns-in_err-join_squares-clause-overflow g c =
+    let new = c.in_ok-sum.ensures.given refl in
+    let a : tree_of c.id-2.result c.node.new.pool ≡ tree_of c.args.a.now c.args.pool.now = ap (λ (i : ℕ). tree_of i c.node.new.pool) c.id-2.ensures ∙ other_plain c.args.a.now new c.requires.handed.root in
+    passed_on c.from_residual-in_err-join_squares.result c.in_err-join_squares.field-0.0 (OfOverflow (SquareOverflows (value (tree_of c.args.a.now c.args.pool.now)))) c.from_residual-in_err-join_squares.ensures.0 c.from_residual-in_err-join_squares.ensures.1
+    (overflow_as c.in_err-join_squares.field-0.0 (c.in_err-join_squares.ensures.overflow (ap value (given_told new))) (λ o p. subst (λ (t : Tree). SquareOverflows (value t) o) a p))
+
+pub of-terms-requires : goal.of-terms-requires
+of-terms-requires g c = (omega (arith, c.requires.few), (c.in_ok-sum.ensures.stands, subst (λ (i : ℕ). IsExpression i (forest c.node.new.pool)) (sym c.id.ensures) (expression_root c.in_ok-sum.ensures.stands (given_other (c.in_ok-sum.ensures.given refl) c.requires.handed))))
+
+pub new-list-requires : goal.new-list-requires
+new-list-requires g c = omega (arith, c.requires.few)
