@@ -12,9 +12,8 @@ use Rattle.coefficients.proofs.Steps.{IsPairTaken}
 use Rattle.node_pool.specs.declared.full.Full.{Full}
 use Rattle.node_pool.specs.State.{State, free_of}
 use Rattle.number_forms.proofs.CodeTests.{unequal}
-use Rattle.tree_handles.specs.Expressions.{plain, children_of}
+use Rattle.tree_handles.specs.Expressions.{children_of}
 use Rattle.tree_handles.specs.Forest.{Forest, empty, tree, bytes_in, kids}
-use Rattle.tree_handles.specs.Handed.{Gives, Represents}
 use Rattle.tree_handles.specs.Roots.{has_root, root_tree, put}
 use Rattle.tree_handles.specs.Standing.{Stands, forest, KeepsRefusals, IsRefused}
 use Rattle.tree_handles.proofs.Forests.{bytes_in-join, keeps_none, refuses_after}
@@ -58,7 +57,7 @@ two_bytes ts h k =
 
 -- ---- free bytes
 
-bytes_put : (i : ℕ) (n f : Forest) → has_root i f ≡ true → bytes_in (put i n f) + bytes_in (kids (root_tree i f)) ≡ bytes_in f + bytes_in n
+pub bytes_put : (i : ℕ) (n f : Forest) → has_root i f ≡ true → bytes_in (put i n f) + bytes_in (kids (root_tree i f)) ≡ bytes_in f + bytes_in n
 bytes_put i n empty h = cc
 bytes_put i n (tree l k r) h =
     by_test

@@ -18,3 +18,6 @@ pub mod Puttings
 pub mod Openings
 pub mod Bytes
 pub mod Named
+pub mod Rooms
+pub mod Free
+pub mod Lacks

@@ -30,7 +30,7 @@ each_term (more t ts) h = by (is_term t) refl h (λ k. each_term ts k)
     by false e k go = behind (more t ts) k
 
 -- a term of a Number is no sum, and is multiplied as one
-number_term : (q : Fraction) (t : Tree) → IsFactor q → IsTerm t → IsScaled q t (rational_times_term q t)
+pub number_term : (q : Fraction) (t : Tree) → IsFactor q → IsTerm t → IsScaled q t (rational_times_term q t)
 number_term q (num c) f h = scaled q (num c) f h
 number_term q (root (num r)) f h = scaled q (root (num r)) f h
 number_term q (mult (more (num c) (more (root (num r)) none))) f h = scaled q (mult (more (num c) (more (root (num r)) none))) f h

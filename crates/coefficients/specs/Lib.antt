@@ -3,3 +3,4 @@ pub mod Coefficients
 pub mod Pairs
 pub mod Bytes
 pub mod Overflows
+pub mod Rooms

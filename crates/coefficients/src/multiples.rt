@@ -1,12 +1,19 @@
 //! A rational is multiplied into a term or into each term of a sum, in place.
-ghost use Rattle.std.specs.Prelude.{◌≡◌, IfOk, IfErr, OnOk, [], ◌∷◌, true};
-ghost use Rattle.calc_terms.specs.Fractions.{is_one_fraction};
+ghost use Rattle.std.specs.Prelude.{◌≡◌, ◌+◌, ◌*◌, ◌^◌, ◌<◌, ℕ, List, length, IfOk, IfErr, OnOk, [], ◌∷◌, true, false};
+ghost use Rattle.calc_terms.specs.Fractions.{is_one_fraction, is_zero_fraction};
 ghost use Rattle.calc_terms.specs.Rat.{value_of};
+ghost use Rattle.calc_algebra.specs.Numbers.{is_number};
 ghost use Rattle.calc_algebra.specs.Reduced.{is_reduced};
-ghost use Rattle.calc_terms.specs.Trees.{is_add, is_mult, num};
+ghost use Rattle.calc_room.specs.Counts.{counted};
+ghost use Rattle.calc_room.specs.Spans.{SpansTree};
+ghost use Rattle.calc_terms.specs.Trees.{is_add, is_mult, num, size};
 ghost use Rattle.coefficients.specs.Coefficients.{spliced};
 ghost use Rattle.coefficients.specs.Multiples.{leads_sum, rational_times as times, rational_times_factors as times_factors, rational_times_number as times_number, rational_times_term as times_term, rational_times_sum as times_sum};
 ghost use Rattle.coefficients.specs.Overflows.{Leads, LeadsIn, LeadsTerm, IsMultiple};
+ghost use Rattle.coefficients.specs.Rooms.{LacksRoom};
+ghost use Rattle.node_pool.specs.State.{free_of};
+ghost use Rattle.number_forms.specs.Lacks.{OfFull};
+ghost use Rattle.tree_room.specs.Needs.{tree_bytes};
 ghost use Rattle.tree_handles.specs.Causes.{IsCaused};
 ghost use Rattle.tree_handles.specs.Standing.{LacksBytes, Stands, forest, KeepsRefusals, Refuses};
 ghost use Rattle.tree_handles.specs.Handed.{tree_of, IsHanded, Gives, KeepsFront};
@@ -37,6 +44,8 @@ pub fn distribute(pool: &mut Pool, q: Rat, sum: Handle) -> Result<Handle, Number
     ensures faults { IfErr result (Faults pool.old pool.new) }
     ensures caused { IfErr result (IsCaused pool.new) }
     ensures named { IfErr result (OfOverflow (IsMultiple (value_of q) (λ c. LeadsIn LeadsTerm c (children_of (tree_of sum pool.old))))) }
+    ensures room { (gs : List ℕ) → is_zero_fraction (value_of q) ≡ false → is_one_fraction (value_of q) ≡ false → SpansTree gs (tree_of sum pool.old)
+        → IfErr result (LacksRoom (counted (tree_of sum pool.old)) (free_of pool.old + size (tree_of sum pool.old)) gs) }
     ensures stands { Stands pool.new }
 {
     let terms = children(pool, sum.id());
@@ -60,6 +69,10 @@ fn rational_times_term(pool: &mut Pool, q: Rat, term: Handle) -> Result<Handle, 
     ensures faults { IfErr result (Faults pool.old pool.new) }
     ensures caused { IfErr result (IsCaused pool.new) }
     ensures named { IfErr result (OfOverflow (IsMultiple (value_of q) (λ c. LeadsTerm c (tree_of term pool.old)))) }
+    ensures few { leads_sum (tree_of term pool.old) ≡ false → IfErr result (OfFull (λ full. free_of pool.old < 48)) }
+    ensures room { (gs : List ℕ) → is_zero_fraction (value_of q) ≡ false → is_one_fraction (value_of q) ≡ false → SpansTree gs (tree_of term pool.old)
+        → leads_sum (tree_of term pool.old) ≡ true
+        → IfErr result (OfFull (λ full. free_of pool.old + size (tree_of term pool.old) < tree_bytes (counted (tree_of term pool.old)) (2 ^ length gs) + 104)) }
     ensures stands { Stands pool.new }
 {
     if !is_led_by_sum(pool, term.id()) {
@@ -103,6 +116,8 @@ fn rational_times_number(pool: &mut Pool, q: Rat, sum: Handle) -> Result<Handle,
     ensures faults { IfErr result (Faults pool.old pool.new) }
     ensures caused { IfErr result (IsCaused pool.new) }
     ensures named { IfErr result (OfOverflow (IsMultiple (value_of q) (λ c. LeadsIn Leads c (children_of (tree_of sum pool.old))))) }
+    ensures room { (gs : List ℕ) → is_zero_fraction (value_of q) ≡ false → is_one_fraction (value_of q) ≡ false → is_number (tree_of sum pool.old) ≡ true
+        → SpansTree gs (tree_of sum pool.old) → IfErr result (OfFull (λ full. free_of pool.old + size (tree_of sum pool.old) < 96 * 2 ^ length gs + 56)) }
     ensures stands { Stands pool.new }
 {
     let terms = children(pool, sum.id());
@@ -126,6 +141,7 @@ fn rational_times(pool: &mut Pool, q: Rat, term: Handle) -> Result<Handle, Numbe
     ensures faults { IfErr result (Faults pool.old pool.new) }
     ensures caused { IfErr result (IsCaused pool.new) }
     ensures named { IfErr result (OfOverflow (IsMultiple (value_of q) (λ c. Leads c (tree_of term pool.old)))) }
+    ensures few { IfErr result (OfFull (λ full. free_of pool.old < 48)) }
     ensures stands { Stands pool.new }
 {
     match kind(pool, term.id()) {
@@ -148,6 +164,7 @@ pub(crate) fn put_before(pool: &mut Pool, q: Rat, tree: Handle) -> Result<Handle
     ensures kept { OnOk result (KeepsRefusals pool.old pool.new) }
     ensures full { IfErr result (Refuses pool.old pool.new) }
     ensures caused { IfErr result (LacksBytes pool.new) }
+    ensures few { IfErr result (λ full. free_of pool.old < 48) }
     ensures stands { Stands pool.new }
 {
     let product = as_product(pool, tree)?;
@@ -166,6 +183,7 @@ fn rational_times_factors(pool: &mut Pool, q: Rat, product: Handle) -> Result<Ha
     ensures faults { IfErr result (Faults pool.old pool.new) }
     ensures caused { IfErr result (IsCaused pool.new) }
     ensures named { IfErr result (OfOverflow (IsMultiple (value_of q) (λ c. Leads c (tree_of product pool.old)))) }
+    ensures few { IfErr result (OfFull (λ full. free_of pool.old < 48)) }
     ensures stands { Stands pool.new }
 {
     let first = child_id(pool, product.id(), 0);

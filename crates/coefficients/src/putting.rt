@@ -1,11 +1,16 @@
 //! A coefficient is put back before a part.
-ghost use Rattle.std.specs.Prelude.{◌≡◌, ◌==◌, IfOk, IfErr, OnOk, [], ◌∷◌, true, false};
-ghost use Rattle.calc_terms.specs.Fractions.{is_zero_fraction};
+ghost use Rattle.std.specs.Prelude.{◌≡◌, ◌==◌, ◌+◌, ℕ, List, IfOk, IfErr, OnOk, [], ◌∷◌, true, false};
+ghost use Rattle.calc_terms.specs.Fractions.{is_one_fraction, is_zero_fraction};
 ghost use Rattle.calc_terms.specs.Rat.{value_of};
+ghost use Rattle.calc_algebra.specs.Numbers.{is_number};
 ghost use Rattle.calc_algebra.specs.Reduced.{is_reduced};
-ghost use Rattle.calc_terms.specs.Trees.{num};
+ghost use Rattle.calc_room.specs.Counts.{counted};
+ghost use Rattle.calc_room.specs.Spans.{SpansTree};
+ghost use Rattle.calc_terms.specs.Trees.{num, size};
 ghost use Rattle.coefficients.specs.Coefficients.{rational_before, with_coefficient};
 ghost use Rattle.coefficients.specs.Overflows.{NamesPut};
+ghost use Rattle.coefficients.specs.Rooms.{LacksRoom};
+ghost use Rattle.node_pool.specs.State.{free_of};
 ghost use Rattle.tree_handles.specs.Causes.{IsCaused};
 ghost use Rattle.tree_handles.specs.Handed.{tree_of, IsHanded, Gives, KeepsFront};
 ghost use Rattle.tree_handles.specs.Faults.{Faults, OfOverflow};
@@ -37,6 +42,8 @@ pub fn put_coefficient(
     ensures faults { IfErr result (Faults pool.old pool.new) }
     ensures caused { IfErr result (IsCaused pool.new) }
     ensures named { IfErr result (OfOverflow (NamesPut (tree_of coefficient pool.old) (tree_of part pool.old))) }
+    ensures room { (gs : List ℕ) → is_number (tree_of coefficient pool.old) ≡ true → SpansTree gs (tree_of coefficient pool.old) → SpansTree gs (tree_of part pool.old)
+        → IfErr result (LacksRoom (counted (tree_of part pool.old)) (free_of pool.old + size (tree_of coefficient pool.old) + size (tree_of part pool.old)) gs) }
     ensures stands { Stands pool.new }
 {
     match kind(pool, coefficient.id()) {
@@ -60,6 +67,8 @@ fn put_rational(pool: &mut Pool, q: Rat, part: Handle) -> Result<Handle, NumberF
     ensures faults { IfErr result (Faults pool.old pool.new) }
     ensures caused { IfErr result (IsCaused pool.new) }
     ensures named { IfErr result (OfOverflow (NamesPut (num (value_of q)) (tree_of part pool.old))) }
+    ensures room { (gs : List ℕ) → SpansTree gs (tree_of part pool.old)
+        → IfErr result (LacksRoom (counted (tree_of part pool.old)) (free_of pool.old + size (tree_of part pool.old)) gs) }
     ensures stands { Stands pool.new }
 {
     if is_zero(q) {
@@ -84,6 +93,8 @@ fn put_other_rational(pool: &mut Pool, q: Rat, part: Handle) -> Result<Handle, N
     ensures faults { IfErr result (Faults pool.old pool.new) }
     ensures caused { IfErr result (IsCaused pool.new) }
     ensures named { IfErr result (OfOverflow (NamesPut (num (value_of q)) (tree_of part pool.old))) }
+    ensures room { (gs : List ℕ) → is_zero_fraction (value_of q) ≡ false → is_one_fraction (value_of q) ≡ false → SpansTree gs (tree_of part pool.old)
+        → IfErr result (LacksRoom (counted (tree_of part pool.old)) (free_of pool.old + size (tree_of part pool.old)) gs) }
     ensures stands { Stands pool.new }
 {
     match kind(pool, part.id()) {

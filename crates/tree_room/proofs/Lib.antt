@@ -1,10 +1,10 @@
-mod Multiples
-mod Counts
-mod Coefficients
-mod PowerCounts
-mod Handed
-mod NodeCounts
-mod Rooms
-mod JoinedSpans
-mod Calm
-mod Zeros
+pub mod Multiples
+pub mod Counts
+pub mod Coefficients
+pub mod PowerCounts
+pub mod Handed
+pub mod NodeCounts
+pub mod Rooms
+pub mod JoinedSpans
+pub mod Calm
+pub mod Zeros

@@ -1,4 +1,4 @@
-use Rattle.std.proofs.Common.{ap, ◌∙◌, refl, sym, subst, arith}
+use Rattle.std.proofs.Common.{◌+◌, ◌^◌, ◌<◌, length, ap, ◌∙◌, refl, sym, subst, arith}
 use Rattle.calc_terms.specs.Rat.{value_of}
 use Rattle.calc_algebra.specs.Reduced.{is_reduced}
 use Rattle.tree_handles.proofs.Forests.{keeps_none, keeps_after}
@@ -11,6 +11,18 @@ use Rattle.coefficients.proofs.Named.{passed_named, multiple_of, leads_behind}
 use Rattle.coefficients.proofs.Places.{over_sum}
 use Rattle.coefficients.proofs.Rewritten.{given_as, over_back, apart_back, front_lost, term_reduced}
 use Rattle.coefficients.proofs.Steps.{live, children_at, children_in, moved, moved_front}
+use Rattle.calc_room.specs.Counts.{counted}
+use Rattle.calc_room.specs.Spans.{SpansTree}
+use Rattle.calc_terms.specs.Trees.{Tree, add, append, more, size, sizes}
+use Rattle.coefficients.specs.Multiples.{leads_sum, mapped}
+use Rattle.coefficients.specs.Rooms.{put_room}
+use Rattle.coefficients.proofs.Free.{next_free, taken_free}
+use Rattle.coefficients.proofs.Lacks.{passed_lacks, factor_of, sum_whole, taken_sizes}
+use Rattle.coefficients.proofs.Rooms.{term_lacks, spanned_sum, spans_at}
+use Rattle.number_forms.specs.Lacks.{OfFull}
+use Rattle.tree_room.specs.Needs as need
+use Rattle.node_pool.specs.State.{free_of}
+use Rattle.tree_handles.specs.Handed.{tree_of}
 use Rattle.coefficients.proofs.multiples.distribute.Goals as goal
 
 pub children-terms-requires-clause-live : goal.children-terms-requires-clause-live
@@ -108,3 +120,23 @@ returns-in_err-multiple-clause-named c =
     let a = next_taken n (c.take_child-term.ensures.last n.over.root) in
     passed_named c.from_residual.result c.in_err-multiple.field-0.0 _ _ c.from_residual.ensures.1 c.in_err-multiple.ensures.named
     (multiple_of (λ x h. subst (LeadsIn LeadsTerm x) (sym n.split) (leads_behind LeadsTerm x n.done n.t n.rest (subst (LeadsTerm x) (given_told a.gives) h))))
+
+pub returns-in_err-multiple-clause-room : goal.returns-in_err-multiple-clause-room
+returns-in_err-multiple-clause-room c gs z o s =
+    let many = c.children-terms.ensures.value ∙ children_at (over_sum c.requires.handed c.requires.sum) c.requires.stands c.id.ensures in
+    let n = next_term c.loop-at.invariant.part (omega (arith, many, c.loop-at-test.true)) in
+    let a = next_taken n (c.take_child-term.ensures.last n.over.root) in
+    let told = given_told a.gives in
+    let whole = sum_whole (tree_of c.args.sum c.args.pool.now) c.requires.sum ∙ ap add n.split in
+    let f = factor_of (value_of c.args.q) z o in
+    let x = spanned_sum gs (append n.done (more n.t n.rest)) (sym (ap is_reduced whole) ∙ c.requires.reduced) (subst (SpansTree gs) whole s) in
+    let free = next_free c.requires.stands c.loop-at.invariant.stands c.loop-at.invariant.kept (over_sum c.requires.handed c.requires.sum) n in
+    let same = taken_free c.loop-at.invariant.stands c.take_child-term.ensures.stands c.take_child-term.ensures.kept n.over a (taken_sizes (mapped (rational_times_term (value_of c.args.q)) n.done) n.t n.rest) in
+    let t = subst (SpansTree gs) (sym told) (spans_at gs n.done n.t n.rest x.spans) in
+    passed_lacks c.from_residual.result c.in_err-multiple.field-0.0 _ _ c.from_residual.ensures.1
+    (term_lacks gs (value_of c.args.q) n.done n.t n.rest (free_of c.args.pool.now) (free_of c.take_child-term.new.pool) c.in_err-multiple.field-0.0 f x
+    (omega (arith, free, same, ap sizes n.split))
+    (λ k. c.in_err-multiple.ensures.few (ap leads_sum told ∙ k))
+    (λ k. subst (λ (v : Tree). OfFull (λ g. free_of c.take_child-term.new.pool + size v < need.tree_bytes (counted v) (2 ^ length gs) + 104) c.in_err-multiple.field-0.0) told
+    (c.in_err-multiple.ensures.room gs z o t (ap leads_sum told ∙ k))))
+    (λ g l. subst (λ (v : Tree). free_of c.args.pool.now + size v < put_room (counted v) (2 ^ length gs)) (sym whole) l)

@@ -1,10 +1,16 @@
 use Rattle.std.proofs.Common.{ap, ◌∙◌}
-use Rattle.calc_terms.specs.Rat.{value_of}
+use Rattle.calc_terms.specs.Payload.{rational}
+use Rattle.calc_terms.specs.Rat.{ratio_of, value_of}
 use Rattle.calc_terms.specs.Trees.{Tree, num, mult, more, is_mult}
 use Rattle.tree_handles.specs.Expressions.{children_of}
 use Rattle.tree_handles.proofs.Fronts.{behind_first, behind_new, front_after_one, front_same, front_without}
 use Rattle.tree_handles.proofs.Given.{gives_as, given_handed, given_told, given_rest}
 use Rattle.coefficients.proofs.Steps.{if_map}
+use Rattle.std.proofs.Common.{◌+◌, ◌≤◌, sym, subst, arith}
+use Rattle.calc_terms.specs.Trees.{size}
+use Rattle.coefficients.proofs.Free.{as_product_size, number_refused, product_free}
+use Rattle.number_forms.proofs.Rooms.{refusal_as}
+use Rattle.tree_handles.specs.Handed.{tree_of}
 use Rattle.coefficients.proofs.multiples.put_before.Goals as goal
 
 pub put_first-requires-clause-handed : goal.put_first-requires-clause-handed
@@ -22,3 +28,9 @@ returns-clause-ok c =
 pub returns-clause-front : goal.returns-clause-front
 returns-clause-front c =
     front_after_one (behind_new c.in_ok-product.ensures.ok.ends (front_without behind_first front_same)) c.as_product.ensures.front c.put_first.ensures.front
+
+pub returns-clause-few : goal.returns-clause-few
+returns-clause-few c =
+    let r = c.in_ok-product.ensures in
+    let l = subst (λ (u : Tree). size u ≤ size (tree_of c.args.tree c.args.pool.now) + 8) (sym (given_told r.ok)) (as_product_size (tree_of c.args.tree c.args.pool.now)) in
+    refusal_as c.put_first.result c.put_first.ensures.full (λ g x. omega (arith, number_refused (rational (ratio_of c.args.q)) x, product_free c.requires.stands r.stands r.kept c.requires.handed r.ok l))

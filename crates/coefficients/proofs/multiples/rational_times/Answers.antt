@@ -1,5 +1,6 @@
 use Rattle.std.proofs.Common.{ap, ◌∙◌, sym, refl}
-use Rattle.calc_terms.specs.Rat.{value_of}
+use Rattle.calc_terms.specs.Payload.{rational}
+use Rattle.calc_terms.specs.Rat.{ratio_of, value_of}
 use Rattle.calc_terms.specs.Fractions.{Fraction}
 use Rattle.calc_terms.specs.Trees.{num}
 use Rattle.coefficients.specs.Overflows.{Leads, IsMultiple}
@@ -9,6 +10,9 @@ use Rattle.tree_handles.proofs.Fronts.{behind_first, front_after, front_at, fron
 use Rattle.tree_handles.proofs.Given.{gives_as, owned}
 use Rattle.coefficients.proofs.LedFactors.{times_number, times_product, times_other}
 use Rattle.coefficients.proofs.Steps.{live, seen, kind_of_root, product_kind, if_map}
+use Rattle.std.proofs.Common.{arith}
+use Rattle.coefficients.proofs.Free.{number_refused, released_free}
+use Rattle.coefficients.proofs.Lacks.{refusal_lacks}
 use Rattle.coefficients.proofs.multiples.rational_times.Goals as goal
 
 pub kind-requires-clause-live : goal.kind-requires-clause-live
@@ -51,6 +55,7 @@ returns-in_ok-put_before-in_default c =
       faults = tt;
       caused = tt;
       named = tt;
+      few = tt;
       stands = put.stands;
     }
 
@@ -60,3 +65,9 @@ returns-in_err-product-in-Num-clause-named c =
     let L : Fraction → Type 0 = λ x. Leads x (tree_of c.args.term c.args.pool.now) in
     named c.from_residual.result c.in_err-product-in-Num.field-0.0 (IsMultiple (value_of c.args.q) L) c.from_residual.ensures.1
     (multiple_named L c.in_err-product-in-Num.field-0.0 c.in_err-product-in-Num.ensures.named (leads_number (value_of c.rational.result) (value_of c.rational.result) _ was refl))
+
+pub returns-in_err-number-in-Num-clause-few : goal.returns-in_err-number-in-Num-clause-few
+returns-in_err-number-in-Num-clause-few c =
+    let more = released_free c.requires.stands c.release.ensures.stands c.release.ensures.kept c.requires.handed (c.release.ensures.owned (owned c.requires.handed)) in
+    refusal_lacks c.from_residual-in_err-number-in-Num.result c.in_err-number-in-Num.field-0.0 _ c.from_residual-in_err-number-in-Num.ensures.1
+    (omega (arith, number_refused (rational (ratio_of c.in_ok-product-in-Num.product)) c.in_err-number-in-Num.ensures.full, more))

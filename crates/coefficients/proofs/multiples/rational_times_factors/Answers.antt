@@ -1,5 +1,6 @@
 use Rattle.std.proofs.Common.{◌≤◌, ap, ◌∙◌, sym, subst, arith, inl, refl}
-use Rattle.calc_terms.specs.Rat.{value_of}
+use Rattle.calc_terms.specs.Payload.{rational}
+use Rattle.calc_terms.specs.Rat.{ratio_of, value_of}
 use Rattle.calc_algebra.specs.Reduced.{product_tree}
 use Rattle.calc_terms.specs.Trees.{Tree, num, mult, more, count, is_mult, root_kind}
 use Rattle.calc_terms.specs.Fractions.{Fraction}
@@ -15,6 +16,8 @@ use Rattle.coefficients.proofs.LedFactors.{first_led, first_seen, led_taken, led
 use Rattle.coefficients.proofs.Lengths.{long}
 use Rattle.coefficients.proofs.Places.{over_product, over_handed, over_plain, without_put}
 use Rattle.coefficients.proofs.Steps.{expression, children_at}
+use Rattle.coefficients.proofs.Free.{left_free, number_refused, released_free}
+use Rattle.coefficients.proofs.Lacks.{refusal_lacks}
 use Rattle.coefficients.proofs.multiples.rational_times_factors.Goals as goal
 
 pub child_id-first-requires-clause-within : goal.child_id-first-requires-clause-within
@@ -125,6 +128,7 @@ returns-in_ok-put_first-in_default c =
       faults = tt;
       caused = tt;
       named = tt;
+      few = tt;
       stands = put.stands;
     }
 
@@ -134,3 +138,13 @@ returns-in_err-leading-in-Num-clause-named c =
     let L : Fraction → Type 0 = λ x. Leads x (tree_of c.args.product c.args.pool.now) in
     named c.from_residual.result c.in_err-leading-in-Num.field-0.0 (IsMultiple (value_of c.args.q) L) c.from_residual.ensures.1
     (multiple_named L c.in_err-leading-in-Num.field-0.0 c.in_err-leading-in-Num.ensures.named (leads_children (value_of c.rational.result) _ l.rest c.requires.product l.whole))
+
+pub returns-in_err-put_first-in-Num-clause-few : goal.returns-in_err-put_first-in-Num-clause-few
+returns-in_err-put_first-in-Num-clause-few c =
+    let o = over_product c.requires.handed c.requires.product in
+    let l = first_led c.child_id-first.result c.id.ensures c.requires.stands c.requires.handed c.requires.product c.requires.reduced c.child_id-first.ensures.plain c.rational.ensures.plain in
+    let x = led_taken o l (c.take_child-old.ensures.last c.requires.handed.root) in
+    let same = left_free c.requires.stands c.take_child-old.ensures.stands c.take_child-old.ensures.kept o x l.whole in
+    let more = released_free c.take_child-old.ensures.stands c.release.ensures.stands c.release.ensures.kept (given_handed x.given) (c.release.ensures.owned (owned (given_handed x.given))) in
+    refusal_lacks c.from_residual-in_err-put_first-in-Num.result c.in_err-put_first-in-Num.field-0.0 _ c.from_residual-in_err-put_first-in-Num.ensures.1
+    (omega (arith, number_refused (rational (ratio_of c.in_ok-leading-in-Num.leading)) c.in_err-put_first-in-Num.ensures.full, same, more))

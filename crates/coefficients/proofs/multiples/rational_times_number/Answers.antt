@@ -4,13 +4,22 @@ use Rattle.calc_algebra.specs.Reduced.{is_reduced}
 use Rattle.tree_handles.proofs.Forests.{keeps_none, keeps_after}
 use Rattle.tree_handles.proofs.Given.{given_handed, given_root, given_told}
 use Rattle.tree_handles.proofs.Roots.{root_held}
-use Rattle.coefficients.specs.Multiples.{rational_times}
+use Rattle.coefficients.specs.Multiples.{mapped, rational_times}
 use Rattle.coefficients.proofs.Loops.{none_done, next_term, next_within, back_within, next_taken, next_done, all_done, part_front}
 use Rattle.coefficients.specs.Overflows.{Leads, LeadsIn}
 use Rattle.coefficients.proofs.Named.{passed_named, multiple_of, leads_behind}
 use Rattle.coefficients.proofs.Places.{over_sum}
 use Rattle.coefficients.proofs.Rewritten.{given_as, over_back, apart_back, front_lost, term_reduced}
 use Rattle.coefficients.proofs.Steps.{live, children_at, children_in, moved, moved_front}
+use Rattle.std.proofs.Common.{◌+◌, ◌*◌, ◌^◌, ◌<◌, length}
+use Rattle.calc_room.specs.Spans.{SpansTree}
+use Rattle.calc_terms.specs.Trees.{Tree, add, size, sizes}
+use Rattle.calc_algebra.specs.Numbers.{is_number}
+use Rattle.coefficients.proofs.Free.{next_free, taken_free}
+use Rattle.coefficients.proofs.Lacks.{passed_lacks, factor_of, sum_whole, taken_sizes}
+use Rattle.coefficients.proofs.Rooms.{number_lacks}
+use Rattle.node_pool.specs.State.{free_of}
+use Rattle.tree_handles.specs.Handed.{tree_of}
 use Rattle.coefficients.proofs.multiples.rational_times_number.Goals as goal
 
 pub children-terms-requires-clause-live : goal.children-terms-requires-clause-live
@@ -108,3 +117,16 @@ returns-in_err-multiple-clause-named c =
     let a = next_taken n (c.take_child-term.ensures.last n.over.root) in
     passed_named c.from_residual.result c.in_err-multiple.field-0.0 _ _ c.from_residual.ensures.1 c.in_err-multiple.ensures.named
     (multiple_of (λ x h. subst (LeadsIn Leads x) (sym n.split) (leads_behind Leads x n.done n.t n.rest (subst (Leads x) (given_told a.gives) h))))
+
+pub returns-in_err-multiple-clause-room : goal.returns-in_err-multiple-clause-room
+returns-in_err-multiple-clause-room c gs z o k s =
+    let many = c.children-terms.ensures.value ∙ children_at (over_sum c.requires.handed c.requires.sum) c.requires.stands c.id.ensures in
+    let n = next_term c.loop-at.invariant.part (omega (arith, many, c.loop-at-test.true)) in
+    let a = next_taken n (c.take_child-term.ensures.last n.over.root) in
+    let whole = sum_whole (tree_of c.args.sum c.args.pool.now) c.requires.sum ∙ ap add n.split in
+    let free = next_free c.requires.stands c.loop-at.invariant.stands c.loop-at.invariant.kept (over_sum c.requires.handed c.requires.sum) n in
+    let same = taken_free c.loop-at.invariant.stands c.take_child-term.ensures.stands c.take_child-term.ensures.kept n.over a (taken_sizes (mapped (rational_times (value_of c.args.q)) n.done) n.t n.rest) in
+    passed_lacks c.from_residual.result c.in_err-multiple.field-0.0 _ _ c.from_residual.ensures.1 c.in_err-multiple.ensures.few
+    (λ g l. subst (λ (v : Tree). free_of c.args.pool.now + size v < 96 * 2 ^ length gs + 56) (sym whole)
+    (number_lacks gs (value_of c.args.q) n.done n.t n.rest (free_of c.args.pool.now) (free_of c.take_child-term.new.pool) (factor_of (value_of c.args.q) z o)
+    (sym (ap is_number whole) ∙ k) (subst (SpansTree gs) whole s) (omega (arith, free, same, ap sizes n.split)) l))

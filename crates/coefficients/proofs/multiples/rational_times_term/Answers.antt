@@ -13,6 +13,16 @@ use Rattle.coefficients.proofs.LedFactors.{sum_led, led_over, led_reduced, times
 use Rattle.coefficients.proofs.Places.{taken}
 use Rattle.coefficients.proofs.Rewritten.{given_as, over_back, apart_back, put_back, front_lost}
 use Rattle.coefficients.proofs.Steps.{expression, seen, children_in, if_map, moved, moved_front}
+use Rattle.std.proofs.Common.{true, false, ◌≡◌, ◌+◌, ◌^◌, ◌<◌, length}
+use Rattle.calc_algebra.specs.Numbers.{is_number}
+use Rattle.calc_room.specs.Counts.{counted}
+use Rattle.calc_room.specs.Spans.{SpansTree}
+use Rattle.calc_terms.specs.Trees.{size}
+use Rattle.coefficients.proofs.Free.{taken_free}
+use Rattle.coefficients.proofs.Lacks.{passed_lacks}
+use Rattle.coefficients.proofs.Rooms.{coefficient_lacks}
+use Rattle.node_pool.specs.State.{free_of}
+use Rattle.tree_room.specs.Needs as need
 use Rattle.coefficients.proofs.multiples.rational_times_term.Goals as goal
 
 pub is_led_by_sum-requires-clause-expression : goal.is_led_by_sum-requires-clause-expression
@@ -111,3 +121,29 @@ returns-in_err-multiple-clause-named c =
     let a = taken 0 none (add l.terms) l.rest o refl (c.take_child-coefficient.ensures.last c.requires.handed.root) in
     passed_named c.from_residual.result c.in_err-multiple.field-0.0 _ _ c.from_residual.ensures.1 c.in_err-multiple.ensures.named
     (multiple_of (λ x h. leads_coefficient x _ l.terms l.rest l.whole l.number (subst (λ (u : Tree). LeadsIn Leads x (children_of u)) (given_told a.gives) h)))
+
+pub returns-in_err-multiple-clause-few : goal.returns-in_err-multiple-clause-few
+returns-in_err-multiple-clause-few c unled = absurd (clash (sym (ap leads_sum (sym (seen c.id.ensures c.requires.stands c.requires.handed)) ∙ sym c.if-not-is_led_by_sum.ensures) ∙ unled))
+  where
+    clash : true ≡ false → ⊥
+    clash e = cc
+
+pub returns-then-not-is_led_by_sum-clause-room : goal.returns-then-not-is_led_by_sum-clause-room
+returns-then-not-is_led_by_sum-clause-room c gs z o s led = absurd (clash (sym led ∙ ap leads_sum (sym (seen c.id.ensures c.requires.stands c.requires.handed)) ∙ sym c.if-not-is_led_by_sum.ensures))
+  where
+    clash : true ≡ false → ⊥
+    clash e = cc
+
+pub returns-in_err-multiple-clause-room : goal.returns-in_err-multiple-clause-room
+returns-in_err-multiple-clause-room c gs z o s led =
+    let l = sum_led _ (ap leads_sum (sym (seen c.id.ensures c.requires.stands c.requires.handed)) ∙ sym c.if-not-is_led_by_sum.ensures) in
+    let over = led_over l c.requires.handed in
+    let a = taken 0 none (add l.terms) l.rest over refl (c.take_child-coefficient.ensures.last c.requires.handed.root) in
+    let told = given_told a.gives in
+    let same = taken_free c.requires.stands c.take_child-coefficient.ensures.stands c.take_child-coefficient.ensures.kept over a refl in
+    let spans = subst (SpansTree gs) l.whole s in
+    passed_lacks c.from_residual.result c.in_err-multiple.field-0.0 _ _ c.from_residual.ensures.1
+    (c.in_err-multiple.ensures.room gs z o (ap is_number told ∙ l.number) (subst (SpansTree gs) (sym told) spans.1.0))
+    (λ g k. subst (λ (v : Tree). free_of c.args.pool.now + size v < need.tree_bytes (counted v) (2 ^ length gs) + 104) (sym l.whole)
+    (coefficient_lacks gs l.terms l.rest (free_of c.args.pool.now) (sym (ap is_reduced l.whole) ∙ c.requires.reduced) l.number spans.1.1
+    (omega (arith, same, ap size told, k))))

@@ -12,6 +12,17 @@ use Rattle.coefficients.specs.Coefficients.{with_coefficient}
 use Rattle.coefficients.proofs.Named.{result_named, put_as}
 use Rattle.coefficients.proofs.Puttings.{on_ok_after, fault_after, with_irrational}
 use Rattle.coefficients.proofs.Steps.{live, seen, kind_of_root, if_map}
+use Rattle.std.proofs.Common.{◌^◌, length, subst, arith}
+use Rattle.calc_room.specs.Counts.{counted}
+use Rattle.calc_room.specs.Spans.{SpansTree}
+use Rattle.calc_terms.specs.Trees.{Tree, size}
+use Rattle.coefficients.specs.Rooms.{put_room}
+use Rattle.coefficients.proofs.Free.{released_free}
+use Rattle.coefficients.proofs.Lacks.{refusal_lacks, result_lacks}
+use Rattle.coefficients.proofs.Rooms.{both_lack}
+use Rattle.node_pool.specs.State.{free_of}
+use Rattle.number_forms.proofs.FreeBytes.{refused_below}
+use Rattle.tree_handles.specs.Handed.{tree_of}
 use Rattle.coefficients.proofs.putting.put_coefficient.Goals as goal
 
 pub kind-requires-clause-live : goal.kind-requires-clause-live
@@ -59,6 +70,7 @@ returns-in_ok-splice-in_default c =
       faults = tt;
       caused = tt;
       named = tt;
+      room = λ gs n s u. tt;
       stands = splice.stands;
     }
 
@@ -68,3 +80,17 @@ returns-in-Num-clause-named c =
     let same = ap (λ (f : Forest). plain (root_tree c.args.part f)) gone ∙ ap plain (tree-without c.args.coefficient c.args.part (forest c.args.pool.now) c.requires.apart) in
     let was = sym c.rational-q.ensures.plain ∙ seen c.id-in-Num.ensures c.requires.stands c.requires.first in
     result_named c.put_rational.result _ _ c.put_rational.ensures.named (λ o h. put_as o was same h)
+
+pub returns-in-Num-clause-room : goal.returns-in-Num-clause-room
+returns-in-Num-clause-room c gs n s u =
+    let gone = c.release.ensures.owned (owned c.requires.first) in
+    let same = ap (λ (f : Forest). plain (root_tree c.args.part f)) gone ∙ ap plain (tree-without c.args.coefficient c.args.part (forest c.args.pool.now) c.requires.apart) in
+    let more = released_free c.requires.stands c.release.ensures.stands c.release.ensures.kept c.requires.first gone in
+    result_lacks c.put_rational.result _ _ (c.put_rational.ensures.room gs (subst (SpansTree gs) (sym same) u))
+    (λ g l. omega (arith, more, ap size same, ap (λ (v : Tree). put_room (counted v) (2 ^ length gs)) same, l))
+
+pub returns-in_err-splice-in_default-clause-room : goal.returns-in_err-splice-in_default-clause-room
+returns-in_err-splice-in_default-clause-room c gs n s u =
+    refusal_lacks c.from_residual.result c.in_err-splice-in_default.field-0.0 _ c.from_residual.ensures.1
+    (both_lack gs (tree_of c.args.coefficient c.args.pool.now) (tree_of c.args.part c.args.pool.now) (free_of c.args.pool.now) n c.requires.reduced s u
+    (refused_below c.in_err-splice-in_default.ensures.full))

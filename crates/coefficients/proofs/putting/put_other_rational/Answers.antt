@@ -4,6 +4,10 @@ use Rattle.tree_handles.proofs.Given.{gives_as}
 use Rattle.coefficients.proofs.Named.{result_named, names_sum}
 use Rattle.coefficients.proofs.Puttings.{before_sum, before_other}
 use Rattle.coefficients.proofs.Steps.{live, kind_of_root, sum_kind, no_sum_kind, if_map}
+use Rattle.coefficients.proofs.Lacks.{refusal_lacks}
+use Rattle.coefficients.proofs.Rooms.{part_lacks}
+use Rattle.node_pool.specs.State.{free_of}
+use Rattle.tree_handles.specs.Handed.{tree_of}
 use Rattle.coefficients.proofs.putting.put_other_rational.Goals as goal
 
 pub kind-requires-clause-live : goal.kind-requires-clause-live
@@ -29,6 +33,7 @@ returns-in_ok-put_before-in_default c =
       faults = tt;
       caused = tt;
       named = tt;
+      room = λ gs z o s. tt;
       stands = put.stands;
     }
 
@@ -36,3 +41,8 @@ pub returns-in-Add-clause-named : goal.returns-in-Add-clause-named
 returns-in-Add-clause-named c =
     let m = sum_kind _ (sym c.in-Add.is ∙ kind_of_root {k = c.kind.result} c.id.ensures c.requires.stands c.requires.handed c.kind.ensures.plain) in
     result_named c.distribute.result _ _ c.distribute.ensures.named (names_sum (value_of c.args.q) _ m)
+
+pub returns-in_err-put_before-in_default-clause-room : goal.returns-in_err-put_before-in_default-clause-room
+returns-in_err-put_before-in_default-clause-room c gs z o s =
+    refusal_lacks c.from_residual.result c.in_err-put_before-in_default.field-0.0 _ c.from_residual.ensures.1
+    (part_lacks gs (tree_of c.args.part c.args.pool.now) (free_of c.args.pool.now) c.requires.reduced s c.in_err-put_before-in_default.ensures.few)

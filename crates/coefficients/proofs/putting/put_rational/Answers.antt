@@ -1,10 +1,17 @@
 use Rattle.std.proofs.Common.{◌∙◌, sym, ap, refl}
-use Rattle.calc_terms.specs.Rat.{value_of}
+use Rattle.calc_terms.specs.Payload.{rational}
+use Rattle.calc_terms.specs.Rat.{ratio_of, value_of}
 use Rattle.calc_terms.specs.Trees.{num}
 use Rattle.tree_handles.proofs.Fronts.{behind_first, front_after, front_at, front_end, front_same, front_without}
 use Rattle.tree_handles.proofs.Given.{gives, gives_as, owned, represents_handed}
 use Rattle.coefficients.proofs.Puttings.{zero_value, with_zero, with_one, with_other}
 use Rattle.coefficients.proofs.Steps.{if_map}
+use Rattle.std.proofs.Common.{arith}
+use Rattle.coefficients.proofs.Free.{number_refused, released_free}
+use Rattle.coefficients.proofs.Lacks.{refusal_lacks}
+use Rattle.coefficients.proofs.Rooms.{few_for_put}
+use Rattle.calc_room.specs.Counts.{counted}
+use Rattle.tree_handles.specs.Handed.{tree_of}
 use Rattle.coefficients.proofs.putting.put_rational.Goals as goal
 
 pub returns-in_err-number-clause-front : goal.returns-in_err-number-clause-front
@@ -31,3 +38,12 @@ pub returns-clause-ok : goal.returns-clause-ok
 returns-clause-ok c =
     if_map c.put_other_rational.result _ _ c.put_other_rational.ensures.ok
     (λ h x. gives_as x refl (λ t e. e ∙ with_other (value_of c.args.q) _ (sym c.if-is_zero.ensures) (sym c.if-is_one.ensures)))
+
+pub returns-in_err-number-clause-room : goal.returns-in_err-number-clause-room
+returns-in_err-number-clause-room c gs s =
+    let more = released_free c.requires.stands c.release.ensures.stands c.release.ensures.kept c.requires.handed (c.release.ensures.owned (owned c.requires.handed)) in
+    refusal_lacks c.from_residual.result c.in_err-number.field-0.0 _ c.from_residual.ensures.1
+    (few_for_put gs (counted (tree_of c.args.part c.args.pool.now)) _ (omega (arith, number_refused (rational (ratio_of c.whole.result)) c.in_err-number.ensures.full, more)))
+
+pub returns-clause-room : goal.returns-clause-room
+returns-clause-room c gs s = c.put_other_rational.ensures.room gs (sym c.if-is_zero.ensures) (sym c.if-is_one.ensures) s

@@ -1,0 +1,122 @@
+-- Free bytes while the terms of a sum are taken out, rewritten and put back.
+use Rattle.std.proofs.Common.{◌≡◌, ℕ, ◌+◌, ◌≤◌, ◌<◌, ap, arith}
+use Rattle.calc_terms.specs.Payload.{Payload, size_of_payload}
+use Rattle.calc_terms.proofs.Sizes.{payload_most}
+use Rattle.coefficients.specs.Coefficients.{factors_of}
+use Rattle.coefficients.specs.Pairs.{LeavesRest}
+use Rattle.node_pool.specs.declared.full.Full.{Full}
+use Rattle.number_forms.proofs.FreeBytes.{replaced_free, refused_below}
+use Rattle.number_forms.proofs.RationalCalls.{bytes_without}
+use Rattle.tree_handles.specs.Handed.{tree_of, IsHanded, Gives}
+use Rattle.tree_handles.proofs.Roots.{root_arity}
+use Rattle.calc_terms.specs.declared.kind.Kind.TheVariants as kind
+use Rattle.calc_terms.specs.declared.kind.Kind.{Kind}
+use Rattle.calc_terms.specs.Trees.{Tree, mult, Trees, more, append, size, sizes}
+use Rattle.coefficients.specs.Multiples.{mapped}
+use Rattle.coefficients.proofs.Bytes.{bytes_put}
+use Rattle.coefficients.proofs.Loops.{IsNext}
+use Rattle.coefficients.proofs.Places.{IsOver, IsTaken}
+use Rattle.node_pool.specs.State.{State, free_of}
+use Rattle.tree_handles.specs.Forest.{empty, bytes_in, kids}
+use Rattle.tree_handles.specs.Roots.{root_tree, without_root, put}
+use Rattle.tree_handles.specs.Standing.{Stands, forest, KeepsRefusals, IsRefused}
+use Rattle.tree_handles.proofs.Forests.{bytes_in-join}
+use Rattle.tree_handles.proofs.Places.{used_forest}
+use Rattle.tree_handles.proofs.Plains.{size-plain, sizes-plains}
+
+-- the first terms are rewritten, and there is a next one
+pub next_free : {f : Tree → Tree} {i at : ℕ} {ts : Trees} {s u : State} → Stands s → Stands u → KeepsRefusals s u → IsOver kind.Add i ts (forest s)
+    → (n : IsNext f i at ts (forest s) (forest u)) → free_of u + sizes (append (mapped f n.done) (more n.t n.rest)) ≡ free_of s + sizes ts
+next_free {i = i} {s = s} {u = u} st su r o n =
+    omega (
+      arith,
+      used_forest s st,
+      used_forest u su,
+      r.size,
+      st.pool.fits,
+      su.pool.fits,
+      ap bytes_in (n.whole empty),
+      bytes_put i empty (forest s) o.root,
+      bytes_put i empty (forest u) n.over.root,
+      sizes-plains (kids (root_tree i (forest s))) o.kids.whole,
+      ap sizes o.kids.plain_trees,
+      sizes-plains (kids (root_tree i (forest u))) n.over.kids.whole,
+      ap sizes n.over.kids.plain_trees,
+    )
+
+-- a child is taken out
+pub taken_free : {k : Kind} {i n h : ℕ} {t : Tree} {ts others : Trees} {s u : State} → Stands s → Stands u → KeepsRefusals s u → IsOver k i ts (forest s)
+    → IsTaken k i n t others (forest s) (forest u) h → sizes ts ≡ size t + sizes others → free_of u ≡ free_of s
+taken_free {i = i} {s = s} {u = u} st su r o a e =
+    let g = a.gives in
+    omega (
+      arith,
+      e,
+      used_forest s st,
+      used_forest u su,
+      r.size,
+      st.pool.fits,
+      su.pool.fits,
+      ap bytes_in g.ends.whole,
+      bytes_in-join (put i a.now (forest s)) g.tree,
+      size-plain g.tree g.ends.alone g.whole,
+      ap size g.told,
+      bytes_put i a.now (forest s) o.root,
+      sizes-plains (kids (root_tree i (forest s))) o.kids.whole,
+      ap sizes o.kids.plain_trees,
+      sizes-plains a.now a.kids.whole,
+      ap sizes a.kids.plain_trees,
+    )
+
+-- the first factor of a product is taken out
+pub left_free : {i h : ℕ} {t : Tree} {us ts : Trees} {s u : State} → Stands s → Stands u → KeepsRefusals s u → IsOver kind.Mult i us (forest s)
+    → LeavesRest i (forest s) (forest u) h t ts → us ≡ more t ts → free_of u ≡ free_of s
+left_free {i = i} {s = s} {u = u} st su r o x e =
+    let g = x.given in
+    omega (
+      arith,
+      ap sizes e,
+      used_forest s st,
+      used_forest u su,
+      r.size,
+      st.pool.fits,
+      su.pool.fits,
+      ap bytes_in g.ends.whole,
+      bytes_in-join (put i x.kids (forest s)) g.tree,
+      size-plain g.tree g.ends.alone g.whole,
+      ap size g.told,
+      bytes_put i x.kids (forest s) o.root,
+      sizes-plains (kids (root_tree i (forest s))) o.kids.whole,
+      ap sizes o.kids.plain_trees,
+      sizes-plains x.kids x.rest-are.whole,
+      ap sizes x.rest-are.plain_trees,
+    )
+
+-- a root is released
+pub released_free : {i : ℕ} {s u : State} → Stands s → Stands u → KeepsRefusals s u → IsHanded i (forest s) → forest u ≡ without_root i (forest s) → free_of u ≡ free_of s + size (tree_of i s)
+released_free {i = i} {s = s} {u = u} st su r h e =
+    omega (
+      arith,
+      used_forest s st,
+      used_forest u su,
+      r.size,
+      st.pool.fits,
+      su.pool.fits,
+      ap bytes_in e,
+      bytes_without i (forest s) h.root,
+      size-plain (root_tree i (forest s)) (root_arity i (forest s) h.root) h.whole,
+    )
+
+-- a tree is put into a product of its own, unless it is one
+pub product_free : {i h : ℕ} {s u : State} {Told : Tree → Type 0} → Stands s → Stands u → KeepsRefusals s u → IsHanded i (forest s) → Gives (without_root i (forest s)) (forest u) h Told
+    → size (tree_of h u) ≤ size (tree_of i s) + 8 → free_of s ≤ free_of u + 8
+product_free st su r h g l = omega (arith, replaced_free st su r h g, l)
+
+pub as_product_size : (t : Tree) → size (mult (factors_of t)) ≤ size t + 8
+as_product_size (mult ts) = omega arith
+as_product_size t = omega arith
+
+-- ---- refusals
+
+pub number_refused : {s u : State} {g : Full} (x : Payload) → IsRefused (size_of_payload x) s u g → free_of s < 40
+number_refused x r = omega (arith, refused_below r, payload_most x)
