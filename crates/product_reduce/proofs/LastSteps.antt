@@ -81,7 +81,7 @@ permuted_none_is permuted_swap e = cc
 permuted_none_is (permuted_trans h k) e = permuted_none_is k (permuted_none_is h e)
 
 -- the coefficient in front
-times_written : (c : Tree) (us : Trees) → 1 ≤ count us → with_coefficient c (product_tree us) ≡ coefficient_times c us
+pub times_written : (c : Tree) (us : Trees) → 1 ≤ count us → with_coefficient c (product_tree us) ≡ coefficient_times c us
 times_written c none l = absurd (omega arith)
 times_written c (more t us) l = refl
 

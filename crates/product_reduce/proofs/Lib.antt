@@ -24,6 +24,6 @@ pub mod Readied
 pub mod Stepped
 pub mod Small
 pub mod Misfits
-pub mod Items
 pub mod Neighbours
 pub mod Gathered
+pub mod Leads

@@ -11,7 +11,8 @@ use Rattle.tree_handles.specs.Roots.{has_root, root_tree, without_root, put}
 use Rattle.tree_handles.proofs.Given.{given_told}
 use Rattle.tree_handles.proofs.Outcomes.{eqb-sym}
 use Rattle.tree_handles.proofs.Roots.{tree-put, without-put}
-use Rattle.product_reduce.specs.Multiplying.{IsProgress, IsUnderway, IsFirstNumber, NoNumberBefore}
+use Rattle.like_children.specs.Numbers.{IsNextNumber, NoNumberBetween}
+use Rattle.product_reduce.specs.Multiplying.{IsProgress, IsUnderway}
 use Rattle.product_reduce.specs.Products.{factors_in, IsProduct, Becomes, IsBeside, IsTakenOut}
 use Rattle.product_reduce.proofs.Beside.{beside_as, beside_given, beside_product, beside_tree, beside_without}
 use Rattle.product_reduce.proofs.Products.{becomes_beside, becomes_after, becomes_as, becomes_same, factors_are, product_at}
@@ -34,14 +35,14 @@ multiplied_out i a n f d x r b k = record {
 
 -- ---- from Number to Number
 
-pub underway_first : (i n h : ℕ) (ts : Trees) (l f new : Forest) → IsBeside h (nth n ts) l new → Becomes i f l (removed n ts) → are_reduced ts ≡ true → IsFirstNumber n ts → IsUnderway i ts f new h
+pub underway_first : (i n h : ℕ) (ts : Trees) (l f new : Forest) → IsBeside h (nth n ts) l new → Becomes i f l (removed n ts) → are_reduced ts ≡ true → IsNextNumber 0 n ts → IsUnderway i ts f new h
 underway_first i n h ts l f new x b r w = record {
   us = removed n ts;
   taken = record { left = l; beside = beside_as x (sym x.tree) refl refl; becomes = b };
-  progress = subst (IsProgress ts (removed n ts)) (sym x.tree) (started n ts w.within r w.number w.before);
+  progress = subst (IsProgress ts (removed n ts)) (sym x.tree) (started n ts r w);
 }
 
-pub underway_one : (i h : ℕ) (ts : Trees) (f new : Forest) → IsProduct i f ts → are_reduced ts ≡ true → NoNumberBefore (count ts) ts → Gives f new h (λ t. t ≡ num_one) → IsUnderway i ts f new h
+pub underway_one : (i h : ℕ) (ts : Trees) (f new : Forest) → IsProduct i f ts → are_reduced ts ≡ true → NoNumberBetween 0 (count ts) ts → Gives f new h (λ t. t ≡ num_one) → IsUnderway i ts f new h
 underway_one i h ts f new p r b g = record {
   us = ts;
   taken = record { left = f; beside = beside_given g; becomes = becomes_same p };

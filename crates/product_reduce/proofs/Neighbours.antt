@@ -23,18 +23,6 @@ use Rattle.product_reduce.proofs.JointPlaces.{in_front, before_is, count-append,
 use Rattle.product_reduce.proofs.Joins.{count_removed}
 use Rattle.product_reduce.proofs.Sorted.{AreApart, apart_words, apart_permuted, less_of, permuted_lists}
 
--- ---- one place more
-
-pub no_pair_more : (from n : ℕ) (ts : Trees) → NoPairBetween from (suc n) ts → is_pair (nth n ts) (nth (suc n) ts) ≡ false → NoPairBetween from (suc (n + 1)) ts
-no_pair_more from n ts h q k f l = by (by_place k l)
-  where
-    by_place : (k : ℕ) → suc k < suc (n + 1) → (k < n) ⊎ (k ≡ n)
-    by_place k l = by_test (λ b. nat_lt k n ≡ b → (k < n) ⊎ (k ≡ n)) (nat_lt k n) (λ p x. inl (ltb-true k n x)) (λ p x. inr (omega (arith, ltb-false k n x, l))) refl
-
-    by : (k < n) ⊎ (k ≡ n) → is_pair (nth k ts) (nth (suc k) ts) ≡ false
-    by (inl m) = h k f (omega (arith, m))
-    by (inr x) = (λ i. is_pair (nth (x i) ts) (nth (suc (x i)) ts)) ∙ q
-
 -- ---- a pair tells that some factors have partners
 
 pub partners_of_pair : (t u : Tree) → is_pair t u ≡ true → is_partner t u ≡ true

@@ -42,7 +42,7 @@ pub record AreReadied (i c : ℕ) (old now : Forest) : Type 0 where
   pub rising : RisesBy base_of us
 
 pub readied : {s t : State} (i c : ℕ) → Stands s → Stands t → IsProduct i (forest s) (factors_in i (forest s)) → IsHanded c (forest s) → eqb c i ≡ false → have_partners (factors_in i (forest s)) ≡ false
-    → SortsFactors i (forest s) (forest t) → AreReadied i c (forest s) (forest t)
+    → SortsFactors i 0 (forest s) (forest t) → AreReadied i c (forest s) (forest t)
 readied {s = s} i c ss st p h d n x = record {
   us = x.us;
   product = x.becomes.product;

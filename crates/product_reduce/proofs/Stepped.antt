@@ -75,6 +75,14 @@ parted i h ts old mid now b y =
 
 -- ---- answers
 
+pub finished_as : {P Q : ℕ → Type 0} (s : Joining) → IfFinished s P → ((h : ℕ) → P h → Q h) → IfFinished s Q
+finished_as (joining.Done h) p f = f h p
+finished_as (joining.Joined h at) p f = tt
+
+pub joined_as : {P Q : ℕ → ℕ → Type 0} (s : Joining) → IfJoined s P → ((h at : ℕ) → P h at → Q h at) → IfJoined s Q
+joined_as (joining.Done h) p f = tt
+joined_as (joining.Joined h at) p f = f h at p
+
 pub finished_map : {P Q : ℕ → Type 0} (r : Result Joining NumberFault) → IfOk r (λ s. IfFinished s P) → ((h : ℕ) → P h → Q h) → IfOk r (λ s. IfFinished s Q)
 finished_map (Ok (joining.Done h)) p f = f h p
 finished_map (Ok (joining.Joined h at)) p f = tt

@@ -6,20 +6,11 @@ use Rattle.calc_algebra.specs.SquareClasses.{Same}
 use Rattle.calc_algebra.specs.Surds.{Surd, surd_one, surd_times}
 use Rattle.calc_terms.specs.Trees.{Tree, Trees, none, more, append, opened_into}
 use Rattle.coefficients.specs.Coefficients.{factors_of, with_coefficient}
+pub use Rattle.like_children.specs.Numbers.{numbers_in, others_in}
 
 -- the factors of a product in a product stand in its place
 abbrev pub opened : Trees → Trees
 opened ts = opened_into factors_of ts
-
--- the factors that are Numbers
-abbrev pub numbers_in : Trees → Trees
-numbers_in none = none
-numbers_in (more t ts) = if is_number t then more t (numbers_in ts) else numbers_in ts
-
--- the factors that are none
-abbrev pub others_in : Trees → Trees
-others_in none = none
-others_in (more t ts) = if is_number t then others_in ts else more t (others_in ts)
 
 -- the values of Numbers multiplied
 abbrev pub product_of_values : Trees → Surd

@@ -1,13 +1,13 @@
 -- A product whose Numbers are gathered, and whose other factors are in order.
-use Rattle.std.specs.Prelude.{◌≡◌, ◌≤◌, true, false}
-use Rattle.calc_algebra.specs.Reduced.{base_of, are_reduced}
+use Rattle.std.specs.Prelude.{ℕ, ◌≡◌, ◌≤◌, true, false}
+use Rattle.calc_algebra.specs.Reduced.{base_of, are_reduced, product_tree}
 use Rattle.calc_algebra.specs.Rewritings.{Rewrites}
 use Rattle.calc_measures.specs.Loads.{nest_of, load_of_factors}
-use Rattle.calc_terms.specs.Trees.{Tree, mult, Trees}
+use Rattle.calc_terms.specs.Trees.{Tree, mult, Trees, append, count}
 use Rattle.node_order.specs.Sorting.{IsSorting}
 use Rattle.number_forms.specs.Readers.{is_zero}
 use Rattle.product_reduce.specs.Answers.{AreJoinable}
-use Rattle.product_reduce.specs.Factors.{opened, others_in, coefficient_before}
+use Rattle.product_reduce.specs.Factors.{opened, others_in, IsCoefficient, coefficient_before, coefficient_times}
 use Rattle.product_reduce.specs.Joining.{have_partners}
 use Rattle.tree_handles.specs.Expressions.{children_of}
 
@@ -30,3 +30,14 @@ pub record IsOrdered (c : Tree) (ts : Trees) (t : Tree) : Type 0 where
   pub us : Trees
   pub sorted : IsSorting 0 base_of ts us
   pub is : t ≡ mult (coefficient_before c us)
+
+-- the first n of these factors are their coefficient, as it is written before the others: none for 1, or one Number
+pub record IsLead (n : ℕ) (c : Tree) (ts : Trees) : Type 0 where
+  pub lead : Trees
+  pub split : ts ≡ append lead (others_in ts)
+  pub long : count lead ≡ n
+  pub coefficient : IsCoefficient c ts
+  pub not_zero : is_zero c ≡ false
+  pub some : 1 ≤ count (others_in ts)
+  pub before : (us : Trees) → coefficient_before c us ≡ append lead us
+  pub written : (us : Trees) → IsSorting 0 base_of (others_in ts) us → coefficient_times c us ≡ product_tree (append lead us)

@@ -1,33 +1,18 @@
 -- The Numbers among the factors, multiplied from left to right.
-use Rattle.std.specs.Prelude.{ℕ, ◌≡◌, ◌≤◌, ◌<◌, true, false, List, [], ◌∷◌}
+use Rattle.std.specs.Prelude.{ℕ, ◌≡◌, ◌≤◌, ◌<◌, true}
 use Rattle.calc_terms.specs.Fits.{mul_op}
-use Rattle.calc_terms.specs.Fractions.{Fraction, zero_fraction}
 use Rattle.calc_algebra.specs.Numbers.{is_number, value}
-use Rattle.calc_measures.specs.PlainValues.{fold_values, plain_value}
+use Rattle.calc_measures.specs.PlainValues.{plain_value}
 use Rattle.calc_algebra.specs.SquareClasses.{Same}
 use Rattle.calc_algebra.specs.Surds.{surd_times}
-use Rattle.calc_terms.specs.Trees.{Tree, num, mult, Trees, none, more, append, count, is_num, are_rationals}
-use Rattle.tree_handles.specs.Expressions.{nth, plain}
+use Rattle.calc_terms.specs.Trees.{Tree, mult, Trees, append, count, are_rationals}
+use Rattle.like_children.specs.Folds.{AreFolded}
+use Rattle.tree_handles.specs.Expressions.{plain}
 use Rattle.tree_handles.specs.Forest.{Forest}
 use Rattle.tree_handles.specs.Roots.{root_tree}
 use Rattle.product_reduce.specs.Factors.{numbers_in, others_in, product_of_values}
 use Rattle.calc_algebra.specs.Reduced.{are_reduced}
 use Rattle.product_reduce.specs.Products.{IsTakenOut}
-
--- the rational of a Num, and 0 for any other tree
-abbrev pub rational_of : Tree → Fraction
-rational_of (num q) = q
-rational_of _ = zero_fraction
-
-abbrev pub rationals_of : Trees → List Fraction
-rationals_of none = []
-rationals_of (more t ts) = rational_of t ∷ rationals_of ts
-
--- the product of the rationals of ts is that of d and then those of us, up to an overflow
-pub record AreFolded (ts us : Trees) (d : Tree) : Type 0 where
-  pub rational : is_num d ≡ true
-  pub rationals : are_rationals us ≡ true
-  pub plain : plain_value (mult ts) ≡ fold_values mul_op (rational_of d) (rationals_of us)
 
 -- these Numbers are the first ones, whose product is d, and then the others
 pub record AreMultiplied (ns others : Trees) (d : Tree) : Type 0 where
@@ -43,17 +28,7 @@ pub record IsProgress (ts us : Trees) (d : Tree) : Type 0 where
   pub others : others_in us ≡ others_in ts
   pub reduced : are_reduced us ≡ true
   pub fewer : 1 ≤ count (numbers_in us) → count (numbers_in us) < count (numbers_in ts)
-  pub folded : are_rationals ts ≡ true → 1 ≤ count ts → AreFolded ts us d
-
--- no factor before a place is a Number
-abbrev pub NoNumberBefore : ℕ → Trees → Type 0
-NoNumberBefore n ts = (k : ℕ) → k < n → is_number (nth k ts) ≡ false
-
--- the first Number among the factors stands there
-pub record IsFirstNumber (n : ℕ) (ts : Trees) : Type 0 where
-  pub within : n < count ts
-  pub number : is_number (nth n ts) ≡ true
-  pub before : NoNumberBefore n ts
+  pub folded : are_rationals ts ≡ true → 1 ≤ count ts → AreFolded mul_op (plain_value (mult ts)) d us
 
 -- beside what is left of a product stands the product of its Numbers so far
 pub record IsUnderway (i : ℕ) (ts : Trees) (old new : Forest) (h : ℕ) : Type 0 where

@@ -1,9 +1,12 @@
 -- Neighbours among the factors that have identical bases.
-use Rattle.std.specs.Prelude.{ℕ, zero, suc, ◌≡◌, ◌≤◌, ◌<◌, Bool, true, false, ◌&&◌, not}
+use Rattle.std.specs.Prelude.{ℕ, Bool, ◌&&◌, not}
 use Rattle.calc_algebra.specs.Numbers.{is_number}
-use Rattle.calc_terms.specs.Trees.{Tree, Trees, none, more, count, is_mult}
+use Rattle.calc_algebra.specs.Reduced.{base_of}
+use Rattle.calc_terms.specs.Trees.{Tree, Trees, none, more, is_mult}
+use Rattle.like_children.specs.Neighbours as alike
+use Rattle.like_children.specs.Neighbours.{are_alike}
 use Rattle.number_forms.specs.Sums.{removed}
-use Rattle.product_reduce.specs.Joining.{is_partner, joint}
+use Rattle.product_reduce.specs.Joining.{joint}
 use Rattle.tree_handles.specs.Expressions.{nth, inserted}
 
 -- neither a Number nor a product
@@ -12,22 +15,19 @@ is_single t = not (is_number t) && not (is_mult t)
 
 -- two such factors have identical bases
 abbrev pub is_pair : Tree → Tree → Bool
-is_pair t u = is_single t && is_single u && is_partner t u
+is_pair t u = are_alike is_single base_of t u
 
 -- the factor at a place, counted from 0, and the next one are such
-pub record IsPairAt (n : ℕ) (ts : Trees) : Type 0 where
-  pub within : suc n < count ts
-  pub pair : is_pair (nth n ts) (nth (suc n) ts) ≡ true
+abbrev pub IsPairAt : ℕ → Trees → Type 0
+IsPairAt n ts = alike.IsPairAt is_pair n ts
 
 -- no two neighbours from one place to before another are
 abbrev pub NoPairBetween : ℕ → ℕ → Trees → Type 0
-NoPairBetween from to ts = (k : ℕ) → from ≤ k → suc k < to → is_pair (nth k ts) (nth (suc k) ts) ≡ false
+NoPairBetween from to ts = alike.NoPairBetween is_pair from to ts
 
 -- the first such pair from a place on stands there
-pub record IsNextPair (from n : ℕ) (ts : Trees) : Type 0 where
-  pub behind : from ≤ n
-  pub before : NoPairBetween from (suc n) ts
-  pub pair : IsPairAt n ts
+abbrev pub IsNextPair : ℕ → ℕ → Trees → Type 0
+IsNextPair from n ts = alike.IsNextPair is_pair from n ts
 
 -- the factors at two places are joined, where the first one stood
 abbrev pub joined_pair : ℕ → ℕ → Trees → Trees

@@ -6,8 +6,8 @@ use Rattle.node_order.specs.Sorting.{IsSorting}
 use Rattle.product_reduce.specs.Products.{Becomes, factors_in}
 use Rattle.tree_handles.specs.Forest.{Forest}
 
--- the factors of a root change places, so that their bases do not fall
-pub record SortsFactors (i : ℕ) (old new : Forest) : Type 0 where
+-- the factors of a root behind the first n change places, so that their bases do not fall
+pub record SortsFactors (i n : ℕ) (old new : Forest) : Type 0 where
   pub us : Trees
   pub becomes : Becomes i old new us
-  pub sorted : IsSorting 0 base_of (factors_in i old) us
+  pub sorted : IsSorting n base_of (factors_in i old) us

@@ -79,7 +79,7 @@ pub fn sorted(pool: &mut Pool, product: Handle, coefficient: Handle) -> Result<H
     ensures caused { IfErr result (IsCaused pool.new) }
     ensures stands { Stands pool.new }
 {
-    sort_factors(pool, &product);
+    sort_factors(pool, &product, 0);
     finished(pool, product, coefficient)
 }
 

@@ -1,6 +1,6 @@
 //! The factors of a product by their places; products among them are opened.
 ghost use Rattle.std.specs.Prelude.{◌≡◌, ◌<◌, true};
-ghost use Rattle.calc_terms.specs.Trees.{count, is_mult, has_undef};
+ghost use Rattle.calc_terms.specs.Trees.{count, is_add, is_mult, has_undef};
 ghost use Rattle.product_reduce.specs.Factors.{opened};
 ghost use Rattle.product_reduce.specs.Products.{IsProduct, Becomes, factors_in};
 ghost use Rattle.tree_handles.specs.Expressions.{IsExpression, plain, nth};
@@ -37,6 +37,14 @@ pub fn is_product(pool: &Pool, id: Id) -> bool
     ensures { result ≡ is_mult (plain (tree_at id (forest pool.now))) }
 {
     matches!(kind(pool, id), Kind::Mult)
+}
+
+pub fn is_sum(pool: &Pool, id: Id) -> bool
+    requires stands { Stands pool.now }
+    requires expression { IsExpression id (forest pool.now) }
+    ensures { result ≡ is_add (plain (tree_at id (forest pool.now))) }
+{
+    matches!(kind(pool, id), Kind::Add)
 }
 
 /// Whether some factor is Undef.

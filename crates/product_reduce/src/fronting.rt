@@ -16,7 +16,7 @@ use node_pool::{Id, Pool};
 use tree_handles::{Handle, add_child, kind, merge_children, rational, release};
 
 /// Whether the tree is the rational 1.
-fn is_one(pool: &Pool, id: Id) -> bool
+pub fn is_one(pool: &Pool, id: Id) -> bool
     requires stands { Stands pool.now }
     requires expression { IsExpression id (forest pool.now) }
     ensures { result ≡ is_num_one (plain (tree_at id (forest pool.now))) }

@@ -3,10 +3,10 @@ ghost use Rattle.std.specs.Prelude.{◌≡◌, ◌==◌, ◌≤◌, ◌<◌, ◌
 ghost use Rattle.calc_algebra.specs.Numbers.{is_number};
 ghost use Rattle.calc_algebra.specs.Reduced.{are_reduced};
 ghost use Rattle.calc_measures.specs.PlainValues.{plain_value};
-ghost use Rattle.calc_terms.specs.Trees.{count, is_mult, mult, none, are_rationals};
+ghost use Rattle.calc_terms.specs.Trees.{Tree, count, is_mult, mult, none, are_rationals};
 ghost use Rattle.product_reduce.specs.Answers.{AreOthers, IfFinished, IfJoined, IsFinished, IsStop, IsAnswered, AnswersRationalFactors};
-ghost use Rattle.product_reduce.specs.Factors.{coefficient_before};
-ghost use Rattle.product_reduce.specs.Gathering.{IsGathered, IsOrdered};
+ghost use Rattle.product_reduce.specs.Factors.{others_in, coefficient_before};
+ghost use Rattle.product_reduce.specs.Gathering.{IsGathered, IsLead, IsOrdered};
 ghost use Rattle.product_reduce.specs.Misfits.{IsFactorMisfit, SpreadingOverflows};
 ghost use Rattle.product_reduce.specs.Neighbours.{IsPairAt, IsNextPair, NoPairBetween, joined_pair};
 ghost use Rattle.product_reduce.specs.Products.{IsProduct, factors_in};
@@ -21,10 +21,11 @@ use crate::endings::finished;
 use crate::factors::{factor_count, has_undef_factor, open_products};
 use crate::fronting::put_in_front;
 use crate::joining::join_pair;
+use crate::leading::written_lead;
 use crate::numbers::take_coefficient;
-use crate::partners::next_pair_of;
-use crate::sorting::sort_factors;
+use crate::sorting::{Bases, sort_factors};
 use crate::steps::Joining;
+use coefficients::unwrapped;
 use node_pool::{Full, Pool};
 use number_forms::is_zero;
 use tree_handles::{Handle, NumberFault, move_last, release, undefined};
@@ -56,8 +57,38 @@ pub fn gather_factors(pool: &mut Pool, product: Handle) -> Result<Joining, Numbe
         return Ok(Joining::Done(undefined(pool, product)));
     }
     open_products(pool, &product);
+    if let Some(lead) = written_lead(pool, &product) {
+        return Ok(order_behind(pool, product, lead));
+    }
     let coefficient = take_coefficient(pool, &product)?;
     order_or_end(pool, product, coefficient)
+}
+
+/// The factors behind a coefficient that stands first as it is written, put in order.
+fn order_behind(pool: &mut Pool, product: Handle, lead: u16) -> Joining
+    requires stands { Stands pool.old }
+    requires product { IsProduct product (forest pool.old) (factors_in product (forest pool.old)) }
+    requires reduced { are_reduced (factors_in product (forest pool.old)) ≡ true }
+    requires others { AreOthers (others_in (factors_in product (forest pool.old))) }
+    requires lead { (c : Tree) × IsLead lead c (factors_in product (forest pool.old)) }
+    ensures done { let ts = factors_in product (forest pool.old) in (c : Tree) → IsLead lead c ts
+        → IfFinished result (λ h. Gives (without_root product (forest pool.old)) (forest pool.new) h (IsStop c (others_in ts))) }
+    ensures ordered { let ts = factors_in product (forest pool.old) in (c : Tree) → IsLead lead c ts
+        → IfJoined result (λ h _. Gives (without_root product (forest pool.old)) (forest pool.new) h (IsOrdered c (others_in ts))) }
+    ensures pair { IfJoined result (λ h at. IsPairAt at (children_of (tree_of h pool.new))) }
+    ensures fits { IfJoined result (λ h at. at + 1 < 2 ^ 16) }
+    ensures front { KeepsFront (product ∷ []) (forest pool.old) (forest pool.new) }
+    ensures kept { KeepsRefusals pool.old pool.new }
+    ensures stands { Stands pool.new }
+{
+    sort_factors(pool, &product, lead);
+    match like_children::next_pair(pool, &product, lead, &Bases) {
+        Some(at) => {
+            move_last(pool, &product);
+            Joining::Joined { product, at }
+        }
+        None => Joining::Done(unwrapped(pool, product)),
+    }
 }
 
 /// A coefficient and the other factors, put in order.
@@ -91,8 +122,8 @@ fn order_or_end(
         move_last(pool, &coefficient);
         return Ok(Joining::Done(coefficient));
     }
-    sort_factors(pool, &product);
-    match next_pair_of(pool, &product, 0) {
+    sort_factors(pool, &product, 0);
+    match like_children::next_pair(pool, &product, 0, &Bases) {
         Some(first) => {
             let (product, at) = behind(pool, product, coefficient, first);
             Ok(Joining::Joined { product, at })
@@ -155,5 +186,5 @@ pub fn next_pair(pool: &Pool, product: &Handle, from: u16) -> Option<u16>
         MatchOption result (NoPairBetween from (count ts) ts) (λ at. IsNextPair from at ts) }
     ensures fits { IfSome result (λ at. at + 1 < 2 ^ 16) }
 {
-    next_pair_of(pool, product, from)
+    like_children::next_pair(pool, product, from, &Bases)
 }

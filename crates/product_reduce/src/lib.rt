@@ -8,6 +8,7 @@ mod fronting;
 mod gathering;
 mod joining;
 pub mod laws;
+mod leading;
 mod nodes;
 mod numbers;
 mod partners;

@@ -1,5 +1,5 @@
 //! The Numbers among the factors, multiplied from left to right.
-ghost use Rattle.std.specs.Prelude.{◌≡◌, ◌==◌, ◌<◌, ◌≤◌, true, false, MatchOption, IfOk, IfErr, OnOk, [], ◌∷◌};
+ghost use Rattle.std.specs.Prelude.{◌≡◌, ◌==◌, ◌<◌, ◌≤◌, true, false, IfOk, IfErr, OnOk, [], ◌∷◌};
 ghost use Rattle.number_forms.specs.Sums.{removed};
 ghost use Rattle.calc_algebra.specs.Reduced.{are_reduced};
 ghost use Rattle.calc_terms.specs.Trees.{are_rationals, num, mult, count};
@@ -8,8 +8,9 @@ ghost use Rattle.calc_terms.specs.Fractions.{Fraction};
 ghost use Rattle.calc_algebra.specs.Numbers.{is_number, value};
 ghost use Rattle.calc_measures.specs.PlainValues.{calculated, plain_value};
 ghost use Rattle.calc_algebra.specs.Surds.{surd_times};
+ghost use Rattle.like_children.specs.Numbers.{NoNumberBetween};
 ghost use Rattle.product_reduce.specs.Factors.{numbers_in, others_in, IsCoefficient};
-ghost use Rattle.product_reduce.specs.Multiplying.{NoNumberBefore, IsFirstNumber, IsUnderway};
+ghost use Rattle.product_reduce.specs.Multiplying.{IsUnderway};
 ghost use Rattle.product_reduce.specs.Products.{IsProduct, IsTakenOut, factors_in};
 ghost use Rattle.number_forms.specs.Answers.{IsNumberOf, AnswersRationals};
 ghost use Rattle.tree_handles.specs.Faults.{OfOverflow, Faults};
@@ -20,28 +21,11 @@ ghost use Rattle.tree_handles.specs.Handed.{tree_of, IsHanded, KeepsFront};
 ghost use Rattle.tree_handles.specs.Expressions.{nth};
 ghost use Rattle.tree_handles.specs.Roots.{without_root};
 
-use crate::factors::factor_count;
 use crate::nodes::one;
+use like_children::next_number;
 use node_pool::{Full, Pool};
-use number_forms::{is_reduced_number, multiply_numbers};
-use tree_handles::{Handle, NumberFault, child_ids, take_child};
-
-/// The place of the first Number among the factors.
-fn first_number(pool: &Pool, product: &Handle) -> Option<u16>
-    requires stands { Stands pool.now }
-    requires product { IsProduct product.now (forest pool.now) (factors_in product.now (forest pool.now)) }
-    requires reduced { are_reduced (factors_in product.now (forest pool.now)) ≡ true }
-    ensures { let ts = factors_in product.now (forest pool.now) in
-        MatchOption result (NoNumberBefore (count ts) ts) (λ at. IsFirstNumber at ts) }
-{
-    let mut ids = child_ids(pool, product.id(), 0);
-    for at in 0..factor_count(pool, product) {
-        if is_reduced_number(pool, ids.next()?) {
-            return Some(at);
-        }
-    }
-    None
-}
+use number_forms::multiply_numbers;
+use tree_handles::{Handle, NumberFault, take_child};
 
 /// Takes the first Number among the factors out of a product; 1 where there is none.
 fn take_first_number(pool: &mut Pool, product: &Handle) -> Result<Handle, Full>
@@ -53,10 +37,10 @@ fn take_first_number(pool: &mut Pool, product: &Handle) -> Result<Handle, Full>
     ensures kept { OnOk result (KeepsRefusals pool.old pool.new) }
     ensures full { IfErr result (Refuses pool.old pool.new) }
     ensures caused { IfErr result (LacksBytes pool.new) }
-    ensures some { let ts = factors_in product.now (forest pool.old) in IfErr result (λ _. NoNumberBefore (count ts) ts) }
+    ensures some { let ts = factors_in product.now (forest pool.old) in IfErr result (λ _. NoNumberBetween 0 (count ts) ts) }
     ensures stands { Stands pool.new }
 {
-    match first_number(pool, product) {
+    match next_number(pool, product, 0) {
         Some(at) => Ok(take_child(pool, product, at)),
         None => one(pool),
     }
@@ -111,7 +95,7 @@ pub fn take_coefficient(pool: &mut Pool, product: &Handle) -> Result<Handle, Num
     ensures stands { Stands pool.new }
 {
     let mut coefficient = take_first_number(pool, product)?;
-    while let Some(at) = first_number(pool, product) {
+    while let Some(at) = next_number(pool, product, 0) {
         match multiply_in(pool, product, at, coefficient) {
             Ok(product) => coefficient = product,
             Err(fault) => return Err(fault),

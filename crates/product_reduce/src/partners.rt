@@ -1,9 +1,9 @@
 //! Factors with identical bases, found and joined.
-ghost use Rattle.std.specs.Prelude.{◌≡◌, ◌<◌, ◌≤◌, ◌+◌, ◌^◌, true, false, not, MatchOption, IfSome};
+ghost use Rattle.std.specs.Prelude.{◌≡◌, ◌<◌, true, false, not, MatchOption};
 ghost use Rattle.calc_algebra.specs.Reduced.{are_reduced, is_reduced, is_opaque_exponent, is_transparent_power, base_of};
 ghost use Rattle.calc_terms.specs.Trees.{count};
 ghost use Rattle.product_reduce.specs.Joining.{is_partner, have_partners, HasNoPartner, IsNearest, IsFirstPair};
-ghost use Rattle.product_reduce.specs.Neighbours.{is_single, is_pair, NoPairBetween, IsNextPair};
+ghost use Rattle.product_reduce.specs.Neighbours.{is_single};
 ghost use Rattle.product_reduce.specs.Products.{IsProduct, factors_in};
 ghost use Rattle.tree_handles.specs.Expressions.{IsExpression, plain, nth};
 ghost use Rattle.tree_handles.specs.Inside.{tree_at};
@@ -15,7 +15,7 @@ use node_order::compare;
 use node_pool::{Id, Pool};
 use number_forms::{is_reduced_number, whole};
 use std::cmp::Ordering;
-use tree_handles::{Handle, child_id, child_ids, kind};
+use tree_handles::{Handle, child_id, kind};
 
 /// Whether the tree is a power whose exponent is no Number, or is whole.
 pub fn is_transparent_power(pool: &Pool, id: Id) -> bool
@@ -104,60 +104,11 @@ pub fn first_pair(pool: &Pool, product: &Handle) -> Option<(u16, u16)>
 }
 
 /// Whether a factor is neither a Number nor a product.
-fn is_single(pool: &Pool, id: Id) -> bool
+pub fn is_single(pool: &Pool, id: Id) -> bool
     requires stands { Stands pool.now }
     requires expression { IsExpression id (forest pool.now) }
     requires reduced { is_reduced (plain (tree_at id (forest pool.now))) ≡ true }
     ensures { result ≡ is_single (plain (tree_at id (forest pool.now))) }
 {
     !is_reduced_number(pool, id) && !is_product(pool, id)
-}
-
-/// Whether two factors, neither a Number nor a product, have identical bases.
-fn are_pair(pool: &Pool, left: Id, right: Id) -> bool
-    requires stands { Stands pool.now }
-    requires first { IsExpression left (forest pool.now) }
-    requires second { IsExpression right (forest pool.now) }
-    requires first_reduced { is_reduced (plain (tree_at left (forest pool.now))) ≡ true }
-    requires second_reduced { is_reduced (plain (tree_at right (forest pool.now))) ≡ true }
-    ensures { result ≡ is_pair (plain (tree_at left (forest pool.now))) (plain (tree_at right (forest pool.now))) }
-{
-    is_single(pool, left) && is_single(pool, right) && have_one_base(pool, left, right)
-}
-
-/// Whether two factors have identical bases.
-fn have_one_base(pool: &Pool, left: Id, right: Id) -> bool
-    requires stands { Stands pool.now }
-    requires first { IsExpression left (forest pool.now) }
-    requires second { IsExpression right (forest pool.now) }
-    requires first_reduced { is_reduced (plain (tree_at left (forest pool.now))) ≡ true }
-    requires second_reduced { is_reduced (plain (tree_at right (forest pool.now))) ≡ true }
-    ensures { result ≡ is_partner (plain (tree_at left (forest pool.now))) (plain (tree_at right (forest pool.now))) }
-{
-    matches!(
-        compare(pool, base(pool, left), base(pool, right)),
-        Ordering::Equal
-    )
-}
-
-/// The first factor from a place on that makes a pair with the next one.
-pub fn next_pair_of(pool: &Pool, product: &Handle, from: u16) -> Option<u16>
-    requires stands { Stands pool.now }
-    requires product { IsProduct product.now (forest pool.now) (factors_in product.now (forest pool.now)) }
-    requires reduced { are_reduced (factors_in product.now (forest pool.now)) ≡ true }
-    requires within { from ≤ count (factors_in product.now (forest pool.now)) }
-    ensures pair { let ts = factors_in product.now (forest pool.now) in
-        MatchOption result (NoPairBetween from (count ts) ts) (λ at. IsNextPair from at ts) }
-    ensures fits { IfSome result (λ at. at + 1 < 2 ^ 16) }
-{
-    let mut ids = child_ids(pool, product.id(), from);
-    let mut left = ids.next()?;
-    for at in from..factor_count(pool, product) - 1 {
-        let right = ids.next()?;
-        if are_pair(pool, left, right) {
-            return Some(at);
-        }
-        left = right;
-    }
-    None
 }

@@ -24,11 +24,12 @@ use Rattle.coefficients.proofs.Forms.{parts_reduced, parts_defined}
 use Rattle.coefficients.proofs.Keeps.{coefficient_keeps}
 use Rattle.calc_algebra.proofs.Rewritings.{keeps, kept}
 use Rattle.tree_handles.specs.Expressions.{nth, inserted}
+use Rattle.like_children.specs.Neighbours.{IsPairAt}
 use Rattle.sum_reduce.specs.Collected.{others_in, AreUnlike, AreLike, sum_of_coefficients, collects_ordered, collects_like, collects_then}
 use Rattle.sum_reduce.specs.Joining.{IsAdded, IsJoining}
 use Rattle.sum_reduce.specs.Stages.{IsStage, widths}
 use Rattle.number_forms.specs.Sums.{removed}
-use Rattle.sum_reduce.specs.Terms.{AreFormed, is_loose, is_partner, opened, IsPair}
+use Rattle.sum_reduce.specs.Terms.{AreFormed, is_loose, is_partner, opened}
 use Rattle.number_forms.specs.Answers.{IsNumberOf}
 use Rattle.calc_algebra.proofs.Names.{Within, no_new_name, within_of, within_same, within_both, within_beside, within_trans, within_right, within_none, within_eq, names_permuted, number_names}
 use Rattle.sum_reduce.proofs.Names.{names_of_part}
@@ -282,24 +283,24 @@ joining_at {ts = ts} {c = c} {p = p} {less = less} us at e q j =
     subst (λ (x : Tree). IsJoining ts c x (removed at us) less) (sym e) (subst (λ (x : Trees). IsJoining ts c p x less) (sym q) j)
 
 -- the coefficient of a term that has a partner
-pub joining_start : (ts us : Trees) (c : Tree) (at : ℕ) → AreFormed ts → NoneIs is_loose ts → IsPair at ts → us ≡ inserted at (more (part_of (nth at ts)) none) (removed at ts) → c ≡ coefficient_of (nth at ts)
+pub joining_start : (ts us : Trees) (c : Tree) (at : ℕ) → AreFormed ts → NoneIs is_loose ts → IsPairAt is_partner at ts → us ≡ inserted at (more (part_of (nth at ts)) none) (removed at ts) → c ≡ coefficient_of (nth at ts)
     → IsJoining ts c (nth at us) (removed at us) 0
 joining_start ts us c at f s h q e =
     let l : at < count ts = let w = h.within in omega (arith, w) in
     let few : at ≤ count (removed at ts) = omega (arith, count_removed at ts l, l) in
-    let a = partners (nth at ts) (nth (suc at) ts) h.partner in
+    let a = partners (nth at ts) (nth (suc at) ts) h.pair in
     let j = joining_first (nth at ts) ts (removed at ts) (taken_permuted at ts l) f s a.first (numbers_false at ts l a.first) in
     joining_at us at (ap (nth at) q ∙ nth_inserted at (part_of (nth at ts)) (removed at ts) few) (ap (removed at) q ∙ removed_inserted at (part_of (nth at ts)) (removed at ts) few)
     (subst (λ (x : Tree). IsJoining ts x (part_of (nth at ts)) (removed at ts) 0) (sym e) j)
 
 -- it stays a pair
-pub pair_start : (ts us : Trees) (at : ℕ) → AreFormed ts → IsPair at ts → us ≡ inserted at (more (part_of (nth at ts)) none) (removed at ts) → IsPair at us
+pub pair_start : (ts us : Trees) (at : ℕ) → AreFormed ts → IsPairAt is_partner at ts → us ≡ inserted at (more (part_of (nth at ts)) none) (removed at ts) → IsPairAt is_partner at us
 pair_start ts us at f h q =
     let l : at < count ts = let w = h.within in omega (arith, w) in
     let t = nth at ts in
     let p = part_of t in
     let few : at ≤ count (removed at ts) = omega (arith, count_removed at ts l, l) in
-    let a = partners t (nth (suc at) ts) h.partner in
+    let a = partners t (nth (suc at) ts) h.pair in
     let x = taken t (formed_reduced at ts l f) (formed_defined at ts l f) a.first in
     let here : nth at us ≡ p = ap (nth at) q ∙ nth_inserted at p (removed at ts) few in
     let next : nth (suc at) us ≡ nth (suc at) ts = ap (nth (suc at)) q ∙ nth_behind_inserted at p (removed at ts) few ∙ nth_behind_removed at at ts (omega arith) in
@@ -307,7 +308,7 @@ pair_start ts us at f h q =
     let parts : part_of p ≡ part_of t = monic_part p x.monic in
     record {
       within = omega (arith, ap count q, count_inserted at p (removed at ts), count_removed at ts l, h.within);
-      partner = (λ i. is_partner (here i) (next i)) ∙ (λ i. not (numbers i) && not (is_number (nth (suc at) ts)) && is_eq (tree_cmp (parts i) (part_of (nth (suc at) ts)))) ∙ h.partner;
+      pair = (λ i. is_partner (here i) (next i)) ∙ (λ i. not (numbers i) && not (is_number (nth (suc at) ts)) && is_eq (tree_cmp (parts i) (part_of (nth (suc at) ts)))) ∙ h.pair;
     }
 
 -- the next term
@@ -316,33 +317,33 @@ pub record IsNextPartner (at : ℕ) (us : Trees) : Type 0 where
   pub defined : is_undef (nth (suc at) us) ≡ false
   pub no_number : is_number (nth (suc at) us) ≡ false
 
-pub next_partner : (us : Trees) (at : ℕ) → AreFormed us → IsPair at us → IsNextPartner at us
+pub next_partner : (us : Trees) (at : ℕ) → AreFormed us → IsPairAt is_partner at us → IsNextPartner at us
 next_partner us at f h = record {
   reduced = formed_reduced (suc at) us h.within f;
   defined = formed_defined (suc at) us h.within f;
-  no_number = (partners (nth at us) (nth (suc at) us) h.partner).second;
+  no_number = (partners (nth at us) (nth (suc at) us) h.pair).second;
 }
 
-pub first_partner : (us : Trees) (at : ℕ) → IsPair at us → is_number (nth at us) ≡ false
-first_partner us at h = (partners (nth at us) (nth (suc at) us) h.partner).first
+pub first_partner : (us : Trees) (at : ℕ) → IsPairAt is_partner at us → is_number (nth at us) ≡ false
+first_partner us at h = (partners (nth at us) (nth (suc at) us) h.pair).first
 
-pub partner_step : (ts : Trees) (c e : Tree) (us vs : Trees) (at less : ℕ) → IsJoining ts c (nth at us) (removed at us) less → IsPair at us → vs ≡ removed (suc at) us → IsNumberOf (value c ++ value (coefficient_of (nth (suc at) us))) e
+pub partner_step : (ts : Trees) (c e : Tree) (us vs : Trees) (at less : ℕ) → IsJoining ts c (nth at us) (removed at us) less → IsPairAt is_partner at us → vs ≡ removed (suc at) us → IsNumberOf (value c ++ value (coefficient_of (nth (suc at) us))) e
     → IsJoining ts e (nth at vs) (removed at vs) (less + nodes (nth at us))
 partner_step ts c e us vs at less j h q w =
     let next : nth at (removed at us) ≡ nth (suc at) us = nth_behind_removed at at us (omega arith) in
     let l : at < count us = let w = h.within in omega (arith, w) in
     let few : at < count (removed at us) = omega (arith, count_removed at us l, h.within) in
     joining_at vs at (ap (nth at) q ∙ nth_removed at (suc at) us (omega arith)) (ap (removed at) q ∙ removed_two at us)
-    (joining_more ts c (nth at us) (removed at us) less at e j few (ap (is_partner (nth at us)) next ∙ h.partner) w.number (rw next w.worth))
+    (joining_more ts c (nth at us) (removed at us) less at e j few (ap (is_partner (nth at us)) next ∙ h.pair) w.number (rw next w.worth))
 
-pub partner_within : (us vs : Trees) (at : ℕ) → IsPair at us → vs ≡ removed (suc at) us → at < count vs
+pub partner_within : (us vs : Trees) (at : ℕ) → IsPairAt is_partner at us → vs ≡ removed (suc at) us → at < count vs
 partner_within us vs at h q = omega (arith, ap count q, count_removed (suc at) us h.within, h.within)
 
-pub pair_here : (at : ℕ) (us : Trees) → IsPair at us → at < count us
+pub pair_here : (at : ℕ) (us : Trees) → IsPairAt is_partner at us → at < count us
 pair_here at us h = let w = h.within in omega (arith, w)
 
-pub here_reduced : (at : ℕ) (us : Trees) → AreFormed us → IsPair at us → is_reduced (nth at us) ≡ true
+pub here_reduced : (at : ℕ) (us : Trees) → AreFormed us → IsPairAt is_partner at us → is_reduced (nth at us) ≡ true
 here_reduced at us f h = formed_reduced at us (pair_here at us h) f
 
-pub here_defined : (at : ℕ) (us : Trees) → AreFormed us → IsPair at us → is_undef (nth at us) ≡ false
+pub here_defined : (at : ℕ) (us : Trees) → AreFormed us → IsPairAt is_partner at us → is_undef (nth at us) ≡ false
 here_defined at us f h = formed_defined at us (pair_here at us h) f

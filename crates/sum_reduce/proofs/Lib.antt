@@ -9,14 +9,11 @@ pub mod Stages
 pub mod Joins
 pub mod WrittenSums
 pub mod Settled
-pub mod Folds
 pub mod Sorted
-pub mod Items
 pub mod Parts
 pub mod Results
 pub mod Numbered
 pub mod Written
-pub mod Pairs
 pub mod Orders
 pub mod Rationals
 pub mod Tested

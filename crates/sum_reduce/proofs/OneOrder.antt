@@ -1,9 +1,8 @@
 -- Terms no two of which have identical parts have one order, and with a Number they are one tree.
-use Rattle.std.specs.declared.cmp.Ordering.{Ordering}
 use Rattle.std.specs.declared.cmp.Ordering.TheVariants.{Less, Equal, Greater}
-use Rattle.std.specs.Ordering.{is_eq, is_lt, ordering_reverse}
+use Rattle.std.specs.Ordering.{is_lt, ordering_reverse}
 use Rattle.std.specs.Prelude.{IsSortedByKey}
-use Rattle.std.proofs.Common.{suc, arith, add-one, ◌≡◌, ◌⊎◌, inl, inr, false, refl, sym, ap, ◌∙◌}
+use Rattle.std.proofs.Common.{suc, arith, add-one, ◌≡◌, ◌⊎◌, inl, inr, refl, sym, ap, ◌∙◌}
 use Rattle.calc_algebra.specs.Numbers.{is_number}
 use Rattle.calc_algebra.specs.Reduced.{part_of, NoneIs, RisesBy}
 use Rattle.calc_algebra.specs.TreeOrder.{tree_cmp}

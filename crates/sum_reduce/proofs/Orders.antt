@@ -1,15 +1,15 @@
 -- From opened terms to terms in order.
 use Rattle.std.specs.Prelude.{Err}
-use Rattle.std.proofs.Common.{ℕ, ◌≤◌, ◌≡◌, true, sym, ap, ◌∙◌, subst, arith}
+use Rattle.std.proofs.Common.{ℕ, ◌≤◌, ◌≡◌, true, refl, sym, ap, ◌∙◌, subst, arith}
 use Rattle.calc_measures.specs.PlainValues.{PlainValue, plain_value}
 use Rattle.calc_algebra.specs.Reduced.{NoneIs}
-use Rattle.calc_terms.specs.Trees.{add, Trees, none, more, append, count, are_rationals}
+use Rattle.calc_terms.specs.Trees.{num, add, Trees, none, more, append, count, are_rationals}
 use Rattle.tree_handles.specs.declared.fault.NumberFault.{NumberFault}
 use Rattle.tree_handles.specs.declared.fault.NumberFault.TheVariants as fault
+use Rattle.like_children.specs.Neighbours.{IsPairAt}
 use Rattle.sum_reduce.specs.Arranging.{IsFolded, AnswersFold, IsLead, IsArranged}
 use Rattle.sum_reduce.specs.Stages.{IsStage}
-use Rattle.sum_reduce.specs.Terms.{AreFormed, opened, is_loose, IsPair}
-use Rattle.sum_reduce.proofs.Folds.{opened_rationals}
+use Rattle.sum_reduce.specs.Terms.{AreFormed, opened, is_loose, is_partner}
 use Rattle.sum_reduce.proofs.Opened.{number_tight}
 use Rattle.sum_reduce.proofs.Stages.{stage_opened}
 
@@ -17,6 +17,11 @@ pub opened_stage : (ts us : Trees) → AreFormed ts → 1 ≤ count ts → us �
 opened_stage ts us f l e = subst (IsStage ts) (sym e) (stage_opened ts f l)
 
 -- rationals are as before
+opened_rationals : (ts : Trees) → are_rationals ts ≡ true → opened ts ≡ ts
+opened_rationals none h = refl
+opened_rationals (more (num q) ts) h = ap (more (num q)) (opened_rationals ts h)
+opened_rationals (more _ ts) h = cc
+
 pub rationals_opened : (ts us : Trees) → are_rationals ts ≡ true → us ≡ opened ts → us ≡ ts
 rationals_opened ts us q e = e ∙ opened_rationals ts q
 
@@ -36,7 +41,7 @@ rationals_ordered ts us vs ws q e h k =
     record { q = f.q; plain = sym (ap (λ (x : Trees). plain_value (add x)) same) ∙ f.plain; is = k (ap count f.is) ∙ f.is }
 
 -- one rational has no partner
-pub folded_alone : (v : PlainValue) (ts : Trees) (at : ℕ) → IsFolded v ts → IsPair at ts → ⊥
+pub folded_alone : (v : PlainValue) (ts : Trees) (at : ℕ) → IsFolded v ts → IsPairAt is_partner at ts → ⊥
 folded_alone v ts at f h = absurd (let w = h.within in let e : count ts ≡ 1 = ap count f.is in omega (arith, w, e))
 
 -- nothing among terms in order is a sum to be opened

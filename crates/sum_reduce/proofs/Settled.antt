@@ -18,10 +18,11 @@ use Rattle.calc_algebra.proofs.UndefRewrites.{undef_part}
 use Rattle.coefficients.proofs.Forms.{parts_reduced, parts_defined, reduced_parts}
 use Rattle.node_order.specs.Sorting.{list_of}
 use Rattle.calc_algebra.proofs.Rewritings.{keeps, reduces_after}
+use Rattle.like_children.specs.Neighbours.{NoPairBetween}
 use Rattle.sum_reduce.specs.Arranging.{IsLead, IsSettled}
 use Rattle.sum_reduce.specs.Stages.{IsStage}
 use Rattle.sum_reduce.specs.SumAnswers.{IsSumAnswer}
-use Rattle.sum_reduce.specs.Terms.{AreFormed, is_loose, is_partner, NoPairBetween, terms_of_number, sum_tree, written_tree}
+use Rattle.sum_reduce.specs.Terms.{AreFormed, is_loose, is_partner, terms_of_number, sum_tree, written_tree}
 use Rattle.calc_algebra.proofs.Names.{Within, no_new_name, within_left, within_same, within_none}
 use Rattle.sum_reduce.proofs.WrittenSums.{AreOthers, zero_terms, written_sum, written_formed, written_keeps, written_names, written_nest}
 use Rattle.tree_handles.proofs.UndefChildren.{undef_inside}
@@ -59,7 +60,7 @@ abbrev pub AreApart : Trees → Type 0
 AreApart (more t (more u ts)) = (is_partner t u ≡ false) × AreApart (more u ts)
 AreApart _ = ⊤
 
-pub apart_words : (ts : Trees) → NoPairBetween 0 (count ts) ts → AreApart ts
+pub apart_words : (ts : Trees) → NoPairBetween is_partner 0 (count ts) ts → AreApart ts
 apart_words none h = tt
 apart_words (more t none) h = tt
 apart_words (more t (more u ts)) h = (h 0 (omega arith) (omega arith), apart_words (more u ts) (λ k f l. h (suc k) (omega arith) (omega arith)))

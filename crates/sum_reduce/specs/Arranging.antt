@@ -6,6 +6,8 @@ use Rattle.calc_measures.specs.PlainValues.{PlainValue, exactly}
 use Rattle.calc_algebra.specs.Reduced.{part_of, NoneIs}
 use Rattle.calc_algebra.specs.TreeOrder.{tree_cmp}
 use Rattle.calc_terms.specs.Trees.{Tree, num, Trees, none, more, append, count}
+pub use Rattle.like_children.specs.Folds.{IsTotal}
+use Rattle.like_children.specs.Neighbours.{NoPairBetween}
 use Rattle.node_order.specs.Sorting.{list_of}
 use Rattle.node_pool.specs.State.{State}
 use Rattle.calc_measures.specs.PlainTrees.{IsPlainOverflow}
@@ -14,7 +16,7 @@ use Rattle.tree_handles.specs.Handed.{tree_of}
 use Rattle.tree_handles.specs.declared.fault.NumberFault.{NumberFault}
 use Rattle.tree_handles.specs.declared.fault.NumberFault.TheVariants as fault
 use Rattle.sum_reduce.specs.Stages.{IsStage}
-use Rattle.sum_reduce.specs.Terms.{is_loose, NoPairBetween}
+use Rattle.sum_reduce.specs.Terms.{is_loose, is_partner}
 
 -- no tree, or one Number
 abbrev pub IsLead : Trees → Type 0
@@ -56,20 +58,13 @@ pub record IsArranged (ts : Trees) : Type 0 where
 -- terms in order, no two with identical parts
 pub record IsSettled (ts : Trees) : Type 0 where
   pub arranged : IsArranged ts
-  pub apart : NoPairBetween 0 (count ts) ts
+  pub apart : NoPairBetween is_partner 0 (count ts) ts
 
 -- one rational, which is that plain value
 pub record IsFolded (v : PlainValue) (ts : Trees) : Type 0 where
   pub q : Fraction
   pub plain : v ≡ exactly q
   pub is : ts ≡ more (num q) none
-
--- a total that is that plain value, with no term left
-pub record IsTotal (v : PlainValue) (t : Tree) (us : Trees) : Type 0 where
-  pub q : Fraction
-  pub plain : v ≡ exactly q
-  pub is : t ≡ num q
-  pub none_left : us ≡ none
 
 -- a total is answered where rationals have one, else the first overflow, or bytes are lacking for a number in the long form
 abbrev pub AnswersTotal : PlainValue → State → Trees → Result ℕ NumberFault → Type 0

@@ -1,5 +1,5 @@
 -- The terms of a sum collected: sums among them opened, Numbers added, and terms with identical parts joined.
-use Rattle.std.specs.Prelude.{ℕ, ◌≡◌, ◌≤◌, [], ◌++◌, ⊤, true, false, if◌then◌else◌, IsPermutation}
+use Rattle.std.specs.Prelude.{◌≡◌, ◌≤◌, [], ◌++◌, ⊤, true, false, IsPermutation}
 use Rattle.calc_terms.specs.Fractions.{zero_fraction}
 use Rattle.calc_algebra.specs.Numbers.{is_number, value}
 use Rattle.calc_algebra.specs.Reduced.{part_of, NoneIs}
@@ -7,19 +7,10 @@ use Rattle.calc_algebra.specs.SquareClasses.{Same}
 use Rattle.calc_algebra.specs.Surds.{Surd}
 use Rattle.calc_terms.specs.Trees.{Tree, num, Trees, none, more, append, count}
 use Rattle.coefficients.specs.Coefficients.{coefficient_of, with_coefficient}
+pub use Rattle.like_children.specs.Numbers.{numbers_in, others_in}
 use Rattle.node_order.specs.Sorting.{list_of, IsSorting}
 use Rattle.number_forms.specs.Answers.{IsNumberOf}
 use Rattle.sum_reduce.specs.Terms.{is_partner, opened, terms_of_number, sum_tree}
-
--- the terms that are Numbers
-abbrev pub numbers_in : Trees → Trees
-numbers_in none = none
-numbers_in (more t ts) = if is_number t then more t (numbers_in ts) else numbers_in ts
-
--- the terms that are none
-abbrev pub others_in : Trees → Trees
-others_in none = none
-others_in (more t ts) = if is_number t then others_in ts else more t (others_in ts)
 
 -- the values of Numbers added
 abbrev pub sum_of_values : Trees → Surd

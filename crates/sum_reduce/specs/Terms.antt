@@ -1,11 +1,10 @@
 -- The terms of a sum: sums in it opened, and terms with identical parts.
 use Rattle.std.specs.Prelude.{ℕ, suc, ◌≡◌, ◌<◌, ◌≤◌, Bool, true, false, ◌&&◌, not, if◌then◌else◌}
-use Rattle.std.specs.Ordering.{is_eq}
 use Rattle.calc_terms.specs.Fractions.{zero_fraction, is_zero_fraction}
 use Rattle.calc_algebra.specs.Numbers.{is_number}
 use Rattle.calc_algebra.specs.Reduced.{part_of, HasForm}
-use Rattle.calc_algebra.specs.TreeOrder.{tree_cmp}
-use Rattle.calc_terms.specs.Trees.{Tree, num, add, Trees, none, more, append, count, is_add, AllPartsOf, opened_into}
+use Rattle.calc_terms.specs.Trees.{Tree, num, add, Trees, none, more, append, is_add, AllPartsOf, opened_into}
+use Rattle.like_children.specs.Neighbours.{are_alike}
 use Rattle.number_forms.specs.Sums.{removed}
 use Rattle.tree_handles.specs.Expressions.{nth}
 
@@ -36,34 +35,13 @@ terms_of_loose t = more t none
 abbrev pub opened : Trees → Trees
 opened ts = opened_into terms_of_loose ts
 
+-- it is no Number, so that it has a part
+abbrev pub has_part : Tree → Bool
+has_part t = not (is_number t)
+
 -- two terms have identical parts
 abbrev pub is_partner : Tree → Tree → Bool
-is_partner t u = not (is_number t) && not (is_number u) && is_eq (tree_cmp (part_of t) (part_of u))
-
--- no term before a place is a Number
-abbrev pub NoNumberBefore : ℕ → Trees → Type 0
-NoNumberBefore n ts = (k : ℕ) → k < n → is_number (nth k ts) ≡ false
-
--- the first Number among the terms stands there
-pub record IsFirstNumber (n : ℕ) (ts : Trees) : Type 0 where
-  pub within : n < count ts
-  pub number : is_number (nth n ts) ≡ true
-  pub before : NoNumberBefore n ts
-
--- no two neighbours from one place to before another are partners
-abbrev pub NoPairBetween : ℕ → ℕ → Trees → Type 0
-NoPairBetween from to ts = (k : ℕ) → from ≤ k → suc k < to → is_partner (nth k ts) (nth (suc k) ts) ≡ false
-
--- the term at a place and the next one are partners
-pub record IsPair (n : ℕ) (ts : Trees) : Type 0 where
-  pub within : suc n < count ts
-  pub partner : is_partner (nth n ts) (nth (suc n) ts) ≡ true
-
--- the first such pair from a place on stands there
-pub record IsFirstPair (from n : ℕ) (ts : Trees) : Type 0 where
-  pub behind : from ≤ n
-  pub before : NoPairBetween from (suc n) ts
-  pub pair : IsPair n ts
+is_partner t u = are_alike has_part part_of t u
 
 -- the terms of a Number as terms of a sum: none for 0
 abbrev pub terms_of_number : Tree → Trees

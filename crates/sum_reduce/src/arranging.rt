@@ -2,12 +2,13 @@
 ghost use Rattle.std.specs.Prelude.{◌≡◌, ◌<◌, ◌≤◌, ◌+◌, ◌^◌, true, false, IfErr, IfSome, MatchOption, OnOk, [], ◌∷◌};
 ghost use Rattle.calc_measures.specs.PlainValues.{plain_value};
 ghost use Rattle.calc_terms.specs.Trees.{add, count, are_rationals};
+ghost use Rattle.like_children.specs.Neighbours.{IsPairAt, IsNextPair, NoPairBetween};
 ghost use Rattle.sum_reduce.specs.Overflows.{Overflows};
 ghost use Rattle.tree_handles.specs.Causes.{IsCaused};
 ghost use Rattle.sum_reduce.specs.Arranging.{IsLed, IsArranged, IsSettled, AnswersFold};
 ghost use Rattle.sum_reduce.specs.Stages.{IsStage, widths};
 ghost use Rattle.sum_reduce.specs.Sums.{IsSum, Changes, terms_in};
-ghost use Rattle.sum_reduce.specs.Terms.{AreFormed, is_loose, IsPair, IsFirstPair, NoPairBetween};
+ghost use Rattle.sum_reduce.specs.Terms.{AreFormed, is_loose, is_partner};
 ghost use Rattle.calc_algebra.specs.Reduced.{NoneIs};
 ghost use Rattle.number_forms.specs.Sums.{removed};
 ghost use Rattle.tree_handles.specs.Expressions.{nth};
@@ -17,8 +18,9 @@ ghost use Rattle.tree_handles.specs.Standing.{Stands, forest, KeepsRefusals};
 
 use crate::joining::join_terms;
 use crate::numbers::join_numbers;
-use crate::partners::{Parts, first_pair};
+use crate::partners::Parts;
 use crate::terms::{is_loose, open_sums, term};
+use like_children::next_pair;
 use node_order::sort_children;
 use node_pool::Pool;
 use number_forms::is_reduced_number;
@@ -91,14 +93,14 @@ fn pair_behind(pool: &Pool, sum: &Handle, at: u16) -> Option<u16>
     requires others { NoneIs is_loose (removed at (terms_in sum.now (forest pool.now))) }
     requires fits { at + 1 < 2 ^ 16 }
     ensures pair { let ts = terms_in sum.now (forest pool.now) in
-        MatchOption result (is_loose (nth at ts) ≡ false → NoPairBetween (at + 1) (count ts) ts) (λ next. IsFirstPair (at + 1) next ts) }
+        MatchOption result (is_loose (nth at ts) ≡ false → NoPairBetween is_partner (at + 1) (count ts) ts) (λ next. IsNextPair is_partner (at + 1) next ts) }
     ensures flat { IfSome result (λ _. NoneIs is_loose (terms_in sum.now (forest pool.now))) }
     ensures fits { IfSome result (λ next. next + 1 < 2 ^ 16) }
 {
     if is_loose(pool, term(pool, sum, at)) {
         return None;
     }
-    first_pair(pool, sum, at + 1)
+    next_pair(pool, sum, at + 1, &Parts)
 }
 
 /// From a pair on, each term and its partners become one, up to the first that becomes a sum.
@@ -107,7 +109,7 @@ fn join_pairs(pool: &mut Pool, sum: &Handle, first: u16) -> Result<(), NumberFau
     requires sum { IsSum sum.now (forest pool.old) }
     requires formed { AreFormed (terms_in sum.now (forest pool.old)) }
     requires flat { NoneIs is_loose (terms_in sum.now (forest pool.old)) }
-    requires pair { IsPair first (terms_in sum.now (forest pool.old)) }
+    requires pair { IsPairAt is_partner first (terms_in sum.now (forest pool.old)) }
     requires fits { first + 1 < 2 ^ 16 }
     ensures ok { OnOk result (Changes sum.now (forest pool.old) (forest pool.new)) }
     ensures stage { OnOk result (IsStage (terms_in sum.now (forest pool.old)) (terms_in sum.now (forest pool.new))) }
@@ -146,7 +148,7 @@ pub fn settle(pool: &mut Pool, sum: &Handle) -> Result<(), NumberFault>
     ensures stands { Stands pool.new }
 {
     arrange(pool, sum)?;
-    while let Some(at) = first_pair(pool, sum, 0) {
+    while let Some(at) = next_pair(pool, sum, 0, &Parts) {
         join_pairs(pool, sum, at)?;
         arrange(pool, sum)?;
     }

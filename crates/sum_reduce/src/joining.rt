@@ -6,6 +6,7 @@ ghost use Rattle.calc_terms.specs.Trees.{Trees, count, is_undef, none, more};
 ghost use Rattle.coefficients.specs.Coefficients.{coefficient_of, with_coefficient};
 ghost use Rattle.number_forms.specs.Answers.{IsNumberOf};
 ghost use Rattle.coefficients.specs.Overflows.{NamesPut};
+ghost use Rattle.like_children.specs.Neighbours.{IsPairAt};
 ghost use Rattle.sum_reduce.specs.Overflows.{NamesSum, Overflows};
 ghost use Rattle.tree_handles.specs.Causes.{IsCaused};
 ghost use Rattle.tree_handles.specs.Standing.{LacksBytes, Stands, forest, KeepsRefusals, Refuses};
@@ -14,14 +15,15 @@ ghost use Rattle.sum_reduce.specs.Joining.{IsJoining};
 ghost use Rattle.sum_reduce.specs.Stages.{IsStage, widths};
 ghost use Rattle.sum_reduce.specs.Sums.{IsSum, Changes, Takes, terms_in};
 ghost use Rattle.number_forms.specs.Sums.{removed};
-ghost use Rattle.sum_reduce.specs.Terms.{AreFormed, IsPair, is_loose};
+ghost use Rattle.sum_reduce.specs.Terms.{AreFormed, is_loose, is_partner};
 ghost use Rattle.tree_handles.specs.Expressions.{nth, inserted};
 ghost use Rattle.tree_handles.specs.Faults.{Faults, OfOverflow};
 ghost use Rattle.tree_handles.specs.Forest.{Forest};
 ghost use Rattle.tree_handles.specs.Roots.{without_root};
 
-use crate::partners::leads_pair;
+use crate::partners::Parts;
 use coefficients::{put_coefficient, take_coefficient};
+use like_children::is_pair;
 use node_pool::{Full, Pool};
 use number_forms::add_numbers;
 use tree_handles::{Handle, NumberFault, add_child, release, take_child};
@@ -126,7 +128,7 @@ fn add_partners(
     ensures stands { Stands pool.new }
 {
     let mut total = coefficient;
-    while leads_pair(pool, sum, at) {
+    while is_pair(pool, sum, at, &Parts) {
         match add_partner(pool, sum, at + 1, total) {
             Ok(sum) => total = sum,
             Err(fault) => return Err(fault),
@@ -165,7 +167,7 @@ pub fn join_terms(pool: &mut Pool, sum: &Handle, at: u16) -> Result<(), NumberFa
     requires sum { IsSum sum.now (forest pool.old) }
     requires formed { AreFormed (terms_in sum.now (forest pool.old)) }
     requires flat { NoneIs is_loose (terms_in sum.now (forest pool.old)) }
-    requires pair { IsPair at (terms_in sum.now (forest pool.old)) }
+    requires pair { IsPairAt is_partner at (terms_in sum.now (forest pool.old)) }
     requires fits { at + 1 < 2 ^ 16 }
     ensures ok { OnOk result (Changes sum.now (forest pool.old) (forest pool.new)) }
     ensures stage { OnOk result (IsStage (terms_in sum.now (forest pool.old)) (terms_in sum.now (forest pool.new))) }

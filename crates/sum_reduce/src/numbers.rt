@@ -6,40 +6,24 @@ ghost use Rattle.calc_algebra.specs.Numbers.{is_number, value};
 ghost use Rattle.calc_measures.specs.PlainValues.{calculated, plain_value};
 ghost use Rattle.calc_terms.specs.Trees.{num, is_num, add, more, count, are_rationals};
 ghost use Rattle.number_forms.specs.Answers.{IsNumberOf, AnswersRationals};
+ghost use Rattle.like_children.specs.Numbers.{IsNextNumber, NoNumberBetween};
 ghost use Rattle.sum_reduce.specs.Overflows.{NamesSum, Overflows};
 ghost use Rattle.tree_handles.specs.Causes.{IsCaused};
 ghost use Rattle.tree_handles.specs.Handed.{tree_of, IsHanded, KeepsFront};
-ghost use Rattle.sum_reduce.specs.Arranging.{IsGathered, IsNumbered, AnswersTotal, AnswersFold};
+ghost use Rattle.sum_reduce.specs.Arranging.{IsGathered, IsLed, IsNumbered, AnswersTotal, AnswersFold};
 ghost use Rattle.sum_reduce.specs.Sums.{IsSum, Changes, Takes, terms_in};
 ghost use Rattle.number_forms.specs.Sums.{removed};
-ghost use Rattle.sum_reduce.specs.Terms.{AreFormed, NoNumberBefore, IsFirstNumber};
+ghost use Rattle.sum_reduce.specs.Terms.{AreFormed};
 ghost use Rattle.tree_handles.specs.Expressions.{nth};
 ghost use Rattle.tree_handles.specs.Faults.{Faults, OfOverflow};
 ghost use Rattle.tree_handles.specs.Forest.{Forest};
 ghost use Rattle.tree_handles.specs.Roots.{without_root};
 ghost use Rattle.tree_handles.specs.Standing.{Stands, forest, KeepsRefusals};
 
-use crate::terms::term_count;
+use like_children::next_number;
 use node_pool::Pool;
-use number_forms::{add_numbers, is_reduced_number};
-use tree_handles::{Handle, NumberFault, add_child, child_ids, take_child};
-
-/// The place of the first Number among the terms.
-fn first_number(pool: &Pool, sum: &Handle) -> Option<u16>
-    requires stands { Stands pool.now }
-    requires sum { IsSum sum.now (forest pool.now) }
-    requires formed { AreFormed (terms_in sum.now (forest pool.now)) }
-    ensures { let ts = terms_in sum.now (forest pool.now) in
-        MatchOption result (NoNumberBefore (count ts) ts) (λ at. IsFirstNumber at ts) }
-{
-    let mut ids = child_ids(pool, sum.id(), 0);
-    for at in 0..term_count(pool, sum) {
-        if is_reduced_number(pool, ids.next()?) {
-            return Some(at);
-        }
-    }
-    None
-}
+use number_forms::add_numbers;
+use tree_handles::{Handle, NumberFault, add_child, take_child};
 
 /// The Number at a place is added to those before it.
 fn add_number(pool: &mut Pool, sum: &Handle, at: u16, so_far: Handle) -> Result<Handle, NumberFault>
@@ -86,7 +70,7 @@ fn add_all_numbers(pool: &mut Pool, sum: &Handle, number: Handle) -> Result<Hand
     ensures stands { Stands pool.new }
 {
     let mut total = number;
-    while let Some(at) = first_number(pool, sum) {
+    while let Some(at) = next_number(pool, sum, 0) {
         match add_number(pool, sum, at, total) {
             Ok(sum) => total = sum,
             Err(fault) => return Err(fault),
@@ -95,7 +79,21 @@ fn add_all_numbers(pool: &mut Pool, sum: &Handle, number: Handle) -> Result<Hand
     Ok(total)
 }
 
-/// The Numbers among the terms become one, which stands first.
+/// The place of the first Number, unless it stands first and is the only one.
+fn number_to_move(pool: &Pool, sum: &Handle) -> Option<u16>
+    requires stands { Stands pool.now }
+    requires sum { IsSum sum.now (forest pool.now) }
+    requires formed { AreFormed (terms_in sum.now (forest pool.now)) }
+    ensures { let ts = terms_in sum.now (forest pool.now) in MatchOption result (IsLed ts) (λ at. IsNextNumber 0 at ts) }
+{
+    let first = next_number(pool, sum, 0)?;
+    if first == 0 && next_number(pool, sum, 1).is_none() {
+        return None;
+    }
+    Some(first)
+}
+
+/// The Numbers among the terms become one, which stands first. An only one that stands there is left where it is.
 pub fn join_numbers(pool: &mut Pool, sum: &Handle) -> Result<(), NumberFault>
     requires stands { Stands pool.old }
     requires sum { IsSum sum.now (forest pool.old) }
@@ -112,7 +110,7 @@ pub fn join_numbers(pool: &mut Pool, sum: &Handle) -> Result<(), NumberFault>
     ensures overflow { IfErr result (OfOverflow (Overflows (terms_in sum.now (forest pool.old)))) }
     ensures stands { Stands pool.new }
 {
-    match first_number(pool, sum) {
+    match number_to_move(pool, sum) {
         Some(at) => {
             let number = take_child(pool, sum, at);
             let total = add_all_numbers(pool, sum, number)?;

@@ -1,8 +1,8 @@
-use Rattle.std.proofs.Common.{◌≡◌, ◌≤◌, ◌∙◌, Err, ap, sym, refl, subst, true, false}
+use Rattle.std.proofs.Common.{◌≡◌, ◌≤◌, ◌∙◌, Err, ap, sym, refl, subst, true, false, arith}
 use Rattle.calc_measures.specs.PlainValues.{PlainValue, plain_value}
-use Rattle.calc_terms.specs.Trees.{Trees, mult, count, are_rationals}
+use Rattle.calc_terms.specs.Trees.{Trees, mult, none, count, is_mult, are_rationals}
 use Rattle.number_forms.specs.Answers.{AnswersRationals}
-use Rattle.calc_algebra.specs.Reduced.{are_reduced}
+use Rattle.calc_algebra.specs.Reduced.{NoneIs, are_reduced}
 use Rattle.calc_measures.specs.PlainTrees.{IsPlainAnswer}
 use Rattle.number_forms.proofs.Overflows.{passed_on, overflow_as, refused_as as refused_on}
 use Rattle.tree_handles.specs.Handed.{tree_of}
@@ -11,13 +11,15 @@ use Rattle.tree_handles.specs.Standing.{forest}
 use Rattle.tree_handles.proofs.Fronts.{behind_first, front_after_one}
 use Rattle.tree_handles.proofs.Given.{gives_as}
 use Rattle.product_reduce.specs.Answers.{AreOthers, IsFinished}
-use Rattle.product_reduce.specs.Factors.{IsCoefficient, numbers_in}
+use Rattle.product_reduce.specs.Factors.{IsCoefficient, numbers_in, others_in}
 use Rattle.product_reduce.specs.Misfits.{MultiplyingOverflows, SpreadingOverflows, multiplying, spreading}
 use Rattle.product_reduce.specs.Products.{factors_in}
-use Rattle.product_reduce.proofs.Finished.{reduced_opened, undef_finished, rationals_defined}
-use Rattle.product_reduce.proofs.Gathered.{gathered_given}
+use Rattle.product_reduce.proofs.Finished.{reduced_formed, reduced_opened, stopped, undef_finished, rationals_defined}
+use Rattle.product_reduce.proofs.Forms.{opened_flat}
+use Rattle.product_reduce.proofs.Gathered.{gathered, gathered_given}
+use Rattle.product_reduce.proofs.Leads.{opened_some}
 use Rattle.product_reduce.proofs.Products.{factors_are}
-use Rattle.product_reduce.proofs.Stepped.{handed_product, others_are, parted, finished_map, joined_map, stop_given, answered, refused_as, opened_value, none_beside}
+use Rattle.product_reduce.proofs.Stepped.{handed_product, others_are, parted, finished_as, joined_as, finished_map, joined_map, stop_given, answered, refused_as, opened_value, none_beside}
 use Rattle.product_reduce.proofs.gathering.gather_factors.Goals as goal
 
 pub has_undef_factor-requires-clause-product : goal.has_undef_factor-requires-clause-product
@@ -25,6 +27,55 @@ has_undef_factor-requires-clause-product c = handed_product c.requires.handed c.
 
 pub open_products-requires-clause-product : goal.open_products-requires-clause-product
 open_products-requires-clause-product c = handed_product c.requires.handed c.requires.product
+
+-- ---- the coefficient stands first as it is written
+
+pub written_lead-requires-clause-reduced : goal.written_lead-requires-clause-reduced
+written_lead-requires-clause-reduced c =
+    ap are_reduced (factors_are c.open_products.ensures.opened.product) ∙ reduced_opened (factors_in c.args.product (forest c.args.pool.now)) c.requires.reduced (sym c.has_undef_factor.ensures ∙ c.if-has_undef_factor.false)
+
+pub written_lead-requires-clause-flat : goal.written_lead-requires-clause-flat
+written_lead-requires-clause-flat c =
+    let ts = factors_in c.args.product (forest c.args.pool.now) in
+    subst (NoneIs is_mult) (sym (factors_are c.open_products.ensures.opened.product)) (opened_flat ts (reduced_formed ts c.requires.reduced (sym c.has_undef_factor.ensures ∙ c.if-has_undef_factor.false)))
+
+pub written_lead-requires-clause-some : goal.written_lead-requires-clause-some
+written_lead-requires-clause-some c =
+    let ts = factors_in c.args.product (forest c.args.pool.now) in
+    subst (λ (us : Trees). 1 ≤ count us) (sym (factors_are c.open_products.ensures.opened.product)) (opened_some ts (reduced_formed ts c.requires.reduced (sym c.has_undef_factor.ensures ∙ c.if-has_undef_factor.false)) c.requires.some)
+
+pub order_behind-requires-clause-reduced : goal.order_behind-requires-clause-reduced
+order_behind-requires-clause-reduced c =
+    ap are_reduced (factors_are c.open_products.ensures.opened.product) ∙ reduced_opened (factors_in c.args.product (forest c.args.pool.now)) c.requires.reduced (sym c.has_undef_factor.ensures ∙ c.if-has_undef_factor.false)
+
+pub order_behind-requires-clause-others : goal.order_behind-requires-clause-others
+order_behind-requires-clause-others c =
+    subst (λ (us : Trees). AreOthers (others_in us)) (sym (factors_are c.open_products.ensures.opened.product))
+    (others_are (factors_in c.args.product (forest c.args.pool.now)) c.requires.reduced (sym c.has_undef_factor.ensures ∙ c.if-has_undef_factor.false))
+
+pub returns-in-Some-clause-done : goal.returns-in-Some-clause-done
+returns-in-Some-clause-done c =
+    let (k, h) = c.in-Some.ensures in
+    let ts = factors_in c.args.product (forest c.args.pool.now) in
+    let b = c.open_products.ensures.opened in
+    finished_as c.order_behind.result (c.order_behind.ensures.done k h)
+    (λ g x. gives_as x b.others (λ t e. stopped k ts _ t (sym c.has_undef_factor.ensures ∙ c.if-has_undef_factor.false) (subst (IsCoefficient k) (factors_are b.product) h.coefficient) (ap others_in (factors_are b.product)) e))
+
+pub returns-in-Some-clause-gathered : goal.returns-in-Some-clause-gathered
+returns-in-Some-clause-gathered c =
+    let (k, h) = c.in-Some.ensures in
+    let ts = factors_in c.args.product (forest c.args.pool.now) in
+    let b = c.open_products.ensures.opened in
+    joined_as c.order_behind.result (c.order_behind.ensures.ordered k h)
+    (λ g at x. gives_as x b.others (λ t e. gathered k ts _ t c.requires.reduced (sym c.has_undef_factor.ensures ∙ c.if-has_undef_factor.false) (subst (IsCoefficient k) (factors_are b.product) h.coefficient) (ap others_in (factors_are b.product)) e))
+
+pub returns-in-Some-clause-rationals : goal.returns-in-Some-clause-rationals
+returns-in-Some-clause-rationals c = λ r.
+    let h = c.in-Some.ensures.1 in
+    let none : others_in (factors_in c.args.product (forest c.open_products.new.pool)) ≡ none = ap others_in (factors_are c.open_products.ensures.opened.product) ∙ none_beside (factors_in c.args.product (forest c.args.pool.now)) r in
+    absurd (let l = h.some in let z = ap count none in omega (arith, l, z))
+
+-- ---- it is taken out
 
 pub take_coefficient-requires-clause-reduced : goal.take_coefficient-requires-clause-reduced
 take_coefficient-requires-clause-reduced c =

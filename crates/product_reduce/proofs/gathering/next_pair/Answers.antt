@@ -1,5 +1,7 @@
-use Rattle.product_reduce.proofs.Stepped.{handed_product}
+use Rattle.tree_handles.specs.Expressions.{children_of}
+use Rattle.tree_handles.specs.Handed.{tree_of}
+use Rattle.product_reduce.proofs.Finished.{reduced_nth}
 use Rattle.product_reduce.proofs.gathering.next_pair.Goals as goal
 
-pub next_pair_of-requires-clause-product : goal.next_pair_of-requires-clause-product
-next_pair_of-requires-clause-product c = handed_product c.requires.handed c.requires.product
+pub next_pair-requires-clause-told : goal.next_pair-requires-clause-told
+next_pair-requires-clause-told c = λ n l. reduced_nth n (children_of (tree_of c.args.product.now c.args.pool.now)) l c.requires.reduced

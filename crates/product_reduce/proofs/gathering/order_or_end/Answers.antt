@@ -23,6 +23,7 @@ use Rattle.tree_handles.proofs.Outcomes.{eqb-sym}
 use Rattle.tree_handles.proofs.Roots.{tree-without, without-swap}
 use Rattle.product_reduce.specs.Answers.{AreOthers, at_zero, at_end, IsEnding}
 use Rattle.product_reduce.proofs.Beside.{beside_becomes, tree_becomes}
+use Rattle.product_reduce.proofs.Finished.{reduced_nth}
 use Rattle.product_reduce.proofs.Gathered.{others_permuted, ending_before, spreading_before}
 use Rattle.product_reduce.proofs.LastSteps.{permuted_none_is}
 use Rattle.product_reduce.proofs.Misfits.{put_named}
@@ -42,15 +43,15 @@ pub move_last-requires-clause-root : goal.move_last-requires-clause-root
 move_last-requires-clause-root c =
     ap (has_root c.args.coefficient) (c.release.ensures.owned (owned c.requires.product.handed)) ∙ (handed_beside c.args.product (eqb-sym c.args.coefficient c.args.product c.requires.apart) c.requires.coefficient).root
 
-pub next_pair_of-requires-clause-product : goal.next_pair_of-requires-clause-product
-next_pair_of-requires-clause-product c = let b = c.sort_factors.ensures.sorts.becomes in product_at b.product refl (sym (factors_are b.product))
+pub next_pair-requires-clause-handed : goal.next_pair-requires-clause-handed
+next_pair-requires-clause-handed c = c.sort_factors.ensures.sorts.becomes.product.handed
 
-pub next_pair_of-requires-clause-reduced : goal.next_pair_of-requires-clause-reduced
-next_pair_of-requires-clause-reduced c =
+pub next_pair-requires-clause-told : goal.next_pair-requires-clause-told
+next_pair-requires-clause-told c =
     let s = c.sort_factors.ensures.sorts in
     let own = factors_are s.becomes.product in
     let o = subst AreOthers (sym own) (others_permuted (permuted_lists (factors_in c.args.product (forest c.args.pool.now)) s.us s.sorted.moved) c.requires.others) in
-    o.reduced
+    λ n l. reduced_nth n _ l o.reduced
 
 pub sort_factors-requires-clause-reduced : goal.sort_factors-requires-clause-reduced
 sort_factors-requires-clause-reduced c = c.requires.others.reduced

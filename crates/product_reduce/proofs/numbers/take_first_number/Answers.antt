@@ -4,6 +4,7 @@ use Rattle.tree_handles.specs.Standing.{forest}
 use Rattle.tree_handles.proofs.Fronts.{behind_first, front_same, front_end, front_put}
 use Rattle.product_reduce.specs.Products.{factors_in}
 use Rattle.product_reduce.proofs.Beside.{taken_factor, without_factor}
+use Rattle.product_reduce.proofs.Finished.{reduced_nth}
 use Rattle.product_reduce.proofs.Multiplied.{if_ok_map, underway_first, underway_one}
 use Rattle.product_reduce.proofs.Products.{product_within}
 use Rattle.product_reduce.proofs.numbers.take_first_number.Goals as goal
@@ -23,3 +24,6 @@ returns-in-Some-clause-front c =
 
 pub returns-in-None-clause-ok : goal.returns-in-None-clause-ok
 returns-in-None-clause-ok c = if_ok_map c.one.result c.one.ensures.ok (λ h g. underway_one c.args.product.now h (factors_in c.args.product.now (forest c.args.pool.now)) _ _ c.requires.product c.requires.reduced c.in-None.ensures g)
+
+pub next_number-requires-clause-reduced : goal.next_number-requires-clause-reduced
+next_number-requires-clause-reduced c = λ n l. reduced_nth n (factors_in c.args.product.now (forest c.args.pool.now)) l c.requires.reduced

@@ -1,4 +1,4 @@
-use Rattle.std.proofs.Common.{◌<◌, ap, ◌∙◌, subst, refl}
+use Rattle.std.proofs.Common.{◌<◌, ap, ◌∙◌, subst, refl, arith}
 use Rattle.calc_algebra.specs.Reduced.{is_reduced, base_of}
 use Rattle.calc_terms.specs.Trees.{Trees, count}
 use Rattle.node_order.specs.Sorting.{IsSorting}
@@ -6,7 +6,7 @@ use Rattle.tree_handles.specs.Expressions.{nth, plains}
 use Rattle.tree_handles.specs.Standing.{forest}
 use Rattle.product_reduce.specs.Products.{factors_in}
 use Rattle.product_reduce.proofs.Finished.{reduced_nth}
-use Rattle.product_reduce.proofs.Products.{becomes_put, product_kids}
+use Rattle.product_reduce.proofs.Products.{becomes_put, product_arity, product_kids}
 use Rattle.product_reduce.proofs.sorting.sort_factors.Goals as goal
 
 pub sort_children-requires-clause-keyed : goal.sort_children-requires-clause-keyed
@@ -21,5 +21,8 @@ returns-clause-sorts c =
     record {
       us = plains x.children;
       becomes = becomes_put c.requires.product (record { once = x.once; whole = x.expressions; plain_trees = refl }) x.whole;
-      sorted = subst (λ (ts : Trees). IsSorting 0 base_of ts (plains x.children)) e x.sorted;
+      sorted = subst (λ (ts : Trees). IsSorting c.args.from base_of ts (plains x.children)) e x.sorted;
     }
+
+pub sort_children-requires-clause-within : goal.sort_children-requires-clause-within
+sort_children-requires-clause-within c = omega (arith, c.requires.within, product_arity c.requires.product)

@@ -1,8 +1,9 @@
 use Rattle.std.proofs.Common.{◌<◌, ◌+◌, ◌≡◌, false, arith}
 use Rattle.calc_terms.specs.Trees.{count}
+use Rattle.like_children.specs.Neighbours.{IsPairAt, IsNextPair, NoPairBetween}
 use Rattle.sum_reduce.specs.Stages.{widths}
 use Rattle.sum_reduce.specs.Sums.{terms_in}
-use Rattle.sum_reduce.specs.Terms.{is_loose, IsPair, IsFirstPair, NoPairBetween}
+use Rattle.sum_reduce.specs.Terms.{is_loose, is_partner}
 use Rattle.tree_handles.specs.Expressions.{nth}
 use Rattle.tree_handles.specs.Standing.{forest}
 use Rattle.tree_handles.proofs.Forests.{keeps_none, keeps_after}
@@ -39,7 +40,7 @@ loop-next-preserved c =
     record {
       changes = changes_after i.changes j.ok;
       stage = stage_after i.stage j.stage;
-      fewer = match_option_given (is_loose (nth c.in-Some.at us) ≡ false → NoPairBetween (c.in-Some.at + 1) (count us) us) _ (λ n. IsFirstPair (c.in-Some.at + 1) n us) (λ n. IsPair n us) c.pair_behind-next.result fewer (λ n x. x.pair) p.pair;
+      fewer = match_option_given (is_loose (nth c.in-Some.at us) ≡ false → NoPairBetween is_partner (c.in-Some.at + 1) (count us) us) _ (λ n. IsNextPair is_partner (c.in-Some.at + 1) n us) (λ n. IsPairAt is_partner n us) c.pair_behind-next.result fewer (λ n x. x.pair) p.pair;
       flat = p.flat;
       fits = p.fits;
       front = front_after_one behind_first i.front c.join_terms.ensures.front;

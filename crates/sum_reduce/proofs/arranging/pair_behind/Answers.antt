@@ -14,4 +14,7 @@ is_loose-requires-clause-reduced c = ap is_reduced c.term.ensures.tree ∙ forme
 pub returns-clause-flat : goal.returns-clause-flat
 returns-clause-flat c =
     let tight = ap is_loose (sym c.term.ensures.tree) ∙ sym c.is_loose.ensures ∙ c.if-is_loose.false in
-    if_some_given c.first_pair.result (none_anywhere is_loose c.args.at (terms_in c.args.sum.now (forest c.args.pool.now)) c.requires.within tight c.requires.others)
+    if_some_given c.next_pair.result (none_anywhere is_loose c.args.at (terms_in c.args.sum.now (forest c.args.pool.now)) c.requires.within tight c.requires.others)
+
+pub next_pair-requires-clause-told : goal.next_pair-requires-clause-told
+next_pair-requires-clause-told c = λ n l. formed_nth n (terms_in c.args.sum.now (forest c.args.pool.now)) l c.requires.formed

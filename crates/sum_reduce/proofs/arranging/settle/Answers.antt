@@ -1,6 +1,7 @@
 use Rattle.tree_handles.proofs.Forests.{keeps_after}
 use Rattle.tree_handles.proofs.Fronts.{behind_first, front_after_one}
 use Rattle.sum_reduce.proofs.Orders.{arranged_flat, folded_alone}
+use Rattle.sum_reduce.proofs.Sorted.{formed_nth}
 use Rattle.sum_reduce.proofs.Stages.{stage_after}
 use Rattle.sum_reduce.proofs.Sums.{changes_after}
 use Rattle.coefficients.proofs.Named.{passed_named}
@@ -38,3 +39,6 @@ pub returns-in_err-arrange-2-clause-overflow : goal.returns-in_err-arrange-2-cla
 returns-in_err-arrange-2-clause-overflow c =
     passed_named c.from_residual-in_err-arrange-2.result c.in_err-arrange-2.field-0.0 _ (Overflows (terms_in c.args.sum.now (forest c.args.pool.now))) c.from_residual-in_err-arrange-2.ensures.1 c.in_err-arrange-2.ensures.overflow
     (overflows_after (collects_then c.loop-at.invariant.stage.collects c.in_ok-join_pairs.ensures.stage.collects))
+
+pub next_pair-requires-clause-told : goal.next_pair-requires-clause-told
+next_pair-requires-clause-told c = λ n l. formed_nth n (terms_in c.args.sum.now (forest c.loop-at.pool)) l c.loop-at.invariant.stage.formed

@@ -7,6 +7,7 @@ use Rattle.sum_reduce.specs.Sums.{terms_in}
 use Rattle.sum_reduce.proofs.Joins.{joining_formed, joining_less, next_partner, partner_step, partner_within}
 use Rattle.sum_reduce.proofs.Numbered.{beside_behind}
 use Rattle.sum_reduce.proofs.Places.{count_removed}
+use Rattle.sum_reduce.proofs.Sorted.{formed_nth}
 use Rattle.sum_reduce.proofs.Sums.{takes_handed, takes_apart, takes_after}
 use Rattle.coefficients.specs.Coefficients.{coefficient_of}
 use Rattle.coefficients.proofs.Named.{fault_named}
@@ -27,16 +28,15 @@ loop-pool-init c =
       stands = c.requires.stands;
     }
 
-pub leads_pair-requires-clause-sum : goal.leads_pair-requires-clause-sum
-leads_pair-requires-clause-sum c =
-    (c.loop-pool.invariant.takes _ c.requires.taken.1).sum
+pub is_pair-requires-clause-handed : goal.is_pair-requires-clause-handed
+is_pair-requires-clause-handed c = (c.loop-pool.invariant.takes _ c.requires.taken.1).sum.handed
 
-pub leads_pair-requires-clause-formed : goal.leads_pair-requires-clause-formed
-leads_pair-requires-clause-formed c =
+pub is_pair-requires-clause-told : goal.is_pair-requires-clause-told
+is_pair-requires-clause-told c =
     let i = c.loop-pool.invariant in
     let us = terms_in c.args.sum.now (forest c.loop-pool.pool) in
     let j = i.joining _ _ c.requires.joining.2 in
-    joining_formed _ _ us c.args.at _ j i.within
+    λ n l. formed_nth n us l (joining_formed _ _ us c.args.at _ j i.within)
 
 pub add_partner-requires-clause-sum : goal.add_partner-requires-clause-sum
 add_partner-requires-clause-sum c =
@@ -44,14 +44,14 @@ add_partner-requires-clause-sum c =
 
 pub add_partner-requires-clause-within : goal.add_partner-requires-clause-within
 add_partner-requires-clause-within c =
-    rw add-one (c.leads_pair.ensures.pair c.loop-pool-test.true).within
+    rw add-one (c.is_pair.ensures.pair c.loop-pool-test.true).within
 
 pub add_partner-requires-clause-reduced : goal.add_partner-requires-clause-reduced
 add_partner-requires-clause-reduced c =
     let i = c.loop-pool.invariant in
     let us = terms_in c.args.sum.now (forest c.loop-pool.pool) in
     let j = i.joining _ _ c.requires.joining.2 in
-    let n = next_partner us c.args.at (joining_formed _ _ us c.args.at _ j i.within) (c.leads_pair.ensures.pair c.loop-pool-test.true) in
+    let n = next_partner us c.args.at (joining_formed _ _ us c.args.at _ j i.within) (c.is_pair.ensures.pair c.loop-pool-test.true) in
     rw add-one n.reduced
 
 pub add_partner-requires-clause-defined : goal.add_partner-requires-clause-defined
@@ -59,7 +59,7 @@ add_partner-requires-clause-defined c =
     let i = c.loop-pool.invariant in
     let us = terms_in c.args.sum.now (forest c.loop-pool.pool) in
     let j = i.joining _ _ c.requires.joining.2 in
-    let n = next_partner us c.args.at (joining_formed _ _ us c.args.at _ j i.within) (c.leads_pair.ensures.pair c.loop-pool-test.true) in
+    let n = next_partner us c.args.at (joining_formed _ _ us c.args.at _ j i.within) (c.is_pair.ensures.pair c.loop-pool-test.true) in
     rw add-one n.defined
 
 pub add_partner-requires-clause-no_number : goal.add_partner-requires-clause-no_number
@@ -67,7 +67,7 @@ add_partner-requires-clause-no_number c =
     let i = c.loop-pool.invariant in
     let us = terms_in c.args.sum.now (forest c.loop-pool.pool) in
     let j = i.joining _ _ c.requires.joining.2 in
-    let n = next_partner us c.args.at (joining_formed _ _ us c.args.at _ j i.within) (c.leads_pair.ensures.pair c.loop-pool-test.true) in
+    let n = next_partner us c.args.at (joining_formed _ _ us c.args.at _ j i.within) (c.is_pair.ensures.pair c.loop-pool-test.true) in
     rw add-one n.no_number
 
 pub add_partner-requires-clause-handed : goal.add_partner-requires-clause-handed
@@ -86,7 +86,7 @@ add_partner-requires-clause-so_far c =
 
 pub loop-pool-smaller : goal.loop-pool-smaller
 loop-pool-smaller c =
-    let p = c.leads_pair.ensures.pair c.loop-pool-test.true in
+    let p = c.is_pair.ensures.pair c.loop-pool-test.true in
     omega (arith, ap count c.in-Ok.ensures.terms, count_removed (c.args.at + 1) (terms_in c.args.sum.now (forest c.loop-pool.pool)) (rw add-one p.within))
 
 pub loop-pool-preserved : goal.loop-pool-preserved
@@ -94,7 +94,7 @@ loop-pool-preserved c =
     let i = c.loop-pool.invariant in
     let us = terms_in c.args.sum.now (forest c.loop-pool.pool) in
     let vs = terms_in c.args.sum.now (forest c.add_partner.new.pool) in
-    let p = c.leads_pair.ensures.pair c.loop-pool-test.true in
+    let p = c.is_pair.ensures.pair c.loop-pool-test.true in
     let q = rw add-one at c.in-Ok.ensures.terms in
     record {
       takes = λ f t. takes_after (i.takes f t) c.in-Ok.ensures.ok;
@@ -116,4 +116,4 @@ returns-in-Err-clause-overflow c = λ ts less j.
     let us = terms_in c.args.sum.now (forest c.loop-pool.pool) in
     let d = tree_of c.loop-pool.total c.loop-pool.pool in
     fault_named c.in-Err.fault (NamesSum d (coefficient_of (nth (suc c.args.at) us))) (Overflows ts) (rw add-one at c.in-Err.ensures.overflow)
-    (partner_hinders ts d us c.args.at less (i.joining ts less j) (c.leads_pair.ensures.pair c.loop-pool-test.true))
+    (partner_hinders ts d us c.args.at less (i.joining ts less j) (c.is_pair.ensures.pair c.loop-pool-test.true))

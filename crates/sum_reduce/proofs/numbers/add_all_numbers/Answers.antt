@@ -8,9 +8,10 @@ use Rattle.tree_handles.specs.Standing.{forest}
 use Rattle.tree_handles.proofs.Forests.{keeps_none, keeps_after}
 use Rattle.tree_handles.proofs.Fronts.{behind_first, front_same, front_after_two}
 use Rattle.sum_reduce.specs.Sums.{terms_in}
-use Rattle.sum_reduce.proofs.Folds.{fold_first, fold_more, fold_done, no_numbers}
+use Rattle.like_children.proofs.Folds.{sum_begun, fold_more, fold_done, no_numbers}
 use Rattle.sum_reduce.proofs.Numbered.{number_step, flat_step, fold_faulted, beside_behind}
 use Rattle.sum_reduce.proofs.Places.{count_removed}
+use Rattle.sum_reduce.proofs.Sorted.{formed_nth}
 use Rattle.sum_reduce.proofs.Stages.{stage_after, stage_same}
 use Rattle.sum_reduce.proofs.Sums.{takes_handed, takes_apart, takes_after}
 use Rattle.coefficients.proofs.Named.{fault_named}
@@ -19,11 +20,11 @@ use Rattle.sum_reduce.specs.Overflows.{NamesSum}
 use Rattle.sum_reduce.proofs.Hindered.{number_hinders}
 use Rattle.sum_reduce.proofs.numbers.add_all_numbers.Goals as goal
 
-pub first_number-requires-clause-sum : goal.first_number-requires-clause-sum
-first_number-requires-clause-sum c = (c.loop-at.invariant.takes _ c.requires.taken.1).sum
+pub next_number-requires-clause-handed : goal.next_number-requires-clause-handed
+next_number-requires-clause-handed c = (c.loop-at.invariant.takes _ c.requires.taken.1).sum.handed
 
-pub first_number-requires-clause-formed : goal.first_number-requires-clause-formed
-first_number-requires-clause-formed c = c.loop-at.invariant.stage.formed.1
+pub next_number-requires-clause-reduced : goal.next_number-requires-clause-reduced
+next_number-requires-clause-reduced c = λ n l. formed_nth n (terms_in c.args.sum.now (forest c.loop-at.pool)) l c.loop-at.invariant.stage.formed.1
 
 pub add_number-requires-clause-sum : goal.add_number-requires-clause-sum
 add_number-requires-clause-sum c = (c.loop-at.invariant.takes _ c.requires.taken.1).sum
@@ -77,7 +78,7 @@ loop-at-init c = record {
   number = c.requires.number;
   stage = stage_same _ (number_parts _ (number_words _ c.requires.number), c.requires.formed) (omega arith);
   flat = λ s. s;
-  folded = λ q m. fold_first _ _ q m;
+  folded = λ q m. sum_begun _ _ q m;
   front = front_same;
   kept = keeps_none c.args.pool.now;
   stands = c.requires.stands;

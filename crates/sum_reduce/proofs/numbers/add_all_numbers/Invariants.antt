@@ -9,7 +9,8 @@ use Rattle.tree_handles.specs.Standing.{Stands, forest, KeepsRefusals}
 use Rattle.sum_reduce.specs.Stages.{IsStage}
 use Rattle.sum_reduce.specs.Sums.{Takes, terms_in}
 use Rattle.sum_reduce.specs.Terms.{is_loose}
-use Rattle.sum_reduce.proofs.Folds.{AreFolded}
+use Rattle.calc_terms.specs.Fits.{add_op}
+use Rattle.like_children.specs.Folds.{AreFolded}
 use Rattle.sum_reduce.proofs.numbers.add_all_numbers.Given as goal
 
 abbrev pub invariant-loop-at : goal.invariant-loop-at
@@ -19,7 +20,7 @@ invariant-loop-at l = record {
   stage : IsStage (more (tree_of l.fn.number l.fn.pool) (terms_in l.sum (forest l.fn.pool))) (more (tree_of l.total l.pool) (terms_in l.sum (forest l.pool)));
   flat : NoneIs is_loose (terms_in l.sum (forest l.fn.pool)) → NoneIs is_loose (terms_in l.sum (forest l.pool));
   folded : is_num (tree_of l.fn.number l.fn.pool) ≡ true → are_rationals (terms_in l.sum (forest l.fn.pool)) ≡ true
-      → AreFolded (plain_value (add (more (tree_of l.fn.number l.fn.pool) (terms_in l.sum (forest l.fn.pool))))) (tree_of l.total l.pool) (terms_in l.sum (forest l.pool));
+      → AreFolded add_op (plain_value (add (more (tree_of l.fn.number l.fn.pool) (terms_in l.sum (forest l.fn.pool))))) (tree_of l.total l.pool) (terms_in l.sum (forest l.pool));
   front : KeepsFront (l.sum ∷ l.fn.number ∷ []) (forest l.fn.pool) (forest l.pool);
   kept : KeepsRefusals l.fn.pool l.pool;
   stands : Stands l.pool;

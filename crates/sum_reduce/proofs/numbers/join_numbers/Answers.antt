@@ -10,8 +10,7 @@ use Rattle.tree_handles.proofs.Fronts.{behind_first, front_same, front_after_two
 use Rattle.tree_handles.proofs.Given.{given_root}
 use Rattle.tree_handles.proofs.Roots.{root_held}
 use Rattle.sum_reduce.specs.Sums.{terms_in}
-use Rattle.sum_reduce.proofs.Folds.{some_number}
-use Rattle.sum_reduce.proofs.Numbered.{numbered, unnumbered, formed_behind, rationals_taken, total_folded, total_faulted}
+use Rattle.sum_reduce.proofs.Numbered.{numbered, unnumbered, formed_behind, led_folded, rationals_taken, total_folded, total_faulted}
 use Rattle.sum_reduce.proofs.Sums.{changes_same, changes_front, sum_within, term_out, takes_front, takes_behind, put_in, roots_apart}
 use Rattle.coefficients.proofs.Named.{passed_named}
 use Rattle.sum_reduce.specs.Overflows.{Overflows}
@@ -108,7 +107,7 @@ returns-in-None c =
     record {
       ok = changes_same c.requires.sum;
       joined = unnumbered (terms_in c.args.sum.now (forest c.args.pool.now)) c.in-None.ensures c.requires.formed c.requires.some;
-      rationals = λ q. absurd (some_number (terms_in c.args.sum.now (forest c.args.pool.now)) q c.requires.some c.in-None.ensures);
+      rationals = λ q. led_folded (terms_in c.args.sum.now (forest c.args.pool.now)) c.in-None.ensures q c.requires.some;
       front = front_same;
       kept = keeps_none c.args.pool.now;
       faults = tt;

@@ -1,0 +1,140 @@
+-- Numbers by their places, and rationals calculated from left to right.
+use Rattle.std.proofs.Common.{ℕ, zero, suc, ◌<◌, ◌≤◌, ◌≡◌, List, [], ◌∷◌, Bool, true, false, if◌then◌else◌, refl, sym, ap, ◌∙◌, subst, arith}
+use Rattle.std.proofs.lemmas.Bool.{and_parts}
+use Rattle.calc_terms.specs.Fits.{Operation, add_op, mul_op, operation_fits, result_of}
+use Rattle.calc_terms.specs.Fractions.{Fraction}
+use Rattle.calc_algebra.specs.Numbers.{is_number}
+use Rattle.calc_measures.specs.PlainValues.{PlainValue, exactly, overflow, calculated, fold_values, gather, values, plain_of_children, plain_value, are_plain}
+use Rattle.calc_algebra.specs.Reduced.{NoneIs}
+use Rattle.calc_terms.specs.Trees.{Tree, num, add, mult, Trees, none, more, count, is_num, are_rationals}
+use Rattle.rational128.specs.declared.overflow.Overflow.{Overflow}
+use Rattle.calc_measures.specs.PlainTrees.{IsPlainAnswer, IsPlainOverflow}
+use Rattle.tree_handles.specs.Expressions.{nth}
+use Rattle.number_forms.specs.Sums.{removed}
+use Rattle.like_children.specs.Folds.{rational_of, rationals_of, AreFolded, IsTotal}
+use Rattle.like_children.specs.Numbers.{NoNumberBetween, IsNextNumber}
+
+clash : true ≡ false → ⊥
+clash e = cc
+
+-- ---- Numbers by their places
+
+pub no_numbers : (ts : Trees) → NoNumberBetween 0 (count ts) ts → NoneIs is_number ts
+no_numbers none b = tt
+no_numbers (more t ts) b = (b 0 (omega arith) (omega arith), no_numbers ts (λ k f l. b (suc k) (omega arith) (omega arith)))
+
+-- ---- rationals
+
+pub num_is : (t : Tree) → is_num t ≡ true → t ≡ num (rational_of t)
+num_is (num q) h = refl
+num_is _ h = cc
+
+pub num_number : (t : Tree) → is_num t ≡ true → is_number t ≡ true
+unfolding is_number
+num_number (num q) h = refl
+num_number _ h = cc
+
+gathered : (ts : Trees) → are_rationals ts ≡ true → plain_of_children ts ≡ values (rationals_of ts)
+gathered none h = refl
+gathered (more (num q) ts) h = ap (gather (exactly q)) (gathered ts h)
+gathered (more _ ts) h = cc
+
+plain_rationals : (ts : Trees) → are_rationals ts ≡ true → are_plain ts ≡ true
+plain_rationals none h = refl
+plain_rationals (more (num q) ts) h = plain_rationals ts h
+plain_rationals (more _ ts) h = cc
+
+-- the plain values of a sum and of a product of rationals
+plain_sum : (t : Tree) (ts : Trees) → is_num t ≡ true → are_rationals ts ≡ true → plain_value (add (more t ts)) ≡ fold_values add_op (rational_of t) (rationals_of ts)
+plain_sum (num q) ts h k = rw (plain_rationals ts k, gathered ts k) refl
+plain_sum _ ts h k = cc
+
+plain_product : (t : Tree) (ts : Trees) → is_num t ≡ true → are_rationals ts ≡ true → plain_value (mult (more t ts)) ≡ fold_values mul_op (rational_of t) (rationals_of ts)
+plain_product (num q) ts h k = rw (plain_rationals ts k, gathered ts k) refl
+plain_product _ ts h k = cc
+
+-- ---- the result so far, and the rationals that are left
+
+pub sum_begun : (t : Tree) (ts : Trees) → is_num t ≡ true → are_rationals ts ≡ true → AreFolded add_op (plain_value (add (more t ts))) t ts
+sum_begun t ts h k = record { rational = h; rationals = k; plain = plain_sum t ts h k }
+
+pub product_begun : (t : Tree) (ts : Trees) → is_num t ≡ true → are_rationals ts ≡ true → AreFolded mul_op (plain_value (mult (more t ts))) t ts
+product_begun t ts h k = record { rational = h; rationals = k; plain = plain_product t ts h k }
+
+-- among rationals the first Number is the first tree
+pub record IsFirst (at : ℕ) (us : Trees) : Type 0 where
+  pub rest : Trees
+  pub is : us ≡ more (nth at us) rest
+  pub left : removed at us ≡ rest
+  pub rational : is_num (nth at us) ≡ true
+  pub rationals : are_rationals rest ≡ true
+
+pub first_of : (at : ℕ) (us : Trees) → are_rationals us ≡ true → IsNextNumber 0 at us → IsFirst at us
+first_of at none r h = absurd (let l = h.within in omega (arith, l))
+first_of zero (more t ts) r h = let (a, b) = and_parts (is_num t) (are_rationals ts) r in record { rest = ts; is = refl; left = refl; rational = a; rationals = b }
+first_of (suc n) (more t ts) r h = absurd (clash (sym (num_number t (and_parts (is_num t) (are_rationals ts) r).0) ∙ h.before 0 (omega arith) (omega arith)))
+
+rationals_first : (at : ℕ) (us : Trees) (f : IsFirst at us) → rationals_of us ≡ rational_of (nth at us) ∷ rationals_of f.rest
+rationals_first at us f = ap rationals_of f.is
+
+record IsStep (op : Operation) (p q : Fraction) (rs : List Fraction) (e : Tree) : Type 0 where
+  rational : is_num e ≡ true
+  plain : fold_values op p (q ∷ rs) ≡ fold_values op (rational_of e) rs
+
+fold_step : (op : Operation) (p q : Fraction) (rs : List Fraction) (e : Tree) → IsPlainAnswer (calculated op p q) e → IsStep op p q rs e
+fold_step op p q rs e h = by (operation_fits op p q) refl h
+  where
+    by : (k : Bool) → operation_fits op p q ≡ k → IsPlainAnswer (if k then exactly (result_of op p q) else overflow op p q) e → IsStep op p q rs e
+    by true f h = record { rational = ap is_num h; plain = rw (f, fold_values) (ap (λ (t : Tree). fold_values op (rational_of t) rs) (sym h)) }
+    by false f h = absurd h
+
+fold_overflow : (op : Operation) (p q : Fraction) (rs : List Fraction) (o : Overflow) → IsPlainOverflow (calculated op p q) o → IsPlainOverflow (fold_values op p (q ∷ rs)) o
+fold_overflow op p q rs o h = by (operation_fits op p q) refl h
+  where
+    by : (k : Bool) → operation_fits op p q ≡ k → IsPlainOverflow (if k then exactly (result_of op p q) else overflow op p q) o → IsPlainOverflow (fold_values op p (q ∷ rs)) o
+    by true f h = absurd h
+    by false f h = let e : fold_values op p (q ∷ rs) ≡ overflow op p q = rw (f, fold_values) refl in subst (λ (v : PlainValue). IsPlainOverflow v o) (sym e) h
+
+-- what is answered where the next one is taken
+pub fold_more : {op : Operation} (v : PlainValue) (at : ℕ) (us : Trees) (d e : Tree) → AreFolded op v d us → IsNextNumber 0 at us → ((p q : Fraction) → d ≡ num p → nth at us ≡ num q → IsPlainAnswer (calculated op p q) e) → AreFolded op v e (removed at us)
+fold_more {op = op} v at us d e a h k =
+    let f = first_of at us a.rationals h in
+    let s = fold_step op (rational_of d) (rational_of (nth at us)) (rationals_of f.rest) e (k (rational_of d) (rational_of (nth at us)) (num_is d a.rational) (num_is (nth at us) f.rational)) in
+    record {
+      rational = s.rational;
+      rationals = ap are_rationals f.left ∙ f.rationals;
+      plain = a.plain ∙ ap (fold_values op (rational_of d)) (rationals_first at us f) ∙ s.plain ∙ ap (λ (x : Trees). fold_values op (rational_of e) (rationals_of x)) (sym f.left);
+    }
+
+-- where it does not fit
+pub fold_overflowed : {op : Operation} (v : PlainValue) (at : ℕ) (us : Trees) (d : Tree) (o : Overflow) → AreFolded op v d us → IsNextNumber 0 at us → ((p q : Fraction) → d ≡ num p → nth at us ≡ num q → IsPlainOverflow (calculated op p q) o) → IsPlainOverflow v o
+fold_overflowed {op = op} v at us d o a h k =
+    let f = first_of at us a.rationals h in
+    subst (λ (x : PlainValue). IsPlainOverflow x o) (sym (a.plain ∙ ap (fold_values op (rational_of d)) (rationals_first at us f)))
+    (fold_overflow op (rational_of d) (rational_of (nth at us)) (rationals_of f.rest) o (k (rational_of d) (rational_of (nth at us)) (num_is d a.rational) (num_is (nth at us) f.rational)))
+
+-- and where bytes are lacking
+pub fold_full : {P : Type 0} {op : Operation} (v : PlainValue) (at : ℕ) (us : Trees) (d : Tree) → AreFolded op v d us → IsNextNumber 0 at us → ((p q : Fraction) → d ≡ num p → nth at us ≡ num q → P) → P
+fold_full v at us d a h k =
+    let f = first_of at us a.rationals h in
+    k (rational_of d) (rational_of (nth at us)) (num_is d a.rational) (num_is (nth at us) f.rational)
+
+-- none is left
+no_rationals : (us : Trees) → NoneIs is_number us → are_rationals us ≡ true → us ≡ none
+no_rationals none b h = refl
+no_rationals (more t us) b h = absurd (clash (sym (num_number t (and_parts (is_num t) (are_rationals us) h).0) ∙ b.0))
+
+pub fold_done : {op : Operation} (v : PlainValue) (us : Trees) (d : Tree) → AreFolded op v d us → NoneIs is_number us → IsTotal v d us
+fold_done {op = op} v us d a b =
+    let e = no_rationals us b a.rationals in
+    record {
+      q = rational_of d;
+      plain = a.plain ∙ ap (λ (x : Trees). fold_values op (rational_of d) (rationals_of x)) e;
+      is = num_is d a.rational;
+      none_left = e;
+    }
+
+-- rationals have a Number among them
+pub some_number : (ts : Trees) → are_rationals ts ≡ true → 1 ≤ count ts → NoNumberBetween 0 (count ts) ts → ⊥
+some_number none q m b = absurd (omega arith)
+some_number (more t ts) q m b = clash (sym (num_number t (and_parts (is_num t) (are_rationals ts) q).0) ∙ b 0 (omega arith) (omega arith))

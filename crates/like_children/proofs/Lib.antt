@@ -1,0 +1,4 @@
+pub mod Items
+mod Pairs
+mod Before
+pub mod Folds

@@ -1,0 +1,18 @@
+use Rattle.std.proofs.Common.{suc, ◌≤◌, ◌≡◌}
+use Rattle.tree_handles.specs.Children.{root_ids}
+use Rattle.tree_handles.specs.Expressions.{nth, children_of}
+use Rattle.tree_handles.specs.Forest.{rest_trees}
+use Rattle.tree_handles.specs.Handed.{tree_of}
+use Rattle.tree_handles.specs.Inside.{kids_of}
+use Rattle.tree_handles.specs.Standing.{forest}
+use Rattle.like_children.specs.Keyed.{IsKeyOf}
+use Rattle.like_children.specs.Neighbours.{are_alike, NoPairBetween}
+use Rattle.like_children.proofs.neighbours.next_pair.Given as goal
+
+abbrev pub invariant-loop-at : goal.invariant-loop-at
+invariant-loop-at g l = record {
+  behind : l.from ≤ l.at;
+  ids : l.ids ≡ root_ids (rest_trees (suc l.at) (kids_of l.parent (forest l.pool)));
+  left : IsKeyOf g.L.Likes.has_key g.L.Likes.key_of (nth l.at (children_of (tree_of l.parent l.pool))) (forest l.pool) l.left;
+  apart : NoPairBetween (are_alike g.L.Likes.has_key g.L.Likes.key_of) l.from (suc l.at) (children_of (tree_of l.parent l.pool));
+}

@@ -1,0 +1,4 @@
+pub mod Keyed
+pub mod Neighbours
+pub mod Numbers
+pub mod Folds

@@ -1,0 +1,257 @@
+-- A coefficient that stands first as it is written, and factors put in order behind it.
+use Rattle.std.specs.Prelude.{take, Option, None, Some, MatchOption, is_some}
+use Rattle.std.proofs.Common.{ℕ, zero, suc, ◌+◌, ◌<◌, ◌≤◌, ◌≡◌, ◌≢◌, inl, inr, not, Bool, true, false, if◌then◌else◌, refl, sym, ap, ◌∙◌, subst, arith}
+use Rattle.calc_algebra.specs.Numbers.{is_number, value, IsTerm}
+use Rattle.calc_algebra.specs.Reduced.{base_of, is_num_one, is_one_add, num_one, product_tree, NoneIs, HasForm, are_reduced}
+use Rattle.calc_algebra.specs.SquareClasses.{Same}
+use Rattle.calc_algebra.proofs.MeaningLaws.{Same-sym}
+use Rattle.calc_algebra.proofs.MeaningRewrites.{Permuted, permuted_more, Permuted-sym}
+use Rattle.calc_algebra.proofs.SquareClassLaws.{Same-trans}
+use Rattle.calc_algebra.proofs.SurdLaws.{Agree-Same, surd_times-one}
+use Rattle.calc_algebra.proofs.TermLaws.{Same-eq}
+use Rattle.calc_terms.specs.Fractions.{Fraction, one_fraction, zero_fraction, is_one_fraction, lowest}
+use Rattle.calc_terms.specs.Gcd.{gcd}
+use Rattle.calc_terms.specs.Trees.{Tree, num, symbol, undef, add, mult, power, root, neg, sub, div, Trees, none, more, append, count, is_add, is_mult}
+use Rattle.coefficients.specs.Coefficients.{factors_of, rational_before, spliced, with_coefficient}
+use Rattle.coefficients.proofs.Factors.{two_count}
+use Rattle.like_children.specs.Numbers.{IsNextNumber, NoNumberBetween}
+use Rattle.node_order.specs.Sorting.{IsSorting, list_of}
+use Rattle.number_forms.specs.Readers.{is_zero}
+use Rattle.number_forms.specs.Sums.{removed}
+use Rattle.tree_handles.specs.Expressions.{nth}
+use Rattle.product_reduce.specs.Answers.{AreOthers, IsStop, at_end, IsEnding}
+use Rattle.product_reduce.specs.Factors.{opened, numbers_in, others_in, product_of_values, coefficient_times}
+use Rattle.product_reduce.specs.Gathering.{IsLead, IsOrdered}
+use Rattle.product_reduce.specs.Joining.{have_partners}
+use Rattle.product_reduce.specs.Neighbours.{IsPairAt, IsNextPair, NoPairBetween}
+use Rattle.product_reduce.proofs.Forms.{AllFormed}
+use Rattle.product_reduce.proofs.Fronts.{one_in_front, other_in_front, single_factor}
+use Rattle.product_reduce.proofs.Gathered.{others_permuted, reduced_permuted}
+use Rattle.product_reduce.proofs.JointPlaces.{count-append}
+use Rattle.product_reduce.proofs.LastSteps.{ending, permuted_none_is, times_written}
+use Rattle.product_reduce.proofs.Misfits.{permuted_one_is}
+use Rattle.product_reduce.proofs.Neighbours.{pair_partners, sorted_apart, apart_before}
+use Rattle.product_reduce.proofs.Progress.{numbers_none, others_all, one_value}
+use Rattle.product_reduce.proofs.Sorted.{none_permuted, permuted_lists, sorted_rising}
+
+clash : true ≡ false → ⊥
+clash e = cc
+
+-- ---- opened factors are some
+
+factors_some : (t : Tree) → HasForm t → 1 ≤ count (factors_of t)
+factors_some (mult ts) (inl h) = by ts h
+  where
+    by : (us : Trees) → IsTerm (mult us) → 1 ≤ count us
+    by (more (num q) (more (root (num r)) none)) h = omega arith
+    by us h = absurd h
+factors_some (mult ts) (inr h) = omega (arith, two_count ts h.two)
+factors_some t h = omega arith
+
+pub opened_some : (ts : Trees) → AllFormed ts → 1 ≤ count ts → 1 ≤ count (opened ts)
+opened_some none h l = absurd (omega arith)
+opened_some (more t ts) h l = omega (arith, factors_some t h.0.form, count-append (factors_of t) (opened ts))
+
+-- ---- how a coefficient is written
+
+rational_spliced : (q : Fraction) (p : Tree) → is_add p ≡ false → rational_before q p ≡ spliced (num q) p
+rational_spliced q (add ts) h = absurd (clash h)
+rational_spliced q p h = refl
+
+no_sum : (us : Trees) → is_one_add us ≡ false → is_add (product_tree us) ≡ false
+no_sum none h = refl
+no_sum (more t none) h = by t h
+  where
+    by : (t : Tree) → is_one_add (more t none) ≡ false → is_add t ≡ false
+    by (add ts) h = absurd (clash h)
+    by t h = refl
+no_sum (more t (more u us)) h = refl
+
+factors_again : (us : Trees) → NoneIs is_mult us → 1 ≤ count us → factors_of (product_tree us) ≡ us
+factors_again none n l = absurd (omega arith)
+factors_again (more t none) n l = single_factor t n.0
+factors_again (more t (more u us)) n l = refl
+
+written_before : (c : Tree) (us : Trees) → is_zero c ≡ false → is_num_one c ≡ false → NoneIs is_mult us → is_one_add us ≡ false → 1 ≤ count us → with_coefficient c (product_tree us) ≡ mult (append (factors_of c) us)
+written_before (num q) us z o n d l =
+    ap (λ (b : Bool). if b then num zero_fraction else (if is_one_fraction q then product_tree us else rational_before q (product_tree us))) z
+    ∙ ap (λ (b : Bool). if b then product_tree us else rational_before q (product_tree us)) o
+    ∙ rational_spliced q (product_tree us) (no_sum us d) ∙ ap (λ (x : Trees). mult (more (num q) x)) (factors_again us n l)
+written_before c us z o n d l = ap (λ (x : Trees). mult (append (factors_of c) x)) (factors_again us n l)
+
+not_one_add : (os us : Trees) → Permuted os us → is_one_add os ≡ false → is_one_add us ≡ false
+not_one_add os none p d = refl
+not_one_add os (more t none) p d = sym (ap is_one_add (permuted_one_is t (Permuted-sym p) refl)) ∙ d
+not_one_add os (more t (more u us)) p d = by t
+  where
+    by : (t : Tree) → is_one_add (more t (more u us)) ≡ false
+    by (add ts) = refl
+    by t = refl
+
+some_permuted : (os us : Trees) → Permuted os us → 1 ≤ count os → 1 ≤ count us
+some_permuted os none p l = absurd (let e = ap count (permuted_none_is (Permuted-sym p) refl) in omega (arith, e))
+some_permuted os (more t us) p l = omega arith
+
+-- one that is neither 0, 1 nor a product, before others that are no sum alone
+times_before : (c : Tree) (os us : Trees) → is_zero c ≡ false → is_num_one c ≡ false → is_mult c ≡ false → NoneIs is_mult os → is_one_add os ≡ false → 1 ≤ count os → Permuted os us → coefficient_times c us ≡ product_tree (more c us)
+times_before c os none z o m n d l p = absurd (omega (arith, some_permuted os none p l))
+times_before c os (more t us) z o m n d l p =
+    written_before c (more t us) z o (none_permuted is_mult p n) (not_one_add os (more t us) p d) (omega arith) ∙ ap (λ (x : Trees). mult (append x (more t us))) (single_factor c m)
+
+-- 1 before others
+one_not_zero : is_zero num_one ≡ false
+unfolding one_fraction lowest gcd
+one_not_zero = refl
+
+one_is_one : is_num_one num_one ≡ true
+unfolding one_fraction lowest gcd
+one_is_one = refl
+
+one_times : (us : Trees) → coefficient_times num_one us ≡ product_tree us
+one_times none = refl
+one_times (more t us) =
+    let p = product_tree (more t us) in
+    ap (λ (b : Bool). if b then num zero_fraction else (if is_one_fraction one_fraction then p else rational_before one_fraction p)) one_not_zero
+    ∙ ap (λ (b : Bool). if b then p else rational_before one_fraction p) one_is_one
+
+-- ---- a coefficient that stands first
+
+pub lead_none : (ts : Trees) → NoNumberBetween 0 (count ts) ts → 1 ≤ count ts → IsLead 0 num_one ts
+unfolding is_number
+lead_none ts n l =
+    let all = others_all ts n in
+    record {
+      lead = none;
+      split = sym all;
+      long = refl;
+      coefficient = record { number = refl; same = Same-eq (one_value ∙ sym (ap product_of_values (numbers_none ts n))) };
+      not_zero = one_not_zero;
+      some = subst (λ (x : Trees). 1 ≤ count x) (sym all) l;
+      before = λ us. one_in_front num_one us one_is_one;
+      written = λ us s. one_times us;
+    }
+
+pub lead_one : (ts : Trees) → IsNextNumber 0 0 ts → NoNumberBetween 1 (count ts) ts → NoneIs is_mult ts → is_zero (nth 0 ts) ≡ false → is_num_one (nth 0 ts) ≡ false → 2 ≤ count ts → is_one_add (removed 0 ts) ≡ false → IsLead 1 (nth 0 ts) ts
+lead_one none h n m z o l d = absurd (omega arith)
+lead_one (more c os) h n m z o l d =
+    let all : NoNumberBetween 0 (count os) os = λ k f x. n (suc k) (omega arith) (omega arith) in
+    let alone : others_in (more c os) ≡ os = ap (λ (b : Bool). if b then others_in os else more c (others_in os)) h.number ∙ others_all os all in
+    let numbers : numbers_in (more c os) ≡ more c none = ap (λ (b : Bool). if b then more c (numbers_in os) else numbers_in os) h.number ∙ ap (more c) (numbers_none os all) in
+    let some : 1 ≤ count os = omega arith in
+    record {
+      lead = more c none;
+      split = ap (more c) (sym alone);
+      long = refl;
+      coefficient = record { number = h.number; same = Same-trans (Same-sym (Agree-Same (surd_times-one (value c)))) (Same-eq (sym (ap product_of_values numbers))) };
+      not_zero = z;
+      some = subst (λ (x : Trees). 1 ≤ count x) (sym alone) some;
+      before = λ us. other_in_front c us o ∙ ap (λ (x : Trees). append x us) (single_factor c m.0);
+      written = λ us s. times_before c os us z o m.0 m.1 d some (subst (λ (x : Trees). Permuted x us) alone (permuted_lists (others_in (more c os)) us s.moved));
+    }
+
+-- ---- factors put in order behind others
+
+record IsBehind (lead os us : Trees) : Type 0 where
+  vs : Trees
+  is : us ≡ append lead vs
+  sorted : IsSorting 0 base_of os vs
+
+sorted_behind : (lead os us : Trees) → IsSorting (count lead) base_of (append lead os) us → IsBehind lead os us
+sorted_behind none os us s = record { vs = us; is = refl; sorted = s }
+sorted_behind (more c ls) os none s = absurd (let f = s.front in cc)
+sorted_behind (more c ls) os (more u us) s =
+    let f = s.front in
+    let same : u ≡ c = cc in
+    let front : take (count ls) (list_of us) ≡ take (count ls) (list_of (append ls os)) = cc in
+    let b = sorted_behind ls os us (record { front = front; moved = s.moved; rising = s.rising }) in
+    record { vs = b.vs; is = (λ i. more (same i) (b.is i)); sorted = b.sorted }
+
+behind : (n : ℕ) (c : Tree) (ts us : Trees) (h : IsLead n c ts) → IsSorting n base_of ts us → IsBehind h.lead (others_in ts) us
+behind n c ts us h s = sorted_behind h.lead (others_in ts) us (subst (λ (x : Trees). IsSorting (count h.lead) base_of x us) h.split (subst (λ (k : ℕ). IsSorting k base_of ts us) (sym h.long) s))
+
+pair_inside : (ps vs : Trees) (at : ℕ) → count ps ≤ at → IsPairAt at (append ps vs) → (n : ℕ) × IsPairAt n vs
+pair_inside none vs at l p = (at, p)
+pair_inside (more t ps) vs zero l p = absurd (omega arith)
+pair_inside (more t ps) vs (suc at) l p = let w = p.within in pair_inside ps vs at (omega arith) (record { within = omega (arith, w); pair = p.pair })
+
+no_pair_inside : (ps vs : Trees) → NoPairBetween (count ps) (count (append ps vs)) (append ps vs) → NoPairBetween 0 (count vs) vs
+no_pair_inside none vs h = h
+no_pair_inside (more t ps) vs h = no_pair_inside ps vs (λ k f l. h (suc k) (omega arith) (omega arith))
+
+permuted_behind : (ps : Trees) {os vs : Trees} → Permuted os vs → Permuted (append ps os) (append ps vs)
+permuted_behind none p = p
+permuted_behind (more t ps) p = permuted_more (permuted_behind ps p)
+
+-- they are as many at least, and as reduced
+pub lead_within : (n : ℕ) (c : Tree) (ts : Trees) → IsLead n c ts → n ≤ count ts
+lead_within n c ts h = omega (arith, ap count h.split, count-append h.lead (others_in ts), h.long)
+
+pub put_within : (n : ℕ) (c : Tree) (ts us : Trees) → IsLead n c ts → IsSorting n base_of ts us → n + 1 ≤ count us
+put_within n c ts us h s =
+    let b = behind n c ts us h s in
+    omega (arith, ap count b.is, count-append h.lead b.vs, h.long, some_permuted (others_in ts) b.vs (permuted_lists (others_in ts) b.vs b.sorted.moved) h.some)
+
+pub put_reduced : (n : ℕ) (c : Tree) (ts us : Trees) → IsLead n c ts → IsSorting n base_of ts us → are_reduced ts ≡ true → are_reduced us ≡ true
+put_reduced n c ts us h s r =
+    let b = behind n c ts us h s in
+    ap are_reduced b.is ∙ reduced_permuted (permuted_behind h.lead (permuted_lists (others_in ts) b.vs b.sorted.moved)) (sym (ap are_reduced h.split) ∙ r)
+
+-- where no two behind have one base they are reduced as they stand
+pub put_done : (n : ℕ) (c : Tree) (ts us : Trees) (t : Tree) → AreOthers (others_in ts) → IsLead n c ts → IsSorting n base_of ts us → NoPairBetween n (count us) us → t ≡ product_tree us → IsStop c (others_in ts) t
+put_done n c ts us t o h s p e =
+    let os = others_in ts in
+    let b = behind n c ts us h s in
+    let m = permuted_lists os b.vs b.sorted.moved in
+    let x = others_permuted m o in
+    let far : NoPairBetween (count h.lead) (count us) us = subst (λ (k : ℕ). NoPairBetween k (count us) us) (sym h.long) p in
+    let apart : have_partners b.vs ≡ false =
+    sorted_apart b.vs x.no_number x.no_product b.sorted.rising (no_pair_inside h.lead b.vs (subst (λ (y : Trees). NoPairBetween (count h.lead) (count y) y) b.is far)) in
+    let differ = apart_before m apart in
+    let some = some_permuted os b.vs m h.some in
+    let same : with_coefficient c (product_tree b.vs) ≡ t = times_written c b.vs some ∙ h.written b.vs b.sorted ∙ sym (ap product_tree b.is) ∙ sym e in
+    at_end h.not_zero differ (subst (IsEnding c os) same (ending c os b.vs o h.coefficient.number b.sorted m (sorted_rising os b.vs differ b.sorted.moved b.sorted.rising) some))
+
+-- and else they are in order
+pub put_ordered : (n at : ℕ) (c : Tree) (ts us : Trees) (t : Tree) → IsLead n c ts → IsSorting n base_of ts us → IsNextPair n at us → t ≡ mult us → IsOrdered c (others_in ts) t
+put_ordered n at c ts us t h s p e =
+    let b = behind n c ts us h s in
+    let (k, q) = pair_inside h.lead b.vs at (omega (arith, h.long, p.behind)) (subst (IsPairAt at) b.is p.pair) in
+    record {
+      not_zero = h.not_zero;
+      partners = pair_partners k (others_in ts) b.vs b.sorted.moved q;
+      us = b.vs;
+      sorted = b.sorted;
+      is = e ∙ ap mult (b.is ∙ sym (h.before b.vs));
+    }
+
+-- ---- a sum behind the first
+
+pub one_add_behind : (ts : Trees) → count ts ≡ 2 → is_one_add (removed 0 ts) ≡ is_add (nth 1 ts)
+one_add_behind none e = absurd (omega (arith, e))
+one_add_behind (more t none) e = absurd (omega (arith, e))
+one_add_behind (more t (more u none)) e = by u
+  where
+    by : (u : Tree) → is_one_add (more u none) ≡ is_add u
+    by (add ts) = refl
+    by u = refl
+one_add_behind (more t (more u (more v ts))) e = absurd (omega (arith, e))
+
+pub more_behind : (ts : Trees) → count ts ≢ 2 → is_one_add (removed 0 ts) ≡ false
+more_behind none e = refl
+more_behind (more t none) e = refl
+more_behind (more t (more u none)) e = absurd (e refl)
+more_behind (more t (more u (more v ts))) e = by u
+  where
+    by : (u : Tree) → is_one_add (more u (more v ts)) ≡ false
+    by (add us) = refl
+    by u = refl
+
+-- ---- tests
+
+pub off : (b : Bool) → not b ≡ true → b ≡ false
+off true e = absurd (clash (sym e))
+off false e = refl
+
+pub none_found : {Q : Type 0} (P : ℕ → Type 0) (r : Option ℕ) → is_some r ≡ false → MatchOption r Q P → Q
+none_found P None e h = h
+none_found P (Some k) e h = absurd (clash e)
