@@ -155,7 +155,7 @@ whole_is q h = h
 even_inside : (q : Fraction) → is_even_whole q ≡ true → is_opaque_exponent (num q) ≡ false
 even_inside q h = transparent_whole (num q) (whole_is q (and_parts _ _ (and_parts _ _ h).0).0)
 
-no_number_power : (b e : Tree) → is_number b ≡ false → has_number_power b e ≡ false
+pub no_number_power : (b e : Tree) → is_number b ≡ false → has_number_power b e ≡ false
 no_number_power b (num q) h = rw h refl
 no_number_power b e h = refl
 

@@ -2,7 +2,7 @@
 use Rattle.std.proofs.Common.{◌≡◌, ℕ, ◌≤◌, [], ◌∷◌, refl, sym, ap, ◌∙◌, subst, arith, true, false}
 use Rattle.calc_terms.specs.declared.kind.Kind.{Kind}
 use Rattle.calc_terms.specs.declared.kind.Kind.TheVariants as kind
-use Rattle.calc_terms.specs.Trees.{Tree, root, num, Trees, none, more, append, is_root, is_num, size}
+use Rattle.calc_terms.specs.Trees.{Tree, root, Trees, none, more, append, is_root, size}
 use Rattle.coefficients.proofs.Places.{IsOver, IsTaken, taken, over_put, over_same, over_end, cut, cut_rest, once_count, represents_count, without_put}
 use Rattle.coefficients.proofs.Steps.{IsAdded, gives_put}
 use Rattle.node_pool.specs.State.{State, free_of}

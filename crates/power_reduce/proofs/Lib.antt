@@ -19,3 +19,9 @@ pub mod Roots
 pub mod Cases
 pub mod Leaves
 pub mod Misfits
+pub mod Counted
+pub mod Spanned
+pub mod RaisedBytes
+pub mod Rooms
+pub mod WithinBits
+pub mod HeldPowers

@@ -43,7 +43,7 @@ power_bytes t h = absurd cc
 pub rational_room : (t : Tree) (p q r : Fraction) → is_power t ≡ true → base_in t ≡ num p → exponent_in t ≡ num q → size (num r) ≤ size t
 rational_room t p q r h b e = omega (arith, power_bytes t h, ap size b, ap size e, num_least p, num_least q, num_most r)
 
-one_bytes : size (num one_fraction) ≡ 16
+pub one_bytes : size (num one_fraction) ≡ 16
 unfolding one_fraction
 one_bytes = whole_size 1 (omega arith)
 

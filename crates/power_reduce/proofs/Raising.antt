@@ -31,7 +31,7 @@ count_raised : (ts : Trees) (e : Tree) → count (raised ts e) ≡ count ts
 count_raised none e = refl
 count_raised (more t ts) e = ap suc (count_raised ts e)
 
-raised_append : (ts us : Trees) (e : Tree) → raised (append ts us) e ≡ append (raised ts e) (raised us e)
+pub raised_append : (ts us : Trees) (e : Tree) → raised (append ts us) e ≡ append (raised ts e) (raised us e)
 raised_append none us e = refl
 raised_append (more t ts) us e = ap (more (power t e)) (raised_append ts us e)
 

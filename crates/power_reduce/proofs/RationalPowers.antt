@@ -130,7 +130,7 @@ powered_undefined q (negsuc n) h k = rw k refl
 pub calculated_is : (op : Operation) (p q r : Fraction) → (operation_fits op p q ≡ false → ⊥) → r ≡ result_of op p q → calculated op p q ≡ exactly r
 calculated_is op p q r h e = by_test (λ b. operation_fits op p q ≡ b → (if b then exactly (result_of op p q) else overflow op p q) ≡ exactly r) (operation_fits op p q) (λ x y. ap exactly (sym e)) (λ x y. absurd (h y)) refl
 
-calculated_exactly : (op : Operation) (p q r : Fraction) → calculated op p q ≡ exactly r → r ≡ result_of op p q
+pub calculated_exactly : (op : Operation) (p q r : Fraction) → calculated op p q ≡ exactly r → r ≡ result_of op p q
 calculated_exactly op p q r e = by_test (λ b. (if b then exactly (result_of op p q) else overflow op p q) ≡ exactly r → r ≡ result_of op p q) (operation_fits op p q) (λ x y. cc) (λ x y. cc) e
 
 -- the value of a power of rationals

@@ -3,3 +3,5 @@ pub mod PowerAnswers
 pub mod PowerRules
 pub mod Raising
 pub mod Misfits
+pub mod Rooms
+pub mod Bits

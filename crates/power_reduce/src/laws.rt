@@ -4,11 +4,13 @@ ghost use Rattle.calc_terms.specs.Integers.{int_is_negative};
 ghost use Rattle.calc_measures.specs.Loads.{load, weight};
 ghost use Rattle.calc_algebra.specs.Numbers.{is_number, classes};
 ghost use Rattle.calc_algebra.specs.Reduced.{is_reduced, is_half_num, is_whole_num, is_opaque_exponent, num_one};
-ghost use Rattle.calc_terms.specs.Trees.{Tree, num, power, undef, is_root, is_undef};
+ghost use Rattle.calc_terms.specs.Trees.{Tree, Trees, num, mult, power, undef, is_root, is_undef};
+ghost use Rattle.calc_room.specs.Counts.{counted};
+ghost use Rattle.tree_room.specs.Handed.{counted_in_all};
 ghost use Rattle.calc_terms.specs.Fractions.{Fraction, one_fraction, whole_fraction, zero_fraction};
 ghost use Rattle.power_reduce.specs.PowerAnswers.{has_no_power, IsWrittenPower, IsPowerAnswer};
 ghost use Rattle.power_reduce.specs.PowerRules.{IsByRule, IsRewritable};
-ghost use Rattle.power_reduce.specs.PowerSteps.{is_zero_or_one, power_of_root, rewritten};
+ghost use Rattle.power_reduce.specs.PowerSteps.{is_zero_or_one, parts_of, power_of_root, rewritten};
 ghost use Rattle.number_forms.specs.Readers.{numerator};
 ghost use Rattle.calc_algebra.specs.Rewritings.{Rewrites, Reduces, KeepsMeanings};
 
@@ -23,6 +25,12 @@ pub fn halves_are_powers_of_roots()
     ensures rewritten { (b e : Tree) → is_half_num e ≡ true → is_undef b ≡ false → rewritten b e ≡ Some (power_of_root b e) }
     ensures once { (r e : Tree) → is_half_num e ≡ true → (is_undef r || is_number r || is_root r) ≡ true
         → rewritten r (num (whole_fraction (numerator e))) ≡ None }
+{}
+
+/// The parts of a product that is no Number, whose powers a rewriting multiplies, count 1 more at most than the product, though
+/// its coefficient counts 1 there.
+pub fn parts_are_counted()
+    ensures { (ts : Trees) → is_reduced (mult ts) ≡ true → is_number (mult ts) ≡ false → counted_in_all (parts_of ts) ≤ 1 + counted (mult ts) }
 {}
 
 /// Any other rewriting is by one of three rules, and each leaves trees that are reduced, weigh less and nest no more.

@@ -1,11 +1,17 @@
 //! Whole powers of Numbers.
-ghost use Rattle.std.specs.Prelude.{◌≡◌, ◌<◌, ◌^◌, ◌≤ℤ◌, ◌<ℤ◌, pos, nat_abs, IfOk, IfErr, OnOk, [], ◌∷◌, true, false};
+ghost use Rattle.std.specs.Prelude.{ℕ, List, ◌+◌, ◌≡◌, ◌<◌, ◌^◌, ◌≤ℤ◌, ◌<ℤ◌, pos, nat_abs, IfOk, IfErr, OnOk, [], ◌∷◌, true, false};
 ghost use Rattle.calc_terms.specs.Fractions.{whole_fraction, is_zero_fraction};
 ghost use Rattle.calc_algebra.specs.Numbers.{is_number};
 ghost use Rattle.calc_measures.specs.PlainValues.{plain_value, powered, exactly};
 ghost use Rattle.calc_terms.specs.Rat.{value_of};
-ghost use Rattle.calc_terms.specs.Trees.{num, is_num};
+ghost use Rattle.calc_terms.specs.Trees.{num, is_num, size};
 ghost use Rattle.number_forms.specs.Answers.{AnswersRationals};
+ghost use Rattle.calc_room.specs.Needs.{power_need};
+ghost use Rattle.calc_room.specs.Spans.{SpansTree};
+ghost use Rattle.node_pool.specs.State.{free_of};
+ghost use Rattle.number_forms.specs.Lacks.{OfFull};
+ghost use Rattle.number_forms.specs.Rooms.{LacksRoom};
+ghost use Rattle.power_reduce.specs.Bits.{IsNumberPower};
 ghost use Rattle.power_reduce.specs.PowerAnswers.{base_in, exponent_in, HasReducedSides, IsPowerAnswer};
 ghost use Rattle.tree_handles.specs.Causes.{IsCaused, Overflows};
 ghost use Rattle.calc_measures.specs.PlainTrees.{IsPlainOverflow};
@@ -42,6 +48,8 @@ pub(crate) fn rational_power(
     ensures kept { OnOk result (KeepsRefusals pool.old pool.new) }
     ensures faults { IfErr result (Faults pool.old pool.new) }
     ensures caused { IfErr result (IsCaused pool.new) }
+    ensures room { IfErr result (OfFull (λ full. ⊥)) }
+    ensures held { IfOk result (λ h. IsNumberPower n (base_in (tree_of power pool.old)) (tree_of h pool.new)) }
     ensures stands { Stands pool.new }
 {
     if q.num() == 0 && n <= 0 {
@@ -89,6 +97,8 @@ pub(crate) fn irrational_power(
     ensures kept { OnOk result (KeepsRefusals pool.old pool.new) }
     ensures faults { IfErr result (Faults pool.old pool.new) }
     ensures caused { IfErr result (IsCaused pool.new) }
+    ensures room { (gs : List ℕ) → SpansTree gs (base_in (tree_of power pool.old)) → IfErr result (LacksRoom power_need (free_of pool.old + size (tree_of power pool.old)) gs) }
+    ensures held { IfOk result (λ h. IsNumberPower n (base_in (tree_of power pool.old)) (tree_of h pool.new)) }
     ensures stands { Stands pool.new }
 {
     if n == 0 {
@@ -121,6 +131,8 @@ fn negative_power(pool: &mut Pool, power: Handle, n: i128) -> Result<Handle, Num
     ensures kept { OnOk result (KeepsRefusals pool.old pool.new) }
     ensures faults { IfErr result (Faults pool.old pool.new) }
     ensures caused { IfErr result (IsCaused pool.new) }
+    ensures room { (gs : List ℕ) → SpansTree gs (base_in (tree_of power pool.old)) → IfErr result (LacksRoom power_need (free_of pool.old + size (tree_of power pool.old)) gs) }
+    ensures held { IfOk result (λ h. IsNumberPower n (base_in (tree_of power pool.old)) (tree_of h pool.new)) }
     ensures stands { Stands pool.new }
 {
     if classes(pool, base_id(pool, &power)) > 2 {

@@ -1,12 +1,15 @@
 //! The four rewritings of a power.
-ghost use Rattle.std.specs.Prelude.{◌≡◌, ◌==◌, ◌<◌, ◌≤◌, ◌^◌, nat_abs, Some, IfOk, IfErr, OnOk, [], ◌∷◌, true, false};
+ghost use Rattle.std.specs.Prelude.{ℕ, List, ◌+◌, ◌≡◌, ◌==◌, ◌<◌, ◌≤◌, ◌^◌, nat_abs, Some, IfOk, IfErr, OnOk, [], ◌∷◌, true, false};
 ghost use Rattle.calc_terms.specs.Fractions.{whole_fraction};
 ghost use Rattle.calc_algebra.specs.Numbers.{is_number};
 ghost use Rattle.calc_algebra.specs.Reduced.{is_reduced, is_half_num, is_opaque_exponent};
-ghost use Rattle.calc_terms.specs.Trees.{num, mult, count, is_mult, is_root};
+ghost use Rattle.calc_terms.specs.Trees.{num, mult, count, is_mult, is_root, size};
 ghost use Rattle.power_reduce.specs.PowerAnswers.{is_power, base_in, exponent_in, HasReducedSides};
 ghost use Rattle.power_reduce.specs.PowerSteps.{goes_inside, is_even_whole, parts_of, raised, rewritten};
 ghost use Rattle.number_forms.specs.Readers.{numerator};
+ghost use Rattle.calc_room.specs.Spans.{SpansTree};
+ghost use Rattle.node_pool.specs.State.{free_of};
+ghost use Rattle.power_reduce.specs.Rooms.{IsShortOfRoot, IsShortOfStep};
 ghost use Rattle.power_reduce.specs.Raising.{HasKids, raised_at};
 ghost use Rattle.tree_handles.specs.Standing.{LacksBytes, Stands, forest, KeepsRefusals, Refuses};
 ghost use Rattle.tree_handles.specs.Handed.{tree_of, IsHanded, Gives, KeepsFront};
@@ -35,6 +38,7 @@ pub(crate) fn root_base(pool: &mut Pool, power: Handle, n: i128) -> Result<Handl
     ensures kept { OnOk result (KeepsRefusals pool.old pool.new) }
     ensures full { IfErr result (Refuses pool.old pool.new) }
     ensures caused { IfErr result (LacksBytes pool.new) }
+    ensures room { IfErr result (λ full. IsShortOfRoot (tree_of power pool.old) (free_of pool.old)) }
     ensures stands { Stands pool.new }
 {
     let (base, exponent) = take_sides(pool, power);
@@ -113,6 +117,7 @@ pub(crate) fn raise_factors(pool: &mut Pool, power: Handle) -> Result<Handle, Fu
     ensures kept { OnOk result (KeepsRefusals pool.old pool.new) }
     ensures full { IfErr result (Refuses pool.old pool.new) }
     ensures caused { IfErr result (LacksBytes pool.new) }
+    ensures room { (gs : List ℕ) → SpansTree gs (tree_of power pool.old) → IfErr result (λ full. IsShortOfStep gs (tree_of power pool.old) (free_of pool.old)) }
     ensures stands { Stands pool.new }
 {
     let (base, exponent) = take_sides(pool, power);
@@ -131,6 +136,7 @@ fn product_of_parts(pool: &mut Pool, product: Handle) -> Result<Handle, Full>
     ensures kept { OnOk result (KeepsRefusals pool.old pool.new) }
     ensures full { IfErr result (Refuses pool.old pool.new) }
     ensures caused { IfErr result (LacksBytes pool.new) }
+    ensures room { IfErr result (λ full. free_of pool.old < 16) }
     ensures stands { Stands pool.new }
 {
     let (coefficient, product) = split_product(pool, product)?;
@@ -156,6 +162,8 @@ fn raise_each(pool: &mut Pool, product: Handle, exponent: Handle) -> Result<Hand
     ensures kept { OnOk result (KeepsRefusals pool.old pool.new) }
     ensures full { IfErr result (Refuses pool.old pool.new) }
     ensures caused { IfErr result (LacksBytes pool.new) }
+    ensures room { let product_old = tree_of product pool.old in let exponent_old = tree_of exponent pool.old in
+        IfErr result (λ full. free_of pool.old + size product_old + size exponent_old < size (mult (raised (children_of product_old) exponent_old))) }
     ensures stands { Stands pool.new }
 {
     let last = children(pool, product.id()) - 1;
@@ -182,6 +190,7 @@ fn raise_factor(pool: &mut Pool, product: &Handle, at: u16, exponent: Handle) ->
     ensures kept { OnOk result (KeepsRefusals pool.old pool.new) }
     ensures full { IfErr result (Refuses pool.old pool.new) }
     ensures caused { IfErr result (LacksBytes pool.new) }
+    ensures room { IfErr result (λ full. free_of pool.old < 8) }
     ensures stands { Stands pool.new }
 {
     let factor = take_child(pool, product, at);

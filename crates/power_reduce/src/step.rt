@@ -1,17 +1,22 @@
 //! One step on a power of reduced trees, by the kinds of its base and its exponent.
-ghost use Rattle.std.specs.Prelude.{◌≡◌, ◌<◌, ◌^◌, ◌&&◌, nat_abs, None, IfOk, IfErr, OnOk, [], ◌∷◌, true, false};
+ghost use Rattle.std.specs.Prelude.{ℕ, ℤ, List, ◌≡◌, ◌≤◌, ◌<◌, ◌^◌, ◌&&◌, nat_abs, None, IfOk, IfErr, IsOk, OnOk, [], ◌∷◌, true, false};
 ghost use Rattle.calc_terms.specs.Fractions.{whole_fraction};
 ghost use Rattle.calc_algebra.specs.Numbers.{is_number};
 ghost use Rattle.calc_measures.specs.PlainValues.{plain_value};
+ghost use Rattle.calc_room.specs.Counts.{counted};
+ghost use Rattle.calc_room.specs.Spans.{SpansTree};
 ghost use Rattle.calc_algebra.specs.Reduced.{is_reduced, is_half_num, is_whole_num};
 ghost use Rattle.calc_terms.specs.Trees.{num, is_num, is_mult, is_root, is_undef};
+ghost use Rattle.power_reduce.specs.Bits.{IsFactorHeld, IsHeldAsPowerOf, IsNumberPower, HasFewBitsRaised};
 ghost use Rattle.power_reduce.specs.PowerAnswers.{is_power, base_in, exponent_in, HasReducedSides, IsStep};
 ghost use Rattle.power_reduce.specs.PowerSteps.{goes_inside, is_zero_or_one, rewritten};
+ghost use Rattle.power_reduce.specs.Rooms.{LacksStep, LacksRoot, SpansStep};
+ghost use Rattle.node_pool.specs.State.{free_of};
 ghost use Rattle.tree_handles.specs.Causes.{IsCaused};
 ghost use Rattle.tree_handles.specs.Handed.{tree_of, IsHanded, KeepsFront};
 ghost use Rattle.tree_handles.specs.Faults.{OfOverflow, Faults};
 ghost use Rattle.power_reduce.specs.Misfits.{IsPowerMisfit};
-ghost use Rattle.reduce_port.specs.Steps.{AnswersRationalStep, IfAgain};
+ghost use Rattle.reduce_port.specs.Steps.{AnswersRationalStep, IfAgain, IfDone};
 ghost use Rattle.tree_handles.specs.Expressions.{IsExpression, plain};
 ghost use Rattle.tree_handles.specs.Inside.{tree_at};
 ghost use Rattle.tree_handles.specs.Roots.{without_root};
@@ -42,6 +47,26 @@ pub fn power_step(pool: &mut Pool, power: Handle) -> Result<Step, NumberFault>
     ensures kept { OnOk result (KeepsRefusals pool.old pool.new) }
     ensures faults { IfErr result (Faults pool.old pool.new) }
     ensures caused { IfErr result (IsCaused pool.new) }
+
+    // For a whole power bytes are lacking only where fewer are at hand than the step needs, and for half of an odd number only where
+    // fewer are than the power of the root has. Any other power is answered.
+    ensures room { (gs : List ℕ) → SpansTree gs (tree_of power pool.old) → is_whole_num (exponent_in (tree_of power pool.old)) ≡ true
+        → IfErr result (LacksStep gs (tree_of power pool.old) (free_of pool.old)) }
+    ensures root_room { is_half_num (exponent_in (tree_of power pool.old)) ≡ true → IfErr result (LacksRoot (tree_of power pool.old) (free_of pool.old)) }
+    ensures others { is_whole_num (exponent_in (tree_of power pool.old)) ≡ false → is_half_num (exponent_in (tree_of power pool.old)) ≡ false → IsOk result }
+
+    // A reduced tree counts no more than the power. What spans the power spans the tree, unless that has a new root.
+    ensures counted { IfOk result (λ s. IfDone s (λ h. counted (tree_of h pool.new) ≤ counted (tree_of power pool.old))) }
+    ensures spanned { (gs : List ℕ) → SpansTree gs (tree_of power pool.old) → is_half_num (exponent_in (tree_of power pool.old)) ≡ false
+        → IfOk result (SpansStep gs pool.new) }
+
+    // What holds the base holds a reduced tree for the power n by n times its bits, or by n times those of an inverse. Nothing
+    // overflows where these are few.
+    ensures held { (n : ℤ) → exponent_in (tree_of power pool.old) ≡ num (whole_fraction n)
+        → IfOk result (λ s. IfDone s (λ h. IsHeldAsPowerOf n (base_in (tree_of power pool.old)) (tree_of h pool.new))) }
+    ensures bits { (n : ℤ) → exponent_in (tree_of power pool.old) ≡ num (whole_fraction n) → (h l : ℕ) → IsFactorHeld (base_in (tree_of power pool.old)) h l
+        → HasFewBitsRaised n h l → IfErr result (OfOverflow (λ o. ⊥)) }
+
     ensures stands { Stands pool.new }
 {
     let exponent = exponent_id(pool, &power);
@@ -81,6 +106,8 @@ fn whole_power(pool: &mut Pool, power: Handle, n: i128) -> Result<Step, NumberFa
     ensures kept { OnOk result (KeepsRefusals pool.old pool.new) }
     ensures faults { IfErr result (Faults pool.old pool.new) }
     ensures caused { IfErr result (IsCaused pool.new) }
+    ensures room { (gs : List ℕ) → SpansTree gs (tree_of power pool.old) → IfErr result (LacksStep gs (tree_of power pool.old) (free_of pool.old)) }
+    ensures held { is_number (base_in (tree_of power pool.old)) ≡ true → IfOk result (λ s. IfDone s (λ h. IsNumberPower n (base_in (tree_of power pool.old)) (tree_of h pool.new))) }
     ensures stands { Stands pool.new }
 {
     let base = base_id(pool, &power);
@@ -108,6 +135,8 @@ fn whole_power_of_other(pool: &mut Pool, power: Handle, n: i128) -> Result<Step,
     ensures kept { OnOk result (KeepsRefusals pool.old pool.new) }
     ensures faults { IfErr result (Faults pool.old pool.new) }
     ensures caused { IfErr result (IsCaused pool.new) }
+    ensures room { (gs : List ℕ) → SpansTree gs (tree_of power pool.old) → IfErr result (LacksStep gs (tree_of power pool.old) (free_of pool.old)) }
+    ensures held { is_number (base_in (tree_of power pool.old)) ≡ true → IfOk result (λ s. IfDone s (λ h. IsNumberPower n (base_in (tree_of power pool.old)) (tree_of h pool.new))) }
     ensures stands { Stands pool.new }
 {
     let base = base_id(pool, &power);
@@ -141,6 +170,8 @@ fn other_power(pool: &mut Pool, power: Handle) -> Result<Step, NumberFault>
     ensures kept { OnOk result (KeepsRefusals pool.old pool.new) }
     ensures faults { IfErr result (Faults pool.old pool.new) }
     ensures caused { IfErr result (IsCaused pool.new) }
+    ensures root_room { is_half_num (exponent_in (tree_of power pool.old)) ≡ true → IfErr result (LacksRoot (tree_of power pool.old) (free_of pool.old)) }
+    ensures others { is_half_num (exponent_in (tree_of power pool.old)) ≡ false → IsOk result }
     ensures stands { Stands pool.new }
 {
     match half(pool, exponent_id(pool, &power)) {
@@ -166,6 +197,7 @@ fn power_inside(pool: &mut Pool, power: Handle) -> Result<Step, NumberFault>
     ensures kept { OnOk result (KeepsRefusals pool.old pool.new) }
     ensures faults { IfErr result (Faults pool.old pool.new) }
     ensures caused { IfErr result (IsCaused pool.new) }
+    ensures room { (gs : List ℕ) → SpansTree gs (tree_of power pool.old) → IfErr result (LacksStep gs (tree_of power pool.old) (free_of pool.old)) }
     ensures stands { Stands pool.new }
 {
     match kind(pool, base_id(pool, &power)) {
@@ -189,6 +221,7 @@ fn power_of_power(pool: &mut Pool, power: Handle) -> Result<Step, NumberFault>
     ensures kept { OnOk result (KeepsRefusals pool.old pool.new) }
     ensures faults { IfErr result (Faults pool.old pool.new) }
     ensures caused { IfErr result (IsCaused pool.new) }
+    ensures answered { IsOk result }
     ensures stands { Stands pool.new }
 {
     if first_exponent_is_opaque(pool, &power) {
@@ -211,6 +244,7 @@ fn power_of_product(pool: &mut Pool, power: Handle) -> Result<Step, NumberFault>
     ensures kept { OnOk result (KeepsRefusals pool.old pool.new) }
     ensures faults { IfErr result (Faults pool.old pool.new) }
     ensures caused { IfErr result (IsCaused pool.new) }
+    ensures room { (gs : List ℕ) → SpansTree gs (tree_of power pool.old) → IfErr result (LacksStep gs (tree_of power pool.old) (free_of pool.old)) }
     ensures stands { Stands pool.new }
 {
     if is_reduced_number(pool, base_id(pool, &power)) {

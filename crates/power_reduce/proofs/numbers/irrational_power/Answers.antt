@@ -1,4 +1,7 @@
-use Rattle.std.proofs.Common.{refl, ap, ◌∙◌}
+use Rattle.std.proofs.Common.{refl, sym, ap, ◌∙◌, subst, arith}
+use Rattle.calc_room.specs.Spans.{SpansTree}
+use Rattle.number_forms.proofs.FreeBytes.{replaced_free}
+use Rattle.power_reduce.proofs.Rooms.{lacks_as}
 use Rattle.calc_algebra.specs.Numbers.{is_number}
 use Rattle.calc_terms.specs.Trees.{num, is_num}
 use Rattle.coefficients.proofs.Steps.{one_value, if_map}
@@ -7,6 +10,10 @@ use Rattle.tree_handles.proofs.Given.{gives_as, given_handed, given_rest, given_
 use Rattle.number_forms.proofs.Overflows.{refused_as}
 use Rattle.power_reduce.proofs.Misfits.{positive_misfit}
 use Rattle.power_reduce.proofs.NumberPowers.{irrational_power, zero_answer, one_answer, power_answer}
+use Rattle.std.specs.Prelude.{IfOk}
+use Rattle.power_reduce.specs.Bits.{IsNumberPower}
+use Rattle.power_reduce.specs.PowerAnswers.{base_in}
+use Rattle.power_reduce.proofs.HeldPowers.{zero_power, one_power, positive_power}
 use Rattle.power_reduce.proofs.Powers.{one_room}
 use Rattle.tree_handles.specs.Handed.{tree_of}
 use Rattle.power_reduce.proofs.RationalPowers.{zero_bits, no_zero_bits, not_below}
@@ -48,3 +55,25 @@ returns-clause-overflow c =
     let g = c.take_base-base.ensures.gives in
     refused_as c.power_number.result (c.power_number.ensures.overflow (ap is_num (given_told g) ∙ c.requires.base))
     (λ o h. positive_misfit _ _ _ _ c.args.n o c.requires.exponent (not_below c.args.n c.requires.fits c.if-n-lt0.false (no_zero_bits c.args.n c.if-n-eq0.false)) c.requires.number c.requires.base (given_told g) (told c.args.n c.requires.fits) h)
+
+pub returns-clause-room : goal.returns-clause-room
+returns-clause-room c = λ gs s.
+    let g = c.take_base-base.ensures.gives in
+    lacks_as gs c.power_number.result (sym (replaced_free c.requires.stands c.take_base-base.ensures.stands c.take_base-base.ensures.kept c.requires.handed g)) (omega arith)
+    (c.power_number.ensures.room gs (subst (SpansTree gs) (sym (given_told g)) s))
+
+-- ---- what holds it
+
+pub returns-then-n-eq0-clause-held : goal.returns-then-n-eq0-clause-held
+returns-then-n-eq0-clause-held c = λ k. zero_power c.args.n _ _ (given_told c.with_number.ensures.gives ∙ ap num (one_value c.whole.result c.whole.ensures))
+
+pub returns-then-n-eq1-clause-held : goal.returns-then-n-eq1-clause-held
+returns-then-n-eq1-clause-held c = λ k. one_power c.args.n _ _ (one_bits c.args.n c.requires.fits c.if-n-eq1.true) (given_told c.take_base.ensures.gives)
+
+pub returns-clause-held : goal.returns-clause-held
+returns-clause-held c =
+    if_map c.power_number.result _ _ c.power_number.ensures.measured (λ h m k. positive_power c.args.n _ _ _ _ (not_below c.args.n c.requires.fits c.if-n-lt0.false (no_zero_bits c.args.n c.if-n-eq0.false)) (told c.args.n c.requires.fits) (given_told c.take_base-base.ensures.gives) m)
+
+pub returns-then-n-lt0-clause-held : goal.returns-then-n-lt0-clause-held
+returns-then-n-lt0-clause-held c =
+    subst (λ z. IfOk c.negative_power.result (λ h. IsNumberPower z (base_in (tree_of c.args.power c.args.pool.now)) (tree_of h c.negative_power.new.pool))) (told c.args.n c.requires.fits) c.negative_power.ensures.held

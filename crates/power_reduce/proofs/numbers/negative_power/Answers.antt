@@ -1,5 +1,15 @@
 use Rattle.std.proofs.Common.{◌≡◌, ◌≤◌, refl, sym, ap, ◌∙◌, arith, subst, pos, ◌≤ℤ◌}
-use Rattle.calc_algebra.specs.Numbers.{is_number, classes}
+use Rattle.calc_algebra.specs.Numbers.{is_number, classes, value}
+use Rattle.number_forms.specs.Inverses.{IfValue}
+use Rattle.power_reduce.proofs.HeldPowers.{negative_power, no_number_power}
+use Rattle.power_reduce.proofs.Powers.{power_is}
+use Rattle.surd_bits.specs.Inverted.{IsNoLargerThanInverse}
+use Rattle.tree_handles.specs.Expressions.{plain}
+use Rattle.tree_handles.proofs.Lasts.{last_tree}
+use Rattle.calc_room.specs.Spans.{SpansTree}
+use Rattle.number_forms.specs.Rooms.{SpansInverse}
+use Rattle.number_forms.proofs.FreeBytes.{replaced_free}
+use Rattle.power_reduce.proofs.Rooms.{lacks_as, inverse_lacks_power}
 use Rattle.coefficients.proofs.Steps.{if_map}
 use Rattle.tree_handles.specs.Handed.{tree_of}
 use Rattle.tree_handles.specs.Standing.{forest}
@@ -80,3 +90,31 @@ returns-clause-overflow c =
     (raised_misfit _ _ c.power_number.new.pool c.power_number.result (subst (λ z. pos 1 ≤ℤ z) (sym y) (opposite_above c.args.n c.requires.negative)) c.power_number.ensures.rational c.power_number.ensures.overflow)
     (λ o h. negative_misfit _ _ _ _ _ c.args.n o c.requires.exponent c.requires.negative (few (goal.at.returns-clause-overflow c).Else-classes-gt2) c.requires.number c.requires.base
     (given_told c.take_base-base.ensures.gives) y (given_told i) h)
+
+-- ---- bytes at hand
+
+pub returns-in_err-inverse-clause-room : goal.returns-in_err-inverse-clause-room
+returns-in_err-inverse-clause-room c = λ gs s.
+    let freed = replaced_free c.requires.stands c.take_base-base.ensures.stands c.take_base-base.ensures.kept c.requires.handed c.take_base-base.ensures.gives in
+    passed_on c.from_residual.result c.in_err-inverse.field-0.0 _ c.from_residual.ensures.0 c.from_residual.ensures.1
+    (inverse_lacks_power gs c.in_err-inverse.field-0.0 (sym freed) (c.in_err-inverse.ensures.room gs))
+
+pub returns-clause-room : goal.returns-clause-room
+returns-clause-room c = λ gs s.
+    let g = c.take_base-base.ensures.gives in
+    let i = inverse_given c.take_base-base.result _ (forest c.take_base-base.new.pool) _ _ _ c.in-Value.is c.in_ok-inverse.ensures.ok in
+    let freed = replaced_free c.requires.stands c.take_base-base.ensures.stands c.take_base-base.ensures.kept c.requires.handed g in
+    let inverted = replaced_free c.take_base-base.ensures.stands c.in_ok-inverse.ensures.stands c.in_ok-inverse.ensures.kept (given_handed g) i in
+    let spans = subst (SpansInverse gs c.invert_number.new.pool) c.in-Value.is (c.in_ok-inverse.ensures.spanned gs (subst (SpansTree gs) (sym (given_told g)) s)) in
+    lacks_as gs c.power_number.result (sym (inverted ∙ freed)) (omega arith) (c.power_number.ensures.room gs spans)
+
+-- ---- what holds it
+
+pub returns-then-classes-gt2-clause-held : goal.returns-then-classes-gt2-clause-held
+returns-then-classes-gt2-clause-held c = no_number_power _ _ _ (ap plain (last_tree c.move_last.ensures.last) ∙ power_is (tree_of c.args.power c.args.pool.now) c.requires.sides.power)
+
+pub returns-clause-held : goal.returns-clause-held
+returns-clause-held c =
+    let measured = subst (λ x. IfValue x (λ h. IsNoLargerThanInverse (value (tree_of c.take_base-base.result c.take_base-base.new.pool)) (value (tree_of h c.invert_number.new.pool)))) c.in-Value.is c.in_ok-inverse.ensures.measured in
+    if_map c.power_number.result _ _ c.power_number.ensures.measured (λ h m k.
+    negative_power c.args.n _ _ _ _ _ c.requires.negative (opposite c.args.n c.requires.fits c.requires.negative) (given_told c.take_base-base.ensures.gives) measured m)

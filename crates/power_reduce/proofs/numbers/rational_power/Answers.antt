@@ -7,6 +7,7 @@ use Rattle.tree_handles.proofs.Given.{gives_as, given_told}
 use Rattle.number_forms.proofs.Overflows.{passed_on}
 use Rattle.tree_handles.specs.declared.fault.NumberFault.TheVariants as fault
 use Rattle.power_reduce.proofs.Misfits.{rational_misfit}
+use Rattle.power_reduce.proofs.HeldPowers.{rational_power_held, no_number_undef}
 use Rattle.power_reduce.proofs.Powers.{power_is, rational_room}
 use Rattle.tree_handles.specs.Handed.{tree_of}
 use Rattle.power_reduce.proofs.RationalPowers.{at_most, not_at_most, zero_rational, no_zero_rational, plain_power, powered_undefined, nothing_answer, value_answer, overflow_answer, plain_as, rationals_as}
@@ -65,3 +66,13 @@ returns-in_err-value-clause-overflow c =
     (rational_misfit _ _ _ (value_of c.args.q) c.args.n c.in_err-value.field-0.0 p c.requires.base c.requires.exponent
     (subst (λ (v : PlainValue). IsPlainOverflow v c.in_err-value.field-0.0) (sym (plain_power _ _ _ _ c.args.n p c.requires.base c.requires.exponent))
     (subst (λ z. IsPlainOverflow (powered (value_of c.args.q) z 1) c.in_err-value.field-0.0) (told c.args.n c.requires.fits) c.in_err-value.ensures.named)))
+
+-- ---- what holds it
+
+pub returns-then-n-le0-clause-held : goal.returns-then-n-le0-clause-held
+returns-then-n-le0-clause-held c = no_number_undef _ (given_told c.undefined.ensures.gives)
+
+pub returns-clause-held : goal.returns-clause-held
+returns-clause-held c = λ k.
+    rational_power_held c.args.n _ (value_of c.in_ok-value.value) _ _ c.requires.base (given_told c.with_number.ensures.gives)
+    (ap (λ z. powered (value_of c.args.q) z 1) (sym (told c.args.n c.requires.fits)) ∙ c.in_ok-value.ensures.value)

@@ -1,4 +1,6 @@
-use Rattle.std.proofs.Common.{refl, inl, sym, ap, ◌∙◌}
+use Rattle.std.proofs.Common.{refl, inl, sym, ap, ◌∙◌, arith}
+use Rattle.number_forms.proofs.Overflows.{passed_on}
+use Rattle.power_reduce.proofs.Rooms.{short_below, coefficient_most}
 use Rattle.calc_algebra.specs.Reduced.{is_num_one}
 use Rattle.calc_terms.specs.Trees.{is_mult, mult, more}
 use Rattle.coefficients.proofs.FirstFactors.{first_factor, first_front}
@@ -55,3 +57,8 @@ returns-clause-front c =
     let g = c.in_ok-coefficient.ensures.ok in
     let x = first_factor (given_handed g.second-given) (first_handed _ g) (given_apart g.second-given (given_handed g.first-given)) (ap is_mult (given_told g.second-given)) (c.add_child.ensures.root (given_root g.second-given)) in
     front_after_two (behind_new g.second-given.ends (front_end g.first-given.ends (front_without behind_first front_same))) (behind_new g.first-given.ends (front_without behind_first front_same)) c.split_product.ensures.front (first_front x)
+
+pub returns-in_err-coefficient-clause-room : goal.returns-in_err-coefficient-clause-room
+returns-in_err-coefficient-clause-room c =
+    passed_on c.from_residual.result c.in_err-coefficient.field-0.0 _ c.from_residual.ensures.0 c.from_residual.ensures.1
+    (omega (arith, short_below c.in_err-coefficient.ensures.full, coefficient_most (children_of (tree_of c.args.product c.args.pool.now))))

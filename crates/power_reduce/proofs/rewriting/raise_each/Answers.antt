@@ -1,5 +1,10 @@
-use Rattle.std.proofs.Common.{◌≡◌, ◌+◌, refl, ap, ◌∙◌, arith}
-use Rattle.calc_terms.specs.Trees.{Tree, count, is_mult}
+use Rattle.std.proofs.Common.{◌≡◌, ◌+◌, ◌<◌, refl, ap, ◌∙◌, arith}
+use Rattle.calc_terms.specs.Trees.{Tree, count, is_mult, size}
+use Rattle.node_pool.specs.State.{free_of}
+use Rattle.number_forms.proofs.FreeBytes.{refused_below}
+use Rattle.number_forms.proofs.Overflows.{passed_on}
+use Rattle.tree_handles.proofs.Room.{given_free}
+use Rattle.power_reduce.proofs.RaisedBytes.{read_bytes, next_lacks, last_lacks}
 use Rattle.coefficients.proofs.Places.{over_product, over_handed, over_plain}
 use Rattle.coefficients.proofs.Steps.{live, expression, seen, children_at}
 use Rattle.power_reduce.proofs.Raising.{none_raised, part_front, exponent_beside, exponent_tree, part_count, product_behind, product_tree, next_raised, next_kids, last_kids, all_raised, kids_over, raised_last, kids_front}
@@ -7,7 +12,7 @@ use Rattle.tree_handles.specs.Handed.{tree_of}
 use Rattle.tree_handles.specs.Expressions.{children_of}
 use Rattle.tree_handles.proofs.Forests.{keeps_none, keeps_after}
 use Rattle.tree_handles.proofs.Fronts.{behind_first, behind_later, behind_new, front_at, front_end, front_without, front_after_two}
-use Rattle.tree_handles.proofs.Given.{given_apart, given_handed}
+use Rattle.tree_handles.proofs.Given.{given_apart, given_handed, given_told}
 use Rattle.tree_handles.proofs.Outcomes.{eqb-sym}
 use Rattle.power_reduce.proofs.rewriting.raise_each.Goals as goal
 
@@ -116,3 +121,32 @@ returns-clause-front c =
     let end : c.loop-at.at + 1 ≡ count (children_of (tree_of c.args.product c.args.pool.now)) = omega (arith, many, c.requires.some, c.loop-at-test.false, c.loop-at.auto.at-end) in
     front_end c.move_last.ensures.last (front_without behind_first (kids_front
     (all_raised c.args.exponent c.loop-at.invariant.part c.requires.apart end (last_kids c.args.exponent _ c.loop-at.invariant.part c.requires.apart refl (omega (arith, many, c.requires.some, c.loop-at-test.false, c.loop-at.auto.at-end)) c.in_ok-raise_factor-2.ensures.ok))))
+
+-- ---- bytes at hand
+
+pub returns-in_err-copy-clause-room : goal.returns-in_err-copy-clause-room
+returns-in_err-copy-clause-room c =
+    let many = c.children-last.ensures.value ∙ children_at (over_product c.requires.first c.requires.product) c.requires.stands c.id.ensures in
+    let part = c.loop-at.invariant.part in
+    let read = read_bytes c.loop-at.invariant.stands c.id-in-loop-at.ensures (exponent_beside part c.requires.apart c.requires.second) in
+    let few : free_of c.loop-at.pool < 8 + size (tree_of c.args.exponent c.args.pool.now) = omega (arith, refused_below c.in_err-copy.ensures.full, read, ap size (exponent_tree c.args.exponent part c.requires.apart)) in
+    passed_on c.from_residual.result c.in_err-copy.field-0.0 _ c.from_residual.ensures.0 c.from_residual.ensures.1
+    (next_lacks c.requires.stands c.loop-at.invariant.stands c.loop-at.invariant.kept (over_product c.requires.first c.requires.product) part (omega (arith, many, c.loop-at-test.true)) few)
+
+pub returns-in_err-raise_factor-clause-room : goal.returns-in_err-raise_factor-clause-room
+returns-in_err-raise_factor-clause-room c =
+    let many = c.children-last.ensures.value ∙ children_at (over_product c.requires.first c.requires.product) c.requires.stands c.id.ensures in
+    let part = c.loop-at.invariant.part in
+    let beside = exponent_beside part c.requires.apart c.requires.second in
+    let g = c.in_ok-copy.ensures.given (expression c.id-in-loop-at.ensures c.loop-at.invariant.stands beside) in
+    let copied = ap size (given_told g ∙ seen c.id-in-loop-at.ensures c.loop-at.invariant.stands beside ∙ exponent_tree c.args.exponent part c.requires.apart) in
+    let few : free_of c.loop-at.pool < 8 + size (tree_of c.args.exponent c.args.pool.now) = omega (arith, given_free c.loop-at.invariant.stands c.in_ok-copy.ensures.stands c.in_ok-copy.ensures.kept g, copied, c.in_err-raise_factor.ensures.room) in
+    passed_on c.from_residual-in_err-raise_factor.result c.in_err-raise_factor.field-0.0 _ c.from_residual-in_err-raise_factor.ensures.0 c.from_residual-in_err-raise_factor.ensures.1
+    (next_lacks c.requires.stands c.loop-at.invariant.stands c.loop-at.invariant.kept (over_product c.requires.first c.requires.product) part (omega (arith, many, c.loop-at-test.true)) few)
+
+pub returns-in_err-raise_factor-2-clause-room : goal.returns-in_err-raise_factor-2-clause-room
+returns-in_err-raise_factor-2-clause-room c =
+    let many = c.children-last.ensures.value ∙ children_at (over_product c.requires.first c.requires.product) c.requires.stands c.id.ensures in
+    passed_on c.from_residual-in_err-raise_factor-2.result c.in_err-raise_factor-2.field-0.0 _ c.from_residual-in_err-raise_factor-2.ensures.0 c.from_residual-in_err-raise_factor-2.ensures.1
+    (last_lacks c.requires.stands c.loop-at.invariant.stands c.loop-at.invariant.kept (over_product c.requires.first c.requires.product) c.loop-at.invariant.part
+    (omega (arith, many, c.requires.some, c.loop-at-test.false, c.loop-at.auto.at-end)) c.in_err-raise_factor-2.ensures.room)

@@ -1,4 +1,7 @@
 use Rattle.std.proofs.Common.{refl, arith}
+use Rattle.number_forms.proofs.FreeBytes.{refused_below}
+use Rattle.number_forms.proofs.Overflows.{passed_on}
+use Rattle.reduce_port.proofs.ChildBytes.{taken_free}
 use Rattle.coefficients.proofs.Places.{over_product, over_end}
 use Rattle.coefficients.proofs.Steps.{children_in, added_as}
 use Rattle.power_reduce.proofs.InPlace.{apart_last}
@@ -122,3 +125,8 @@ returns-clause-front c =
     let b = product_on c.args.exponent o a c.requires.apart in
     let x = added_as c.args.at b p (c.add_child-3.ensures.root (over_end b p.ends).root) (words c.args.at _ (tree_of c.args.exponent c.args.pool.now) s) in
     kids_front (kids_of_raised c.args.exponent a c.requires.apart x)
+
+pub returns-in_err-power-clause-room : goal.returns-in_err-power-clause-room
+returns-in_err-power-clause-room c =
+    let taken = taken_free c.args.product.now c.args.at c.requires.stands c.take_child-factor.ensures.stands c.take_child-factor.ensures.kept c.requires.first.root (c.take_child-factor.ensures.last c.requires.first.root) in
+    passed_on c.from_residual.result c.in_err-power.field-0.0 _ c.from_residual.ensures.0 c.from_residual.ensures.1 (omega (arith, taken, refused_below c.in_err-power.ensures.full))

@@ -1,7 +1,14 @@
-use Rattle.std.proofs.Common.{◌≤◌, sym, ap, ◌∙◌, subst}
+use Rattle.std.proofs.Common.{◌≤◌, sym, ap, ◌∙◌, subst, arith}
+use Rattle.number_forms.proofs.FreeBytes.{replaced_free}
+use Rattle.number_forms.proofs.Overflows.{passed_on}
+use Rattle.number_forms.proofs.Rooms.{refusal_as}
+use Rattle.power_reduce.specs.PowerAnswers.{exponent_in}
+use Rattle.power_reduce.proofs.Exponents.{inside_whole}
+use Rattle.power_reduce.proofs.Rooms.{sides_free, split_short, raised_short}
+use Rattle.tree_handles.specs.Handed.{tree_of}
 use Rattle.calc_algebra.specs.Numbers.{is_number}
 use Rattle.calc_algebra.specs.Reduced.{is_reduced}
-use Rattle.calc_terms.specs.Trees.{Tree, count, is_mult}
+use Rattle.calc_terms.specs.Trees.{Tree, count, is_mult, size}
 use Rattle.coefficients.proofs.Steps.{if_map}
 use Rattle.power_reduce.proofs.PartsOf.{first_handed, first_tree, some_parts, powers_as}
 use Rattle.tree_handles.specs.Expressions.{plain, children_of}
@@ -72,3 +79,25 @@ returns-clause-front c =
     let base = behind_new g.first-given.ends (front_without behind_first front_same) in
     let exponent = behind_new g.second-given.ends (front_end g.first-given.ends (front_without behind_first front_same)) in
     front_after_two (behind_new p.ends (front_without base c.take_sides-base.ensures.front)) exponent (front_after_one base c.take_sides-base.ensures.front c.product_of_parts.ensures.front) c.raise_each.ensures.front
+
+pub returns-in_err-product-clause-room : goal.returns-in_err-product-clause-room
+returns-in_err-product-clause-room c = λ gs s.
+    let t : Tree = tree_of c.args.power c.args.pool.now in
+    passed_on c.from_residual.result c.in_err-product.field-0.0 _ c.from_residual.ensures.0 c.from_residual.ensures.1
+    (split_short gs t _ _ c.requires.sides.power c.requires.sides.base (inside_whole (exponent_in t) c.requires.inside) s
+    (sides_free c.requires.stands c.take_sides-base.ensures.stands c.take_sides-base.ensures.kept c.requires.handed c.take_sides-base.ensures.gives) c.in_err-product.ensures.room)
+
+pub returns-clause-room : goal.returns-clause-room
+returns-clause-room c = λ gs s.
+    let t : Tree = tree_of c.args.power c.args.pool.now in
+    let g = c.take_sides-base.ensures.gives in
+    let p = c.in_ok-product.ensures.ok in
+    let apart = eqb-sym _ _ (given_apart g.second-given (given_handed g.first-given)) in
+    let e = handed_beside c.take_sides-base.result.0 apart (given_handed g.second-given) in
+    let b = first_tree _ g in
+    let x = ap plain (given_same c.take_sides-base.result.1 p e.root ∙ tree-without c.take_sides-base.result.0 c.take_sides-base.result.1 _ apart) ∙ given_told g.second-given in
+    let sides = sides_free c.requires.stands c.take_sides-base.ensures.stands c.take_sides-base.ensures.kept c.requires.handed g in
+    let parts = replaced_free c.take_sides-base.ensures.stands c.in_ok-product.ensures.stands c.in_ok-product.ensures.kept (first_handed _ g) p in
+    refusal_as c.raise_each.result c.raise_each.ensures.room (λ full l.
+    raised_short gs t _ _ _ _ _ c.requires.sides.power c.requires.base c.requires.sides.base c.requires.number (inside_whole (exponent_in t) c.requires.inside) s (given_told p) b x
+    (omega (arith, sides, parts, ap size b, ap size x)) l)

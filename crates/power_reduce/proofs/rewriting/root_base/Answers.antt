@@ -1,6 +1,14 @@
-use Rattle.std.proofs.Common.{inl, sym, ap, ◌∙◌, to_z, of_z}
+use Rattle.std.proofs.Common.{◌+◌, inl, sym, ap, ◌∙◌, arith, to_z, of_z}
+use Rattle.calc_terms.specs.Ratio.{Ratio}
+use Rattle.calc_terms.specs.Trees.{num, size, root as root_tree}
+use Rattle.node_pool.specs.State.{free_of}
+use Rattle.number_forms.proofs.FreeBytes.{refused_below, replaced_free}
+use Rattle.number_forms.proofs.Overflows.{passed_on}
+use Rattle.number_forms.proofs.Rooms.{refusal_as}
+use Rattle.power_reduce.proofs.Rooms.{sides_free, no_root, no_exponent, no_power}
+use Rattle.tree_handles.proofs.Room.{given_free, released_free}
 use Rattle.std.specs.Int.{w128}
-use Rattle.calc_terms.specs.Fractions.{whole_fraction}
+use Rattle.calc_terms.specs.Fractions.{lowest, whole_fraction}
 use Rattle.coefficients.proofs.Steps.{if_map}
 use Rattle.power_reduce.specs.PowerAnswers.{base_in, exponent_in}
 use Rattle.tree_handles.specs.Handed.{tree_of}
@@ -66,3 +74,40 @@ returns-clause-front c =
     let taken = front_at (front_without exponent c.take_sides-base.ensures.front) (c.release.ensures.owned (owned (given_handed g.second-given))) in
     let over = front_after_one base taken c.node_over.ensures.front in
     front_after_two (behind_new c.in_ok-root.ensures.ok.ends (front_without base taken)) (behind_new c.in_ok-whole.ensures.given.ends over) (front_after over c.number.ensures.front) c.node_over_two.ensures.front
+
+-- ---- bytes at hand
+
+pub returns-in_err-root-clause-room : goal.returns-in_err-root-clause-room
+returns-in_err-root-clause-room c =
+    let g = c.take_sides-base.ensures.gives in
+    let sides = sides_free c.requires.stands c.take_sides-base.ensures.stands c.take_sides-base.ensures.kept c.requires.handed g in
+    let freed = released_free c.take_sides-base.ensures.stands c.release.ensures.stands c.release.ensures.kept (given_handed g.second-given) (c.release.ensures.owned (owned (given_handed g.second-given))) in
+    passed_on c.from_residual.result c.in_err-root.field-0.0 _ c.from_residual.ensures.0 c.from_residual.ensures.1
+    (no_root (tree_of c.args.power c.args.pool.now) _ _ (omega (arith, sides, freed, ap size (given_told g.second-given))) (refused_below c.in_err-root.ensures.full))
+
+pub returns-in_err-whole-clause-room : goal.returns-in_err-whole-clause-room
+returns-in_err-whole-clause-room c =
+    let g = c.take_sides-base.ensures.gives in
+    let sides = sides_free c.requires.stands c.take_sides-base.ensures.stands c.take_sides-base.ensures.kept c.requires.handed g in
+    let freed = released_free c.take_sides-base.ensures.stands c.release.ensures.stands c.release.ensures.kept (given_handed g.second-given) (c.release.ensures.owned (owned (given_handed g.second-given))) in
+    let first = gives_at g.first-given (c.release.ensures.owned (owned (given_handed g.second-given)) ∙ given_rest g.second-given) in
+    let root = c.in_ok-root.ensures.ok in
+    let rooted = replaced_free c.release.ensures.stands c.in_ok-root.ensures.stands c.in_ok-root.ensures.kept (given_handed first) root in
+    let n = ap (λ (q : Ratio). size (num (lowest q.num q.den))) c.whole.ensures ∙ ap (λ x. size (num x)) (ap whole_fraction (told c.args.n c.requires.fits) ∙ ap whole_fraction (sym c.requires.numerator)) in
+    passed_on c.from_residual-in_err-whole.result c.in_err-whole.field-0.0 _ c.from_residual-in_err-whole.ensures.0 c.from_residual-in_err-whole.ensures.1
+    (no_exponent (tree_of c.args.power c.args.pool.now) (tree_of c.in_ok-root.root c.node_over.new.pool) _ (free_of c.node_over.new.pool) (free_of c.release.new.pool) (free_of c.args.pool.now) (given_told root ∙ ap root_tree (given_told first)) n (omega (arith, sides, freed, ap size (given_told g.second-given)))
+    (omega (arith, rooted, ap size (given_told first))) (refused_below c.in_err-whole.ensures.full))
+
+pub returns-clause-room : goal.returns-clause-room
+returns-clause-room c =
+    let g = c.take_sides-base.ensures.gives in
+    let sides = sides_free c.requires.stands c.take_sides-base.ensures.stands c.take_sides-base.ensures.kept c.requires.handed g in
+    let freed = released_free c.take_sides-base.ensures.stands c.release.ensures.stands c.release.ensures.kept (given_handed g.second-given) (c.release.ensures.owned (owned (given_handed g.second-given))) in
+    let first = gives_at g.first-given (c.release.ensures.owned (owned (given_handed g.second-given)) ∙ given_rest g.second-given) in
+    let root = c.in_ok-root.ensures.ok in
+    let whole = c.in_ok-whole.ensures.given in
+    let rooted = replaced_free c.release.ensures.stands c.in_ok-root.ensures.stands c.in_ok-root.ensures.kept (given_handed first) root in
+    let n = ap (λ (q : Ratio). size (num (lowest q.num q.den))) c.whole.ensures ∙ ap (λ x. size (num x)) (ap whole_fraction (told c.args.n c.requires.fits) ∙ ap whole_fraction (sym c.requires.numerator)) in
+    refusal_as c.node_over_two.result c.node_over_two.ensures.full (λ full l.
+    no_power (tree_of c.args.power c.args.pool.now) (tree_of c.in_ok-root.root c.node_over.new.pool) _ (free_of c.number.new.pool) (free_of c.node_over.new.pool) (free_of c.release.new.pool) (free_of c.args.pool.now) (given_told root ∙ ap root_tree (given_told first)) n (omega (arith, sides, freed, ap size (given_told g.second-given)))
+    (omega (arith, rooted, ap size (given_told first))) (given_free c.in_ok-root.ensures.stands c.in_ok-whole.ensures.stands c.in_ok-whole.ensures.kept whole ∙ ap (λ x. free_of c.number.new.pool + size x) (given_told whole)) (refused_below l))

@@ -1,4 +1,6 @@
 use Rattle.tree_handles.specs.Handed.{tree_of}
+use Rattle.tree_handles.specs.declared.fault.NumberFault.TheVariants as fault
+use Rattle.number_forms.proofs.Overflows.{passed_on}
 use Rattle.power_reduce.specs.PowerAnswers.{exponent_in}
 use Rattle.power_reduce.proofs.Cases.{broken_other, again}
 use Rattle.power_reduce.proofs.step.other_power.Goals as goal
@@ -8,3 +10,7 @@ kept_power-requires-clause-exponent c = broken_other (exponent_in (tree_of c.arg
 
 pub returns-in_ok-rooted-in-Some-clause-ok : goal.returns-in_ok-rooted-in-Some-clause-ok
 returns-in_ok-rooted-in-Some-clause-ok c = again (tree_of c.args.power c.args.pool.now) c.requires.sides.power c.in_ok-rooted-in-Some.ensures.ok
+
+pub returns-in_err-rooted-in-Some-clause-root_room : goal.returns-in_err-rooted-in-Some-clause-root_room
+returns-in_err-rooted-in-Some-clause-root_room c = λ h.
+    passed_on c.from_residual.result (fault.Full c.in_err-rooted-in-Some.field-0.0) _ c.from_residual.ensures.0 c.from_residual.ensures.1 c.in_err-rooted-in-Some.ensures.room

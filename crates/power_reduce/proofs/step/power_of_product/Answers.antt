@@ -2,6 +2,8 @@ use Rattle.std.proofs.Common.{sym, ap, ◌∙◌}
 use Rattle.calc_algebra.specs.Numbers.{is_number}
 use Rattle.calc_algebra.specs.Reduced.{is_reduced}
 use Rattle.tree_handles.specs.Handed.{tree_of}
+use Rattle.tree_handles.specs.declared.fault.NumberFault.TheVariants as fault
+use Rattle.number_forms.proofs.Overflows.{passed_on}
 use Rattle.power_reduce.specs.PowerAnswers.{base_in, exponent_in}
 use Rattle.power_reduce.proofs.Cases.{inside_other, number_kept, again}
 use Rattle.power_reduce.proofs.Exponents.{inside_whole}
@@ -21,3 +23,7 @@ raise_factors-requires-clause-number c = sym (ap is_number c.base_id.ensures.tre
 
 pub returns-clause-ok : goal.returns-clause-ok
 returns-clause-ok c = again (tree_of c.args.power c.args.pool.now) c.requires.sides.power c.in_ok-raised.ensures.ok
+
+pub returns-in_err-raised-clause-room : goal.returns-in_err-raised-clause-room
+returns-in_err-raised-clause-room c = λ gs s.
+    passed_on c.from_residual.result (fault.Full c.in_err-raised.field-0.0) _ c.from_residual.ensures.0 c.from_residual.ensures.1 (c.in_err-raised.ensures.room gs s)

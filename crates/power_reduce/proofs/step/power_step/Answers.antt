@@ -1,11 +1,24 @@
-use Rattle.std.proofs.Common.{refl, sym, ap, ◌∙◌, subst, ◌<◌, ◌^◌}
-use Rattle.std.specs.Prelude.{nat_abs}
+use Rattle.std.proofs.Common.{◌≡◌, ℤ, Bool, true, false, refl, sym, ap, ◌∙◌, subst, ◌<◌, ◌^◌, arith}
+use Rattle.calc_room.specs.Counts.{counted}
+use Rattle.calc_room.specs.Spans.{SpansTree}
+use Rattle.power_reduce.proofs.Counted.{if_step_counts}
+use Rattle.power_reduce.proofs.Exponents.{whole_no_half}
+use Rattle.calc_algebra.specs.Numbers.{is_number}
+use Rattle.power_reduce.specs.Bits.{IsNumberPower}
+use Rattle.reduce_port.specs.Steps.{IfDone}
+use Rattle.power_reduce.proofs.HeldPowers.{if_step_held, no_undef}
+use Rattle.power_reduce.proofs.WithinBits.{within_bits}
+use Rattle.power_reduce.proofs.Written.{whole_numbers}
+use Rattle.power_reduce.proofs.Spanned.{if_step_spans}
+use Rattle.power_reduce.proofs.Whole.{whole_is}
+use Rattle.tree_room.proofs.Counts.{counts_one}
+use Rattle.std.specs.Prelude.{nat_abs, IfOk}
 use Rattle.calc_terms.specs.Fractions.{whole_fraction}
-use Rattle.calc_algebra.specs.Reduced.{is_whole_num}
-use Rattle.calc_terms.specs.Trees.{num, is_undef}
+use Rattle.calc_algebra.specs.Reduced.{is_half_num, is_whole_num}
+use Rattle.calc_terms.specs.Trees.{Tree, num, is_undef}
 use Rattle.rational128.proofs.Signed.{told}
 use Rattle.tree_handles.specs.Handed.{tree_of}
-use Rattle.tree_handles.proofs.Given.{gives_as}
+use Rattle.tree_handles.proofs.Given.{gives_as, given_told}
 use Rattle.power_reduce.specs.PowerAnswers.{base_in, exponent_in}
 use Rattle.number_forms.proofs.Overflows.{refused_as}
 use Rattle.power_reduce.proofs.Cases.{HasUndef, undef_base, undef_exponent, undef_kept, undef_answer, defined_rationals}
@@ -55,3 +68,71 @@ returns-then-is_undefined-clause-rationals c = λ b e. defined_rationals (base_i
 
 pub returns-in-None-clause-overflow : goal.returns-in-None-clause-overflow
 returns-in-None-clause-overflow c = refused_as c.other_power.result c.other_power.ensures.overflow (λ o x. absurd x)
+
+-- ---- bytes at hand
+
+whole_exponent : (e : Tree) (z : ℤ) → e ≡ num (whole_fraction z) → is_whole_num e ≡ true
+whole_exponent e z h = ap is_whole_num h ∙ whole_is z
+
+contrary : {A : Type 0} (b : Bool) → b ≡ true → b ≡ false → A
+contrary b h k = absurd (cc (h, k))
+
+pub returns-in-Some-clause-room : goal.returns-in-Some-clause-room
+returns-in-Some-clause-room c = λ gs s w. c.whole_power.ensures.room gs s
+
+pub returns-in-None-clause-room : goal.returns-in-None-clause-room
+returns-in-None-clause-room c = λ gs s w. contrary (is_whole_num (exponent_in (tree_of c.args.power c.args.pool.now))) w (sym (ap is_whole_num c.exponent_id-exponent.ensures.tree) ∙ c.in-None.ensures.value)
+
+pub returns-in-Some-clause-root_room : goal.returns-in-Some-clause-root_room
+returns-in-Some-clause-root_room c = λ h.
+    let e : Tree = exponent_in (tree_of c.args.power c.args.pool.now) in
+    contrary (is_half_num e) h (whole_no_half e (whole_exponent e c.in-Some.n (sym c.exponent_id-exponent.ensures.tree ∙ c.in-Some.ensures.value)))
+
+pub returns-in-Some-clause-others : goal.returns-in-Some-clause-others
+returns-in-Some-clause-others c = λ w h.
+    let e : Tree = exponent_in (tree_of c.args.power c.args.pool.now) in
+    contrary (is_whole_num e) (whole_exponent e c.in-Some.n (sym c.exponent_id-exponent.ensures.tree ∙ c.in-Some.ensures.value)) w
+
+pub returns-in-None-clause-others : goal.returns-in-None-clause-others
+returns-in-None-clause-others c = λ w h. c.other_power.ensures.others h
+
+-- ---- what counts, and what spans
+
+pub returns-then-is_undefined-clause-counted : goal.returns-then-is_undefined-clause-counted
+returns-then-is_undefined-clause-counted c = omega (arith, ap counted (given_told c.undefined.ensures.gives), counts_one (tree_of c.args.power c.args.pool.now))
+
+pub returns-in-Some-clause-counted : goal.returns-in-Some-clause-counted
+returns-in-Some-clause-counted c = if_step_counts (tree_of c.args.power c.args.pool.now) _ c.whole_power.new.pool c.whole_power.result c.requires.power c.whole_power.ensures.ok
+
+pub returns-in-None-clause-counted : goal.returns-in-None-clause-counted
+returns-in-None-clause-counted c = if_step_counts (tree_of c.args.power c.args.pool.now) _ c.other_power.new.pool c.other_power.result c.requires.power c.other_power.ensures.ok
+
+pub returns-then-is_undefined-clause-spanned : goal.returns-then-is_undefined-clause-spanned
+returns-then-is_undefined-clause-spanned c = λ gs s h. subst (SpansTree gs) (sym (given_told c.undefined.ensures.gives)) tt
+
+pub returns-in-Some-clause-spanned : goal.returns-in-Some-clause-spanned
+returns-in-Some-clause-spanned c = λ gs s h. if_step_spans gs (tree_of c.args.power c.args.pool.now) _ c.whole_power.new.pool c.whole_power.result c.requires.power h c.whole_power.ensures.ok s
+
+pub returns-in-None-clause-spanned : goal.returns-in-None-clause-spanned
+returns-in-None-clause-spanned c = λ gs s h. if_step_spans gs (tree_of c.args.power c.args.pool.now) _ c.other_power.new.pool c.other_power.result c.requires.power h c.other_power.ensures.ok s
+
+-- ---- bits
+
+pub returns-then-is_undefined-clause-held : goal.returns-then-is_undefined-clause-held
+returns-then-is_undefined-clause-held c = λ n e u. no_undef _ (given_told c.undefined.ensures.gives) u
+
+pub returns-in-Some-clause-held : goal.returns-in-Some-clause-held
+returns-in-Some-clause-held c = λ n e.
+    let t : Tree = tree_of c.args.power c.args.pool.now in
+    let same = told c.in-Some.n c.in-Some.ensures.fits ∙ whole_numbers (sym (sym c.exponent_id-exponent.ensures.tree ∙ c.in-Some.ensures.value) ∙ e) in
+    if_step_held t _ c.whole_power.new.pool c.whole_power.result n e c.whole_power.ensures.ok
+    (subst (λ z. is_number (base_in t) ≡ true → IfOk c.whole_power.result (λ s. IfDone s (λ h. IsNumberPower z (base_in t) (tree_of h c.whole_power.new.pool)))) same c.whole_power.ensures.held)
+
+pub returns-in-None-clause-held : goal.returns-in-None-clause-held
+returns-in-None-clause-held c = λ n e. contrary (is_whole_num (exponent_in (tree_of c.args.power c.args.pool.now))) (whole_exponent (exponent_in (tree_of c.args.power c.args.pool.now)) n e) (sym (ap is_whole_num c.exponent_id-exponent.ensures.tree) ∙ c.in-None.ensures.value)
+
+pub returns-in-Some-clause-bits : goal.returns-in-Some-clause-bits
+returns-in-Some-clause-bits c = λ n e h l k few. within_bits (base_in (tree_of c.args.power c.args.pool.now)) (exponent_in (tree_of c.args.power c.args.pool.now)) n h l c.whole_power.result e k few c.whole_power.ensures.overflow
+
+pub returns-in-None-clause-bits : goal.returns-in-None-clause-bits
+returns-in-None-clause-bits c = λ n e h l k few. c.other_power.ensures.overflow

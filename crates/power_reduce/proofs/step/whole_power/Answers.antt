@@ -1,8 +1,13 @@
-use Rattle.std.proofs.Common.{sym, ap, ◌∙◌}
+use Rattle.std.proofs.Common.{sym, ap, ◌∙◌, subst}
+use Rattle.std.specs.Prelude.{IfOk}
+use Rattle.power_reduce.specs.Bits.{IsNumberPower}
+use Rattle.rational128.proofs.Signed.{told}
+use Rattle.reduce_port.specs.Steps.{IfDone}
 use Rattle.calc_terms.specs.Trees.{root_kind}
 use Rattle.tree_handles.specs.Handed.{tree_of}
 use Rattle.power_reduce.specs.PowerAnswers.{base_in, exponent_in}
 use Rattle.number_forms.proofs.Overflows.{passed_on}
+use Rattle.number_forms.proofs.Rooms.{full_as}
 use Rattle.power_reduce.proofs.Cases.{no_num_kind, number_kept, no_rational, rational_number, step_fault}
 use Rattle.calc_algebra.specs.Reduced.{is_whole_num}
 use Rattle.power_reduce.proofs.Whole.{whole_is}
@@ -34,3 +39,15 @@ returns-in_default-clause-rationals c = λ b e. no_rational _ b (no_num_kind (ba
 
 pub returns-in_err-answer-in-Num-clause-overflow : goal.returns-in_err-answer-in-Num-clause-overflow
 returns-in_err-answer-in-Num-clause-overflow c = passed_on c.from_residual.result c.in_err-answer-in-Num.field-0.0 _ c.from_residual.ensures.0 c.from_residual.ensures.1 c.in_err-answer-in-Num.ensures.overflow
+
+pub returns-in_err-answer-in-Num-clause-room : goal.returns-in_err-answer-in-Num-clause-room
+returns-in_err-answer-in-Num-clause-room c = λ gs s.
+    passed_on c.from_residual.result c.in_err-answer-in-Num.field-0.0 _ c.from_residual.ensures.0 c.from_residual.ensures.1 (full_as c.in_err-answer-in-Num.field-0.0 c.in_err-answer-in-Num.ensures.room (λ full x. absurd x))
+
+pub returns-in_default-clause-held : goal.returns-in_default-clause-held
+returns-in_default-clause-held c = λ m.
+    subst (λ z. IfOk c.whole_power_of_other.result (λ s. IfDone s (λ h. IsNumberPower z (base_in (tree_of c.args.power c.args.pool.now)) (tree_of h c.whole_power_of_other.new.pool)))) (told c.args.n c.requires.fits) (c.whole_power_of_other.ensures.held m)
+
+pub returns-in_ok-answer-in-Num-clause-held : goal.returns-in_ok-answer-in-Num-clause-held
+returns-in_ok-answer-in-Num-clause-held c = λ m.
+    subst (λ z. IsNumberPower z (base_in (tree_of c.args.power c.args.pool.now)) (tree_of c.in_ok-answer-in-Num.answer c.rational_power.new.pool)) (told c.args.n c.requires.fits) c.in_ok-answer-in-Num.ensures.held

@@ -1,8 +1,9 @@
-use Rattle.std.proofs.Common.{refl, sym, ap, ◌∙◌}
+use Rattle.std.proofs.Common.{◌≡◌, true, false, refl, sym, ap, ◌∙◌, subst}
+use Rattle.power_reduce.specs.Bits.{IsNumberPower}
 use Rattle.calc_terms.specs.Fractions.{whole_fraction}
 use Rattle.calc_algebra.specs.Numbers.{is_number}
 use Rattle.calc_algebra.specs.Reduced.{is_reduced, is_whole_num}
-use Rattle.calc_terms.specs.Trees.{num, is_num, is_root}
+use Rattle.calc_terms.specs.Trees.{Tree, num, is_root}
 use Rattle.coefficients.proofs.Steps.{one_value}
 use Rattle.tree_handles.specs.Handed.{tree_of}
 use Rattle.tree_handles.proofs.Given.{gives_as}
@@ -12,6 +13,8 @@ use Rattle.number_forms.proofs.Overflows.{passed_on, refused_as}
 use Rattle.power_reduce.proofs.Cases.{number_kept, zero_kept, one_kept, other_power, whole_goes_inside, no_number, even_bits, odd_bits, even_whole, odd_root_kept, again}
 use Rattle.power_reduce.proofs.NumberPowers.{zero_answer, one_answer}
 use Rattle.power_reduce.proofs.Powers.{one_room}
+use Rattle.power_reduce.proofs.Rooms.{number_lacks}
+use Rattle.power_reduce.proofs.Spanned.{base_spans}
 use Rattle.power_reduce.proofs.RationalPowers.{zero_bits, no_zero_bits}
 use Rattle.power_reduce.proofs.Whole.{one_bits, no_one_bits, whole_is}
 use Rattle.rational128.proofs.Signed.{told}
@@ -75,3 +78,30 @@ returns-in_err-answer-clause-overflow c = passed_on c.from_residual.result c.in_
 
 pub returns-clause-overflow : goal.returns-clause-overflow
 returns-clause-overflow c = refused_as c.power_inside.result c.power_inside.ensures.overflow (λ o x. absurd x)
+
+pub returns-in_err-answer-clause-room : goal.returns-in_err-answer-clause-room
+returns-in_err-answer-clause-room c = λ gs s.
+    let number = sym (ap is_number c.base_id-base.ensures.tree) ∙ sym c.is_reduced_number.ensures ∙ c.if-is_reduced_number.true in
+    passed_on c.from_residual.result c.in_err-answer.field-0.0 _ c.from_residual.ensures.0 c.from_residual.ensures.1
+    (number_lacks gs (tree_of c.args.power c.args.pool.now) _ c.in_err-answer.field-0.0 number (c.in_err-answer.ensures.room gs (base_spans gs (tree_of c.args.power c.args.pool.now) c.requires.sides.power s)))
+
+-- ---- what holds it
+
+no_number_base : {A : Type 0} (t b : Tree) → t ≡ b → is_number t ≡ false → is_number b ≡ true → A
+no_number_base t b e n m = absurd (cc (ap is_number e, n, m))
+
+pub returns-then-is_reduced_number-clause-held : goal.returns-then-is_reduced_number-clause-held
+returns-then-is_reduced_number-clause-held c = λ m.
+    subst (λ z. IsNumberPower z (base_in (tree_of c.args.power c.args.pool.now)) (tree_of c.in_ok-answer.answer c.irrational_power.new.pool)) (told c.args.n c.requires.fits) c.in_ok-answer.ensures.held
+
+pub returns-then-n-eq0-clause-held : goal.returns-then-n-eq0-clause-held
+returns-then-n-eq0-clause-held c = λ m. no_number_base _ _ c.base_id-base.ensures.tree (sym c.is_reduced_number.ensures ∙ c.if-is_reduced_number.false) m
+
+pub returns-then-n-eq1-clause-held : goal.returns-then-n-eq1-clause-held
+returns-then-n-eq1-clause-held c = λ m. no_number_base _ _ c.base_id-base.ensures.tree (sym c.is_reduced_number.ensures ∙ c.if-is_reduced_number.false) m
+
+pub returns-then-is_root-clause-held : goal.returns-then-is_root-clause-held
+returns-then-is_root-clause-held c = λ m. tt
+
+pub returns-clause-held : goal.returns-clause-held
+returns-clause-held c = λ m. no_number_base _ _ c.base_id-base.ensures.tree (sym c.is_reduced_number.ensures ∙ c.if-is_reduced_number.false) m

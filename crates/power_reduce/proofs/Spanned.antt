@@ -1,0 +1,217 @@
+-- What spans a power spans what a step makes of it, but for the power of a root.
+use Rattle.std.proofs.Common.{◌≡◌, ℕ, zero, suc, ◌≤◌, ℤ, pos, negsuc, List, [], ◌∷◌, length, Bool, true, false, ◌&&◌, ◌||◌, not, Some, None, Result, Ok, Err, inl, refl, sym, ap, ◌∙◌, subst, arith}
+use Rattle.std.specs.Prelude.{if◌then◌else◌, IfOk, ◌==◌, nat_le}
+use Rattle.std.proofs.lemmas.Bool.{and_parts, eqb-true, leb-true}
+use Rattle.calc_algebra.specs.Meanings.{Means}
+use Rattle.calc_algebra.specs.Numbers.{is_number, is_radicand, value, classes, IsNumber, Rises}
+use Rattle.calc_algebra.specs.Reduced.{is_half_num, is_num_one, is_opaque_exponent, split, split_product, num_one}
+use Rattle.calc_algebra.specs.Rewritings.{KeepsMeanings}
+use Rattle.calc_algebra.specs.SquareClasses.{Inverts}
+use Rattle.calc_algebra.specs.Surds.{Surd, surd_of, surd_power}
+use Rattle.calc_algebra.proofs.InverseLaws.{inverse_of_term, inverse_of_terms, term_has_inverse, terms_have_inverse}
+use Rattle.calc_algebra.proofs.MeaningLaws.{one_meaning}
+use Rattle.calc_algebra.proofs.NumberClasses.{AreProper, value_proper, value_rises}
+use Rattle.calc_algebra.proofs.NumberLaws.{number_words}
+use Rattle.calc_algebra.proofs.NumberRewrites.{fraction_whole}
+use Rattle.calc_algebra.proofs.NumberValues.{number_means}
+use Rattle.calc_algebra.proofs.SurdLaws.{Agree-Same}
+use Rattle.calc_algebra.proofs.TermLaws.{Same-refl}
+use Rattle.calc_room.specs.Spans.{Spans, SpansTree, SpansTrees}
+use Rattle.calc_room.proofs.NumberSpans.{power_spanned, spans_power, spans_same, tree_spanned, value_spanned}
+use Rattle.calc_terms.specs.Fractions.{Fraction, whole_fraction, is_zero_fraction, is_one_fraction}
+use Rattle.calc_terms.specs.Integers.{int_is_negative, int_is_zero}
+use Rattle.calc_terms.specs.Trees.{Tree, num, symbol, undef, add, mult, power, root, neg, sub, div, Trees, none, more, is_undef}
+use Rattle.calc_terms.proofs.FractionFacts.{whole_numerator, zero_is, one_is}
+use Rattle.node_pool.specs.State.{State}
+use Rattle.number_forms.specs.Readers.{is_zero}
+use Rattle.power_reduce.specs.PowerAnswers.{is_power, base_in, exponent_in, has_no_power, has_number_power, is_at_most_zero, IsWrittenPower, IsPowerAnswer, IsStep}
+use Rattle.power_reduce.specs.PowerSteps.{goes_inside, is_even_whole, is_zero_or_one, parts_of, raised, rewritten, rewritten_whole}
+use Rattle.power_reduce.proofs.Exponents.{as_whole}
+use Rattle.power_reduce.proofs.Powers.{power_is}
+use Rattle.reduce_port.specs.declared.step.Step.{Step}
+use Rattle.reduce_port.specs.declared.step.Step.TheVariants as step
+use Rattle.power_reduce.specs.Rooms.{SpansStep}
+use Rattle.tree_handles.specs.Forest.{Forest}
+use Rattle.tree_handles.specs.Handed.{tree_of}
+use Rattle.tree_handles.specs.declared.fault.NumberFault.{NumberFault}
+use Rattle.tree_handles.proofs.Given.{given_told}
+
+module _ (gs : List ℕ) where
+  -- ---- parts of a product
+
+  pub split_spans : (ts : Trees) → SpansTrees gs ts → SpansTree gs (split_product ts).coefficient × SpansTrees gs (split_product ts).factors
+  split_spans (more (num q) (more (root (num r)) ts)) (h, (k, hs)) = by (is_radicand r)
+    where
+      by : (b : Bool) → SpansTree gs (if b then split (mult (more (num q) (more (root (num r)) none))) ts else split (num q) (more (root (num r)) ts)).coefficient
+          × SpansTrees gs (if b then split (mult (more (num q) (more (root (num r)) none))) ts else split (num q) (more (root (num r)) ts)).factors
+      by true = ((tt, (h, (k, tt))), hs)
+      by false = (h, (k, hs))
+  split_spans (more (num q) ts) (h, hs) = (h, hs)
+  split_spans (more (root (num r)) ts) (h, hs) = by (is_radicand r)
+    where
+      by : (b : Bool) → SpansTree gs (if b then split (root (num r)) ts else split num_one (more (root (num r)) ts)).coefficient × SpansTrees gs (if b then split (root (num r)) ts else split num_one (more (root (num r)) ts)).factors
+      by true = (h, hs)
+      by false = (tt, (h, hs))
+  split_spans (more (add us) ts) (h, hs) = by (is_number (add us))
+    where
+      by : (b : Bool) → SpansTree gs (if b then split (add us) ts else split num_one (more (add us) ts)).coefficient × SpansTrees gs (if b then split (add us) ts else split num_one (more (add us) ts)).factors
+      by true = (h, hs)
+      by false = (tt, (h, hs))
+  split_spans ts h = (tt, h)
+
+  pub parts_span : (ts : Trees) → SpansTrees gs ts → SpansTrees gs (parts_of ts)
+  parts_span ts h = by (is_num_one (split_product ts).coefficient)
+    where
+      by : (b : Bool) → SpansTrees gs (if b then (split_product ts).factors else more (split_product ts).coefficient (split_product ts).factors)
+      by true = (split_spans ts h).1
+      by false = split_spans ts h
+
+  pub raised_span : (ts : Trees) (e : Tree) → SpansTrees gs ts → SpansTree gs e → SpansTrees gs (raised ts e)
+  raised_span none e h k = tt
+  raised_span (more t ts) e (h, hs) k = ((tt, h, k), raised_span ts e hs k)
+
+  pub base_spans : (t : Tree) → is_power t ≡ true → SpansTree gs t → SpansTree gs (base_in t)
+  base_spans (power b e) p (q, h, k) = h
+  base_spans t p s = absurd cc
+
+  -- ---- rewritings
+
+  tree_same : {t u : Tree} → SpansTree gs t → Some t ≡ Some u → SpansTree gs u
+  tree_same h e = subst (SpansTree gs) (cc e) h
+
+  no_tree : {u : Tree} {A : Type 0} → None ≡ Some u → A
+  no_tree e = absurd cc
+
+  if_tree : (c : Bool) (t u : Tree) → SpansTree gs t → (if c then Some t else None) ≡ Some u → SpansTree gs u
+  if_tree true t u h e = tree_same h e
+  if_tree false t u h e = no_tree e
+
+  whole_rewriting_spans : (b e u : Tree) → rewritten_whole b e ≡ Some u → SpansTree gs b → SpansTree gs e → SpansTree gs u
+  whole_rewriting_spans (root a) (num q) u r h k = if_tree (is_even_whole q && not (is_number (root a))) _ u (tt, h.1, tt) r
+  whole_rewriting_spans (power c f) e u r (p, h, g) k = if_tree (goes_inside e && not (is_opaque_exponent f)) _ u (tt, h, (tt, (g, (k, tt)))) r
+  whole_rewriting_spans (mult ts) e u r h k = if_tree (goes_inside e && not (is_number (mult ts))) _ u (tt, raised_span (parts_of ts) e (parts_span ts h.1) k) r
+  whole_rewriting_spans (root a) (symbol x) u r h k = no_tree r
+  whole_rewriting_spans (root a) undef u r h k = no_tree r
+  whole_rewriting_spans (root a) (add ts) u r h k = no_tree r
+  whole_rewriting_spans (root a) (mult ts) u r h k = no_tree r
+  whole_rewriting_spans (root a) (power b e) u r h k = no_tree r
+  whole_rewriting_spans (root a) (root b) u r h k = no_tree r
+  whole_rewriting_spans (root a) (neg b) u r h k = no_tree r
+  whole_rewriting_spans (root a) (sub b c) u r h k = no_tree r
+  whole_rewriting_spans (root a) (div b c) u r h k = no_tree r
+  whole_rewriting_spans (num q) e u r h k = no_tree r
+  whole_rewriting_spans (symbol x) e u r h k = no_tree r
+  whole_rewriting_spans undef e u r h k = no_tree r
+  whole_rewriting_spans (add ts) e u r h k = no_tree r
+  whole_rewriting_spans (neg b) e u r h k = no_tree r
+  whole_rewriting_spans (sub b c) e u r h k = no_tree r
+  whole_rewriting_spans (div b c) e u r h k = no_tree r
+
+  pub rewriting_spans : (b e u : Tree) → is_half_num e ≡ false → rewritten b e ≡ Some u → SpansTree gs (power b e) → SpansTree gs u
+  rewriting_spans b e u n r (p, h, k) = whole_rewriting_spans b e u (sym (as_whole b e n) ∙ r) h k
+
+  -- ---- powers of Numbers
+
+  -- a Number of one class or two has an inverse that is spanned
+  short_inverse : (w : Surd) → AreProper w → Rises w → 1 ≤ length w → length w ≤ 2 → Spans gs w → (y : Surd) × Inverts y w × Spans gs y
+  short_inverse [] p r l m s = absurd (omega arith)
+  short_inverse (t ∷ []) (p, ps) r l m (s, ss) = (inverse_of_term t.coefficient t.radicand, term_has_inverse t.coefficient t.radicand p.not_zero p.positive, (s, tt))
+  short_inverse (t ∷ u ∷ []) (p, (q, ps)) (r, rs) l m (s, (v, ss)) = (
+    inverse_of_terms t.coefficient t.radicand u.coefficient u.radicand,
+    terms_have_inverse t.coefficient u.coefficient t.radicand u.radicand p.not_zero p.positive q.positive r.1,
+    (s, (v, tt)),
+  )
+  short_inverse (t ∷ u ∷ x ∷ w) p r l m s = absurd (omega arith)
+
+  some_class : (b : Tree) → IsNumber b → is_zero b ≡ false → 1 ≤ length (value b)
+  some_class (num q) h z = rw z (omega arith)
+  some_class (add ts) h z = let l : 2 ≤ length (value (add ts)) = h.0 in omega arith
+  some_class (root a) h z = omega arith
+  some_class (mult ts) h z = omega arith
+  some_class b h z = absurd h
+
+  no_zero_exponent : is_zero_or_one (num (whole_fraction (pos 0))) ≡ false → ⊥
+  no_zero_exponent h = let k : is_zero_or_one (num (whole_fraction (pos 0))) ≡ true = rw (whole_numerator (pos 0)) refl in cc
+
+  -- the value of a Number for the power
+  means_power : (b t : Tree) (z : ℤ) → IsNumber b → IsNumber t → is_zero_or_one (num (whole_fraction z)) ≡ false → (int_is_negative z ≡ true → (is_zero b ≡ false) × (classes b ≤ 2))
+      → KeepsMeanings (power b (num (whole_fraction z))) t → SpansTree gs b → SpansTree gs t
+  means_power b t (pos zero) h k o m a s = absurd (no_zero_exponent o)
+  means_power b t (pos (suc n)) h k o m a s =
+      let v : Surd = surd_power (value b) (suc n) in
+      let w : Means t [] v = a.means [] tt v (value b, surd_of (whole_fraction (pos (suc n))), number_means b [] h, Same-refl _, inl (pos (suc n), Same-refl _, Same-refl v)) in
+      power_spanned gs b t (suc n) h k (Agree-Same (one_meaning [] tt t (value t) v (number_means t [] k) w)) s
+  means_power b t (negsuc n) h k o m a s =
+      let (z, c) = m refl in
+      let (y, i, p) = short_inverse (value b) (value_proper b h) (value_rises b h) (some_class b h z) c (value_spanned gs b h s) in
+      let v : Surd = surd_power y (suc n) in
+      let w : Means t [] v = a.means [] tt v (value b, surd_of (whole_fraction (negsuc n)), number_means b [] h, Same-refl _, inl (negsuc n, Same-refl _, (y, i, Same-refl v))) in
+      tree_spanned gs t k (spans_same gs t v k (Agree-Same (one_meaning [] tt t (value t) v (number_means t [] k) w)) (spans_power gs y (suc n) p))
+
+  narrow : (m l : Bool) → (not m || l) ≡ true → m ≡ true → l ≡ true
+  narrow true true h e = refl
+  narrow true false h e = cc
+  narrow false l h e = cc
+
+  last_false : (u v w : Bool) → (u || v || w) ≡ false → w ≡ false
+  last_false false false w h = h
+  last_false false true w h = cc
+  last_false true v w h = cc
+
+  first_false : (z a : Bool) → (z && a) ≡ false → a ≡ true → z ≡ false
+  first_false false a h e = refl
+  first_false true true h e = cc
+  first_false true false h e = cc
+
+  either : (a : Bool) → (a || true) ≡ true
+  either true = refl
+  either false = refl
+
+  below : (q : Fraction) → (q.den == 1) ≡ true → int_is_negative q.num ≡ true → is_at_most_zero (num q) ≡ true
+  below q w g = rw (w, g) (either (int_is_zero q.num))
+
+  number_power_spans : (b e t : Tree) → has_number_power b e ≡ true → has_no_power b e ≡ false → is_zero_or_one e ≡ false → is_number t ≡ true → KeepsMeanings (power b e) t → SpansTree gs b → SpansTree gs t
+  number_power_spans b (num q) t n d o k m s =
+      let (p, c) = and_parts _ _ n in
+      let (f, w) = and_parts _ _ p in
+      let e : q ≡ whole_fraction q.num = fraction_whole q (eqb-true q.den 1 w) in
+      let down : int_is_negative q.num ≡ true → (is_zero b ≡ false) × (classes b ≤ 2) = λ g. (
+        first_false (is_zero b) (is_at_most_zero (num q)) (last_false (is_undef b) false _ d) (below q w g),
+        leb-true (classes b) 2 (narrow (int_is_negative q.num) (nat_le (classes b) 2) c g),
+      ) in
+      means_power b t q.num (number_words b f) (number_words t k) (ap (λ (x : Fraction). is_zero_or_one (num x)) (sym e) ∙ o) down
+      (subst (λ (x : Fraction). KeepsMeanings (power b (num x)) t) e m) s
+  number_power_spans b e t n d o k m s = absurd cc
+
+  -- ---- answers
+
+  undef_spans : (t : Tree) → is_undef t ≡ true → SpansTree gs t
+  undef_spans undef h = tt
+  undef_spans t h = absurd cc
+
+  trivial_spans : (b e t : Tree) → is_zero_or_one e ≡ true → IsWrittenPower b e t → SpansTree gs b → SpansTree gs t
+  trivial_spans b (num q) t h w s = by (is_zero_fraction q) refl h
+    where
+      by : (z : Bool) → is_zero_fraction q ≡ z → (z || is_one_fraction q) ≡ true → SpansTree gs t
+      by true z k = subst (SpansTree gs) (sym (w.zero (ap num (zero_is q z)))) tt
+      by false z k = subst (SpansTree gs) (sym (w.one (ap num (one_is q k)))) s
+  trivial_spans b e t h w s = absurd cc
+
+  pub answer_spans : (b e t : Tree) → rewritten b e ≡ None → IsPowerAnswer b e t → SpansTree gs (power b e) → SpansTree gs t
+  answer_spans b e t r a (p, h, k) = by (has_no_power b e) (is_zero_or_one e) (has_number_power b e) refl refl refl
+    where
+      by : (d z n : Bool) → has_no_power b e ≡ d → is_zero_or_one e ≡ z → has_number_power b e ≡ n → SpansTree gs t
+      by true z n d o m = undef_spans t (a.undefined ∙ d)
+      by false true n d o m = trivial_spans b e t o (a.written d) h
+      by false false true d o m = number_power_spans b e t m d o (a.number m d) a.reduces.meanings h
+      by false false false d o m = subst (SpansTree gs) (sym ((a.written d).kept (record { other = o; no_number = m; not_rewritten = r }))) (p, h, k)
+
+  -- ---- steps
+
+  step_spans : (t : Tree) (others : Forest) (s : State) (x : Step) → is_power t ≡ true → is_half_num (exponent_in t) ≡ false → IsStep t others s x → SpansTree gs t → SpansStep gs s x
+  step_spans t others s (step.Done h) p n (r, g) k = answer_spans (base_in t) (exponent_in t) (tree_of h s) r (given_told g) (subst (SpansTree gs) (power_is t p) k)
+  step_spans t others s (step.Again h) p n g k = rewriting_spans (base_in t) (exponent_in t) (tree_of h s) n (given_told g).0 (subst (SpansTree gs) (power_is t p) k)
+
+  pub if_step_spans : (t : Tree) (others : Forest) (s : State) (r : Result Step NumberFault) → is_power t ≡ true → is_half_num (exponent_in t) ≡ false → IfOk r (IsStep t others s) → SpansTree gs t → IfOk r (SpansStep gs s)
+  if_step_spans t others s (Ok x) p n k h = step_spans t others s x p n k h
+  if_step_spans t others s (Err e) p n k h = tt
