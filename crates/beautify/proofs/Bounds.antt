@@ -8,7 +8,7 @@ use Rattle.calc_terms.specs.Short.{is_short}
 use Rattle.calc_terms.proofs.ShortForm.{short_whole}
 use Rattle.calc_terms.proofs.Sizes.{num_least, num_most, whole_size}
 use Rattle.calc_language.specs.Grammar.{SoFar, single, summed, multiplied, as_tree}
-use Rattle.calc_terms.specs.Trees.{Tree, num, symbol, undef, add, mult, power, root, neg, sub, div, Trees, none, more, count, size, sizes, whole_num, HasTwo, AllParts, AllPartsOf, root_size}
+use Rattle.calc_terms.specs.Trees.{Tree, num, symbol, undef, add, mult, power, root, Trees, none, more, count, size, sizes, whole_num, HasTwo, AllParts, AllPartsOf, root_size}
 use Rattle.tree_handles.specs.Expressions.{children_of}
 use Rattle.beautify.specs.Room.{node_room, number_room, fraction_room, product_room}
 use Rattle.beautify.proofs.Places.{fraction_room-small}
@@ -117,7 +117,6 @@ mutual
   bound (num q) h = number_face (is_short q) q refl
   bound (symbol x) h = omega arith
   bound undef h = absurd h
-  bound (add none) h = absurd (h.0)
   bound (add (more t ts)) h = omega (arith, size-minus (has_minus t) (unsigned_face t), bound t h.1.0, bound_terms (single (with_minus (has_minus t) (unsigned_face t))) ts h.1.1)
   bound (mult ts) h = bound_product ts h.0.0 (bound_factors ts h.0.1 h.1)
   bound (power b e) h = by (exponent_below e) refl (omega (arith, size-minus (has_minus b) (unsigned_face b), bound b h.1)) (omega (arith, size-minus (has_minus e) (unsigned_face e), bound e h.2)) (bound b h.1)
@@ -135,9 +134,7 @@ mutual
             one_bytes,
           )
   bound (root a) h = omega (arith, size-minus (has_minus a) (unsigned_face a), bound a h.1)
-  bound (neg a) h = absurd (h.0)
-  bound (sub a b) h = absurd (h.0)
-  bound (div a b) h = absurd (h.0)
+  bound t h = absurd (h.0)
 
   bound_terms : (s : SoFar) (ts : Trees) → AllPartsOf IsShowable ts → size (as_tree (next_terms s ts)) ≤ size (as_tree s) + 3 * sizes ts
   bound_terms s none h = omega arith
@@ -150,10 +147,8 @@ mutual
   adds : (t : Tree) → IsFactor t → AllParts IsShowable t → Adds t
   adds (num q) f h = adds_number q
   adds (symbol x) f h = record { above_below = λ us vs. omega arith }
-  adds undef f h = absurd f
   adds (add none) f h = absurd (h.0)
   adds (add (more t ts)) f h = record { above_below = λ us vs. omega (arith, size-minus (has_minus t) (unsigned_face t), bound t h.1.0, bound_terms (single (with_minus (has_minus t) (unsigned_face t))) ts h.1.1) }
-  adds (mult ts) f h = absurd f
   adds (power b e) f h = record { above_below = λ us vs. by us vs (exponent_below e) refl (omega (arith, size-minus (has_minus b) (unsigned_face b), bound b h.1)) (omega (arith, size-minus (has_minus e) (unsigned_face e), bound e h.2)) (bound b h.1) }
     where
       by : (us vs : Trees) (k : ℕ) → exponent_below e ≡ k → size (with_minus (has_minus b) (unsigned_face b)) ≤ 3 * size b → size (with_minus (has_minus e) (unsigned_face e)) ≤ 3 * size e → size (unsigned_face b) + 8 ≤ 3 * size b
@@ -162,9 +157,7 @@ mutual
       by us vs (suc k) is m n u =
           omega (arith, u, ap (λ (x : Bool). size (with_minus x (unsigned_face b))) (h.0 k is), size-power_below (with_minus (has_minus b) (unsigned_face b)) (suc k), size-exponent e k is)
   adds (root a) f h = record { above_below = λ us vs. omega (arith, size-minus (has_minus a) (unsigned_face a), bound a h.1) }
-  adds (neg a) f h = absurd f
-  adds (sub a b) f h = absurd f
-  adds (div a b) f h = absurd f
+  adds t f h = absurd f
 
 -- ---- what a stack holds
 
@@ -205,6 +198,4 @@ needs (power b e) h = by (exponent_below e) refl
     by zero is = omega (arith, eight_each (more b (more e none)))
     by (suc k) is = omega (arith, eight_each (more b (more e none)), size-exponent e k is)
 needs (root a) h = omega (arith, eight_each (more a none))
-needs (neg a) h = absurd (h.0)
-needs (sub a b) h = absurd (h.0)
-needs (div a b) h = absurd (h.0)
+needs t h = absurd (h.0)

@@ -85,7 +85,6 @@ mutual
   ready_face (num q) h = ready_fraction (unless_one (nat_abs q.num) none) (unless_one q.den none) (ready_unless_one (nat_abs q.num) none (tt, tt)) (ready_unless_one q.den none (tt, tt))
   ready_face (symbol x) h = (tt, h)
   ready_face undef h = absurd h
-  ready_face (add none) h = absurd (h.0)
   ready_face (add (more t ts)) h = ready_terms (single (face t)) (ready_minus (has_minus t) (unsigned_face t) (ready_face t h.1.0)) ts h.1.1
   ready_face (mult ts) h = ready_fraction (factors_above ts) (factors_below ts) (ready_above ts h.0 h.1) (ready_below ts h.0 h.1)
   ready_face (power b e) h = by (exponent_below e) (ready_minus (has_minus b) (unsigned_face b) (ready_face b h.1)) (ready_minus (has_minus e) (unsigned_face e) (ready_face e h.2))
@@ -94,9 +93,7 @@ mutual
       by zero m n = ((m.0, n.0), (m.1, n.1))
       by (suc p) m n = ready_fraction none (more (power_below (face b) (suc p)) none) (tt, tt) (ready_more (power_below (face b) (suc p)) none (ready_power_below (face b) (suc p) m) (tt, tt))
   ready_face (root a) h = ready_minus (has_minus a) (unsigned_face a) (ready_face a h.1)
-  ready_face (neg a) h = absurd (h.0)
-  ready_face (sub a b) h = absurd (h.0)
-  ready_face (div a b) h = absurd (h.0)
+  ready_face t h = absurd (h.0)
 
   ready_terms : (s : SoFar) → Ready (as_tree s) → (ts : Trees) → AllPartsOf IsFaceable ts → Ready (as_tree (next_terms s ts))
   ready_terms s k none h = k
@@ -115,7 +112,6 @@ mutual
   ready_factor_above (num q) g h rest r = ready_unless_one (nat_abs q.num) rest r
   ready_factor_above (symbol x) g h rest r = ready_more (symbol x) rest (tt, h) r
   ready_factor_above undef g h rest r = absurd h
-  ready_factor_above (add none) g h rest r = absurd (h.0)
   ready_factor_above (add (more t ts)) g h rest r =
       ready_more (face_of_sum (more t ts)) rest (ready_terms (single (face t)) (ready_minus (has_minus t) (unsigned_face t) (ready_face t h.1.0)) ts h.1.1) r
   ready_factor_above (mult ts) g h rest r = cc
@@ -125,9 +121,7 @@ mutual
       by zero m n = ready_more (power (face b) (face e)) rest ((m.0, n.0), (m.1, n.1)) r
       by (suc p) m n = r
   ready_factor_above (root a) g h rest r = ready_more (root (face a)) rest (ready_minus (has_minus a) (unsigned_face a) (ready_face a h.1)) r
-  ready_factor_above (neg a) g h rest r = absurd (h.0)
-  ready_factor_above (sub a b) g h rest r = absurd (h.0)
-  ready_factor_above (div a b) g h rest r = absurd (h.0)
+  ready_factor_above t g h rest r = absurd (h.0)
 
   ready_factor_below : (t : Tree) → is_mult t ≡ false → AllParts IsFaceable t → (rest : Trees) → AreReady rest → AreReady (factor_below t rest)
   ready_factor_below (num q) g h rest r = ready_unless_one q.den rest r
@@ -145,23 +139,20 @@ term_faceable (more (num q) (more (root (num r)) none)) h = (refl, (refl, tt))
 term_faceable _ h = absurd h
 
 faceable : (t : Tree) → HasForm t → IsNamed t → IsFaceable t
-faceable (num q) h n = tt
 faceable (symbol x) h n = n
 faceable undef (inl h) n = h
 faceable undef (inr h) n = h
 faceable (add none) (inl h) n = absurd (omega (arith, h.0))
 faceable (add none) (inr h) n = h.two
-faceable (add (more t ts)) h n = tt
 faceable (mult ts) (inl h) n = term_faceable ts h
 faceable (mult ts) (inr h) n = h.no_product
-faceable (power b e) h n = tt
-faceable (root a) h n = tt
 faceable (neg a) (inl h) n = h
 faceable (neg a) (inr h) n = h
 faceable (sub a b) (inl h) n = h
 faceable (sub a b) (inr h) n = h
 faceable (div a b) (inl h) n = h
 faceable (div a b) (inr h) n = h
+faceable t h n = tt
 
 pub face_reads : (t : Tree) → is_reduced t ≡ true → is_undef t ≡ false → HasNames t → Reads (text (face t)) (face t)
 face_reads t h u n = by (reduced_words t h)

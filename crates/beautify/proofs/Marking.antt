@@ -1,63 +1,19 @@
 -- Marks at nodes of a tree.
-use Rattle.std.proofs.Common.{◌≡◌, ℕ, zero, suc, ◌+◌, ◌<◌, add-one, List, [], ◌∷◌, ◌++◌, length, take, drop, refl, sym, ap, ◌∙◌, subst, append_assoc, arith, true, false}
+use Rattle.std.proofs.Common.{◌≡◌, ℕ, zero, suc, ◌+◌, ◌<◌, add-one, List, [], ◌∷◌, ◌++◌, length, drop, refl, sym, ap, ◌∙◌, subst, arith, true}
 use Rattle.std.proofs.lemmas.List.{append-nil}
 use Rattle.beautify.specs.Marks.{IsMark, IsChildMark}
 use Rattle.beautify.specs.declared.marks.Mark.{Mark}
-use Rattle.beautify.proofs.Suffixes.{IsBehind, split_at}
 use Rattle.calc_terms.specs.Node.{Node}
-use Rattle.node_pool.specs.Nodes.{has, first_of, place_of, used, AreDistinct}
-use Rattle.node_pool.specs.Places.{since}
-use Rattle.node_pool.specs.State.{State}
-use Rattle.node_pool.proofs.Cuts.{since-append}
-use Rattle.node_pool.proofs.Splits.{place_of-append}
-use Rattle.tree_handles.specs.Forest.{Forest, empty, tree, arity, first_trees, flatten, kids, nodes_in, node_of, root_id, tree_nth}
+use Rattle.node_pool.specs.Nodes.{first_of}
+use Rattle.tree_handles.specs.Forest.{Forest, empty, tree, arity, first_trees, flatten, kids, nodes_in, root_id, tree_nth}
 use Rattle.tree_handles.specs.Inside.{holds, tree_at, kids_of}
-use Rattle.tree_handles.specs.Standing.{Stands, forest}
-use Rattle.tree_handles.proofs.Distinct.{not_before}
 use Rattle.tree_handles.proofs.Forests.{nodes-flatten}
-use Rattle.tree_handles.proofs.Parts.{at, live_at, has_mid}
-
--- where a marked node stands
-pub record IsFound (m : Mark) (s : State) : Type 0 where
-  pub live : has m.node s.nodes ≡ true
-  pub behind : (place : ℕ) → place ≡ place_of m.node s.nodes → IsBehind place m.before (flatten (tree_at m.tree (forest s))) s.nodes
-
-regroup : (a x y b : List Node) (n : Node) → a ++ ((x ++ (n ∷ y)) ++ b) ≡ (a ++ x) ++ (n ∷ (y ++ b))
-regroup a x y b n = ap (λ (z : List Node). a ++ z) (append_assoc x (n ∷ y) b) ∙ sym (append_assoc a x (n ∷ (y ++ b)))
-
-pub found : (m : Mark) (s : State) → Stands s → holds m.tree (forest s) ≡ true → IsMark m (forest s) → IsFound m s
-found m s st h k =
-    let ns = flatten (tree_at m.tree (forest s)) in
-    let p = live_at m.tree s h in
-    let kids = kids_of m.tree (forest s) in
-    let few : m.before < length ns = omega (arith, k.within, nodes-flatten (tree_at m.tree (forest s))) in
-    let own : ns ≡ node_of p.label kids ∷ flatten kids = ap flatten p.tree-is ∙ ap (λ (z : List Node). node_of p.label kids ∷ z) (append-nil (flatten kids)) in
-    let cut = split_at m.before ns few in
-    let x = first_of (drop m.before ns) in
-    let a = p.before ++ take m.before ns in
-    let b = drop (suc m.before) ns ++ p.after in
-    let whole : s.nodes ≡ p.before ++ (ns ++ p.after) = st.flat ∙ p.flat ∙ ap (λ (z : List Node). p.before ++ (z ++ p.after)) (sym own) in
-    let split : s.nodes ≡ a ++ (x ∷ b) = whole ∙ ap (λ (z : List Node). p.before ++ (z ++ p.after)) (sym cut.0) ∙ regroup p.before (take m.before ns) (drop (suc m.before) ns) p.after x in
-    let clear : has x.id a ≡ false = not_before a x b (subst AreDistinct split st.pool.distinct) in
-    record {
-      live = ap (λ (i : ℕ). has i s.nodes) k.node-is ∙ ap (has x.id) split ∙ has_mid x.id a x b refl;
-      behind = λ place e.
-          let here : place ≡ used a = e ∙ ap (λ (i : ℕ). place_of i s.nodes) k.node-is ∙ ap (place_of x.id) split ∙ place_of-append x.id a x b clear refl in
-          record {
-            others = p.after;
-            nodes = ap (λ (i : ℕ). since i s.nodes) here ∙ ap (since (used a)) split ∙ since-append a (x ∷ b) ∙ ap (λ (z : List Node). z ++ p.after) (sym cut.1);
-          };
-    }
+use Rattle.tree_handles.proofs.Parts.{at}
+use Rattle.tree_walks.proofs.Orders.{root_at}
 
 -- a tree's root is marked
 pub at_root : (m : Mark) (i : ℕ) (f : Forest) → m.tree ≡ i → m.node ≡ i → m.before ≡ 0 → holds i f ≡ true → IsMark m f
-at_root m i f tree-same node before h =
-    let p = at i f h in
-    let t = ap (λ (j : ℕ). tree_at j f) tree-same ∙ p.tree-is in
-    record {
-      within = omega (arith, before, ap nodes_in t);
-      node-is = node ∙ sym p.id-is ∙ sym (ap (λ (g : Forest). (first_of (drop 0 (flatten g))).id) t) ∙ ap (λ (n : ℕ). (first_of (drop n (flatten (tree_at m.tree f)))).id) (sym before);
-    }
+at_root m i f tree-same node before h = rw (tree-same, node, before) (root_at i f h)
 
 -- a mark stays one where its tree stays
 pub same_tree : (j i : ℕ) (f g : Forest) → j ≡ i → tree_at i f ≡ tree_at i g → tree_at j f ≡ tree_at j g
@@ -66,7 +22,7 @@ same_tree j i f g e t = ap (λ (k : ℕ). tree_at k f) e ∙ t ∙ ap (λ (k : �
 pub still_marked : (m : Mark) (f g : Forest) → tree_at m.tree f ≡ tree_at m.tree g → IsMark m f → IsMark m g
 still_marked m f g e h = record {
   within = omega (arith, h.within, ap nodes_in e);
-  node-is = h.node-is ∙ ap (λ (t : Forest). (first_of (drop m.before (flatten t))).id) e;
+  id-is = h.id-is ∙ ap (λ (t : Forest). (first_of (drop m.before (flatten t))).id) e;
 }
 
 -- ---- children
@@ -107,7 +63,7 @@ child_marked n m f h w c =
     ap (λ (g : Forest). drop m.before (flatten g)) t ∙ ap (λ (j : ℕ). drop j (flatten (tree p.label k empty))) before ∙ ap (drop (nodes_in (first_trees n k))) (append-nil (flatten k)) in
     record {
       within = omega (arith, before, x.1, ap nodes_in t);
-      node-is = c.node-is ∙ sym x.0 ∙ ap (λ (z : List Node). (first_of z).id) (sym nodes);
+      id-is = c.node-is ∙ sym x.0 ∙ ap (λ (z : List Node). (first_of z).id) (sym nodes);
     }
 
 -- the mark behind a child is that of the next

@@ -1,10 +1,7 @@
 -- The rationals of a tree, node by node.
-use Rattle.std.proofs.Common.{◌≡◌, ℕ, zero, suc, ◌+◌, ◌<◌, ◌≤◌, List, [], ◌∷◌, ◌++◌, length, drop, ℤ, Bool, true, false, not, ◌&&◌, ◌==◌, refl, sym, ap, ◌∙◌, add-one, arith}
+use Rattle.std.proofs.Common.{◌≡◌, ℕ, List, [], ◌∷◌, ◌++◌, ℤ, Bool, true, false, not, ◌&&◌, ◌==◌, refl, sym, ap, ◌∙◌, arith}
 use Rattle.std.proofs.lemmas.Bool.{eqb-true, eq-eqb}
 use Rattle.beautify.specs.OwnFaces.{is_natural, has_natural_numbers, holds_natural}
-use Rattle.beautify.specs.declared.marks.Mark.{Mark}
-use Rattle.beautify.proofs.Marking.{found, at_root}
-use Rattle.beautify.proofs.Suffixes.{IsBehind, node_seen, split_at}
 use Rattle.calc_algebra.specs.Reduced.{all_parts, all_parts_of}
 use Rattle.calc_terms.specs.Node.{Node}
 use Rattle.calc_terms.specs.Integers.{int_is_negative}
@@ -12,16 +9,16 @@ use Rattle.calc_terms.specs.Payload.{Payload, rational, named, bare, kind_of_pay
 use Rattle.calc_terms.specs.Trees.{Trees, none, more, count}
 use Rattle.calc_terms.specs.declared.kind.Kind.{Kind}
 use Rattle.calc_terms.specs.declared.kind.Kind.TheVariants as kind
-use Rattle.node_pool.specs.Nodes.{first_of, place_of}
-use Rattle.node_pool.specs.Places.{since}
-use Rattle.node_pool.specs.State.{State}
+use Rattle.tree_handles.specs.declared.visits.Visit.{Visit}
+use Rattle.tree_handles.specs.Visits.{visits_of, visit_at, AreFound}
+use Rattle.tree_handles.proofs.Forests.{flatten-join}
+use Rattle.tree_handles.proofs.Visiting.{seen, found-join, visit_here, visits_left, no_visit}
 use Rattle.tree_handles.proofs.Measures.{one_at}
 use Rattle.tree_handles.proofs.Outcomes.{by_test}
 use Rattle.tree_handles.proofs.Plains.{alone, count-plains}
 use Rattle.tree_handles.specs.Expressions.{nth, grown, compound, plains, plain, takes, takes_kind, AllExpressions, IsExpression}
-use Rattle.tree_handles.specs.Forest.{Forest, empty, tree, flatten}
-use Rattle.tree_handles.specs.Inside.{holds, tree_at}
-use Rattle.tree_handles.specs.Standing.{Stands, forest}
+use Rattle.tree_handles.specs.Forest.{Forest, empty, tree, join, flatten, root_payload}
+use Rattle.tree_handles.specs.Inside.{holds, payload_in, tree_at}
 
 -- the same of a list of nodes
 abbrev pub hold_naturals : List Node → Bool
@@ -87,23 +84,41 @@ tree_natural i f e =
     let t = tree_at i f in
     sym (and_true (all_parts is_natural (plain t))) ∙ ap (all_parts_of is_natural) (sym (alone t (one_at i f e.live))) ∙ sym (forest_natural t e.whole)
 
--- ---- from a node's place on
+-- ---- a walk over the nodes
 
-pub root_behind : (i place : ℕ) (s : State) → Stands s → holds i (forest s) ≡ true → place ≡ place_of i s.nodes → IsBehind place 0 (flatten (tree_at i (forest s))) s.nodes
-root_behind i place s st h e =
-    let m : Mark = record { tree = i; node = i; before = 0 } in
-    (found m s st h (at_root m i (forest s) refl refl refl h)).behind place e
+-- the trees that are still to be read decide as all do
+pub record IsReading (left : List Visit) (total : Bool) (base : Forest) : Type 0 where
+  pub trees : Forest
+  pub left-are : left ≡ visits_of trees
+  pub found : AreFound base trees
+  pub same : total ≡ hold_naturals (flatten trees)
 
-pub natural_next : (at n : ℕ) (ns all : List Node) → IsBehind at n ns all → n < length ns → hold_naturals (drop n ns) ≡ (holds_natural (first_of (since at all)).payload && hold_naturals (drop (n + 1) ns))
-natural_next at n ns all h w =
-    ap hold_naturals (split_at n ns w).1 ∙ ap (λ (m : Node). holds_natural m.payload && hold_naturals (drop (suc n) ns)) (sym (node_seen at n ns all h w))
-    ∙ ap (λ (k : ℕ). holds_natural (first_of (since at all)).payload && hold_naturals (drop k ns)) (sym (add-one n))
+-- the next node
+pub record IsRead (v : Visit) (left : List Visit) (total : Bool) (base : Forest) : Type 0 where
+  pub live : holds v.id base ≡ true
+  pub visit-is : v ≡ visit_at v.id base
+  pub here : holds_natural (payload_in v.id base) ≡ false → total ≡ false
+  pub more : holds_natural (payload_in v.id base) ≡ true → IsReading left total base
 
-pub natural_end : (n : ℕ) (ns : List Node) → length ns ≤ n → hold_naturals (drop n ns) ≡ true
-natural_end zero [] h = refl
-natural_end zero (m ∷ ns) h = absurd (omega arith)
-natural_end (suc n) [] h = refl
-natural_end (suc n) (m ∷ ns) h = natural_end n ns (omega arith)
+pub read : {v : Visit} {xs left : List Visit} {total : Bool} {base : Forest} → IsReading xs total base → xs ≡ v ∷ left → IsRead v left total base
+read {v = v} {left = left} {total = total} {base = base} w e = by w.trees (sym w.left-are ∙ e) w.found w.same
+  where
+    by : (f : Forest) → visits_of f ≡ v ∷ left → AreFound base f → total ≡ hold_naturals (flatten f) → IsRead v left total base
+    by empty q h s = absurd cc
+    by (tree l k r) q h s =
+        let y = seen l k r h (visit_here l k r q) in
+        let next : (b : Bool) → holds_natural (payload_in v.id base) ≡ b → total ≡ (b && hold_naturals (flatten (join k r))) =
+        λ b t. s ∙ ap (λ (z : Bool). z && hold_naturals (flatten k ++ flatten r)) (sym (ap (λ (g : Forest). holds_natural (root_payload g)) y.tree-is) ∙ t) ∙ ap (λ (z : List Node). b && hold_naturals z) (sym (flatten-join k r)) in
+        record {
+          live = y.live;
+          visit-is = y.visit-is;
+          here = λ t. next false t;
+          more = λ t. record { trees = join k r; left-are = visits_left l k r q; found = found-join base k r h.1 h.2; same = next true t };
+        }
+
+-- where none is left, all are natural
+pub read_all : {xs : List Visit} {total : Bool} {base : Forest} → IsReading xs total base → xs ≡ [] → total ≡ true
+read_all w e = w.same ∙ ap (λ (f : Forest). hold_naturals (flatten f)) (no_visit w.trees (sym w.left-are ∙ e))
 
 -- ---- one rational
 

@@ -1,7 +1,7 @@
 -- What a node is, by the kind of its root.
 use Rattle.std.proofs.Common.{◌≡◌, ◌≤◌, refl, sym, ap, subst, arith, true}
 use Rattle.calc_language.specs.Faces.{unsigned_face, has_minus, with_minus}
-use Rattle.calc_terms.specs.Trees.{Tree, num, symbol, undef, add, mult, power, root, neg, sub, div, Trees, none, more, count, root_kind, is_add, is_mult}
+use Rattle.calc_terms.specs.Trees.{Tree, num, symbol, undef, add, mult, power, root, neg, Trees, none, more, count, root_kind, is_add, is_mult}
 use Rattle.calc_terms.specs.declared.kind.Kind.{Kind}
 use Rattle.calc_terms.specs.declared.kind.Kind.TheVariants as kind
 use Rattle.tree_handles.specs.Expressions.{nth, children_of}
@@ -52,10 +52,7 @@ no_other (add ts) s a b c d e f = c refl
 no_other (mult ts) s a b c d e f = d refl
 no_other (power x y) s a b c d e f = e refl
 no_other (root x) s a b c d e f = f refl
-no_other undef s a b c d e f = s
-no_other (neg x) s a b c d e f = s
-no_other (sub x y) s a b c d e f = s
-no_other (div x y) s a b c d e f = s
+no_other t s a b c d e f = s
 
 -- the same tree
 pub shown_as : (t u : Tree) (ts : Trees) → t ≡ u → more (unsigned_face u) (behind (count (children_of u)) ts) ≡ more (unsigned_face t) (behind (count (children_of t)) ts)

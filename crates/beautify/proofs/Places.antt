@@ -53,18 +53,6 @@ pub product_room-small : (n : ℕ) → product_room n ≤ 16
 product_room-small zero = omega (arith, whole_size 1 (omega arith))
 product_room-small (suc n) = omega arith
 
-pub product_room-some : (n : ℕ) → 1 ≤ n → product_room n ≡ 8
-product_room-some zero h = absurd (omega arith)
-product_room-some (suc n) h = refl
-
-pub fraction_room-none : (a b : ℕ) → b ≡ 0 → fraction_room a b ≡ product_room a
-fraction_room-none a zero h = refl
-fraction_room-none a (suc b) h = absurd (omega arith)
-
-pub fraction_room-some : (a b : ℕ) → 1 ≤ b → fraction_room a b ≡ 16 + product_room a
-fraction_room-some a zero h = absurd (omega arith)
-fraction_room-some a (suc b) h = refl
-
 pub fraction_room-small : (a b : ℕ) → fraction_room a b ≤ 32
 fraction_room-small a zero = omega (arith, product_room-small a)
 fraction_room-small a (suc b) = omega (arith, product_room-small a)

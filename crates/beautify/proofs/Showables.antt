@@ -33,25 +33,15 @@ pub first_part : (t : Tree) → AllParts HasForm t → HasForm t
 first_part (num q) h = h
 first_part (symbol x) h = h
 first_part undef h = h
-first_part (add ts) h = h.0
-first_part (mult ts) h = h.0
-first_part (power b e) h = h.0
-first_part (root a) h = h.0
-first_part (neg a) h = h.0
-first_part (sub a b) h = h.0
-first_part (div a b) h = h.0
+first_part t h = h.0
 
 factor : (t : Tree) → IsFormed t → is_mult t ≡ false → IsFactor t
-factor (num q) f h = tt
-factor (symbol x) f h = tt
 factor undef f h = absurd f
-factor (add ts) f h = tt
 factor (mult ts) f h = absurd cc
-factor (power b e) f h = tt
-factor (root a) f h = tt
 factor (neg a) f h = absurd f
 factor (sub a b) f h = absurd f
 factor (div a b) f h = absurd f
+factor t f h = tt
 
 factors : (ts : Trees) → AllPartsOf HasForm ts → NoneIs is_mult ts → AreFactors ts
 factors none h n = tt

@@ -1,14 +1,12 @@
 -- Signs and exponents of trees.
-use Rattle.std.proofs.Common.{◌≡◌, ℕ, zero, suc, refl, ap, arith, Bool, true, false}
+use Rattle.std.proofs.Common.{◌≡◌, ℕ, zero, suc, refl, ap, arith, true, false}
 use Rattle.std.specs.Prelude.{ℤ, pos, negsuc, nat_abs}
 use Rattle.std.proofs.lemmas.Bool.{le-ltb}
 use lib.Signed.{lt_z}
-use Rattle.calc_language.specs.Faces.{has_minus, exponent_below, below_zero}
+use Rattle.calc_language.specs.Faces.{below_zero}
 use Rattle.calc_terms.specs.Integers.{int_is_negative}
-use Rattle.calc_terms.specs.Trees.{Tree, num, symbol, undef, add, mult, power, root, neg, sub, div, none, more, count, root_kind}
-use Rattle.calc_terms.specs.declared.kind.Kind.{Kind}
+use Rattle.calc_terms.specs.Trees.{Tree, num, root_kind}
 use Rattle.calc_terms.specs.declared.kind.Kind.TheVariants as kind
-use Rattle.tree_handles.specs.Expressions.{nth, children_of}
 use Rattle.beautify.specs.Showing.{is_negative_num}
 
 pub lt_z-zero : (p : ℤ) → lt_z p (pos 0) ≡ int_is_negative p
@@ -33,32 +31,3 @@ below_zero-whole (negsuc n) d h e = ap (below_zero (negsuc n)) e
 pub no_number : (t : Tree) → (root_kind t ≡ kind.Num → ⊥) → is_negative_num t ≡ false
 no_number (num q) h = absurd (h refl)
 no_number _ h = refl
-
-pub no_exponent : (t : Tree) → (root_kind t ≡ kind.Num → ⊥) → exponent_below t ≡ 0
-no_exponent (num q) h = absurd (h refl)
-no_exponent _ h = refl
-
-abbrev is_mult_kind : Kind → Bool
-is_mult_kind kind.Mult = true
-is_mult_kind k = false
-
--- the sign of a product is that of its first factor
-pub product_sign : (t : Tree) → root_kind t ≡ kind.Mult → has_minus t ≡ is_negative_num (nth 0 (children_of t))
-product_sign (mult none) h = refl
-product_sign (mult (more (num q) ts)) h = refl
-product_sign (mult (more (symbol x) ts)) h = refl
-product_sign (mult (more undef ts)) h = refl
-product_sign (mult (more (add us) ts)) h = refl
-product_sign (mult (more (mult us) ts)) h = refl
-product_sign (mult (more (power b e) ts)) h = refl
-product_sign (mult (more (root a) ts)) h = refl
-product_sign (mult (more (neg a) ts)) h = refl
-product_sign (mult (more (sub a b) ts)) h = refl
-product_sign (mult (more (div a b) ts)) h = refl
-product_sign _ h = absurd (cc (ap is_mult_kind h))
-
-pub other_sign : (t : Tree) → (root_kind t ≡ kind.Mult → 0 ≡ count (children_of t)) → has_minus t ≡ is_negative_num t
-other_sign (mult none) h = refl
-other_sign (mult (more t ts)) h = absurd (omega (arith, h refl))
-other_sign (num q) h = refl
-other_sign _ h = refl

@@ -1,7 +1,7 @@
 -- Bytes of the trees of a stack, before a change and after it.
 use Rattle.std.proofs.Common.{◌≡◌, ℕ, zero, suc, ◌+◌, ◌*◌, ◌<◌, ◌≤◌, ap, ◌∙◌, arith, true}
 use Rattle.std.proofs.lemmas.Bool.{eqb-true}
-use Rattle.calc_terms.specs.Trees.{Tree, num, symbol, undef, add, mult, power, root, neg, sub, div, Trees, none, more, append, count, size, sizes, is_add, is_div}
+use Rattle.calc_terms.specs.Trees.{Tree, num, add, div, Trees, none, more, append, count, size, sizes, is_add, is_div}
 use Rattle.calc_terms.specs.declared.kind.Kind.{Kind}
 use Rattle.calc_terms.specs.declared.kind.Kind.TheVariants as kind
 use Rattle.calc_terms.proofs.Sizes.{num_least}
@@ -102,15 +102,7 @@ sizes-divisor at to ts h w =
 
 pub some_size : (t : Tree) → 8 ≤ size t
 some_size (num q) = omega (arith, num_least q)
-some_size (symbol x) = omega arith
-some_size undef = omega arith
-some_size (add ts) = omega arith
-some_size (mult ts) = omega arith
-some_size (power b e) = omega arith
-some_size (root a) = omega arith
-some_size (neg a) = omega arith
-some_size (sub a b) = omega arith
-some_size (div a b) = omega arith
+some_size t = omega arith
 
 pub eight_each : (ts : Trees) → 8 * count ts ≤ sizes ts
 eight_each none = omega arith

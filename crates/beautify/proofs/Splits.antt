@@ -4,7 +4,7 @@ use Rattle.std.specs.Prelude.{ℤ, pos, negsuc}
 use Rattle.std.proofs.lemmas.Bool.{ltb-true, ltb-false, eqb-true, ne_eqb}
 use Rattle.calc_language.specs.Faces.{fraction_of, product_of, power_below, unsigned_face, unless_one, exponent_below, below_zero, has_minus, with_minus, factor_above, factor_below}
 use Rattle.calc_terms.specs.Fractions.{Fraction}
-use Rattle.calc_terms.specs.Trees.{Tree, num, symbol, undef, add, mult, power, root, neg, sub, div, Trees, none, more, append, count, size, sizes, is_div, whole_num, root_kind}
+use Rattle.calc_terms.specs.Trees.{Tree, num, symbol, add, power, root, Trees, none, more, append, count, is_div, whole_num, root_kind}
 use Rattle.calc_terms.specs.declared.kind.Kind.TheVariants as kind
 use Rattle.tree_handles.specs.Expressions.{nth, inserted, children_of}
 use Rattle.beautify.specs.Lists.{first, behind, cut}
@@ -148,11 +148,7 @@ above_factor (symbol x) f n h = record { above = λ us. refl; below = λ us. ref
 above_factor (add ts) f n h = record { above = λ us. refl; below = λ us. refl }
 above_factor (power b e) f n h = power_is_above b e (omega (arith, ltb-false 0 (exponent_below e) h))
 above_factor (root a) f n h = record { above = λ us. refl; below = λ us. refl }
-above_factor undef f n h = absurd f
-above_factor (mult ts) f n h = absurd f
-above_factor (neg a) f n h = absurd f
-above_factor (sub a b) f n h = absurd f
-above_factor (div a b) f n h = absurd f
+above_factor t f n h = absurd f
 
 pub unless_one-append : (n : ℕ) (us : Trees) → unless_one n us ≡ append (unless_one n none) us
 unless_one-append n us = by (n == 1)
@@ -167,16 +163,6 @@ unless_one-few n = by (n == 1)
     by : (b : Bool) → count (if b then none else more (whole_num n) none) ≤ 1
     by true = omega arith
     by false = omega arith
-
--- a number's face is as large as its parts
-pub number_size : (n d : ℕ) → sizes (unless_one n none) + sizes (unless_one d none) ≤ size (fraction_of (unless_one n none) (unless_one d none))
-number_size n d = by (n == 1) (d == 1)
-  where
-    by : (a b : Bool) → sizes (if a then none else more (whole_num n) none) + sizes (if b then none else more (whole_num d) none) ≤ size (fraction_of (if a then none else more (whole_num n) none) (if b then none else more (whole_num d) none))
-    by true true = omega arith
-    by true false = omega arith
-    by false true = omega arith
-    by false false = omega arith
 
 -- ---- a factor among the others
 

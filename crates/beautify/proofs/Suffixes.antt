@@ -1,10 +1,10 @@
 -- The nodes of a tree from the last to the first.
-use Rattle.std.proofs.Common.{◌≡◌, ℕ, zero, suc, ◌+◌, ◌*◌, ◌<◌, ◌≤◌, List, [], ◌∷◌, ◌++◌, length, take, drop, refl, sym, ap, ◌∙◌, subst, arith, true, false, add-one}
+use Rattle.std.proofs.Common.{◌≡◌, ℕ, zero, suc, ◌+◌, ◌*◌, ◌<◌, ◌≤◌, List, [], ◌∷◌, ◌++◌, length, take, drop, refl, sym, ap, ◌∙◌, subst, arith, true, false}
 use Rattle.calc_language.specs.Faces.{unsigned_face}
 use Rattle.calc_terms.specs.Node.{Node}
-use Rattle.calc_terms.specs.Trees.{Tree, num, symbol, undef, add, mult, power, root, neg, sub, div, Trees, none, more, append, count, size, sizes, root_size, AllParts, AllPartsOf}
-use Rattle.node_pool.specs.Nodes.{has, first_of, place_of, used, AreDistinct}
-use Rattle.node_pool.specs.Places.{since, IsBoundary}
+use Rattle.calc_terms.specs.Trees.{Tree, num, symbol, undef, add, mult, power, root, Trees, none, more, append, count, size, sizes, root_size, AllParts, AllPartsOf}
+use Rattle.node_pool.specs.Nodes.{has, first_of, place_of, AreDistinct}
+use Rattle.node_pool.specs.Places.{since}
 use Rattle.node_pool.proofs.Cuts.{since-append}
 use Rattle.node_pool.proofs.Splits.{place_of-append}
 use Rattle.tree_handles.specs.Expressions.{plain, plains, grown, children_of, IsExpression, AllExpressions, IsWhole}
@@ -12,7 +12,7 @@ use Rattle.tree_handles.specs.Forest.{Label, Forest, empty, tree, join, arity, f
 use Rattle.tree_handles.specs.Inside.{holds, tree_at, kids_of}
 use Rattle.tree_handles.proofs.Distinct.{Distinct, distinct-tree_at, tree_at-inside, holds-tree_at, not_before}
 use Rattle.tree_handles.proofs.Forests.{forest_of-flatten, forest_of_whole, has-flatten, first_trees-join, rest_trees-join, all-join}
-use Rattle.tree_handles.proofs.Parts.{at, has_mid, is_before}
+use Rattle.tree_handles.proofs.Parts.{at, has_mid}
 use Rattle.tree_handles.proofs.Plains.{plains-join, grown_whole, alone}
 use Rattle.beautify.specs.Lists.{behind}
 use Rattle.beautify.specs.Showing.{unsigned_faces, IsShowable, HoldsFaces}
@@ -22,6 +22,7 @@ use Rattle.tree_handles.proofs.Measures.{one_at}
 use Rattle.beautify.proofs.Bounds.{bounds, needs}
 use Rattle.beautify.specs.Room.{node_room}
 use Rattle.beautify.proofs.Trees.{behind-append, count-append}
+use Rattle.tree_walks.proofs.Orders.{split_at, tail_of}
 
 -- ---- one node of a list by its identifier
 
@@ -30,12 +31,6 @@ same_split i a b c d n m e p q h k =
     let left : since (place_of i (a ++ (n ∷ b))) (a ++ (n ∷ b)) ≡ n ∷ b = ap (λ (x : ℕ). since x (a ++ (n ∷ b))) (place_of-append i a n b h p) ∙ since-append a (n ∷ b) in
     let right : since (place_of i (c ++ (m ∷ d))) (c ++ (m ∷ d)) ≡ m ∷ d = ap (λ (x : ℕ). since x (c ++ (m ∷ d))) (place_of-append i c m d k q) ∙ since-append c (m ∷ d) in
     sym left ∙ ap (λ (x : List Node). since (place_of i x) x) e ∙ right
-
-tail_of : {n m : Node} {b d : List Node} → n ∷ b ≡ m ∷ d → b ≡ d
-tail_of e = ap (drop 1) e
-
-head_of : {n m : Node} {b d : List Node} → n ∷ b ≡ m ∷ d → n ≡ m
-head_of e = ap first_of e
 
 -- a node of a tree and what follows it
 pub record IsNext (f : Forest) (n : ℕ) : Type 0 where
@@ -46,11 +41,6 @@ pub record IsNext (f : Forest) (n : ℕ) : Type 0 where
   pub tree-is : tree_at (first_of (drop n (flatten f))).id f ≡ tree label below empty
   pub here : forest_of (drop n (flatten f)) ≡ tree label below others
   pub next : forest_of (drop (suc n) (flatten f)) ≡ join below others
-
-pub split_at : (n : ℕ) (ns : List Node) → n < length ns → (take n ns ++ (first_of (drop n ns) ∷ drop (suc n) ns) ≡ ns) × (drop n ns ≡ first_of (drop n ns) ∷ drop (suc n) ns)
-split_at n [] h = absurd (omega (arith, h))
-split_at zero (m ∷ ns) h = (refl, refl)
-split_at (suc n) (m ∷ ns) h = let r = split_at n ns (omega (arith, h)) in (ap (λ (x : List Node). m ∷ x) (r.0), r.1)
 
 pub next_node : (f : Forest) (n : ℕ) → Distinct f → n < length (flatten f) → IsNext f n
 unfolding forest_of
@@ -76,12 +66,6 @@ next_node f n d h =
       next = rest;
     }
 
--- ---- a place in the pool behind n nodes of a list
-
-pub record IsBehind (at n : ℕ) (ns all : List Node) : Type 0 where
-  pub others : List Node
-  pub nodes : since at all ≡ drop n ns ++ others
-
 -- ---- what holds of each rest of the nodes
 
 pub record IsSuffix (f : Forest) (n : ℕ) : Type 0 where
@@ -101,33 +85,18 @@ below_parts (add ts) h = h.1
 below_parts (mult ts) h = h.1
 below_parts (power b e) h = (h.1, (h.2, tt))
 below_parts (root a) h = (h.1, tt)
-below_parts (neg a) h = absurd (h.0)
-below_parts (sub a b) h = absurd (h.0)
-below_parts (div a b) h = absurd (h.0)
+below_parts t h = absurd (h.0)
 
 pub own_part : (t : Tree) → AllParts IsShowable t → IsShowable t
 own_part (num q) h = h
 own_part (symbol x) h = h
 own_part undef h = h
-own_part (add ts) h = h.0
-own_part (mult ts) h = h.0
-own_part (power b e) h = h.0
-own_part (root a) h = h.0
-own_part (neg a) h = h.0
-own_part (sub a b) h = h.0
-own_part (div a b) h = h.0
+own_part t h = h.0
 
 size_parts : (t : Tree) → size t ≡ root_size t + sizes (children_of t)
-size_parts (num q) = omega arith
-size_parts (symbol x) = omega arith
-size_parts undef = omega arith
 size_parts (add ts) = refl
 size_parts (mult ts) = refl
-size_parts (power b e) = omega arith
-size_parts (root a) = omega arith
-size_parts (neg a) = omega arith
-size_parts (sub a b) = omega arith
-size_parts (div a b) = omega arith
+size_parts t = omega arith
 
 -- the first tree goes, and its children stay
 record IsOpened (l : Label) (k others : Forest) : Type 0 where
@@ -231,17 +200,3 @@ pub room_left : {i : ℕ} {g : Forest} {n : ℕ} (free start : ℕ) {t : Tree} {
 room_left {i = i} {g = g} {n = n} free start {t = t} {ts = ts} s e z q u l =
     let rest = plains (forest_of (drop (suc n) (flatten (tree_at i g)))) in
     omega (arith, e, ap sizes z, ap sizes q, ap sizes u, ap count u, bounds rest s.rest, needs t s.parts, s.bytes, s.own, s.few, count-faces rest, l)
-
--- ---- from a node's place on
-
-pub node_there : (at n : ℕ) (ns all : List Node) → IsBoundary at all → IsBehind at n ns all → n < length ns → at < used all
-node_there at n ns all b h w = is_before at all (drop (suc n) ns ++ h.others) (first_of (drop n ns)) b (h.nodes ∙ ap (λ (x : List Node). x ++ h.others) (split_at n ns w).1)
-
-pub node_seen : (at n : ℕ) (ns all : List Node) → IsBehind at n ns all → n < length ns → first_of (since at all) ≡ first_of (drop n ns)
-node_seen at n ns all h w = ap first_of (h.nodes ∙ ap (λ (x : List Node). x ++ h.others) (split_at n ns w).1)
-
-pub behind_more : (at next n : ℕ) (ns all : List Node) → IsBehind at n ns all → n < length ns → since at all ≡ first_of (since at all) ∷ since next all → IsBehind next (n + 1) ns all
-behind_more at next n ns all h w e = record {
-  others = h.others;
-  nodes = tail_of (sym e ∙ h.nodes ∙ ap (λ (x : List Node). x ++ h.others) (split_at n ns w).1) ∙ ap (λ (k : ℕ). drop k ns ++ h.others) (sym (add-one n));
-}

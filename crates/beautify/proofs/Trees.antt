@@ -7,10 +7,6 @@ use Rattle.calc_terms.specs.declared.kind.Kind.TheVariants as kind
 use Rattle.tree_handles.specs.Expressions.{nth, inserted, takes_kind, children_of}
 use Rattle.beautify.specs.Lists.{first, behind, cut}
 
-pub behind-none : (n : ℕ) → behind n none ≡ none
-behind-none zero = refl
-behind-none (suc n) = refl
-
 pub behind-behind : (n : ℕ) (ts : Trees) → behind 1 (behind n ts) ≡ behind (suc n) ts
 behind-behind zero ts = refl
 behind-behind (suc n) none = refl
@@ -85,10 +81,6 @@ pub first-append : (xs ys : Trees) → first (count xs) (append xs ys) ≡ xs
 first-append none ys = refl
 first-append (more x xs) ys = ap (more x) (first-append xs ys)
 
-pub nth-append : (xs ys : Trees) → nth (count xs) (append xs ys) ≡ nth 0 ys
-nth-append none ys = refl
-nth-append (more x xs) ys = nth-append xs ys
-
 pub append_assoc : (xs ys zs : Trees) → append (append xs ys) zs ≡ append xs (append ys zs)
 append_assoc none ys zs = refl
 append_assoc (more x xs) ys zs = ap (more x) (append_assoc xs ys zs)
@@ -120,7 +112,3 @@ pub bare_takes : (k : Kind) (n : ℕ) → takes_kind k n ≡ true → is_bare k 
 bare_takes kind.Num n h = absurd cc
 bare_takes kind.Sym n h = absurd cc
 bare_takes k n h = refl
-
-pub add_children : (t : Tree) → is_add t ≡ true → t ≡ add (children_of t)
-add_children (add ts) h = refl
-add_children _ h = absurd cc

@@ -8,6 +8,7 @@ ghost use Rattle.tree_handles.specs.Standing.{Stands, forest};
 
 use node_pool::{Id, Pool};
 use tree_handles::{child_id, tree_nodes};
+use tree_walks::node_behind;
 
 /// Marks stand at the multiples of this number, so that few steps lead from one to any node behind it.
 const MARK_DISTANCE: u32 = 256;
@@ -97,9 +98,5 @@ pub(crate) fn node_at(pool: &Pool, mark: &Mark, others: u32) -> Id
     requires within { others < nodes_in (tree_at mark.now.tree (forest pool.now)) }
     ensures { result ≡ (first_of (drop others (flatten (tree_at mark.now.tree (forest pool.now))))).id }
 {
-    let mut at = pool.locate(mark.node);
-    for _place in mark.before..others {
-        at += pool.header(at).size();
-    }
-    Id::of(pool.header(at).id)
+    node_behind(pool, mark.node, others - mark.before)
 }

@@ -1,5 +1,5 @@
 -- A walk that has met no node below the limit.
-use Rattle.std.proofs.Common.{◌≡◌, ℕ, ◌-◌, max, ◌<◌, ◌≤◌, List, [], ◌∷◌, length, get_or, arith}
+use Rattle.std.proofs.Common.{◌≡◌, ℕ, ◌-◌, max, ◌<◌, ◌≤◌, List, [], ◌∷◌, get_or, arith}
 use Rattle.tree_handles.specs.declared.visits.Visit.{Visit}
 use Rattle.tree_handles.specs.Forest.{Forest, empty, tree}
 use Rattle.tree_handles.proofs.Depths.{AreOpen, reach, IsWalked, open_count}

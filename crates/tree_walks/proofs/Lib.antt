@@ -6,3 +6,4 @@ pub mod Ending
 pub mod Levels
 pub mod Searches
 pub mod Composing
+pub mod Orders

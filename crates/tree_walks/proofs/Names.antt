@@ -8,7 +8,7 @@ use Rattle.std.proofs.lemmas.List.Sums.{sum_by-append}
 use Rattle.calc_terms.specs.declared.kind.Kind.{Kind}
 use Rattle.calc_terms.specs.declared.kind.Kind.TheVariants as kind
 use Rattle.calc_terms.specs.Payload.{Payload, rational, named, bare}
-use Rattle.calc_terms.specs.Trees.{Tree, num, symbol, undef, add, mult, power, root, neg, sub, div, Trees, none, more, append, count, names, names_of}
+use Rattle.calc_terms.specs.Trees.{Tree, num, symbol, undef, power, root, neg, sub, div, Trees, none, more, append, count, names, names_of}
 use Rattle.tree_handles.specs.Expressions.{nth, compound, grown, plains, takes, AllExpressions, children_of}
 use Rattle.tree_handles.specs.Forest.{Label, Forest, empty, tree, join, arity, first_trees, rest_trees}
 use Rattle.tree_handles.proofs.Plains.{grown_whole}
@@ -31,24 +31,16 @@ at_root x t = 0
 
 count_node : (x : List ℕ) (t : Tree) → occurrences x t ≡ at_root x t + occurrences_in x (children_of t)
 count_node x (num q) = refl
-count_node x (symbol y) = omega arith
 count_node x undef = refl
-count_node x (add ts) = omega arith
-count_node x (mult ts) = omega arith
 count_node x (power b e) = rw (append-nil (names e)) (omega arith)
 count_node x (root a) = rw (append-nil (names a)) (omega arith)
 count_node x (neg a) = rw (append-nil (names a)) (omega arith)
 count_node x (sub a b) = rw (append-nil (names b)) (omega arith)
 count_node x (div a b) = rw (append-nil (names b)) (omega arith)
+count_node x t = omega arith
 
 no_name : (x : List ℕ) (k : Kind) (ts : Trees) → at_root x (compound k ts) ≡ 0
 no_name x kind.Add ts = refl
-no_name x kind.Mult ts = refl
-no_name x kind.Pow ts = refl
-no_name x kind.Root ts = refl
-no_name x kind.Neg ts = refl
-no_name x kind.Sub ts = refl
-no_name x kind.Div ts = refl
 no_name x k ts = refl
 
 at_grown : (x : List ℕ) (q : Payload) (ts : Trees) → at_root x (grown q ts) ≡ cond (has_name x q) 1 0
@@ -81,8 +73,6 @@ nth-replaced x u zero (more t ts) = refl
 nth-replaced x u (suc n) (more t ts) = nth-replaced x u n ts
 
 replaced-compound : (x : List ℕ) (u : Tree) (k : Kind) (ts : Trees) → replaced x u (compound k ts) ≡ compound k (replaced_in x u ts)
-replaced-compound x u kind.Add ts = refl
-replaced-compound x u kind.Mult ts = refl
 replaced-compound x u kind.Pow ts = cc (nth-replaced x u 0 ts, nth-replaced x u 1 ts)
 replaced-compound x u kind.Root ts = cc (nth-replaced x u 0 ts)
 replaced-compound x u kind.Neg ts = cc (nth-replaced x u 0 ts)

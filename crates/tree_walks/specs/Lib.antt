@@ -1,3 +1,4 @@
 pub mod Replacing
 pub mod Walks
+pub mod Orders
 pub mod Laws

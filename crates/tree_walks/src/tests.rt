@@ -1,17 +1,20 @@
 //! Walks over differences that are told by their leaves: `xy7` is the tree of `x-y-7`, and `---xy7#` its kinds in prefix order.
-ghost use Rattle.std.specs.Prelude.{◌<◌, length, IfOk, ⊤};
+ghost use Rattle.std.specs.Prelude.{◌≡◌, ◌<◌, length, IfOk, ⊤, true};
 ghost use Rattle.node_pool.specs.State.{IsPoolSize};
 ghost use Rattle.tree_handles.specs.Expressions.{IsExpression};
 ghost use Rattle.tree_handles.specs.Handed.{Gives};
+ghost use Rattle.tree_handles.specs.Inside.{holds};
 ghost use Rattle.tree_handles.specs.Standing.{Stands, forest};
 
 use super::*;
 use crate::walk::{is_named, step};
 use calc_terms::{Kind, Name, Rat};
-use node_pool::{Full, Pool};
+use node_pool::{Full, Id, Pool};
 use std::alloc::{AllocError, Global};
 use std::test::Fail;
-use tree_handles::{Handle, count_trees, node_over, node_over_two, number, symbol};
+use tree_handles::{
+    Handle, count_trees, node_over, node_over_two, nodes_of as walk, number, symbol, tree_nodes,
+};
 
 /// The leaves of a tree, in which `x` is replaced by the tree of other leaves, and what the pool holds then.
 const REPLACED: &str = "\
@@ -166,6 +169,29 @@ fn names_are_found_in_their_tree(rt: HostRuntime) -> Result<(), Fail> {
     let tree = substituted(&mut pool, b"7x7", x, b"77y").expect(&rt, "it fits");
     assert!(rt; holds_name(&pool, tree.id(), y));
     assert!(rt; !holds_name(&pool, tree.id(), x));
+    Ok(())
+}
+
+/// Whether each node of a tree stands as many steps behind the root as a walk over the tree comes to it.
+fn are_behind_root(pool: &Pool, tree: Id) -> bool
+    requires stands { Stands pool.now }
+    requires live { holds tree (forest pool.now) ≡ true }
+{
+    for steps in 0..tree_nodes(pool, tree) {
+        match walk(pool, tree).nth(steps as usize) {
+            Some(node) if node.id == node_behind(pool, tree, steps) => {}
+            _ => return false,
+        }
+    }
+    true
+}
+
+#[test]
+fn nodes_stand_behind_their_root(rt: HostRuntime) -> Result<(), Fail> {
+    let x = Name::read(b"x").expect(&rt, "x is a name");
+    let mut pool = opened(rt.alloc(), 512)?;
+    let tree = substituted(&mut pool, b"7x7x", x, b"77y").expect(&rt, "it fits");
+    assert!(rt; are_behind_root(&pool, tree.id()));
     Ok(())
 }
 

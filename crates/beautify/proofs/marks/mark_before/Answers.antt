@@ -21,5 +21,5 @@ node_at-requires-clause-within c = omega (arith, c.requires.within, ap (λ (i : 
 pub returns-clause-mark : goal.returns-clause-mark
 returns-clause-mark c = record {
   within = omega (arith, c.requires.within);
-  node-is = c.node_at.ensures ∙ ap (λ (i : ℕ). (first_of (drop (c.args.others - c.args.others % 256) (flatten (tree_at i (forest c.args.pool.now))))).id) c.root_mark-root.ensures.tree;
+  id-is = c.node_at.ensures ∙ ap (λ (i : ℕ). (first_of (drop (c.args.others - c.args.others % 256) (flatten (tree_at i (forest c.args.pool.now))))).id) c.root_mark-root.ensures.tree;
 }
