@@ -1,7 +1,6 @@
 -- What a step is known to have made, in the arm for it.
 use Rattle.std.proofs.Common.{◌≡◌, ◌<◌, ◌+◌, ◌^◌, ℕ, subst}
 use Rattle.std.specs.Prelude.{Some, None}
-use Rattle.calc_terms.specs.Trees.{Tree, Trees}
 use Rattle.node_pool.specs.State.{State}
 use Rattle.power_reduce.specs.PowerAnswers.{base_in, exponent_in, IsPowerAnswer, IsStep}
 use Rattle.power_reduce.specs.PowerSteps.{rewritten}
@@ -15,7 +14,6 @@ use Rattle.tree_handles.specs.Handed.{tree_of, Gives}
 use Rattle.reduce_port.specs.declared.step.Step.{Step}
 use Rattle.reduce_port.specs.declared.step.Step.TheVariants as step
 use Rattle.tree_handles.specs.Expressions.{children_of}
-use Rattle.tree_handles.specs.Forest.{Forest}
 use Rattle.tree_handles.specs.Roots.{without_root}
 use Rattle.tree_handles.specs.Standing.{forest}
 

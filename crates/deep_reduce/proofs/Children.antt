@@ -1,6 +1,5 @@
 -- A child of a power or of a product that is taken out, reduced and put back.
-use Rattle.std.proofs.Common.{◌≡◌, ℕ, zero, suc, ◌+◌, ◌≤◌, ◌<◌, [], ◌∷◌, refl, sym, ap, ◌∙◌, subst, arith, Bool, true, false}
-use Rattle.calc_terms.specs.declared.kind.Kind.{Kind}
+use Rattle.std.proofs.Common.{◌≡◌, ℕ, zero, suc, ◌≤◌, ◌<◌, refl, sym, ap, ◌∙◌, subst, arith, Bool, true, false}
 use Rattle.calc_terms.specs.declared.kind.Kind.TheVariants as kind
 use Rattle.calc_terms.specs.Payload.{Payload, bare}
 use Rattle.calc_terms.specs.Trees.{Tree, add, power, Trees, none, more, append, count}
@@ -9,9 +8,9 @@ use Rattle.deep_reduce.specs.Unfinished.{replaced}
 use Rattle.number_forms.proofs.Loops.{gives_itself}
 use Rattle.power_reduce.specs.PowerAnswers.{base_in, exponent_in}
 use Rattle.tree_handles.specs.Expressions.{nth, grown, plains, plain, inserted, children_of}
-use Rattle.tree_handles.specs.Forest.{Forest, empty, tree, kids, root_payload, with_nth, tree_nth, without_nth}
+use Rattle.tree_handles.specs.Forest.{Forest, empty, tree, kids, root_payload, tree_nth, without_nth}
 use Rattle.tree_handles.specs.Handed.{IsOnce, IsHanded, Ends, Gives}
-use Rattle.tree_handles.specs.Roots.{root_tree, without_root, put}
+use Rattle.tree_handles.specs.Roots.{root_tree, put}
 use Rattle.tree_handles.proofs.Counted.{all-kids}
 use Rattle.tree_handles.proofs.Given.{gives_as}
 use Rattle.tree_handles.proofs.Plains.{children_of-plain, whole_kids}

@@ -1,5 +1,5 @@
 -- Weights and loads are bounded by how many nodes there are.
-use Rattle.std.proofs.Common.{◌≡◌, ℕ, suc, ◌+◌, ◌*◌, ◌≤◌, ◌<◌, Bool, true, false, if◌then◌else◌, sym, ap, ◌∙◌, subst, arith}
+use Rattle.std.proofs.Common.{ℕ, suc, ◌+◌, ◌*◌, ◌≤◌, Bool, true, false, if◌then◌else◌, arith}
 use Rattle.calc_measures.specs.Loads.{weight, weight_of_factors, load_of_factor, load_of_factors, has_coefficient}
 use Rattle.calc_algebra.specs.Numbers.{is_number}
 use Rattle.calc_algebra.specs.Reduced.{is_opaque_exponent, base_of}
@@ -20,16 +20,10 @@ factor_cases false w v n m h k = omega arith
 
 mutual
   pub weight_few : (t : Tree) → weight t ≤ 3 * nodes t
-  weight_few (num q) = omega arith
-  weight_few (symbol x) = omega arith
-  weight_few undef = omega arith
-  weight_few (add ts) = omega arith
   weight_few (mult ts) = product_cases (is_number (mult ts)) (has_coefficient ts) (weight_of_factors ts) (nodes_of ts) (weights_few ts)
   weight_few (power b e) = omega (arith, weight_few b)
   weight_few (root a) = root_cases (is_number (root a)) (weight a) (nodes a) (weight_few a)
-  weight_few (neg a) = omega arith
-  weight_few (sub a b) = omega arith
-  weight_few (div a b) = omega arith
+  weight_few t = omega arith
 
   pub weights_few : (ts : Trees) → weight_of_factors ts ≤ 3 * nodes_of ts
   weights_few none = omega arith

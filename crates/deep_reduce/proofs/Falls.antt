@@ -1,8 +1,8 @@
 -- The measure falls at each call.
-use Rattle.std.proofs.Common.{◌≡◌, ℕ, ◌+◌, ◌-◌, ◌*◌, ◌≤◌, ◌<◌, true, refl, sym, ap, ◌∙◌, subst, arith}
-use Rattle.calc_measures.specs.Loads.{nest, nest_of, weight, load_of_factors}
+use Rattle.std.proofs.Common.{◌≡◌, ℕ, ◌≤◌, ◌<◌, true, ap, arith}
+use Rattle.calc_measures.specs.Loads.{nest, weight, load_of_factors}
 use Rattle.calc_terms.specs.Trees.{Tree, add, mult, power, Trees, is_mult}
-use Rattle.deep_reduce.specs.Unfinished.{nest_over, nest_of_joint, nest_of_rewritten, weight_of_bases, weight_below, IsLess, IsSummed}
+use Rattle.deep_reduce.specs.Unfinished.{nest_over, nest_of_joint, IsLess, IsSummed}
 use Rattle.deep_reduce.proofs.Finished.{IsReadyProduct, IsReadyPower}
 use Rattle.deep_reduce.proofs.Measures.{of_product, of_pairs, of_two, of_power, of_joint, of_powers, of_exponent, of_rewritten}
 use Rattle.deep_reduce.proofs.Nests.{over_power}

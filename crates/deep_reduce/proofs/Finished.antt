@@ -1,11 +1,10 @@
 -- A tree after a rewriting, whose powers or whose exponent were reduced.
-use Rattle.std.proofs.Common.{◌≡◌, ℕ, suc, ◌+◌, ◌≤◌, ◌<◌, Bool, true, false, ◌&&◌, refl, sym, ap, ◌∙◌, subst, arith}
-use Rattle.std.specs.Prelude.{max}
+use Rattle.std.proofs.Common.{◌≡◌, suc, ◌≤◌, true, false, refl, sym, ap, subst, arith}
 use Rattle.calc_measures.specs.Loads.{nest, nest_of, load, weight, load_of_factors}
 use Rattle.calc_algebra.specs.Reduced.{is_reduced, are_reduced}
 use Rattle.calc_terms.specs.Trees.{Tree, num, symbol, undef, add, mult, power, root, neg, sub, div, Trees, none, more, count, is_mult}
 use Rattle.deep_reduce.specs.Answers.{IsReducedProduct, IsReducedPower}
-use Rattle.deep_reduce.specs.Unfinished.{nest_over, nest_of_rewritten, weight_of_bases, weight_below, IsTransparent, AreTransparent, IsUnfinished, Finishes, IsMultiplied, IsLifted, AreReducedPowers, IsProductOfPowers}
+use Rattle.deep_reduce.specs.Unfinished.{nest_of_rewritten, weight_of_bases, weight_below, IsTransparent, AreTransparent, IsUnfinished, Finishes, IsMultiplied, IsLifted, AreReducedPowers, IsProductOfPowers}
 use Rattle.deep_reduce.proofs.Heavy.{heavy, factor_load}
 use Rattle.deep_reduce.proofs.Nests.{over_power, product_load}
 use Rattle.deep_reduce.proofs.Pairs.{factors_rewritten}
@@ -129,11 +128,4 @@ power_lifted t v r p a =
 pub power_of_kind : (t : Tree) → is_mult t ≡ false → IsUnfinished t → t ≡ power (base_in t) (exponent_in t)
 power_of_kind (power b e) m w = refl
 power_of_kind (mult ts) m w = cc
-power_of_kind (num q) m w = w.is
-power_of_kind (symbol x) m w = w.is
-power_of_kind undef m w = w.is
-power_of_kind (add ts) m w = w.is
-power_of_kind (root a) m w = w.is
-power_of_kind (neg a) m w = w.is
-power_of_kind (sub a b) m w = w.is
-power_of_kind (div a b) m w = w.is
+power_of_kind t m w = w.is

@@ -19,14 +19,7 @@ some_product false false w = omega arith
 pub some_weight : (t : Tree) → 1 ≤ weight t
 some_weight (root a) = some_root (is_number (root a)) (weight a)
 some_weight (mult ts) = some_product (is_number (mult ts)) (has_coefficient ts) (weight_of_factors ts)
-some_weight (power b e) = omega arith
-some_weight (num q) = omega arith
-some_weight (symbol x) = omega arith
-some_weight undef = omega arith
-some_weight (add ts) = omega arith
-some_weight (neg a) = omega arith
-some_weight (sub a c) = omega arith
-some_weight (div a c) = omega arith
+some_weight t = omega arith
 
 heavy_root : (x : Bool) (a : Tree) → 2 ≤ (if x then 2 else suc (weight a))
 heavy_root true a = omega arith
@@ -46,13 +39,7 @@ heavy (root a) h = heavy_root (is_number (root a)) a
 heavy (mult none) h = absurd (no_empty_product h)
 heavy (mult (more t ts)) h = heavy_product (is_number (mult (more t ts))) (is_number t) t (weight_of_factors ts)
 heavy (power b e) h = omega (arith, some_weight b)
-heavy (num q) h = omega arith
-heavy (symbol x) h = omega arith
-heavy undef h = omega arith
-heavy (add ts) h = omega arith
-heavy (neg a) h = omega arith
-heavy (sub a c) h = omega arith
-heavy (div a c) h = omega arith
+heavy t h = omega arith
 
 pub base_reduced : (b e : Tree) → is_reduced (power b e) ≡ true → is_reduced b ≡ true
 base_reduced b e h = parts_reduced b (reduced_parts (power b e) h refl).1
@@ -68,13 +55,7 @@ pub heavy_base : (t : Tree) → is_reduced t ≡ true → 2 ≤ weight (base_of 
 heavy_base (power b e) h = heavy_power_base (is_opaque_exponent e) b e h
 heavy_base (root a) h = heavy (root a) h
 heavy_base (mult ts) h = heavy (mult ts) h
-heavy_base (num q) h = omega arith
-heavy_base (symbol x) h = omega arith
-heavy_base undef h = omega arith
-heavy_base (add ts) h = omega arith
-heavy_base (neg a) h = omega arith
-heavy_base (sub a c) h = omega arith
-heavy_base (div a c) h = omega arith
+heavy_base t h = omega arith
 
 -- the load of a tree as a factor, from its own
 pub factor_load : (u : Tree) (n : ℕ) → 2 ≤ n → load u ≤ n → load_of_factor u ≤ n

@@ -1,20 +1,20 @@
 -- The joint of two factors: how it nests, and that it is never opaque.
-use Rattle.std.proofs.Common.{◌≡◌, ℕ, suc, ◌+◌, ◌≤◌, ◌<◌, inl, inr, Bool, true, false, ◌&&◌, not, if◌then◌else◌, length, pos, refl, sym, ap, ◌∙◌, subst, arith}
+use Rattle.std.proofs.Common.{◌≡◌, suc, ◌≤◌, inl, inr, Bool, true, false, ◌&&◌, not, if◌then◌else◌, length, pos, refl, sym, ap, ◌∙◌, subst, arith}
 use Rattle.std.specs.Prelude.{max}
 use Rattle.std.specs.Ordering.{is_eq}
 use Rattle.std.specs.declared.cmp.Ordering.{Ordering}
 use Rattle.std.specs.declared.cmp.Ordering.TheVariants.{Less, Equal, Greater}
-use Rattle.std.proofs.lemmas.Bool.{and_parts, eqb-true}
+use Rattle.std.proofs.lemmas.Bool.{and_parts}
 use Rattle.calc_terms.specs.Fractions.{one_fraction}
 use Rattle.calc_measures.specs.Loads.{nest, nest_of, weight, load_of_factor}
 use Rattle.calc_algebra.specs.Numbers.{is_number, IsNumber, IsTerm, AreTerms, is_term, terms_of, term_of, Rises, are_numbers}
-use Rattle.calc_algebra.specs.Reduced.{is_reduced, is_opaque_exponent, is_whole_num, num_one, base_of, HasForm, IsSumForm, NoneIs, number_terms, other_terms}
+use Rattle.calc_algebra.specs.Reduced.{is_reduced, is_opaque_exponent, is_whole_num, num_one, base_of, IsSumForm, NoneIs, number_terms, other_terms}
 use Rattle.calc_algebra.specs.TreeOrder.{tree_cmp}
 use Rattle.calc_terms.specs.Trees.{Tree, num, symbol, undef, add, mult, power, root, neg, sub, div, Trees, none, more, is_add, HasTwo}
 use Rattle.calc_terms.proofs.FractionFacts.{whole_denominator}
 use Rattle.calc_algebra.proofs.NumberLaws.{number_test, number_words, term_words}
 use Rattle.calc_algebra.proofs.TreeOrderLaws.{tree_cmp_equal}
-use Rattle.coefficients.proofs.Forms.{reduced_parts, number_of_term, no_term}
+use Rattle.coefficients.proofs.Forms.{reduced_parts, number_of_term}
 use Rattle.deep_reduce.specs.Unfinished.{nest_over, nest_of_joint}
 use Rattle.deep_reduce.proofs.Heavy.{exponent_reduced}
 use Rattle.deep_reduce.proofs.Nests.{to_number, to_other, base_nest, over_base, over_exponents}
@@ -47,27 +47,11 @@ transparent_exponent (power b e) = by (is_opaque_exponent e) refl
     by : (x : Bool) → is_opaque_exponent e ≡ x → is_opaque_exponent (if x then num_one else e) ≡ false
     by true h = one_transparent
     by false h = h
-transparent_exponent (num q) = one_transparent
-transparent_exponent (symbol x) = one_transparent
-transparent_exponent undef = one_transparent
-transparent_exponent (add ts) = one_transparent
-transparent_exponent (mult ts) = one_transparent
-transparent_exponent (root a) = one_transparent
-transparent_exponent (neg a) = one_transparent
-transparent_exponent (sub a b) = one_transparent
-transparent_exponent (div a b) = one_transparent
+transparent_exponent t = one_transparent
 
 whole_radicand : (e : Tree) → is_whole_num e ≡ true → (term_of e).radicand ≡ 1
 whole_radicand (num q) h = refl
-whole_radicand (symbol x) h = cc
-whole_radicand undef h = cc
-whole_radicand (add ts) h = cc
-whole_radicand (mult ts) h = cc
-whole_radicand (power b e) h = cc
-whole_radicand (root a) h = cc
-whole_radicand (neg a) h = cc
-whole_radicand (sub a b) h = cc
-whole_radicand (div a b) h = cc
+whole_radicand t h = cc
 
 -- a term that makes no opaque power is a rational
 rational_term : (e : Tree) → IsTerm e → is_opaque_exponent e ≡ false → (term_of e).radicand ≡ 1

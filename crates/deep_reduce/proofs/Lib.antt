@@ -29,7 +29,6 @@ pub mod Parents
 pub mod Walks
 pub mod Stopping
 pub mod Ready
-pub mod Undefs
 pub mod Results
 pub mod Sides
 pub mod Told

@@ -1,7 +1,7 @@
 -- What falls from call to call.
-use Rattle.std.proofs.Common.{◌≡◌, ℕ, suc, ◌+◌, ◌-◌, ◌*◌, ◌≤◌, ◌<◌, Bool, true, false, refl, sym, ap, ◌∙◌, subst, arith}
+use Rattle.std.proofs.Common.{◌≡◌, ℕ, ◌+◌, ◌-◌, ◌*◌, ◌≤◌, ◌<◌, Bool, true, false, refl, ap, arith}
 use Rattle.calc_measures.specs.Loads.{nest, nest_of, weight, load_of_factors}
-use Rattle.calc_terms.specs.Trees.{Tree, mult, Trees, nodes, nodes_of, is_mult}
+use Rattle.calc_terms.specs.Trees.{Tree, mult, Trees, nodes, is_mult}
 use Rattle.deep_reduce.specs.Unfinished.{nest_over, nest_of_joint, nest_of_rewritten, weight_of_bases, weight_below}
 use Rattle.deep_reduce.proofs.Counts.{loads_few}
 use Rattle.deep_reduce.proofs.Nests.{over_exponents, numbers_nest, numbers_load}
@@ -10,7 +10,7 @@ use Rattle.node_pool.specs.State.{State}
 use Rattle.power_reduce.specs.PowerAnswers.{base_in}
 use Rattle.calc_algebra.specs.Numbers.{are_numbers}
 use Rattle.tree_handles.specs.Handed.{tree_of, IsHanded}
-use Rattle.tree_handles.specs.Expressions.{plain, children_of, nth}
+use Rattle.tree_handles.specs.Expressions.{children_of, nth}
 use Rattle.tree_handles.specs.Forest.{nodes_in}
 use Rattle.tree_handles.specs.Roots.{root_tree}
 use Rattle.tree_handles.specs.Standing.{Stands, forest}

@@ -2,7 +2,7 @@
 use Rattle.std.proofs.Common.{◌≡◌, ℕ, ◌<◌, ◌+◌, ◌*◌, true, false, refl, sym, ap, ◌∙◌, subst}
 use Rattle.calc_terms.specs.declared.kind.Kind.{Kind}
 use Rattle.calc_measures.specs.Loads.{nest_of, weight, load_of_factors}
-use Rattle.calc_terms.specs.Trees.{Tree, num, symbol, undef, add, mult, power, root, neg, sub, div, Trees, root_kind, is_mult}
+use Rattle.calc_terms.specs.Trees.{Tree, mult, power, root_kind, is_mult}
 use Rattle.coefficients.proofs.Steps.{expression, seen}
 use Rattle.deep_reduce.specs.Unfinished.{nest_of_rewritten, weight_below, IsNested, IsUnfinished, IsMultiplied, IsLifted}
 use Rattle.deep_reduce.proofs.Measures.{of_product, of_exponent, exponents_fall}
@@ -27,10 +27,6 @@ pub exponent_at : {s : State} {i j : ℕ} (k : ℕ) → j ≡ i → Stands s →
     → (IsExpression j (forest s) → plain (tree_at k (forest s)) ≡ nth 1 (children_of (plain (tree_at j (forest s))))) → plain (tree_at k (forest s)) ≡ exponent_in (tree_of i s)
 exponent_at {s} {i} {j} k e st h p child = child (expression e st h) ∙ ap (λ (t : Tree). nth 1 (children_of t)) (seen e st h ∙ p)
 
-product_is : (t : Tree) → is_mult t ≡ true → t ≡ mult (children_of t)
-product_is (mult ts) h = refl
-product_is t h = cc
-
 -- a power with a product as its exponent
 pub record HasProduct (t : Tree) : Type 0 where
   pub exponent-is : exponent_in t ≡ mult (children_of (exponent_in t))
@@ -52,15 +48,7 @@ with_product t e m w = subst HasProduct (sym e) (has_product (base_in t) (expone
 
 no_product : (b x : Tree) → is_mult x ≡ false → IsLifted (power b x) (power b x)
 no_product b (mult ts) m = cc
-no_product b (num q) m = refl
-no_product b (symbol y) m = refl
-no_product b undef m = refl
-no_product b (add ts) m = refl
-no_product b (power c f) m = refl
-no_product b (root a) m = refl
-no_product b (neg a) m = refl
-no_product b (sub a c) m = refl
-no_product b (div a c) m = refl
+no_product b t m = refl
 
 -- one with another exponent stays
 pub without_product : (t : Tree) → t ≡ power (base_in t) (exponent_in t) → is_mult (exponent_in t) ≡ false → IsLifted t t

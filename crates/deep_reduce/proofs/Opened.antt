@@ -1,12 +1,11 @@
 -- What a rewriting of a power leaves to be reduced: it nests no more, and weighs less.
-use Rattle.std.proofs.Common.{◌≡◌, ℕ, ℤ, suc, ◌+◌, ◌≤◌, ◌<◌, ◌⊎◌, inl, inr, Bool, true, false, ◌&&◌, ◌||◌, ◌==◌, not, if◌then◌else◌, pos, Some, None, refl, sym, ap, ◌∙◌, subst, arith}
-use Rattle.std.specs.Prelude.{max}
+use Rattle.std.proofs.Common.{◌≡◌, ℕ, ℤ, suc, ◌≤◌, ◌<◌, ◌⊎◌, inl, inr, Bool, true, false, ◌&&◌, ◌||◌, ◌==◌, not, if◌then◌else◌, pos, Some, None, refl, sym, ap, ◌∙◌, subst, arith}
 use Rattle.std.proofs.lemmas.Bool.{and_parts}
 use Rattle.calc_terms.specs.Fractions.{whole_fraction, zero_fraction, one_fraction, is_one_fraction}
 use Rattle.calc_measures.specs.Loads.{nest, nest_of, weight, has_coefficient}
 use Rattle.calc_algebra.specs.Numbers.{is_number}
-use Rattle.calc_algebra.specs.Reduced.{Split, is_reduced, is_half_num, is_opaque_exponent, is_num_one, num_one, split_product, HasForm, IsProductForm}
-use Rattle.calc_terms.specs.Trees.{Tree, num, symbol, undef, add, mult, power, root, neg, sub, div, Trees, none, more, append, count, is_num, is_undef, AllPartsOf, HasTwo}
+use Rattle.calc_algebra.specs.Reduced.{Split, is_reduced, is_half_num, is_opaque_exponent, is_num_one, num_one, HasForm}
+use Rattle.calc_terms.specs.Trees.{Tree, num, undef, mult, power, root, Trees, none, more, append, count, is_num, is_undef, AllPartsOf, HasTwo}
 use Rattle.calc_terms.proofs.FractionFacts.{whole_denominator}
 use Rattle.calc_algebra.proofs.NumberLaws.{number_test}
 use Rattle.coefficients.specs.Coefficients.{factors_of}
@@ -15,11 +14,11 @@ use Rattle.coefficients.proofs.Factors.{no_split}
 use Rattle.coefficients.proofs.Forms.{reduced_parts, parts_reduced, one_is_one}
 use Rattle.coefficients.proofs.Splits.{Leads, in_front}
 use Rattle.deep_reduce.specs.Answers.{has_no_half_power, lacks_power, is_number_power, IsReducedPower}
-use Rattle.deep_reduce.specs.Unfinished.{nest_over, nest_of_rewritten, weight_of_bases, weight_below, IsTransparent, AreTransparent, IsNested, IsUnfinished, Finishes}
+use Rattle.deep_reduce.specs.Unfinished.{nest_of_rewritten, weight_of_bases, weight_below, AreTransparent, IsUnfinished, Finishes}
 use Rattle.deep_reduce.proofs.Heavy.{base_reduced, exponent_reduced}
 use Rattle.deep_reduce.proofs.Nests.{to_number, base_nest}
 use Rattle.power_reduce.specs.PowerAnswers.{has_no_power, has_number_power, IsWrittenPower, IsPowerAnswer}
-use Rattle.power_reduce.specs.PowerSteps.{goes_inside, half, is_even_whole, parts_of, raised, rewritten, rewritten_whole}
+use Rattle.power_reduce.specs.PowerSteps.{goes_inside, half, parts_of, raised, rewritten, rewritten_whole}
 use Rattle.power_reduce.proofs.ByRule.{is_rewritable, transparent_whole}
 use Rattle.power_reduce.proofs.Exponents.{as_whole, no_half}
 use Rattle.power_reduce.proofs.Cases.{zero_kept, one_kept}
@@ -57,15 +56,7 @@ led_some (num q) fs h = by (is_one_fraction q)
     by : (x : Bool) → 1 ≤ count (if x then fs else more (num q) fs)
     by true = omega arith
     by false = omega arith
-led_some (symbol x) fs h = omega arith
-led_some undef fs h = omega arith
-led_some (add ts) fs h = omega arith
-led_some (mult ts) fs h = omega arith
-led_some (power b e) fs h = omega arith
-led_some (root a) fs h = omega arith
-led_some (neg a) fs h = omega arith
-led_some (sub a b) fs h = omega arith
-led_some (div a b) fs h = omega arith
+led_some t fs h = omega arith
 
 -- a reduced product has parts
 parts_some : (ts : Trees) → HasTwo ts → (has_coefficient ts ≡ false) ⊎ Leads ts → 1 ≤ count (parts_of ts)

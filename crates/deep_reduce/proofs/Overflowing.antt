@@ -1,13 +1,13 @@
 -- The nodes up to the first overflow of plain trees, where the children before are answered.
-use Rattle.std.proofs.Common.{◌≡◌, ℕ, ◌+◌, Bool, true, false, ◌&&◌, List, [], ◌∷◌, refl, sym, ap, ◌∙◌, subst, if◌then◌else◌, arith}
+use Rattle.std.proofs.Common.{◌≡◌, ℕ, ◌+◌, Bool, true, false, ◌&&◌, refl, sym, ap, ◌∙◌, subst, if◌then◌else◌, arith}
 use Rattle.calc_measures.specs.PlainOverflows.{is_overflow, with_child, nodes_to_overflow, nodes_among}
 use Rattle.calc_measures.specs.PlainTrees.{IsPlainAnswer, IsPlainOverflow}
 use Rattle.calc_measures.specs.PlainValues.{PlainValue, exactly, undefined, overflow, nothing, Gathered, decided, values, gather, folded, on_one, on_two, divided, calculated, powered, plain_of, plain_of_children, is_plain, are_plain, plain_value}
 use Rattle.calc_terms.specs.Fits.{add_op, mul_op}
-use Rattle.calc_terms.specs.Fractions.{Fraction, negative}
-use Rattle.calc_terms.specs.Trees.{Tree, num, symbol, undef, add, mult, power, root, neg, sub, div, Trees, none, more, append, nodes, nodes_of}
+use Rattle.calc_terms.specs.Fractions.{negative}
+use Rattle.calc_terms.specs.Trees.{Tree, num, add, mult, power, root, neg, sub, div, Trees, none, more, append, nodes, nodes_of}
 use Rattle.deep_reduce.specs.Reductions.{IsReducedFrom}
-use Rattle.deep_reduce.proofs.NodeRewrites.{AreReducedFrom, IsOver, over_number, over_symbol, over_undef, over_sum, over_product, over_power, over_root, over_neg, over_sub, over_div}
+use Rattle.deep_reduce.proofs.NodeRewrites.{AreReducedFrom, IsOver, over_sum, over_product, over_power, over_neg, over_sub, over_div}
 use Rattle.deep_reduce.proofs.PlainNodes.{is_plain_value, and_left, and_right, Decides, child_decides}
 use Rattle.rational128.specs.declared.overflow.Overflow.{Overflow}
 use Rattle.tree_handles.specs.Expressions.{children_of}
@@ -23,10 +23,8 @@ over_behind t within behind e = ap (λ (b : Bool). if b then within else nodes t
 
 -- an answered tree has no overflow
 no_overflow : (v : PlainValue) (u : Tree) → IsPlainAnswer v u → is_overflow v ≡ false
-no_overflow (exactly q) u a = refl
-no_overflow undefined u a = refl
 no_overflow (overflow op x y) u a = absurd a
-no_overflow nothing u a = refl
+no_overflow v u a = refl
 
 answered : (t u : Tree) → is_plain t ≡ true → IsReducedFrom t u → is_overflow (plain_of t) ≡ false
 answered t u p h = no_overflow (plain_of t) u (subst (λ (v : PlainValue). IsPlainAnswer v u) (is_plain_value t p) h.plain)
@@ -129,9 +127,6 @@ module _ (done answers : Trees) (t : Tree) (rest : Trees) (o : Overflow) (reduce
 
   -- where a node overflows, and the children before one that does were answered, that one is the first
   pub first_overflow : (n : Tree) → children_of n ≡ append done (more t rest) → is_overflow (plain_value n) ≡ true → IsFirstOverflow done t (nodes_to_overflow n)
-  first_overflow (num q) e x = absurd (no_child e)
-  first_overflow (symbol s) e x = absurd (no_child e)
-  first_overflow undef e x = absurd (no_child e)
   first_overflow (add ts) e x = by_first (folded add_op) ts (λ v. refl) e (overflow_plain (add ts) x) (overflow_of (add ts) x)
   first_overflow (mult ts) e x = by_first (folded mul_op) ts (λ v. refl) e (overflow_plain (mult ts) x) (overflow_of (mult ts) x)
   first_overflow (power a b) e x = by_first (on_two (λ p q. powered p q.num q.den)) (more a (more b none)) (λ v. refl) e (pair_plain (is_plain a) (is_plain b) (overflow_plain (power a b) x)) (overflow_of (power a b) x)
@@ -139,6 +134,7 @@ module _ (done answers : Trees) (t : Tree) (rest : Trees) (o : Overflow) (reduce
   first_overflow (neg a) e x = by_first (on_one (λ q. exactly (negative q))) (more a none) (λ v. refl) e (ap (λ (b : Bool). b && true) (overflow_plain (neg a) x)) (overflow_of (neg a) x)
   first_overflow (sub a b) e x = by_first (on_two (λ p q. calculated add_op p (negative q))) (more a (more b none)) (λ v. refl) e (pair_plain (is_plain a) (is_plain b) (overflow_plain (sub a b) x)) (overflow_of (sub a b) x)
   first_overflow (div a b) e x = by_first (on_two divided) (more a (more b none)) (λ v. refl) e (pair_plain (is_plain a) (is_plain b) (overflow_plain (div a b) x)) (overflow_of (div a b) x)
+  first_overflow t e x = absurd (no_child e)
 
 one_counted : (a c : Tree) → is_plain a ≡ true → IsReducedFrom a c → nodes_among (more a none) ≡ nodes a + 1
 one_counted a c p h = omega (arith, none_overflows (more a none) (more c none) (ap (λ (b : Bool). b && true) p) (h, tt))
@@ -148,13 +144,10 @@ two_counted a b c d p h k = omega (arith, none_overflows (more a (more b none)) 
 
 -- a node over answered children overflows as the last of its nodes
 pub last_overflow : (t u : Tree) → IsOver t u → is_overflow (plain_value t) ≡ true → nodes_to_overflow t ≡ nodes t
-last_overflow t u (over_number q) x = cc
-last_overflow t u (over_symbol s) x = cc
-last_overflow t u over_undef x = cc
 last_overflow t u (over_sum ts us h) x = omega (arith, none_overflows ts us (overflow_plain (add ts) x) h)
 last_overflow t u (over_product ts us h) x = omega (arith, none_overflows ts us (overflow_plain (mult ts) x) h)
 last_overflow t u (over_power b c e f h l) x = omega (arith, two_counted b e c f (overflow_plain (power b e) x) h l)
-last_overflow t u (over_root a c h) x = cc
 last_overflow t u (over_neg a c h) x = omega (arith, one_counted a c (overflow_plain (neg a) x) h)
 last_overflow t u (over_sub a c b e h l) x = omega (arith, two_counted a b c e (overflow_plain (sub a b) x) h l)
 last_overflow t u (over_div a c b e h l) x = omega (arith, two_counted a b c e (overflow_plain (div a b) x) h l)
+last_overflow t u k x = cc

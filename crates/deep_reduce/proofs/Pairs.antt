@@ -1,8 +1,7 @@
 -- Two neighbours of a product joined: meanings are kept.
-use Rattle.std.proofs.Common.{◌≡◌, ℕ, zero, suc, ◌<◌, inl, inr, List, ◌++◌, Bool, true, false, ◌&&◌, if◌then◌else◌, refl, sym, ap, ◌∙◌, subst, arith}
-use Rattle.std.specs.Prelude.{Contains}
+use Rattle.std.proofs.Common.{◌≡◌, ℕ, zero, suc, inl, inr, Bool, true, if◌then◌else◌, ap, subst, arith}
 use Rattle.std.proofs.lemmas.List.Elements.{Contains-append_left, Contains-append_right, Contains-append_cases}
-use Rattle.calc_terms.specs.Trees.{Tree, mult, Trees, none, more, count, names, names_of}
+use Rattle.calc_terms.specs.Trees.{Tree, mult, Trees, none, more, names, names_of}
 use Rattle.calc_algebra.specs.Rewritings.{Rewrites}
 use Rattle.calc_algebra.proofs.MeaningRewrites.{KeepsMeanings-product_more}
 use Rattle.calc_algebra.proofs.Names.{no_new_name}

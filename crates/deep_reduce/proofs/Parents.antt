@@ -149,10 +149,8 @@ pub record AreTakenOut (i : ℕ) (ts : Trees) (old new : Forest) (left right : �
   pub front : KeepsFront (i ∷ []) old new
 
 two_of : (ts : Trees) → count ts ≡ 2 → ts ≡ more (nth 0 ts) (more (nth 1 ts) none)
-two_of none e = absurd (omega arith)
-two_of (more t none) e = absurd (omega arith)
 two_of (more t (more u none)) e = refl
-two_of (more t (more u (more v ts))) e = absurd (omega arith)
+two_of t e = absurd (omega arith)
 
 pub first_out : {i h : ℕ} {old mid : Forest} → IsHanded i old → count (children_of (plain (root_tree i old))) ≡ 2 → Ends h (tree_nth 0 (kids (root_tree i old))) (put i (without_nth 0 (kids (root_tree i old))) old) mid
     → IsTakenOut (held_at i old) i (nth 0 (children_of (plain (root_tree i old)))) (more (nth 1 (children_of (plain (root_tree i old)))) none) old mid h

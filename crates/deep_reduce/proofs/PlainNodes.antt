@@ -125,10 +125,8 @@ module _ (P : PlainValue → Type 0) (n : P nothing) where
 
   -- two children
   by_pair : (f : Fraction → Fraction → PlainValue) (c d : Tree) (qs : List Fraction) → more c (more d none) ≡ nums qs → ((p q : Fraction) → c ≡ num p → d ≡ num q → P (f p q)) → P (on_two f (values qs))
-  by_pair f c d [] s k = cc
-  by_pair f c d (p ∷ []) s k = cc
   by_pair f c d (p ∷ q ∷ []) s k = let x : c ≡ num p = cc in let y : d ≡ num q = cc in k p q x y
-  by_pair f c d (p ∷ q ∷ r ∷ qs) s k = cc
+  by_pair f c d t s k = cc
 
   pair_kept : (f : Fraction → Fraction → PlainValue) (a b c d : Tree) → is_plain a && is_plain b ≡ true → IsReducedFrom a c → IsReducedFrom b d → (has_undef (more c (more d none)) ≡ true → P undefined)
       → ((p q : Fraction) → c ≡ num p → d ≡ num q → P (f p q)) → P (on_two f (gather (plain_of a) (gather (plain_of b) (values []))))
@@ -275,9 +273,6 @@ module _ (done answers : Trees) (t : Tree) (rest : Trees) (o : Overflow) (reduce
 
   -- a child's overflow, where those before it were answered, is the node's
   pub child_overflow : (n : Tree) → children_of n ≡ append done (more t rest) → IsPlainOverflow (plain_value n) o
-  child_overflow (num q) e = absurd (no_child e)
-  child_overflow (symbol x) e = absurd (no_child e)
-  child_overflow undef e = absurd (no_child e)
   child_overflow (add ts) e = as_plain (λ v. IsPlainOverflow v o) (add ts) tt (λ p. by_child (folded add_op) ts (λ v. refl) e p)
   child_overflow (mult ts) e = as_plain (λ v. IsPlainOverflow v o) (mult ts) tt (λ p. by_child (folded mul_op) ts (λ v. refl) e p)
   child_overflow (power a b) e = as_plain (λ v. IsPlainOverflow v o) (power a b) tt (λ p. by_child (on_two (λ p q. powered p q.num q.den)) (more a (more b none)) (λ v. refl) e (pair_plain a b p))
@@ -285,3 +280,4 @@ module _ (done answers : Trees) (t : Tree) (rest : Trees) (o : Overflow) (reduce
   child_overflow (neg a) e = as_plain (λ v. IsPlainOverflow v o) (neg a) tt (λ p. by_child (on_one (λ q. exactly (negative q))) (more a none) (λ v. refl) e (one_plain a p))
   child_overflow (sub a b) e = as_plain (λ v. IsPlainOverflow v o) (sub a b) tt (λ p. by_child (on_two (λ p q. calculated add_op p (negative q))) (more a (more b none)) (λ v. refl) e (pair_plain a b p))
   child_overflow (div a b) e = as_plain (λ v. IsPlainOverflow v o) (div a b) tt (λ p. by_child (on_two divided) (more a (more b none)) (λ v. refl) e (pair_plain a b p))
+  child_overflow t e = absurd (no_child e)

@@ -3,22 +3,21 @@ use Rattle.std.proofs.Common.{◌≡◌, ◌⊎◌, inl, inr, Bool, true, false,
 use Rattle.std.specs.Prelude.{◌||◌, Contains, if◌then◌else◌, [], ◌++◌}
 use Rattle.calc_algebra.proofs.MeaningRewrites as rewrites
 use Rattle.calc_algebra.proofs.PowerRewrites.{div_as_product}
-use Rattle.calc_algebra.proofs.UndefRewrites.{undefined_part}
 use Rattle.calc_terms.specs.Fits.{fraction_fits, mul_op}
 use Rattle.calc_terms.specs.Fractions.{Fraction, minus_one_fraction, inverse, is_zero_fraction}
 use Rattle.calc_algebra.specs.Numbers.{is_number}
 use Rattle.calc_measures.specs.PlainValues.{PlainValue, undefined, calculated, plain_value}
-use Rattle.calc_terms.specs.Trees.{Tree, num, undef, mult, power, div, none, names, is_undef, is_num, itself, in_mult, first, later, has_undef, are_rationals}
+use Rattle.calc_terms.specs.Trees.{Tree, num, undef, mult, power, div, none, names, is_undef, is_num, has_undef, are_rationals}
 use Rattle.deep_reduce.specs.Nodes.{IsNodeAnswer, IsNodeOverflow}
-use Rattle.deep_reduce.proofs.EasyNodes.{and_true, and_first, and_second, or_none, number_defined}
+use Rattle.deep_reduce.proofs.EasyNodes.{and_true, and_first, and_second, or_none, undef_words, undef_test, number_defined}
 use Rattle.deep_reduce.proofs.NodeRewrites.{both}
 use Rattle.deep_reduce.proofs.Rationals.{inverse_value, zero_inverse}
-use Rattle.deep_reduce.proofs.Steps.{two, or_split, or_first, or_second, left_undefined, right_undefined, undef_test, two_rationals, product_value, AreTwo, are_two, undef_number, undef_reduced, no_names}
+use Rattle.deep_reduce.proofs.Steps.{two, or_split, or_first, or_second, left_undefined, right_undefined, two_rationals, product_value, AreTwo, are_two}
 use Rattle.deep_reduce.specs.Answers.{lacks_power, is_number_power}
 use Rattle.rational128.specs.declared.overflow.Overflow.{Overflow}
 use Rattle.calc_algebra.proofs.Rewritings.{keeps, kept, reduces_after}
 use Rattle.calc_measures.specs.PlainTrees.{IsPlainAnswer, IsPlainOverflow}
-use Rattle.calc_algebra.specs.Rewritings.{Rewrites, Reduces, KeepsMeanings}
+use Rattle.calc_algebra.specs.Rewritings.{Rewrites, Reduces}
 
 abbrev inverse_tree : Tree → Tree
 inverse_tree b = power b (num minus_one_fraction)
@@ -74,42 +73,34 @@ module _ (a b c : Tree) (fit : (q : Fraction) → b ≡ num q → fraction_fits 
     factors_rational : are_rationals (two a b) ≡ true → are_rationals (two a c) ≡ true
     factors_rational e = let d = are_two a b e in two_rationals d.left (inverse d.right) a c d.left-is (quotient_factor d)
 
-    pub div_answer : (r : Tree) → IsNodeAnswer (mult (two a c)) r → IsNodeAnswer (div a b) r
-    div_answer r h = record {
-      reduces = reduces_after (div_rewrites a b c known.reduces) h.reduces;
-      undefined = λ e. by (or_split (is_undef a) (lacks_power b (num minus_one_fraction)) e);
-      number = λ n d.
-          let number : is_number c ≡ true = known.number (and_second (is_number a) (is_number_power b (num minus_one_fraction)) n) (or_second (is_undef a) (lacks_power b (num minus_one_fraction)) d) in
-          h.number (and_true (is_number a) (is_number c && true) (and_first (is_number a) (is_number_power b (num minus_one_fraction)) n) (and_true (is_number c) true number refl))
-          (or_none (is_undef a) (is_undef c || false) (or_first (is_undef a) (lacks_power b (num minus_one_fraction)) d) (or_none (is_undef c) false (number_defined c number) refl));
-      rational = λ e. subst (λ (v : PlainValue). IsPlainAnswer v r) (quotient_value (are_two a b e)) (h.rational (factors_rational e));
-    }
-      where
-        by : (is_undef a ≡ true) ⊎ (lacks_power b (num minus_one_fraction) ≡ true) → r ≡ undef
-        by (inl e) = h.undefined (left_undefined a c e)
-        by (inr e) = h.undefined (right_undefined a c (undef_test c (known.undefined e)))
-
-    -- the product does not fit
-    pub div_overflow : (o : Overflow) → IsNodeOverflow (mult (two a c)) o → has_undef (two a b) ≡ false → IsNodeOverflow (div a b) o
-    div_overflow o h d = record {
-      defined = d;
-      rational = λ e. subst (λ (v : PlainValue). IsPlainOverflow v o) (quotient_value (are_two a b e)) (h.rational (factors_rational e));
-    }
-
-  -- where it is Undef
-  pub zero_division_answer : c ≡ undef → IsNodeAnswer (div a b) undef
-  zero_division_answer e = record {
-    reduces = record {
-      reduced = undef_reduced;
-      no_new_name = no_names (div a b) undef refl;
-      meanings = keeps (rewrites.KeepsMeanings-trans (div_as_product a b) (undefined_part (inverse_tree b) (mult (two a (inverse_tree b))) (in_mult (later (first itself))) (kept (subst (λ (t : Tree). KeepsMeanings (inverse_tree b) t) e known.reduces.meanings))));
-    };
-    undefined = λ h. refl;
-    number = λ n d. absurd (undef_number (ap is_number (sym e) ∙ known.number (and_second (is_number a) (is_number_power b (num minus_one_fraction)) n) (or_second (is_undef a) (lacks_power b (num minus_one_fraction)) d)));
-    rational = λ h.
-        let d = are_two a b h in
-        subst (λ (v : PlainValue). IsPlainAnswer v undef) (sym ((λ i. plain_value (div (d.left-is i) (d.right-is i))) ∙ zero_divisor d.left d.right c (fit d.right d.right-is) (told d) e)) refl;
+  -- what the factors answer, an Undef factor among them
+  pub div_answer : (r : Tree) → IsNodeAnswer (mult (two a c)) r → IsNodeAnswer (div a b) r
+  div_answer r h = record {
+    reduces = reduces_after (div_rewrites a b c known.reduces) h.reduces;
+    undefined = λ e. by (or_split (is_undef a) (lacks_power b (num minus_one_fraction)) e);
+    number = λ n d.
+        let number : is_number c ≡ true = known.number (and_second (is_number a) (is_number_power b (num minus_one_fraction)) n) (or_second (is_undef a) (lacks_power b (num minus_one_fraction)) d) in
+        h.number (and_true (is_number a) (is_number c && true) (and_first (is_number a) (is_number_power b (num minus_one_fraction)) n) (and_true (is_number c) true number refl))
+        (or_none (is_undef a) (is_undef c || false) (or_first (is_undef a) (lacks_power b (num minus_one_fraction)) d) (or_none (is_undef c) false (number_defined c number) refl));
+    rational = λ e. by_factor (is_undef c) refl e;
   }
+    where
+      by : (is_undef a ≡ true) ⊎ (lacks_power b (num minus_one_fraction) ≡ true) → r ≡ undef
+      by (inl e) = h.undefined (left_undefined a c e)
+      by (inr e) = h.undefined (right_undefined a c (undef_test c (known.undefined e)))
+
+      by_factor : (x : Bool) → is_undef c ≡ x → are_rationals (two a b) ≡ true → IsPlainAnswer (plain_value (div a b)) r
+      by_factor true u e =
+          let d = are_two a b e in
+          let v : plain_value (div a b) ≡ undefined = (λ i. plain_value (div (d.left-is i) (d.right-is i))) ∙ zero_divisor d.left d.right c (fit d.right d.right-is) (told d) (undef_words c u) in
+          subst (λ (v : PlainValue). IsPlainAnswer v r) (sym v) (h.undefined (right_undefined a c u))
+      by_factor false u e = subst (λ (v : PlainValue). IsPlainAnswer v r) (quotient_value u (are_two a b e)) (h.rational (factors_rational u e))
+
+  -- the product does not fit
+  pub div_overflow : (o : Overflow) → IsNodeOverflow (mult (two a c)) o → has_undef (two a b) ≡ false → IsNodeOverflow (div a b) o
+  div_overflow o h d =
+      let u = or_first (is_undef c) false (or_second (is_undef a) (is_undef c || false) h.defined) in
+      record { defined = d; rational = λ e. subst (λ (v : PlainValue). IsPlainOverflow v o) (quotient_value u (are_two a b e)) (h.rational (factors_rational u e)) }
 
 -- the inverse of a rational fits
 pub inverse_overflow : (a b : Tree) (o : Overflow) → ((q : Fraction) → b ≡ num q → fraction_fits q ≡ true) → IsNodeOverflow (inverse_tree b) o → has_undef (two a b) ≡ false → IsNodeOverflow (div a b) o

@@ -1,22 +1,19 @@
 -- The loop over the powers of a product, each of which is taken out, reduced and put back.
 use Rattle.std.proofs.Common.{◌≡◌, ℕ, suc, ◌+◌, ◌≤◌, ◌<◌, [], ◌∷◌, refl, sym, ap, ◌∙◌, subst, arith}
-use Rattle.std.specs.Prelude.{max}
 use Rattle.calc_terms.specs.declared.kind.Kind.TheVariants as kind
 use Rattle.calc_measures.specs.Loads.{nest, nest_of, weight}
 use Rattle.calc_terms.specs.Trees.{Tree, Trees, none, more, append, count}
 use Rattle.coefficients.proofs.Places.{IsOver, IsTaken, taken, over_put, inserted_behind}
 use Rattle.coefficients.proofs.Steps.{IsAdded, added_as}
 use Rattle.deep_reduce.specs.Answers.{IsReducedPower}
-use Rattle.deep_reduce.specs.Unfinished.{weight_of_bases, IsTransparent, AreTransparent, AreReducedPowers, IsProductOfPowers}
-use Rattle.deep_reduce.proofs.Children.{itself}
-use Rattle.deep_reduce.proofs.Ranks.{rank, rank_second}
+use Rattle.deep_reduce.specs.Unfinished.{weight_of_bases, IsTransparent, AreTransparent, AreReducedPowers}
 use Rattle.power_reduce.specs.PowerAnswers.{base_in, exponent_in}
-use Rattle.tree_handles.specs.Expressions.{plain, inserted}
+use Rattle.tree_handles.specs.Expressions.{inserted}
 use Rattle.tree_handles.specs.Forest.{Forest, kids, with_nth, tree_nth, without_nth}
 use Rattle.tree_handles.specs.Handed.{Represents, Ends, Gives, KeepsFront}
 use Rattle.tree_handles.specs.Roots.{root_tree, without_root, put}
 use Rattle.tree_handles.proofs.Fronts.{behind_first, front_same, front_at, front_put}
-use Rattle.tree_handles.proofs.Given.{given_rest, given_told, append-none}
+use Rattle.tree_handles.proofs.Given.{append-none}
 use Rattle.tree_handles.proofs.Roots.{put-put, put-same}
 
 -- ---- lists

@@ -1,15 +1,14 @@
 -- A product whose joint is reduced in its place.
-use Rattle.std.proofs.Common.{◌≡◌, ℕ, zero, suc, ◌+◌, ◌≤◌, ◌<◌, inl, inr, List, ◌++◌, Bool, true, false, ◌&&◌, if◌then◌else◌, refl, sym, ap, ◌∙◌, subst, arith, add-one}
-use Rattle.std.specs.Prelude.{max, Contains, Option, Some, None, MatchOption, IfSome}
+use Rattle.std.proofs.Common.{◌≡◌, ℕ, zero, suc, ◌+◌, ◌≤◌, ◌<◌, inl, inr, Bool, true, false, if◌then◌else◌, refl, sym, ap, ◌∙◌, subst, arith, add-one}
+use Rattle.std.specs.Prelude.{Option, Some, None, MatchOption, IfSome}
 use Rattle.std.proofs.lemmas.Bool.{and_parts}
 use Rattle.std.proofs.lemmas.List.Elements.{Contains-append_left, Contains-append_right, Contains-append_cases}
 use Rattle.calc_measures.specs.Loads.{nest, nest_of, load, weight, load_of_factor, load_of_factors}
-use Rattle.calc_algebra.specs.Numbers.{is_number, are_numbers}
 use Rattle.calc_algebra.specs.Reduced.{is_reduced, is_opaque_exponent, num_one, base_of, are_reduced}
-use Rattle.calc_terms.specs.Trees.{Tree, num, symbol, undef, add, mult, power, root, neg, sub, div, Trees, none, more, count, is_mult, is_undef, names, names_of, has_undef}
-use Rattle.calc_algebra.proofs.MeaningRewrites.{KeepsMeanings-refl, KeepsMeanings-power, KeepsMeanings-product_more}
+use Rattle.calc_terms.specs.Trees.{Tree, undef, add, mult, power, Trees, none, more, count, is_mult, is_undef, names}
+use Rattle.calc_algebra.proofs.MeaningRewrites.{KeepsMeanings-refl, KeepsMeanings-power}
 use Rattle.deep_reduce.specs.Answers.{IsReducedProduct, IsReducedPower}
-use Rattle.deep_reduce.specs.Unfinished.{nest_over, nest_of_joint, replaced, Joins, joins_gathered, joins_pair, joins_then, IsLess, IsSummed, IsSettled}
+use Rattle.deep_reduce.specs.Unfinished.{nest_of_joint, replaced, Joins, joins_gathered, joins_pair, joins_then, IsLess, IsSummed, IsSettled}
 use Rattle.coefficients.proofs.Forms.{parts_reduced}
 use Rattle.deep_reduce.proofs.Heavy.{base_reduced, exponent_reduced, some_weight, factor_load}
 use Rattle.deep_reduce.proofs.Joined.{JointsBelow, IsLessLoaded, pair_loaded, numbers_opened}
@@ -23,7 +22,7 @@ use Rattle.product_reduce.specs.Gathering.{IsGathered}
 use Rattle.product_reduce.specs.Joining.{exponent_of, have_partners, joint as joint_of, IsJointAt}
 use Rattle.product_reduce.specs.Neighbours.{IsNextPair, IsPairAt, NoPairBetween, joined_pair}
 use Rattle.product_reduce.proofs.Neighbours.{joint_there, neighbours_joint}
-use Rattle.calc_algebra.specs.Rewritings.{Rewrites, Reduces, HasNoNewName}
+use Rattle.calc_algebra.specs.Rewritings.{Rewrites}
 use Rattle.calc_algebra.proofs.Rewritings.{keeps, kept, Rewrites-refl, Rewrites-trans, rewrites_of, reduces_after}
 use Rattle.sum_reduce.specs.SumAnswers.{IsSumAnswer}
 use Rattle.tree_handles.specs.Expressions.{nth, children_of}
@@ -145,15 +144,7 @@ exponent_is_reduced (power b e) h = by (is_opaque_exponent e)
     by : (x : Bool) → is_reduced (if x then num_one else e) ≡ true
     by true = one_reduced
     by false = exponent_reduced b e h
-exponent_is_reduced (num q) h = one_reduced
-exponent_is_reduced (symbol x) h = one_reduced
-exponent_is_reduced undef h = one_reduced
-exponent_is_reduced (add ts) h = one_reduced
-exponent_is_reduced (mult ts) h = one_reduced
-exponent_is_reduced (root a) h = one_reduced
-exponent_is_reduced (neg a) h = one_reduced
-exponent_is_reduced (sub a b) h = one_reduced
-exponent_is_reduced (div a b) h = one_reduced
+exponent_is_reduced t h = one_reduced
 
 base_is_reduced : (t : Tree) → is_reduced t ≡ true → is_reduced (base_of t) ≡ true
 base_is_reduced (power b e) h = by (is_opaque_exponent e)
@@ -161,15 +152,7 @@ base_is_reduced (power b e) h = by (is_opaque_exponent e)
     by : (x : Bool) → is_reduced (if x then power b e else b) ≡ true
     by true = h
     by false = base_reduced b e h
-base_is_reduced (num q) h = h
-base_is_reduced (symbol x) h = h
-base_is_reduced undef h = h
-base_is_reduced (add ts) h = h
-base_is_reduced (mult ts) h = h
-base_is_reduced (root a) h = h
-base_is_reduced (neg a) h = h
-base_is_reduced (sub a b) h = h
-base_is_reduced (div a b) h = h
+base_is_reduced t h = h
 
 pub joint_at : {at : ℕ} {ts : Trees} → IsJointAt at ts → IsJoint (nth at ts)
 joint_at j = record {

@@ -4,9 +4,9 @@ use Rattle.calc_terms.specs.Trees.{Tree, Trees}
 use Rattle.calc_terms.specs.declared.kind.Kind.{Kind}
 use Rattle.deep_reduce.specs.Pairs.{GivesSides}
 use Rattle.deep_reduce.proofs.Steps.{two}
-use Rattle.tree_handles.proofs.Fronts.{behind_first, behind_new, front_same, front_at, front_end, front_without, front_after_one, front_after_two}
-use Rattle.tree_handles.proofs.Given.{given_handed, given_told, given_rest, given_other, given_same, given_apart, given_without, handed_at}
-use Rattle.tree_handles.proofs.Lasts.{ends_as, ends_at, ends_without, last_tree}
+use Rattle.tree_handles.proofs.Fronts.{behind_first, behind_later, behind_new, front_same, front_at, front_end, front_without, front_after_one, front_after_two}
+use Rattle.tree_handles.proofs.Given.{given_handed, given_told, given_rest, given_same, given_apart, given_without, handed_at}
+use Rattle.tree_handles.proofs.Lasts.{ends_as, ends_at, ends_without}
 use Rattle.tree_handles.proofs.Outcomes.{eqb-sym}
 use Rattle.tree_handles.specs.Expressions.{nth, plain, compound}
 use Rattle.tree_handles.specs.Forest.{Forest}
@@ -50,11 +50,10 @@ apart_second {i = i} {j = j} n o = eqb-sym i j (given_apart n o)
 
 -- ---- two sides, the right of which was rewritten
 
--- the left beside what is made of the right
+-- the left behind what is made of the right
 pub record IsBeside (ts : Trees) (left made : ℕ) (others new : Forest) : Type 0 where
-  pub handed : IsHanded left new
+  pub handed : IsHanded left (without_root made new)
   pub tree : plain (root_tree left new) ≡ nth 0 ts
-  pub apart : eqb left made ≡ false
   pub rest : without_root made (without_root left new) ≡ others
 
 pub left_beside : {ts : Trees} {others f g : Forest} {left right made : ℕ} {Told : Tree → Type 0} → GivesSides ts others f left right → Gives (without_root right f) g made Told → IsBeside ts left made others g
@@ -62,20 +61,10 @@ left_beside {left = left} s m =
     let rest = given_rest s.right-given in
     let there = handed_at (given_handed s.left-given) rest in
     record {
-      handed = given_other m there;
+      handed = handed_at there (given_rest m);
       tree = beside_new left m there ∙ ap (λ (x : Forest). plain (root_tree left x)) rest ∙ given_told s.left-given;
-      apart = apart_second m there;
       rest = given_without m there ∙ ap (without_root left) rest ∙ given_rest s.left-given;
     }
-
--- both under a new node
-pub beside_paired : {ts : Trees} {others g h : Forest} {left made p : ℕ} {k : Kind} → IsBeside ts left made others g → Gives (without_root made (without_root left g)) h p (λ u. u ≡ compound k (two (plain (root_tree left g)) (plain (root_tree made g))))
-    → IsPaired k p (nth 0 ts) (plain (root_tree made g)) others h
-beside_paired {g = f} {made = made} {k = k} b g = record {
-  handed = given_handed g;
-  tree = given_told g ∙ ap (λ (t : Tree). compound k (two t (plain (root_tree made f)))) b.tree;
-  rest = given_rest g ∙ b.rest;
-}
 
 -- ---- what stood first
 
@@ -97,20 +86,18 @@ paired_front s k m l =
 pub reduced_front : {old h end : Forest} {i p : ℕ} {Told : Tree → Type 0} {others : Forest} → KeepsFront (i ∷ []) old h → Gives others h p Told → others ≡ without_root i old → KeepsFront (p ∷ []) h end → KeepsFront (i ∷ []) old end
 reduced_front k g e l = front_after_one (behind_new g.ends (front_at (front_without behind_first front_same) e)) k l
 
--- ---- the left goes, and what was made of the right stays
+-- ---- a left side and the last tree
 
-pub left_gone : {ts : Trees} {others f g end : Forest} {left right made : ℕ} {Told : Tree → Type 0} → GivesSides ts others f left right → Gives (without_root right f) g made Told → end ≡ without_root left g
-    → Gives others end made (λ t. t ≡ plain (root_tree made g))
-left_gone {left = left} s m e =
-    let rest = given_rest s.right-given in
-    let there = handed_at (given_handed s.left-given) rest in
-    record {
-      tree = m.tree;
-      ends = ends_as (ends_at (ends_without left m.ends there.root) e) refl (ap (without_root left) rest ∙ given_rest s.left-given);
-      once = m.once;
-      whole = m.whole;
-      told = ap plain (sym (last_tree m.ends));
-    }
+without_both : {f : Forest} {left made : ℕ} → KeepsFront (left ∷ made ∷ []) f (without_root made (without_root left f))
+without_both = front_without (behind_later behind_first) (front_without behind_first front_same)
 
-pub gone_front : {ts : Trees} {old f g end : Forest} {i left right made : ℕ} {Told : Tree → Type 0} → GivesSides ts (without_root i old) f left right → Gives (without_root right f) g made Told → end ≡ without_root left g → KeepsFront (i ∷ []) old end
-gone_front s m e = front_end (left_gone s m e).ends (front_without behind_first front_same)
+-- both were put under a new node, which was reduced
+pub joined_front : {f h end : Forest} {left made p : ℕ} {Told : Tree → Type 0} → KeepsFront (left ∷ made ∷ []) f h → Gives (without_root made (without_root left f)) h p Told → KeepsFront (p ∷ []) h end → KeepsFront (left ∷ made ∷ []) f end
+joined_front k g l = front_after_one (behind_new g.ends without_both) k l
+
+-- the left goes
+pub left_gone : {f end : Forest} {left made : ℕ} {Told : Tree → Type 0} → IsHanded left (without_root made f) → Gives (without_root made f) f made Told → end ≡ without_root left f
+    → Gives (without_root made (without_root left f)) end made Told × KeepsFront (left ∷ made ∷ []) f end
+left_gone {left = left} there m e =
+    let ends = ends_as (ends_at (ends_without left m.ends there.root) e) refl (sym (given_without m there)) in
+    (record { tree = m.tree; ends = ends; once = m.once; whole = m.whole; told = m.told }, front_end ends without_both)

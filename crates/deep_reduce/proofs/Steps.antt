@@ -2,16 +2,18 @@
 use Rattle.std.proofs.Common.{◌≡◌, ℕ, ◌<◌, ◌⊎◌, inl, inr, Bool, true, false, ◌&&◌, List, length, refl, sym, ap, ◌∙◌, subst, arith, append-nil}
 use Rattle.std.specs.Prelude.{◌||◌, Contains, [], ◌++◌}
 use Rattle.calc_algebra.proofs.MeaningRewrites as rewrites
-use Rattle.calc_algebra.proofs.UndefRewrites.{undef_part, undefined_part}
+use Rattle.calc_algebra.proofs.UndefRewrites.{undef_part}
 use Rattle.calc_terms.specs.Fits.{fraction_fits, add_op, mul_op}
 use Rattle.calc_terms.specs.Fractions.{Fraction, minus_one_fraction, negative, zero_fraction, one_fraction}
 use Rattle.calc_algebra.specs.Numbers.{is_number}
 use Rattle.calc_measures.specs.PlainValues.{PlainValue, exactly, undefined, overflow, nothing, calculated, plain_value}
 use Rattle.calc_algebra.specs.Reduced.{is_reduced}
+use Rattle.calc_terms.specs.declared.kind.Kind.{Kind}
+use Rattle.calc_terms.specs.declared.kind.Kind.TheVariants as kind
 use Rattle.calc_terms.specs.Trees.{Tree, num, symbol, undef, add, mult, power, root, neg, sub, div, Trees, none, more, names, is_undef, is_num, IsPart, IsPartOf, itself, in_add, in_mult, in_base, in_exponent, in_root, in_neg, in_left, in_right, in_dividend, in_divisor, first, later, has_undef, are_rationals}
 use Rattle.deep_reduce.specs.Answers.{IsReducedProduct, IsReducedPower}
 use Rattle.deep_reduce.specs.Nodes.{IsNodeAnswer, IsNodeOverflow, has_no_value}
-use Rattle.deep_reduce.proofs.EasyNodes.{and_true, and_first, and_second, or_true, or_none, undef_words, number_defined}
+use Rattle.deep_reduce.proofs.EasyNodes.{and_true, and_first, and_second, or_true, or_none, undef_words, undef_test, number_defined}
 use Rattle.deep_reduce.proofs.NodeRewrites.{both}
 use Rattle.deep_reduce.proofs.PlainNodes.{undef_has_no_value}
 use Rattle.deep_reduce.proofs.Rationals.{opposite_value}
@@ -19,9 +21,9 @@ use Rattle.radical_forms.specs.RootAnswers.{IsRootAnswer}
 use Rattle.rational128.specs.declared.overflow.Overflow.{Overflow}
 use Rattle.calc_algebra.proofs.Rewritings.{keeps, kept, Rewrites-refl, reduces, reduces_after}
 use Rattle.calc_measures.specs.PlainTrees.{IsPlainAnswer, IsPlainOverflow}
-use Rattle.calc_algebra.specs.Rewritings.{HasNoNewName, KeepsMeanings, Rewrites, Reduces}
+use Rattle.calc_algebra.specs.Rewritings.{HasNoNewName, Rewrites, Reduces}
 use Rattle.sum_reduce.specs.SumAnswers.{IsSumAnswer}
-use Rattle.tree_handles.specs.Expressions.{children_of}
+use Rattle.tree_handles.specs.Expressions.{compound, children_of}
 
 abbrev pub two : Tree → Tree → Trees
 two a b = more a (more b none)
@@ -68,15 +70,7 @@ num_words t e = cc
 undef_in : (ts : Trees) → has_undef ts ≡ true → IsPartOf undef ts
 undef_in none e = cc
 undef_in (more undef ts) e = first itself
-undef_in (more (num q) ts) e = later (undef_in ts e)
-undef_in (more (symbol x) ts) e = later (undef_in ts e)
-undef_in (more (add us) ts) e = later (undef_in ts e)
-undef_in (more (mult us) ts) e = later (undef_in ts e)
-undef_in (more (power b g) ts) e = later (undef_in ts e)
-undef_in (more (root a) ts) e = later (undef_in ts e)
-undef_in (more (neg a) ts) e = later (undef_in ts e)
-undef_in (more (sub a b) ts) e = later (undef_in ts e)
-undef_in (more (div a b) ts) e = later (undef_in ts e)
+undef_in (more t ts) e = later (undef_in ts e)
 
 in_two : (a b u : Tree) → (IsPart undef a → IsPart undef u) → (IsPart undef b → IsPart undef u) → IsPartOf undef (two a b) → IsPart undef u
 in_two a b u f g (first k) = f k
@@ -99,6 +93,13 @@ undef_child (neg a) k = in_one a (neg a) (λ x. in_neg x) k
 undef_child (sub a b) k = in_two a b (sub a b) (λ x. in_left x) (λ x. in_right x) k
 undef_child (div a b) k = in_two a b (div a b) (λ x. in_dividend x) (λ x. in_divisor x) k
 
+-- a side that is Undef, among two
+pub left_undefined : (a c : Tree) → is_undef a ≡ true → has_undef (two a c) ≡ true
+left_undefined a c e = or_true (is_undef a) (is_undef c || false) (inl e)
+
+pub right_undefined : (a c : Tree) → is_undef c ≡ true → has_undef (two a c) ≡ true
+right_undefined a c e = or_true (is_undef a) (is_undef c || false) (inr (or_true (is_undef c) false (inl e)))
+
 -- a node with an Undef child
 pub undefined_answer : (u : Tree) → has_undef (children_of u) ≡ true → IsNodeAnswer u undef
 undefined_answer u e = record {
@@ -107,6 +108,14 @@ undefined_answer u e = record {
   number = λ h n. absurd (let y : has_no_value u ≡ true = undef_has_no_value u e in cc);
   rational = λ h. absurd (let n : has_undef (children_of u) ≡ false = rationals_defined (children_of u) h in cc);
 }
+
+-- of two sides, where the right is Undef
+pub undefined_sides : {k : Kind} (a b : Tree) → (k ≡ kind.Add) ⊎ (k ≡ kind.Mult) → is_undef b ≡ true → IsNodeAnswer (compound k (two a b)) b
+undefined_sides {k = k} a b h e = subst (λ (t : Tree). IsNodeAnswer (compound k (two a b)) t) (sym (undef_words b e)) (by h)
+  where
+    by : (k ≡ kind.Add) ⊎ (k ≡ kind.Mult) → IsNodeAnswer (compound k (two a b)) undef
+    by (inl q) = subst (λ (x : Kind). IsNodeAnswer (compound x (two a b)) undef) (sym q) (undefined_answer (add (two a b)) (right_undefined a b e))
+    by (inr q) = subst (λ (x : Kind). IsNodeAnswer (compound x (two a b)) undef) (sym q) (undefined_answer (mult (two a b)) (right_undefined a b e))
 
 -- ---- leaves
 
@@ -206,13 +215,6 @@ sub_rewrites a b c h = record {
   meanings = keeps (rewrites.KeepsMeanings-trans (rewrites.sub_as_neg a b) (rewrites.KeepsMeanings-sum_more (rewrites.KeepsMeanings-refl a) (rewrites.KeepsMeanings-sum_more (kept h.meanings) (rewrites.KeepsMeanings-refl (add none)))));
 }
 
--- a side that is Undef, among two
-pub left_undefined : (a c : Tree) → is_undef a ≡ true → has_undef (two a c) ≡ true
-left_undefined a c e = or_true (is_undef a) (is_undef c || false) (inl e)
-
-pub right_undefined : (a c : Tree) → is_undef c ≡ true → has_undef (two a c) ≡ true
-right_undefined a c e = or_true (is_undef a) (is_undef c || false) (inr (or_true (is_undef c) false (inl e)))
-
 pub or_split : (a b : Bool) → a || b ≡ true → (a ≡ true) ⊎ (b ≡ true)
 or_split true b e = inl refl
 or_split false b e = inr e
@@ -225,18 +227,13 @@ pub or_second : (a b : Bool) → a || b ≡ false → b ≡ false
 or_second true b e = cc
 or_second false b e = e
 
-pub undef_test : (t : Tree) → t ≡ undef → is_undef t ≡ true
-undef_test t e = ap is_undef e
-
 pub two_rationals : (p q : Fraction) (a c : Tree) → a ≡ num p → c ≡ num q → are_rationals (two a c) ≡ true
 two_rationals p q a c e f = λ i. is_num (e i) && (is_num (f i) && true)
 
 -- the plain value of a sum or product of two rationals
 computed : (v : PlainValue) → (elim v [ exactly x ↦ exactly x | undefined ↦ undefined | overflow o a b ↦ overflow o a b | nothing ↦ nothing ]) ≡ v
 computed (exactly x) = refl
-computed undefined = refl
-computed (overflow o a b) = refl
-computed nothing = refl
+computed v = refl
 
 sum_value : (p q : Fraction) → plain_value (add (two (num p) (num q))) ≡ calculated add_op p q
 sum_value p q = computed (calculated add_op p q)
@@ -293,19 +290,6 @@ module _ (a b c : Tree) (known : IsNodeAnswer (neg b) c) where
     defined = d;
     rational = λ e. subst (λ (v : PlainValue). IsPlainOverflow v o) (difference_value (are_two a b e)) (h.rational (sides_rational e));
   }
-
--- the opposite of the right is Undef
-pub undefined_difference : (a b c : Tree) → IsNodeAnswer (neg b) c → c ≡ undef → IsNodeAnswer (sub a b) undef
-undefined_difference a b c known e = record {
-  reduces = record {
-    reduced = undef_reduced;
-    no_new_name = no_names (sub a b) undef refl;
-    meanings = keeps (rewrites.KeepsMeanings-trans (rewrites.sub_as_neg a b) (undefined_part (neg b) (add (two a (neg b))) (in_add (later (first itself))) (kept (subst (λ (t : Tree). KeepsMeanings (neg b) t) e known.reduces.meanings))));
-  };
-  undefined = λ h. refl;
-  number = λ n d. absurd (undef_number (ap is_number (sym e) ∙ known.number (and_second (is_number a) (is_number b) n) (or_second (is_undef a) (is_undef b) d)));
-  rational = λ h. absurd (let d = are_two a b h in let n : num (negative d.right) ≡ undef = sym (opposite_is a b c known d.right d.right-is) ∙ e in cc);
-}
 
 -- the opposite of a rational fits
 pub opposite_overflow : (a b : Tree) (o : Overflow) → IsNodeOverflow (neg b) o → has_undef (two a b) ≡ false → IsNodeOverflow (sub a b) o

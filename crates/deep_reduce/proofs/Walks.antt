@@ -5,7 +5,7 @@ use Rattle.std.proofs.lemmas.List.{length-append}
 use Rattle.breakers.proofs.Runs.{CalmChecks-append}
 use Rattle.breakers.specs.Breakers.{CalmChecks}
 use Rattle.breakers.specs.State.{State as BreakerState}
-use Rattle.calc_terms.specs.Trees.{Tree, num, symbol, undef, add, mult, power, root, neg, sub, div, Trees, none, more, append, count, nodes, nodes_of}
+use Rattle.calc_terms.specs.Trees.{Tree, num, symbol, undef, root, Trees, none, more, append, count, nodes, nodes_of}
 use Rattle.coefficients.proofs.Places.{cut, cut_rest, represents_count}
 use Rattle.coefficients.proofs.Steps.{expression, seen}
 use Rattle.deep_reduce.specs.Leaves.{is_leaf, BeginWithLeaves}
@@ -49,15 +49,7 @@ nodes_append (more t ts) us = omega (arith, nodes_append ts us)
 -- a tree has one node more than its children
 pub nodes_by_children : (t : Tree) → nodes t ≡ nodes_of (children_of t) + 1
 nodes_by_children (num q) = omega arith
-nodes_by_children (symbol x) = omega arith
-nodes_by_children undef = omega arith
-nodes_by_children (add ts) = omega arith
-nodes_by_children (mult ts) = omega arith
-nodes_by_children (power b e) = omega arith
-nodes_by_children (root a) = omega arith
-nodes_by_children (neg a) = omega arith
-nodes_by_children (sub a b) = omega arith
-nodes_by_children (div a b) = omega arith
+nodes_by_children t = omega arith
 
 reduced_append : (ts us : Trees) (t u : Tree) → AreReducedFrom ts us → IsReducedFrom t u → AreReducedFrom (append ts (more t none)) (append us (more u none))
 reduced_append none none t u h k = (k, tt)
@@ -86,13 +78,7 @@ leaf_answer : (t : Tree) → is_leaf t ≡ true → IsNodeAnswer t t
 leaf_answer (num q) h = number_answer q
 leaf_answer (symbol x) h = symbol_answer x
 leaf_answer undef h = undef_answer
-leaf_answer (add ts) h = absurd (no_leaf h)
-leaf_answer (mult ts) h = absurd (no_leaf h)
-leaf_answer (power b e) h = absurd (no_leaf h)
-leaf_answer (root a) h = absurd (no_leaf h)
-leaf_answer (neg a) h = absurd (no_leaf h)
-leaf_answer (sub a b) h = absurd (no_leaf h)
-leaf_answer (div a b) h = absurd (no_leaf h)
+leaf_answer t h = absurd (no_leaf h)
 
 pub leaf_reduced : (t : Tree) → is_leaf t ≡ true → IsReducedFrom t t
 leaf_reduced t h = node_answered t t t (over_leaf t h) (leaf_answer t h)

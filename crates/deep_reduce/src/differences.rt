@@ -1,15 +1,16 @@
 //! Opposites, differences and quotients, as sums, products and powers.
-ghost use Rattle.std.specs.Prelude.{◌≡◌, true, false, IfOk, IfErr, OnOk, [], ◌∷◌};
+ghost use Rattle.std.specs.Prelude.{◌≡◌, ◌⊎◌, true, false, IfOk, IfErr, OnOk, [], ◌∷◌};
 ghost use Rattle.calc_terms.specs.Fractions.{minus_one_fraction};
 ghost use Rattle.calc_algebra.specs.Reduced.{is_reduced, are_reduced};
-ghost use Rattle.calc_terms.specs.Trees.{num, neg, power, count, is_undef, is_sub, is_div, has_undef};
+ghost use Rattle.calc_terms.specs.Trees.{num, neg, power, none, more, count, is_undef, is_sub, is_div, has_undef};
+ghost use Rattle.calc_terms.specs.declared.kind.Kind.TheVariants.{Add, Mult};
 ghost use Rattle.deep_reduce.specs.Nodes.{IsNodeAnswer, IsNodeOverflow, is_neg};
 ghost use Rattle.deep_reduce.specs.Pairs.{GivesSides};
 ghost use Rattle.tree_handles.specs.Causes.{IsCaused};
-ghost use Rattle.tree_handles.specs.Handed.{tree_of, IsHanded, Gives, KeepsFront};
-ghost use Rattle.tree_handles.specs.Expressions.{children_of};
+ghost use Rattle.tree_handles.specs.Handed.{tree_of, IsHanded, Ends, Gives, KeepsFront};
+ghost use Rattle.tree_handles.specs.Expressions.{children_of, compound};
 ghost use Rattle.tree_handles.specs.Faults.{Faults, IfOverflow};
-ghost use Rattle.tree_handles.specs.Roots.{without_root};
+ghost use Rattle.tree_handles.specs.Roots.{root_tree, without_root};
 ghost use Rattle.tree_handles.specs.Standing.{Stands, forest, KeepsRefusals};
 
 use crate::nodes::{add_up, multiply};
@@ -55,13 +56,7 @@ pub(crate) fn subtract(pool: &mut Pool, difference: Handle) -> Result<Handle, Nu
 {
     let (left, right) = take_sides(pool, difference);
     let term = minus(pool, right)?;
-    // A term that is Undef leaves nothing else of the sum.
-    if is_undefined(pool, term.id()) {
-        release(pool, left);
-        return Ok(term);
-    }
-    let sum = node_over_two(pool, Kind::Add, left, term)?;
-    add_up(pool, sum)
+    join_sides(pool, Kind::Add, left, term)
 }
 
 /// The dividend and the divisor to the power -1, multiplied.
@@ -81,13 +76,42 @@ pub(crate) fn divide(pool: &mut Pool, quotient: Handle) -> Result<Handle, Number
 {
     let (dividend, divisor) = take_sides(pool, quotient);
     let factor = inverse(pool, divisor)?;
-    // A division by zero.
-    if is_undefined(pool, factor.id()) {
-        release(pool, dividend);
-        return Ok(factor);
+    join_sides(pool, Kind::Mult, dividend, factor)
+}
+
+/// The sum or the product of two sides, the right of which stands last. A right side that is Undef leaves nothing else of it.
+fn join_sides(
+    pool: &mut Pool,
+    kind: Kind,
+    left: Handle,
+    right: Handle,
+) -> Result<Handle, NumberFault>
+    requires stands { Stands pool.old }
+    requires kind { (kind ≡ Add) ⊎ (kind ≡ Mult) }
+    requires handed { IsHanded right (forest pool.old) }
+    requires last { Ends right (root_tree right (forest pool.old)) (without_root right (forest pool.old)) (forest pool.old) }
+    requires left { IsHanded left (without_root right (forest pool.old)) }
+    requires left_reduced { is_reduced (tree_of left pool.old) ≡ true }
+    requires left_defined { is_undef (tree_of left pool.old) ≡ false }
+    requires right_reduced { is_reduced (tree_of right pool.old) ≡ true }
+    ensures ok { let t = compound kind (more (tree_of left pool.old) (more (tree_of right pool.old) none)) in
+        IfOk result (λ h. Gives (without_root right (without_root left (forest pool.old))) (forest pool.new) h (IsNodeAnswer t)) }
+    ensures overflow { IfOverflow result (IsNodeOverflow (compound kind (more (tree_of left pool.old) (more (tree_of right pool.old) none)))) }
+    ensures front { KeepsFront (left ∷ right ∷ []) (forest pool.old) (forest pool.new) }
+    ensures kept { OnOk result (KeepsRefusals pool.old pool.new) }
+    ensures faults { IfErr result (Faults pool.old pool.new) }
+    ensures caused { IfErr result (IsCaused pool.new) }
+    ensures stands { Stands pool.new }
+{
+    if is_undefined(pool, right.id()) {
+        release(pool, left);
+        return Ok(right);
     }
-    let product = node_over_two(pool, Kind::Mult, dividend, factor)?;
-    multiply(pool, product)
+    let both = node_over_two(pool, kind, left, right)?;
+    match kind {
+        Kind::Add => add_up(pool, both),
+        _ => multiply(pool, both),
+    }
 }
 
 /// -1 times a reduced tree.

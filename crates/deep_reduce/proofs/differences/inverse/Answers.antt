@@ -1,4 +1,4 @@
-use Rattle.std.proofs.Common.{◌≡◌, refl, ap, ◌∙◌}
+use Rattle.std.proofs.Common.{rules, refl, ap, ◌∙◌}
 use Rattle.calc_terms.specs.Fractions.{minus_one_fraction}
 use Rattle.calc_measures.specs.PlainValues.{plain_value}
 use Rattle.calc_algebra.specs.Reduced.{is_reduced}
@@ -31,23 +31,16 @@ returns-in_err-power-clause-front c =
     let n = c.in_ok-exponent.ensures.given in
     front_after_two behind_first (behind_new n.ends front_same) (front_end n.ends front_same) c.node_over_two.ensures.front
 
-pub reduce_power-requires-clause-handed : goal.reduce_power-requires-clause-handed
-reduce_power-requires-clause-handed c = given_handed c.in_ok-power.ensures.ok
-
-pub reduce_power-requires-clause-power : goal.reduce_power-requires-clause-power
-reduce_power-requires-clause-power c =
+pub reduce_power-requires : goal.reduce_power-requires
+reduce_power-requires c =
     let n = gives_as c.in_ok-exponent.ensures.given refl (λ t e. e ∙ minus_one_value c.whole.result c.whole.ensures) in
-    power_words _ _ (num minus_one_fraction) (new_second {k = kind.Pow} n c.requires.handed c.in_ok-power.ensures.ok).tree
-
-pub reduce_power-requires-clause-base : goal.reduce_power-requires-clause-base
-reduce_power-requires-clause-base c =
-    let n = gives_as c.in_ok-exponent.ensures.given refl (λ t e. e ∙ minus_one_value c.whole.result c.whole.ensures) in
-    ap (λ (t : Tree). is_reduced (base_in t)) (new_second {k = kind.Pow} n c.requires.handed c.in_ok-power.ensures.ok).tree ∙ c.requires.reduced
-
-pub reduce_power-requires-clause-exponent : goal.reduce_power-requires-clause-exponent
-reduce_power-requires-clause-exponent c =
-    let n = gives_as c.in_ok-exponent.ensures.given refl (λ t e. e ∙ minus_one_value c.whole.result c.whole.ensures) in
-    ap (λ (t : Tree). is_reduced (exponent_in t)) (new_second {k = kind.Pow} n c.requires.handed c.in_ok-power.ensures.ok).tree ∙ number_reduced minus_one_fraction
+    record {
+      stands = search rules;
+      handed = given_handed c.in_ok-power.ensures.ok;
+      power = power_words _ _ (num minus_one_fraction) (new_second {k = kind.Pow} n c.requires.handed c.in_ok-power.ensures.ok).tree;
+      base = ap (λ (t : Tree). is_reduced (base_in t)) (new_second {k = kind.Pow} n c.requires.handed c.in_ok-power.ensures.ok).tree ∙ c.requires.reduced;
+      exponent = ap (λ (t : Tree). is_reduced (exponent_in t)) (new_second {k = kind.Pow} n c.requires.handed c.in_ok-power.ensures.ok).tree ∙ number_reduced minus_one_fraction;
+    }
 
 pub returns-clause-ok : goal.returns-clause-ok
 returns-clause-ok c =

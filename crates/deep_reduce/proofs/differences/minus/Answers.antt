@@ -1,4 +1,4 @@
-use Rattle.std.proofs.Common.{◌≡◌, refl, ap, ◌∙◌}
+use Rattle.std.proofs.Common.{rules, refl, ap, ◌∙◌}
 use Rattle.calc_terms.specs.Fractions.{minus_one_fraction}
 use Rattle.calc_terms.specs.Trees.{Tree, num, is_mult, has_undef}
 use Rattle.calc_terms.specs.declared.kind.Kind.TheVariants as kind
@@ -32,23 +32,16 @@ returns-in_err-product-clause-front c =
     let n = c.in_ok-minus_one.ensures.given in
     front_after_two (behind_new n.ends front_same) behind_first (front_end n.ends front_same) c.node_over_two.ensures.front
 
-pub multiply-requires-clause-handed : goal.multiply-requires-clause-handed
-multiply-requires-clause-handed c = given_handed c.in_ok-product.ensures.ok
-
-pub multiply-requires-clause-product : goal.multiply-requires-clause-product
-multiply-requires-clause-product c =
+pub multiply-requires : goal.multiply-requires
+multiply-requires c =
     let n = gives_as c.in_ok-minus_one.ensures.given refl (λ t e. e ∙ minus_one_value c.whole.result c.whole.ensures) in
-    ap is_mult (new_first {k = kind.Mult} n c.requires.handed c.in_ok-product.ensures.ok).tree
-
-pub multiply-requires-clause-reduced : goal.multiply-requires-clause-reduced
-multiply-requires-clause-reduced c =
-    let n = gives_as c.in_ok-minus_one.ensures.given refl (λ t e. e ∙ minus_one_value c.whole.result c.whole.ensures) in
-    ap (λ (t : Tree). are_reduced (children_of t)) (new_first {k = kind.Mult} n c.requires.handed c.in_ok-product.ensures.ok).tree ∙ two_reduced (num minus_one_fraction) _ (number_reduced minus_one_fraction) c.requires.reduced
-
-pub multiply-requires-clause-defined : goal.multiply-requires-clause-defined
-multiply-requires-clause-defined c =
-    let n = gives_as c.in_ok-minus_one.ensures.given refl (λ t e. e ∙ minus_one_value c.whole.result c.whole.ensures) in
-    ap (λ (t : Tree). has_undef (children_of t)) (new_first {k = kind.Mult} n c.requires.handed c.in_ok-product.ensures.ok).tree ∙ two_defined (num minus_one_fraction) _ refl c.requires.defined
+    record {
+      stands = search rules;
+      handed = given_handed c.in_ok-product.ensures.ok;
+      product = ap is_mult (new_first {k = kind.Mult} n c.requires.handed c.in_ok-product.ensures.ok).tree;
+      reduced = ap (λ (t : Tree). are_reduced (children_of t)) (new_first {k = kind.Mult} n c.requires.handed c.in_ok-product.ensures.ok).tree ∙ two_reduced (num minus_one_fraction) _ (number_reduced minus_one_fraction) c.requires.reduced;
+      defined = ap (λ (t : Tree). has_undef (children_of t)) (new_first {k = kind.Mult} n c.requires.handed c.in_ok-product.ensures.ok).tree ∙ two_defined (num minus_one_fraction) _ refl c.requires.defined;
+    }
 
 pub returns-clause-ok : goal.returns-clause-ok
 returns-clause-ok c =

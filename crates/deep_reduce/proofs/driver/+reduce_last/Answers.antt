@@ -1,4 +1,4 @@
-use Rattle.std.proofs.Common.{◌<◌, sym, ap, ◌∙◌, arith, subst}
+use Rattle.std.proofs.Common.{rules, ◌<◌, sym, ap, ◌∙◌, arith, subst}
 use Rattle.breakers.specs.Watch.{states}
 use Rattle.calc_terms.specs.Trees.{Tree, nodes}
 use Rattle.deep_reduce.specs.Nodes.{IsNodeOverflow}
@@ -132,20 +132,14 @@ returns-in_err-answer-clause-front g t c =
     let w = all_walked c.loop-at.invariant.walked c.loop-at.invariant.many (omega (arith, c.loop-at-test.false)) c.adopt.ensures.forest in
     front_after_one behind_first w.front c.reduce_node.ensures.front
 
-pub returns-clause-ok : goal.returns-clause-ok
-returns-clause-ok g t c =
+pub returns : goal.returns
+returns g t c =
     let w = all_walked c.loop-at.invariant.walked c.loop-at.invariant.many (omega (arith, c.loop-at-test.false)) c.adopt.ensures.forest in
-    ready_gives (walked_ready c.requires.handed w) c.in_ok-answer.ensures.ok
-
-pub returns-clause-checks : goal.returns-clause-checks
-returns-clause-checks g t c =
-    let w = all_walked c.loop-at.invariant.walked c.loop-at.invariant.many (omega (arith, c.loop-at-test.false)) c.adopt.ensures.forest in
-    all_checks _ w c.in_ok-check.ensures.calm
-
-pub returns-clause-kept : goal.returns-clause-kept
-returns-clause-kept g t c = keeps_after _ _ _ c.loop-at.invariant.kept (keeps_after _ _ _ c.adopt.ensures.kept c.in_ok-answer.ensures.kept)
-
-pub returns-clause-front : goal.returns-clause-front
-returns-clause-front g t c =
-    let w = all_walked c.loop-at.invariant.walked c.loop-at.invariant.many (omega (arith, c.loop-at-test.false)) c.adopt.ensures.forest in
-    front_after_one behind_first w.front c.reduce_node.ensures.front
+    record {
+      ok = ready_gives (walked_ready c.requires.handed w) c.in_ok-answer.ensures.ok;
+      checks = all_checks _ w c.in_ok-check.ensures.calm;
+      kept = keeps_after _ _ _ c.loop-at.invariant.kept (keeps_after _ _ _ c.adopt.ensures.kept c.in_ok-answer.ensures.kept);
+      stops = search rules;
+      front = front_after_one behind_first w.front c.reduce_node.ensures.front;
+      stands = search rules;
+    }

@@ -1,4 +1,4 @@
-use Rattle.std.proofs.Common.{ap, subst}
+use Rattle.std.proofs.Common.{rules, ap, subst}
 use Rattle.std.specs.Prelude.{OnOk}
 use Rattle.breakers.specs.Breakers.{CalmChecks}
 use Rattle.breakers.specs.Watch.{states}
@@ -18,23 +18,14 @@ reduce_last-requires-clause-handed g c = (moved c.requires.handed c.move_last.en
 pub reduce_last-requires-clause-last : goal.reduce_last-requires-clause-last
 reduce_last-requires-clause-last g c = (moved c.requires.handed c.move_last.ensures.last).last
 
-pub returns-clause-ok : goal.returns-clause-ok
-returns-clause-ok g c =
+pub returns : goal.returns
+returns g c =
     let m = moved c.requires.handed c.move_last.ensures.last in
-    if_map c.reduce_last.result _ _ c.reduce_last.ensures.ok (λ h x. gives_as x m.rest (λ t a. subst (λ (u : Tree). IsReducedFrom u t) (ap plain m.same) a))
-
-pub returns-clause-checks : goal.returns-clause-checks
-returns-clause-checks g c =
-    let m = moved c.requires.handed c.move_last.ensures.last in
-    subst (λ (u : Tree). OnOk c.reduce_last.result (CalmChecks (nodes u) (states g.B.Breaker.state c.args.watch.now) (states g.B.Breaker.state c.reduce_last.new.watch))) (ap plain m.same) c.reduce_last.ensures.checks
-
-pub returns-clause-kept : goal.returns-clause-kept
-returns-clause-kept g c = kept_from _ c.reduce_last.result c.move_last.ensures.kept c.reduce_last.ensures.kept
-
-pub returns-clause-stops : goal.returns-clause-stops
-returns-clause-stops g c =
-    let m = moved c.requires.handed c.move_last.ensures.last in
-    stopped c.reduce_last.result _ _ _ (ap plain m.same) c.move_last.ensures.kept c.reduce_last.ensures.stops
-
-pub returns-clause-front : goal.returns-clause-front
-returns-clause-front g c = front_after_one behind_first (moved c.requires.handed c.move_last.ensures.last).front c.reduce_last.ensures.front
+    record {
+      ok = if_map c.reduce_last.result _ _ c.reduce_last.ensures.ok (λ h x. gives_as x m.rest (λ t a. subst (λ (u : Tree). IsReducedFrom u t) (ap plain m.same) a));
+      checks = subst (λ (u : Tree). OnOk c.reduce_last.result (CalmChecks (nodes u) (states g.B.Breaker.state c.args.watch.now) (states g.B.Breaker.state c.reduce_last.new.watch))) (ap plain m.same) c.reduce_last.ensures.checks;
+      kept = kept_from _ c.reduce_last.result c.move_last.ensures.kept c.reduce_last.ensures.kept;
+      stops = stopped c.reduce_last.result _ _ _ (ap plain m.same) c.move_last.ensures.kept c.reduce_last.ensures.stops;
+      front = front_after_one behind_first (moved c.requires.handed c.move_last.ensures.last).front c.reduce_last.ensures.front;
+      stands = search rules;
+    }

@@ -1,4 +1,4 @@
-use Rattle.std.proofs.Common.{ap, ◌∙◌, refl, arith, subst}
+use Rattle.std.proofs.Common.{rules, ap, ◌∙◌, refl, arith, subst}
 use Rattle.calc_terms.specs.Trees.{Tree, count, is_add}
 use Rattle.coefficients.proofs.Rewritten.{over_back, apart_back, put_back, front_lost}
 use Rattle.coefficients.proofs.Steps.{children_in, moved, moved_front}
@@ -18,53 +18,32 @@ take_child-exponent-requires-clause-within c =
     let o = over_power _ c.requires.handed refl (power_of_sum _ c.requires.power) in
     omega (arith, children_in c.requires.stands o)
 
-pub reduce_sum-requires-clause-handed : goal.reduce_sum-requires-clause-handed
-reduce_sum-requires-clause-handed c =
+pub reduce_sum-requires : goal.reduce_sum-requires
+reduce_sum-requires c =
     let o = over_power _ c.requires.handed refl (power_of_sum _ c.requires.power) in
     let a = exponent_taken o (c.take_child-exponent.ensures.last c.requires.handed.root) in
-    given_handed a.gives
-
-pub reduce_sum-requires-clause-sum : goal.reduce_sum-requires-clause-sum
-reduce_sum-requires-clause-sum c =
-    let o = over_power _ c.requires.handed refl (power_of_sum _ c.requires.power) in
-    let a = exponent_taken o (c.take_child-exponent.ensures.last c.requires.handed.root) in
-    ap is_add (given_told a.gives) ∙ ap (λ (t : Tree). is_add (exponent_in t)) c.requires.power
-
-pub reduce_sum-requires-clause-some : goal.reduce_sum-requires-clause-some
-reduce_sum-requires-clause-some c =
-    let o = over_power _ c.requires.handed refl (power_of_sum _ c.requires.power) in
-    let a = exponent_taken o (c.take_child-exponent.ensures.last c.requires.handed.root) in
-    omega (arith, ap (λ (t : Tree). count (children_of t)) (given_told a.gives), c.requires.some)
-
-pub reduce_sum-requires-clause-reduced : goal.reduce_sum-requires-clause-reduced
-reduce_sum-requires-clause-reduced c =
-    let o = over_power _ c.requires.handed refl (power_of_sum _ c.requires.power) in
-    let a = exponent_taken o (c.take_child-exponent.ensures.last c.requires.handed.root) in
-    ap (λ (t : Tree). are_reduced (children_of t)) (given_told a.gives) ∙ c.requires.reduced
+    record {
+      stands = search rules;
+      handed = given_handed a.gives;
+      sum = ap is_add (given_told a.gives) ∙ ap (λ (t : Tree). is_add (exponent_in t)) c.requires.power;
+      some = omega (arith, ap (λ (t : Tree). count (children_of t)) (given_told a.gives), c.requires.some);
+      reduced = ap (λ (t : Tree). are_reduced (children_of t)) (given_told a.gives) ∙ c.requires.reduced;
+    }
 
 pub returns-in_err-sum-clause-front : goal.returns-in_err-sum-clause-front
 returns-in_err-sum-clause-front c = front_lost _ front_same (c.take_child-exponent.ensures.last c.requires.handed.root) c.reduce_sum.ensures.front
 
-pub add_child-requires-clause-live : goal.add_child-requires-clause-live
-add_child-requires-clause-live c =
+pub add_child-requires : goal.add_child-requires
+add_child-requires c =
     let o = over_power _ c.requires.handed refl (power_of_sum _ c.requires.power) in
     let a = exponent_taken o (c.take_child-exponent.ensures.last c.requires.handed.root) in
-    root_held c.args.power _ (over_back o a (itself c.in_ok-sum.ensures.ok)).root
-
-pub add_child-requires-clause-within : goal.add_child-requires-clause-within
-add_child-requires-clause-within c =
-    let o = over_power _ c.requires.handed refl (power_of_sum _ c.requires.power) in
-    let a = exponent_taken o (c.take_child-exponent.ensures.last c.requires.handed.root) in
-    omega (arith, children_in c.in_ok-sum.ensures.stands (over_back o a (itself c.in_ok-sum.ensures.ok)))
-
-pub add_child-requires-clause-root : goal.add_child-requires-clause-root
-add_child-requires-clause-root c = given_root c.in_ok-sum.ensures.ok
-
-pub add_child-requires-clause-apart : goal.add_child-requires-clause-apart
-add_child-requires-clause-apart c =
-    let o = over_power _ c.requires.handed refl (power_of_sum _ c.requires.power) in
-    let a = exponent_taken o (c.take_child-exponent.ensures.last c.requires.handed.root) in
-    apart_back c.in_ok-sum.ensures.stands o a (itself c.in_ok-sum.ensures.ok)
+    record {
+      stands = search rules;
+      live = root_held c.args.power _ (over_back o a (itself c.in_ok-sum.ensures.ok)).root;
+      within = omega (arith, children_in c.in_ok-sum.ensures.stands (over_back o a (itself c.in_ok-sum.ensures.ok)));
+      root = given_root c.in_ok-sum.ensures.ok;
+      apart = apart_back c.in_ok-sum.ensures.stands o a (itself c.in_ok-sum.ensures.ok);
+    }
 
 pub move_last-requires-clause-root : goal.move_last-requires-clause-root
 move_last-requires-clause-root c =

@@ -1,4 +1,4 @@
-use Rattle.std.proofs.Common.{refl, ap, ◌∙◌, subst, arith}
+use Rattle.std.proofs.Common.{rules, refl, ap, ◌∙◌, subst, arith}
 use Rattle.calc_algebra.specs.Reduced.{is_reduced}
 use Rattle.calc_terms.specs.Trees.{Tree, is_root}
 use Rattle.coefficients.proofs.Rewritten.{over_back, apart_back, put_back, front_lost}
@@ -14,44 +14,30 @@ use Rattle.deep_reduce.proofs.halves.reduce_base.Goals as goal
 pub take_child-root-requires-clause-within : goal.take_child-root-requires-clause-within
 take_child-root-requires-clause-within c = omega (arith, children_in c.requires.stands (over_power _ c.requires.handed refl c.requires.power))
 
-pub reduce_root-requires-clause-handed : goal.reduce_root-requires-clause-handed
-reduce_root-requires-clause-handed c =
+pub reduce_root-requires : goal.reduce_root-requires
+reduce_root-requires c =
     let o = over_power _ c.requires.handed refl c.requires.power in
-    given_handed (base_taken o (c.take_child-root.ensures.last c.requires.handed.root)).gives
-
-pub reduce_root-requires-clause-root : goal.reduce_root-requires-clause-root
-reduce_root-requires-clause-root c =
-    let o = over_power _ c.requires.handed refl c.requires.power in
-    ap is_root (given_told (base_taken o (c.take_child-root.ensures.last c.requires.handed.root)).gives) ∙ c.requires.root
-
-pub reduce_root-requires-clause-reduced : goal.reduce_root-requires-clause-reduced
-reduce_root-requires-clause-reduced c =
-    let o = over_power _ c.requires.handed refl c.requires.power in
-    ap (λ (x : Tree). is_reduced (argument_of x)) (given_told (base_taken o (c.take_child-root.ensures.last c.requires.handed.root)).gives) ∙ c.requires.reduced
+    record {
+      stands = search rules;
+      handed = given_handed (base_taken o (c.take_child-root.ensures.last c.requires.handed.root)).gives;
+      root = ap is_root (given_told (base_taken o (c.take_child-root.ensures.last c.requires.handed.root)).gives) ∙ c.requires.root;
+      reduced = ap (λ (x : Tree). is_reduced (argument_of x)) (given_told (base_taken o (c.take_child-root.ensures.last c.requires.handed.root)).gives) ∙ c.requires.reduced;
+    }
 
 pub returns-in_err-reduced-clause-front : goal.returns-in_err-reduced-clause-front
 returns-in_err-reduced-clause-front c = front_lost _ front_same (c.take_child-root.ensures.last c.requires.handed.root) c.reduce_root.ensures.front
 
-pub add_child-requires-clause-live : goal.add_child-requires-clause-live
-add_child-requires-clause-live c =
+pub add_child-requires : goal.add_child-requires
+add_child-requires c =
     let o = over_power _ c.requires.handed refl c.requires.power in
     let a = base_taken o (c.take_child-root.ensures.last c.requires.handed.root) in
-    root_held c.args.power _ (over_back o a (itself c.in_ok-reduced.ensures.ok)).root
-
-pub add_child-requires-clause-within : goal.add_child-requires-clause-within
-add_child-requires-clause-within c =
-    let o = over_power _ c.requires.handed refl c.requires.power in
-    let a = base_taken o (c.take_child-root.ensures.last c.requires.handed.root) in
-    omega (arith, children_in c.in_ok-reduced.ensures.stands (over_back o a (itself c.in_ok-reduced.ensures.ok)))
-
-pub add_child-requires-clause-root : goal.add_child-requires-clause-root
-add_child-requires-clause-root c = given_root c.in_ok-reduced.ensures.ok
-
-pub add_child-requires-clause-apart : goal.add_child-requires-clause-apart
-add_child-requires-clause-apart c =
-    let o = over_power _ c.requires.handed refl c.requires.power in
-    let a = base_taken o (c.take_child-root.ensures.last c.requires.handed.root) in
-    apart_back c.in_ok-reduced.ensures.stands o a (itself c.in_ok-reduced.ensures.ok)
+    record {
+      stands = search rules;
+      live = root_held c.args.power _ (over_back o a (itself c.in_ok-reduced.ensures.ok)).root;
+      within = omega (arith, children_in c.in_ok-reduced.ensures.stands (over_back o a (itself c.in_ok-reduced.ensures.ok)));
+      root = given_root c.in_ok-reduced.ensures.ok;
+      apart = apart_back c.in_ok-reduced.ensures.stands o a (itself c.in_ok-reduced.ensures.ok);
+    }
 
 pub move_last-requires-clause-root : goal.move_last-requires-clause-root
 move_last-requires-clause-root c =

@@ -1,4 +1,4 @@
-use Rattle.std.proofs.Common.{refl, subst}
+use Rattle.std.proofs.Common.{rules, refl, subst}
 use Rattle.calc_algebra.specs.Rewritings.{Rewrites}
 use Rattle.calc_terms.specs.Trees.{Tree}
 use Rattle.coefficients.proofs.Steps.{if_map}
@@ -16,35 +16,27 @@ returns-in-Done-clause-ok c =
     let d = is_done c.args.power c.args.pool.now c.power_step.new.pool c.in-Done.is c.in_ok-answer.ensures.ok in
     gives_as d.1 refl (λ t a. power_finished (base_in (tree_of c.args.power c.args.pool.now)) (exponent_in (tree_of c.args.power c.args.pool.now)) t d.0 a)
 
-pub reduce_base-requires-clause-handed : goal.reduce_base-requires-clause-handed
-reduce_base-requires-clause-handed c = given_handed (is_again c.args.power c.args.pool.now c.power_step.new.pool c.in-Again.is c.in_ok-answer.ensures.ok)
-
-pub reduce_base-requires-clause-power : goal.reduce_base-requires-clause-power
-reduce_base-requires-clause-power c = (half_ready (base_in (tree_of c.args.power c.args.pool.now)) (exponent_in (tree_of c.args.power c.args.pool.now)) (tree_of c.in-Again.tree c.power_step.new.pool) c.requires.base (half_step (base_in (tree_of c.args.power c.args.pool.now)) (exponent_in (tree_of c.args.power c.args.pool.now)) (tree_of c.in-Again.tree c.power_step.new.pool) c.requires.half (given_told (is_again c.args.power c.args.pool.now c.power_step.new.pool c.in-Again.is c.in_ok-answer.ensures.ok)).0)).words
-
-pub reduce_base-requires-clause-root : goal.reduce_base-requires-clause-root
-reduce_base-requires-clause-root c = (half_ready (base_in (tree_of c.args.power c.args.pool.now)) (exponent_in (tree_of c.args.power c.args.pool.now)) (tree_of c.in-Again.tree c.power_step.new.pool) c.requires.base (half_step (base_in (tree_of c.args.power c.args.pool.now)) (exponent_in (tree_of c.args.power c.args.pool.now)) (tree_of c.in-Again.tree c.power_step.new.pool) c.requires.half (given_told (is_again c.args.power c.args.pool.now c.power_step.new.pool c.in-Again.is c.in_ok-answer.ensures.ok)).0)).root
-
-pub reduce_base-requires-clause-reduced : goal.reduce_base-requires-clause-reduced
-reduce_base-requires-clause-reduced c = (half_ready (base_in (tree_of c.args.power c.args.pool.now)) (exponent_in (tree_of c.args.power c.args.pool.now)) (tree_of c.in-Again.tree c.power_step.new.pool) c.requires.base (half_step (base_in (tree_of c.args.power c.args.pool.now)) (exponent_in (tree_of c.args.power c.args.pool.now)) (tree_of c.in-Again.tree c.power_step.new.pool) c.requires.half (given_told (is_again c.args.power c.args.pool.now c.power_step.new.pool c.in-Again.is c.in_ok-answer.ensures.ok)).0)).reduced
+pub reduce_base-requires : goal.reduce_base-requires
+reduce_base-requires c = record {
+  stands = search rules;
+  handed = given_handed (is_again c.args.power c.args.pool.now c.power_step.new.pool c.in-Again.is c.in_ok-answer.ensures.ok);
+  power = (half_ready (base_in (tree_of c.args.power c.args.pool.now)) (exponent_in (tree_of c.args.power c.args.pool.now)) (tree_of c.in-Again.tree c.power_step.new.pool) c.requires.base (half_step (base_in (tree_of c.args.power c.args.pool.now)) (exponent_in (tree_of c.args.power c.args.pool.now)) (tree_of c.in-Again.tree c.power_step.new.pool) c.requires.half (given_told (is_again c.args.power c.args.pool.now c.power_step.new.pool c.in-Again.is c.in_ok-answer.ensures.ok)).0)).words;
+  root = (half_ready (base_in (tree_of c.args.power c.args.pool.now)) (exponent_in (tree_of c.args.power c.args.pool.now)) (tree_of c.in-Again.tree c.power_step.new.pool) c.requires.base (half_step (base_in (tree_of c.args.power c.args.pool.now)) (exponent_in (tree_of c.args.power c.args.pool.now)) (tree_of c.in-Again.tree c.power_step.new.pool) c.requires.half (given_told (is_again c.args.power c.args.pool.now c.power_step.new.pool c.in-Again.is c.in_ok-answer.ensures.ok)).0)).root;
+  reduced = (half_ready (base_in (tree_of c.args.power c.args.pool.now)) (exponent_in (tree_of c.args.power c.args.pool.now)) (tree_of c.in-Again.tree c.power_step.new.pool) c.requires.base (half_step (base_in (tree_of c.args.power c.args.pool.now)) (exponent_in (tree_of c.args.power c.args.pool.now)) (tree_of c.in-Again.tree c.power_step.new.pool) c.requires.half (given_told (is_again c.args.power c.args.pool.now c.power_step.new.pool c.in-Again.is c.in_ok-answer.ensures.ok)).0)).reduced;
+}
 
 pub returns-in_err-rooted-in-Again-clause-front : goal.returns-in_err-rooted-in-Again-clause-front
 returns-in_err-rooted-in-Again-clause-front c = front_next (is_again c.args.power c.args.pool.now c.power_step.new.pool c.in-Again.is c.in_ok-answer.ensures.ok) c.power_step.ensures.front c.reduce_base.ensures.front
 
-pub last_step-requires-clause-handed : goal.last_step-requires-clause-handed
-last_step-requires-clause-handed c = given_handed c.in_ok-rooted-in-Again.ensures.ok
-
-pub last_step-requires-clause-power : goal.last_step-requires-clause-power
-last_step-requires-clause-power c = (half_last (base_in (tree_of c.args.power c.args.pool.now)) (exponent_in (tree_of c.args.power c.args.pool.now)) (tree_of c.in-Again.tree c.power_step.new.pool) (tree_of c.in_ok-rooted-in-Again.rooted c.reduce_base.new.pool) c.requires.half (half_step (base_in (tree_of c.args.power c.args.pool.now)) (exponent_in (tree_of c.args.power c.args.pool.now)) (tree_of c.in-Again.tree c.power_step.new.pool) c.requires.half (given_told (is_again c.args.power c.args.pool.now c.power_step.new.pool c.in-Again.is c.in_ok-answer.ensures.ok)).0) (given_told c.in_ok-rooted-in-Again.ensures.ok)).words
-
-pub last_step-requires-clause-base : goal.last_step-requires-clause-base
-last_step-requires-clause-base c = (half_last (base_in (tree_of c.args.power c.args.pool.now)) (exponent_in (tree_of c.args.power c.args.pool.now)) (tree_of c.in-Again.tree c.power_step.new.pool) (tree_of c.in_ok-rooted-in-Again.rooted c.reduce_base.new.pool) c.requires.half (half_step (base_in (tree_of c.args.power c.args.pool.now)) (exponent_in (tree_of c.args.power c.args.pool.now)) (tree_of c.in-Again.tree c.power_step.new.pool) c.requires.half (given_told (is_again c.args.power c.args.pool.now c.power_step.new.pool c.in-Again.is c.in_ok-answer.ensures.ok)).0) (given_told c.in_ok-rooted-in-Again.ensures.ok)).base
-
-pub last_step-requires-clause-exponent : goal.last_step-requires-clause-exponent
-last_step-requires-clause-exponent c = (half_last (base_in (tree_of c.args.power c.args.pool.now)) (exponent_in (tree_of c.args.power c.args.pool.now)) (tree_of c.in-Again.tree c.power_step.new.pool) (tree_of c.in_ok-rooted-in-Again.rooted c.reduce_base.new.pool) c.requires.half (half_step (base_in (tree_of c.args.power c.args.pool.now)) (exponent_in (tree_of c.args.power c.args.pool.now)) (tree_of c.in-Again.tree c.power_step.new.pool) c.requires.half (given_told (is_again c.args.power c.args.pool.now c.power_step.new.pool c.in-Again.is c.in_ok-answer.ensures.ok)).0) (given_told c.in_ok-rooted-in-Again.ensures.ok)).exponent
-
-pub last_step-requires-clause-last : goal.last_step-requires-clause-last
-last_step-requires-clause-last c = (half_last (base_in (tree_of c.args.power c.args.pool.now)) (exponent_in (tree_of c.args.power c.args.pool.now)) (tree_of c.in-Again.tree c.power_step.new.pool) (tree_of c.in_ok-rooted-in-Again.rooted c.reduce_base.new.pool) c.requires.half (half_step (base_in (tree_of c.args.power c.args.pool.now)) (exponent_in (tree_of c.args.power c.args.pool.now)) (tree_of c.in-Again.tree c.power_step.new.pool) c.requires.half (given_told (is_again c.args.power c.args.pool.now c.power_step.new.pool c.in-Again.is c.in_ok-answer.ensures.ok)).0) (given_told c.in_ok-rooted-in-Again.ensures.ok)).last
+pub last_step-requires : goal.last_step-requires
+last_step-requires c = record {
+  stands = search rules;
+  handed = given_handed c.in_ok-rooted-in-Again.ensures.ok;
+  power = (half_last (base_in (tree_of c.args.power c.args.pool.now)) (exponent_in (tree_of c.args.power c.args.pool.now)) (tree_of c.in-Again.tree c.power_step.new.pool) (tree_of c.in_ok-rooted-in-Again.rooted c.reduce_base.new.pool) c.requires.half (half_step (base_in (tree_of c.args.power c.args.pool.now)) (exponent_in (tree_of c.args.power c.args.pool.now)) (tree_of c.in-Again.tree c.power_step.new.pool) c.requires.half (given_told (is_again c.args.power c.args.pool.now c.power_step.new.pool c.in-Again.is c.in_ok-answer.ensures.ok)).0) (given_told c.in_ok-rooted-in-Again.ensures.ok)).words;
+  base = (half_last (base_in (tree_of c.args.power c.args.pool.now)) (exponent_in (tree_of c.args.power c.args.pool.now)) (tree_of c.in-Again.tree c.power_step.new.pool) (tree_of c.in_ok-rooted-in-Again.rooted c.reduce_base.new.pool) c.requires.half (half_step (base_in (tree_of c.args.power c.args.pool.now)) (exponent_in (tree_of c.args.power c.args.pool.now)) (tree_of c.in-Again.tree c.power_step.new.pool) c.requires.half (given_told (is_again c.args.power c.args.pool.now c.power_step.new.pool c.in-Again.is c.in_ok-answer.ensures.ok)).0) (given_told c.in_ok-rooted-in-Again.ensures.ok)).base;
+  exponent = (half_last (base_in (tree_of c.args.power c.args.pool.now)) (exponent_in (tree_of c.args.power c.args.pool.now)) (tree_of c.in-Again.tree c.power_step.new.pool) (tree_of c.in_ok-rooted-in-Again.rooted c.reduce_base.new.pool) c.requires.half (half_step (base_in (tree_of c.args.power c.args.pool.now)) (exponent_in (tree_of c.args.power c.args.pool.now)) (tree_of c.in-Again.tree c.power_step.new.pool) c.requires.half (given_told (is_again c.args.power c.args.pool.now c.power_step.new.pool c.in-Again.is c.in_ok-answer.ensures.ok)).0) (given_told c.in_ok-rooted-in-Again.ensures.ok)).exponent;
+  last = (half_last (base_in (tree_of c.args.power c.args.pool.now)) (exponent_in (tree_of c.args.power c.args.pool.now)) (tree_of c.in-Again.tree c.power_step.new.pool) (tree_of c.in_ok-rooted-in-Again.rooted c.reduce_base.new.pool) c.requires.half (half_step (base_in (tree_of c.args.power c.args.pool.now)) (exponent_in (tree_of c.args.power c.args.pool.now)) (tree_of c.in-Again.tree c.power_step.new.pool) c.requires.half (given_told (is_again c.args.power c.args.pool.now c.power_step.new.pool c.in-Again.is c.in_ok-answer.ensures.ok)).0) (given_told c.in_ok-rooted-in-Again.ensures.ok)).last;
+}
 
 pub returns-in_ok-rooted-in-Again-clause-ok : goal.returns-in_ok-rooted-in-Again-clause-ok
 returns-in_ok-rooted-in-Again-clause-ok c =

@@ -1,4 +1,4 @@
-use Rattle.std.proofs.Common.{◌≡◌, refl, sym, ap, ◌∙◌, subst, false}
+use Rattle.std.proofs.Common.{rules, ◌≡◌, refl, sym, ap, ◌∙◌, subst, false}
 use Rattle.calc_measures.specs.PlainValues.{plain_value}
 use Rattle.calc_terms.specs.Trees.{Tree, root_kind, has_undef}
 use Rattle.deep_reduce.specs.Nodes.{IsNodeAnswer}
@@ -85,16 +85,14 @@ returns-in-Root-clause-overflow c =
     let k = (goal.at.returns-in-Root-clause-overflow c).After-kind in
     any_overflow _ _ (λ o. root_overflow t o (root_kind_is t (sym c.in-Root.is ∙ kind-is k)) (defined k))
 
-pub reduce_power-requires-clause-power : goal.reduce_power-requires-clause-power
-reduce_power-requires-clause-power c = power_kind (tree_of c.args.tree c.args.pool.now) (sym c.in-Pow.is ∙ kind-is (goal.at.reduce_power-requires-clause-power c).After-kind)
-
-pub reduce_power-requires-clause-base : goal.reduce_power-requires-clause-base
-reduce_power-requires-clause-base c =
-    (power_reduced (tree_of c.args.tree c.args.pool.now) (power_kind (tree_of c.args.tree c.args.pool.now) (sym c.in-Pow.is ∙ kind-is (goal.at.reduce_power-requires-clause-base c).After-kind)) c.requires.reduced).0
-
-pub reduce_power-requires-clause-exponent : goal.reduce_power-requires-clause-exponent
-reduce_power-requires-clause-exponent c =
-    (power_reduced (tree_of c.args.tree c.args.pool.now) (power_kind (tree_of c.args.tree c.args.pool.now) (sym c.in-Pow.is ∙ kind-is (goal.at.reduce_power-requires-clause-exponent c).After-kind)) c.requires.reduced).1
+pub reduce_power-requires : goal.reduce_power-requires
+reduce_power-requires c = record {
+  stands = search rules;
+  handed = search rules;
+  power = power_kind (tree_of c.args.tree c.args.pool.now) (sym c.in-Pow.is ∙ kind-is (goal.at.reduce_power-requires c).After-kind);
+  base = (power_reduced (tree_of c.args.tree c.args.pool.now) (power_kind (tree_of c.args.tree c.args.pool.now) (sym c.in-Pow.is ∙ kind-is (goal.at.reduce_power-requires c).After-kind)) c.requires.reduced).0;
+  exponent = (power_reduced (tree_of c.args.tree c.args.pool.now) (power_kind (tree_of c.args.tree c.args.pool.now) (sym c.in-Pow.is ∙ kind-is (goal.at.reduce_power-requires c).After-kind)) c.requires.reduced).1;
+}
 
 pub returns-in-Pow-clause-ok : goal.returns-in-Pow-clause-ok
 returns-in-Pow-clause-ok c =

@@ -1,4 +1,4 @@
-use Rattle.std.proofs.Common.{◌∙◌, refl}
+use Rattle.std.proofs.Common.{rules, ◌∙◌, refl}
 use Rattle.tree_handles.proofs.Given.{given_root, given_rest}
 use Rattle.tree_handles.proofs.Roots.{root_held}
 use Rattle.sum_reduce.proofs.Sums.{changes_same, changes_after, changes_rest, put_in, roots_apart, sum_live}
@@ -13,18 +13,16 @@ children-last-requires-clause-live c =
     let t = (placed c.loop-n.invariant.changes.sum c.in_ok-term.ensures.given).takes in
     sum_live c.number.new.pool c.id.ensures t.sum
 
-pub add_child-requires-clause-live : goal.add_child-requires-clause-live
-add_child-requires-clause-live c =
+pub add_child-requires : goal.add_child-requires
+add_child-requires c =
     let t = (placed c.loop-n.invariant.changes.sum c.in_ok-term.ensures.given).takes in
-    root_held c.in_ok-sum.sum _ t.sum.handed.root
-
-pub add_child-requires-clause-root : goal.add_child-requires-clause-root
-add_child-requires-clause-root c = given_root c.in_ok-term.ensures.given
-
-pub add_child-requires-clause-apart : goal.add_child-requires-clause-apart
-add_child-requires-clause-apart c =
-    let t = (placed c.loop-n.invariant.changes.sum c.in_ok-term.ensures.given).takes in
-    roots_apart c.in_ok-term.ensures.stands t
+    record {
+      stands = search rules;
+      live = root_held c.in_ok-sum.sum _ t.sum.handed.root;
+      within = search rules;
+      root = given_root c.in_ok-term.ensures.given;
+      apart = roots_apart c.in_ok-term.ensures.stands t;
+    }
 
 pub loop-n-preserved : goal.loop-n-preserved
 loop-n-preserved c =
