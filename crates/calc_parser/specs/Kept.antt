@@ -7,7 +7,7 @@ use Rattle.calc_parser.specs.Steps.{AreStepsOf}
 use Rattle.calc_parser.specs.declared.parser.Parser.TheInside.{Inside}
 
 abbrev pub kept_tokens : Inside → Tokens
-kept_tokens p = p.tokens.value
+kept_tokens p = p.tokens
 
 -- its steps are those of its tokens
 abbrev pub KeepsSteps : Inside → Type 0

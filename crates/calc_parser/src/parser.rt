@@ -19,7 +19,7 @@ use crate::names::is_among;
 use crate::reader::Reader;
 use arrayvec::ArrayVec;
 use calc_terms::Name;
-use calc_tokens::{TokenFault, Tokens, scan_into};
+use calc_tokens::{TokenFault, Tokens, scan};
 use node_pool::{Full, Pool};
 use std::alloc::{AllocError, Global};
 use std::marker::Model;
@@ -40,7 +40,7 @@ pub enum LineFault {
 /// Reads lines, and builds the tree of the one that it read last. It is seen as the tokens of that line.
 #[derive(Drop)]
 pub struct Parser {
-    tokens: Box<Tokens>,
+    tokens: Tokens,
     reader: Box<Reader>,
     depths: Box<ArrayVec<u32, 2048>>,
     places: Box<ArrayVec<u32, 2048>>,
@@ -66,7 +66,7 @@ impl Parser {
     pub fn open(alloc: Global) -> Result<Parser, AllocError>
         ensures { IfOk result (λ parser. tokens_of parser ≡ []) }
     {
-        let tokens = boxed_tokens(alloc)?;
+        let tokens = Tokens::open(alloc)?;
         let reader = boxed_reader(alloc)?;
         let depths = boxed_numbers(alloc)?;
         let places = boxed_numbers(alloc)?;
@@ -88,7 +88,7 @@ impl Parser {
         ensures refused { (fault : LineFault) → (result ≡ Err fault) ↔ IsLineFaultOf line.now fault }
         ensures emptied { OnErr result (tokens_of self.new ≡ []) }
     {
-        match scan_into(&mut self.tokens, line) {
+        match scan(&mut self.tokens, line) {
             Ok(()) => {}
             Err(fault) => return Err(LineFault::Token(fault)),
         }
@@ -132,14 +132,6 @@ impl Parser {
 
 // Each list is made on the stack before it is moved to the heap. So each has a function of its own, whose frame is gone
 // when the next is made.
-#[inline(never)]
-fn boxed_tokens(alloc: Global) -> Result<Box<Tokens>, AllocError>
-    ensures { IfOk result (λ tokens. tokens_of tokens.value ≡ []) }
-{
-    let tokens = Box::new(alloc, Tokens::none())?;
-    Ok(tokens)
-}
-
 #[inline(never)]
 fn boxed_reader(alloc: Global) -> Result<Box<Reader>, AllocError> {
     let reader = Box::new(alloc, Reader::new())?;

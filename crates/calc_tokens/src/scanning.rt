@@ -1,5 +1,5 @@
 //! From bytes to tokens.
-ghost use Rattle.std.specs.Prelude.{◌≡◌, ◌↔◌, ◌≤◌, ℕ, List, [], length, IfOk, IsOkAnd, MatchResult, OnErr, OnOk, Err, true, false};
+ghost use Rattle.std.specs.Prelude.{◌≡◌, ◌↔◌, ◌≤◌, ℕ, List, [], length, IsOkAnd, MatchResult, OnErr, OnOk, Err, true, false};
 ghost use Rattle.calc_language.specs.Tokens.{is_blank};
 ghost use Rattle.calc_tokens.specs.Placed.{Placed};
 ghost use Rattle.calc_tokens.specs.Tokens.{tokens_of, token_of};
@@ -11,26 +11,9 @@ use crate::marks::mark;
 use crate::tokens::{Token, TokenFault, Tokens, What};
 use crate::words::word;
 
-/// The tokens of a line, the longest at each place, with the blanks between them skipped.
-pub fn scan(line: &[u8]) -> Result<Tokens, TokenFault>
-    requires { length line.now ≤ 1024 }
-    ensures tokens { IfOk result (λ tokens. AreTokensOf (tokens_of tokens) line.now) }
-    ensures accepts { (ts : List Placed) → AreTokensOf ts line.now → IsOkAnd result (λ tokens. tokens_of tokens ≡ ts) }
-
-    // The first place in the line decides which fault it is.
-    ensures character { (at : ℕ) → (result ≡ Err (TokenFault.Character at)) ↔ IsFirstCharacter line.now at }
-    ensures number { (at : ℕ) → (result ≡ Err (TokenFault.Number at)) ↔ IsFirstWide line.now at }
-{
-    let mut tokens = Tokens::none();
-    match scan_into(&mut tokens, line) {
-        Ok(()) => Ok(tokens),
-        Err(fault) => Err(fault),
-    }
-}
-
-/// Puts the tokens of a line in place of those of the list, as `scan` finds them; the list is empty
-/// behind a fault.
-pub fn scan_into(tokens: &mut Tokens, line: &[u8]) -> Result<(), TokenFault>
+/// Puts the tokens of a line in place of those of the list: the longest at each place, with the blanks
+/// between them skipped. The list is empty behind a fault.
+pub fn scan(tokens: &mut Tokens, line: &[u8]) -> Result<(), TokenFault>
     requires { length line.now ≤ 1024 }
     ensures tokens { OnOk result (AreTokensOf (tokens_of tokens.new) line.now) }
     ensures accepts { (ts : List Placed) → AreTokensOf ts line.now → IsOkAnd result (λ _. tokens_of tokens.new ≡ ts) }
@@ -99,8 +82,9 @@ mod tests {
     fn shown(alloc: Global, line: &[u8]) -> Result<String, AllocError>
         requires { length line.now ≤ 1024 }
     {
-        match scan(line) {
-            Ok(tokens) => {
+        let mut tokens = Tokens::open(alloc)?;
+        match scan(&mut tokens, line) {
+            Ok(()) => {
                 let mut text = String::new(alloc);
                 for token in tokens.items() {
                     push_token(&mut text, token)?;

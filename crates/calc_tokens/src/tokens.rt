@@ -1,9 +1,12 @@
 //! Tokens and the list of them.
-ghost use Rattle.std.specs.Prelude.{◌≡◌, ◌<◌, ◌≤◌, [], ◌∷◌, ◌++◌, length, map};
+ghost use Rattle.std.specs.Prelude.{◌≡◌, ◌<◌, ◌≤◌, [], ◌∷◌, ◌++◌, length, map, vec_capacity, IfOk};
 
-use arrayvec::ArrayVec;
 use calc_terms::{Name, Rat};
+use std::alloc::{AllocError, Global};
 use thiserror::Error;
+
+/// The most tokens of a line.
+const TOKEN_LIMIT: usize = 1024;
 
 /// What a token is.
 #[derive(Clone, Copy, Debug)]
@@ -29,15 +32,6 @@ pub struct Token {
     pub at: u16,
 }
 
-impl Default for Token {
-    fn default() -> Token {
-        Token {
-            what: What::Plus,
-            at: 0,
-        }
-    }
-}
-
 /// Why a line has no tokens; `at` is the place of a byte in the line, counted from 1.
 #[derive(Clone, Copy, Debug, PartialEq, Eq, Error)]
 pub enum TokenFault {
@@ -49,22 +43,23 @@ pub enum TokenFault {
     Number { at: u16 },
 }
 
-/// The tokens of a line: at most 1,024, and no allocation.
+/// The tokens of a line, at most 1,024. Their memory is taken at opening.
 #[derive(Drop)]
 pub struct Tokens {
-    items: ArrayVec<Token, 1024>,
+    items: Vec<Token>,
+    ghost roomy: { 1024 ≤ vec_capacity items },
+    ghost short: { length items.items ≤ 1024 },
 }
 
 impl Tokens {
     ghost use Rattle.calc_tokens.specs.Tokens.{placed, tokens_of};
 
     /// A list without tokens.
-    pub fn none() -> Tokens
-        ensures { tokens_of result ≡ [] }
+    pub fn open(alloc: Global) -> Result<Tokens, AllocError>
+        ensures { IfOk result (λ tokens. tokens_of tokens ≡ []) }
     {
-        Tokens {
-            items: ArrayVec::new(),
-        }
+        let items = Vec::with_capacity(alloc, TOKEN_LIMIT)?;
+        Ok(Tokens { items })
     }
 
     /// The tokens from left to right.
@@ -86,6 +81,6 @@ impl Tokens {
         requires { length (tokens_of self.old) < 1024 }
         ensures { tokens_of self.new ≡ tokens_of self.old ++ placed token ∷ [] }
     {
-        self.items.push(token);
+        self.items.push(token).unwrap();
     }
 }

@@ -1,10 +1,15 @@
 //! Bytes up to a capacity that is taken once.
-ghost use Rattle.std.specs.Prelude.{◌≡◌, ◌≤◌, [], length, IfOk};
+ghost use Rattle.std.specs.Prelude.{◌≡◌, ◌≤◌, [], ◌∷◌, ◌++◌, length, IfOk, OnOk, OnErr};
+ghost use Rattle.std.specs.Io.KnownBytes.{Appends};
+ghost use Rattle.calc_edges.specs.Faults.{HasCause, StopsAtFailure};
+ghost use Rattle.calc_edges.specs.Taken.{AppendsPart};
 ghost use Rattle.line_text.specs.Content.{spare_of, extended};
 
+use calc_edges::{Failed, Sink, write_all};
 use std::alloc::{AllocError, Global};
 use std::marker::Model;
 
+/// There is always room for a newline behind the bytes.
 #[derive(Drop)]
 pub(crate) struct Page {
     bytes: Vec<u8>,
@@ -12,14 +17,14 @@ pub(crate) struct Page {
 }
 
 impl Model for Page {
-    ghost use Rattle.std.specs.Prelude.{◌≤◌, vec_len, vec_capacity};
+    ghost use Rattle.std.specs.Prelude.{◌<◌, ◌≤◌, vec_len, vec_capacity};
     ghost use Rattle.line_text.specs.Content.{Content};
 
     ghost Value = { Content };
 
     ghost view = { λ p. record { bytes = p.bytes.items; capacity = p.capacity } };
 
-    ghost invariant = { λ p. (vec_len p.bytes ≤ p.capacity) × (p.capacity ≤ vec_capacity p.bytes) };
+    ghost invariant = { λ p. (vec_len p.bytes ≤ p.capacity) × (p.capacity < vec_capacity p.bytes) };
 }
 
 impl Page {
@@ -27,7 +32,7 @@ impl Page {
         ensures { IfOk result (λ page. page ≡ record { bytes = []; capacity = capacity }) }
     {
         Ok(Page {
-            bytes: Vec::with_capacity(alloc, capacity as usize)?,
+            bytes: Vec::with_capacity(alloc, capacity as usize + 1)?,
             capacity,
         })
     }
@@ -56,5 +61,19 @@ impl Page {
         ensures { self.new ≡ extended self.old piece.now }
     {
         self.bytes.extend_from_slice(piece).unwrap();
+    }
+
+    /// Writes the bytes and a newline to a sink, as one piece.
+    pub(crate) fn write_line<K: Sink>(&mut self, sink: &mut K) -> Result<(), Failed>
+        ensures appended { OnOk result (Appends (K.taken sink.old) (K.taken sink.new) (self.old.bytes ++ 10 ∷ [])) }
+        ensures part { OnErr result (AppendsPart (K.taken sink.old) (K.taken sink.new) (self.old.bytes ++ 10 ∷ [])) }
+        ensures stops { OnErr result (StopsAtFailure K.taken K.faults sink.old sink.new) }
+        ensures cause { HasCause (K.faults sink.old) (K.faults sink.new) result }
+        ensures kept { self.new ≡ self.old }
+    {
+        self.bytes.push(b'\n').unwrap();
+        let written = write_all(sink, self.bytes.as_slice());
+        self.bytes.pop();
+        written
     }
 }

@@ -1,9 +1,13 @@
 //! Texts, in bytes that are taken once.
-ghost use Rattle.std.specs.Prelude.{◌≡◌, ◌≤◌, [], length, IfOk};
+ghost use Rattle.std.specs.Prelude.{◌≡◌, ◌≤◌, [], ◌∷◌, ◌++◌, length, IfOk, OnOk, OnErr};
+ghost use Rattle.std.specs.Io.KnownBytes.{Appends};
+ghost use Rattle.calc_edges.specs.Faults.{HasCause, StopsAtFailure};
+ghost use Rattle.calc_edges.specs.Taken.{AppendsPart};
 ghost use Rattle.line_text.specs.Content.{spare_of, extended};
 
 use crate::page::Page;
 use crate::place::Pending;
+use calc_edges::{Failed, Sink};
 use std::alloc::{AllocError, Global};
 use std::marker::Model;
 
@@ -62,5 +66,17 @@ impl Text {
         ensures { self.new ≡ extended self.old piece.now }
     {
         self.page.push(piece);
+    }
+
+    /// Writes the bytes and a newline to a sink, as one piece.
+    pub fn write_line<K: Sink>(&mut self, sink: &mut K) -> Result<(), Failed>
+        ensures appended { OnOk result (Appends (K.taken sink.old) (K.taken sink.new) (self.old.bytes ++ 10 ∷ [])) }
+        // The bytes taken before a write that failed are a front, and some were not taken.
+        ensures part { OnErr result (AppendsPart (K.taken sink.old) (K.taken sink.new) (self.old.bytes ++ 10 ∷ [])) }
+        ensures stops { OnErr result (StopsAtFailure K.taken K.faults sink.old sink.new) }
+        ensures cause { HasCause (K.faults sink.old) (K.faults sink.new) result }
+        ensures kept { self.new ≡ self.old }
+    {
+        self.page.write_line(sink)
     }
 }

@@ -6,7 +6,7 @@ ghost use Rattle.tree_handles.specs.Standing.{Stands};
 use crate::{layout_of, rows, write_row, write_serial};
 use calc_parser::{build, check};
 use calc_terms::Rat;
-use calc_tokens::scan;
+use calc_tokens::{Tokens, scan};
 use line_text::Text;
 use node_pool::{Full, Pool};
 use std::alloc::{AllocError, Global};
@@ -98,14 +98,17 @@ fn refused(pool: &mut Pool) -> Option<Full>
 }
 
 /// Appends the serial text of a line's layout and the rows of its picture; whether all of it was written.
-fn draw(pool: &mut Pool, line: &[u8], text: &mut Text) -> bool
+fn draw(alloc: Global, pool: &mut Pool, line: &[u8], text: &mut Text) -> bool
     requires { Stands pool.old }
     ensures { Stands pool.new }
 {
     if line.len() > 1024 {
         return false;
     }
-    let Ok(tokens) = scan(line) else {
+    let Ok(mut tokens) = Tokens::open(alloc) else {
+        return false;
+    };
+    let Ok(()) = scan(&mut tokens, line) else {
         return false;
     };
     let Ok(_) = check(&tokens) else {
@@ -147,7 +150,7 @@ fn drawn(alloc: Global, line: &[u8]) -> Result<Option<Text>, AllocError> {
     for step in 0..600u32 {
         let mut pool = opened(alloc, 64 + 8 * step)?;
         let mut text = Text::open(alloc, 16_384)?;
-        if draw(&mut pool, line, &mut text) {
+        if draw(alloc, &mut pool, line, &mut text) {
             return Ok(Some(text));
         }
     }

@@ -19,14 +19,13 @@ fn opened(alloc: Global, size: u32) -> Result<Pool, AllocError>
 }
 
 /// What `build` answers, where the line is one.
-fn built(pool: &mut Pool, line: &[u8]) -> Option<Result<Handle, Full>>
+fn built(alloc: Global, pool: &mut Pool, line: &[u8]) -> Option<Result<Handle, Full>>
     requires stands { Stands pool.old }
     requires short { length line.now ≤ 1024 }
     ensures { Stands pool.new }
 {
-    let Ok(tokens) = scan(line) else {
-        return None;
-    };
+    let mut tokens = Tokens::open(alloc).ok()?;
+    scan(&mut tokens, line).ok()?;
     match check(&tokens) {
         Ok(_) => Some(build(pool, &tokens)),
         Err(_) => None,
@@ -82,7 +81,7 @@ fn lines_are_built(rt: HostRuntime) -> Result<(), Fail> {
         let line = line.as_bytes();
         assert!(rt; line.len() <= 1024);
         let mut pool = opened(rt.alloc(), 1024)?;
-        let answer = built(&mut pool, line);
+        let answer = built(rt.alloc(), &mut pool, line);
         assert!(rt; matches!(answer, Some(Ok(_))));
         assert_eq!(rt; shown(rt.alloc(), pool.bytes())?.as_str(), want);
     }
@@ -93,8 +92,8 @@ fn lines_are_built(rt: HostRuntime) -> Result<(), Fail> {
 #[test]
 fn a_full_pool_keeps_what_stands_first(rt: HostRuntime) -> Result<(), Fail> {
     let mut pool = opened(rt.alloc(), 104)?;
-    assert!(rt; matches!(built(&mut pool, b"0.5"), Some(Ok(_))));
-    let refused = built(&mut pool, b"0.5+0.5");
+    assert!(rt; matches!(built(rt.alloc(), &mut pool, b"0.5"), Some(Ok(_))));
+    let refused = built(rt.alloc(), &mut pool, b"0.5+0.5");
     assert!(rt;
         matches!(
             refused,
@@ -105,12 +104,12 @@ fn a_full_pool_keeps_what_stands_first(rt: HostRuntime) -> Result<(), Fail> {
         )
     );
     assert_eq!(rt; shown(rt.alloc(), pool.bytes())?.as_str(), " 0n0 1n0");
-    assert!(rt; matches!(built(&mut pool, b"-x"), Some(Ok(_))));
+    assert!(rt; matches!(built(rt.alloc(), &mut pool, b"-x"), Some(Ok(_))));
     assert_eq!(rt;
         shown(rt.alloc(), pool.bytes())?.as_str(),
         " 0n0 1n0 3neg1 2x0"
     );
-    let refused = built(&mut pool, b"y");
+    let refused = built(rt.alloc(), &mut pool, b"y");
     assert!(rt;
         matches!(
             refused,

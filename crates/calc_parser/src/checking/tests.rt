@@ -13,7 +13,8 @@ use std::fmt::Write;
 fn shown(alloc: Global, line: &[u8]) -> Result<String, AllocError>
     requires { length line.now ≤ 1024 }
 {
-    let Ok(tokens) = scan(line) else {
+    let mut tokens = Tokens::open(alloc)?;
+    let Ok(()) = scan(&mut tokens, line) else {
         return format!(in alloc; "no tokens");
     };
     match check(&tokens) {
@@ -156,7 +157,8 @@ fn answer_at(alloc: Global, before: (u8, usize), after: (u8, usize)) -> Result<S
     if line.len() > 1024 {
         return format!(in alloc; "long");
     }
-    let Ok(tokens) = scan(&line) else {
+    let mut tokens = Tokens::open(alloc)?;
+    let Ok(()) = scan(&mut tokens, &line) else {
         return format!(in alloc; "no tokens");
     };
     match check(&tokens) {

@@ -7,4 +7,4 @@ use Rattle.calc_parser.proofs.parser.Parser.holds_name.Goals as goal
 pub returns : goal.returns
 returns c = λ t line.
     name_test (name_of c.args.name) c.items.result.now (tokens_of c.args.self.now) t c.is_among.result c.is_among.ensures
-    (c.items.ensures.tokens ∙ ap tokens_of (c.deref.ensures ∙ c.self.view_is)) line
+    (c.items.ensures.tokens ∙ ap tokens_of c.self.view_is) line
