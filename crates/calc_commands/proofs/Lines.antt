@@ -11,12 +11,12 @@ use Rattle.std.specs.Char.{is_ascii_digit}
 use Rattle.calc_terms.specs.Name.{is_name, is_name_byte}
 use Rattle.calc_terms.proofs.Names.{spelled}
 use Rattle.calc_language.specs.Tokens.{is_blank, leading_run}
-use Rattle.calc_commands.specs.Commands.{Asked, pool, dump, draw, layout, forget, after, asked_of, Has, IsCommandLine, asks_pool, asks_dump, asks_draw, asks_layout, asks_forget, asks_after}
+use Rattle.calc_commands.specs.Commands.{Asked, pool, dump, draw, layout, forget, after, diff, solve, asked_of, begins_dark, Has, IsTextBehind, HasText, IsCommandLine, asks_pool, asks_dump, asks_draw, asks_layout, asks_forget, asks_after, asks_diff, asks_solve}
 use Rattle.calc_commands.specs.Numbers.{value_of}
-use Rattle.calc_commands.specs.Parsing.{is_in, are_blanks, behind_colon, argument_of, word_and_argument, parts_of, asked_alone, asked_for}
+use Rattle.calc_commands.specs.Parsing.{is_in, are_blanks, behind_colon, argument_of, word_and_rest, text_behind, name_and_text, asked_alone, asked_for, asked_to_derive, asked_in}
 use Rattle.calc_commands.specs.declared.command.Command.{Command}
 use Rattle.calc_commands.specs.declared.parts.Class.TheVariants as class
-use Rattle.calc_commands.proofs.Runs.{run_whole, run_all, stops, run_of, all-append, all_other, first_of_all}
+use Rattle.calc_commands.proofs.Runs.{run_whole, run_all, run_stops, stops, run_of, all-append, all_other, first_of_all}
 use Rattle.calc_commands.proofs.Values.{not_digits}
 
 by_test : (P : Bool → Type 0) (t : Bool) → (t ≡ true → P true) → (t ≡ false → P false) → P t
@@ -86,12 +86,49 @@ argument_found gap (c ∷ argument) behind g b d h =
     let gapped : ltb 0 (length gap) ≡ true = lt-ltb 0 (length gap) (h (omega arith)) in
     rw (first, second, some, gapped, b) refl
 
-pub found : (line word argument : List ℕ) → Has line word argument → list_all (is_in class.SmallLetter) word ≡ true → list_all (is_in class.Dark) argument ≡ true → parts_of line ≡ Some (word, argument)
-found line word argument h w d =
-    let rest = h.gap ++ (argument ++ h.behind) in
+-- what stands behind a word where a line begins with it
+record HasWord (line word rest : List ℕ) : Type 0 where
+  before : List ℕ
+  whole : line ≡ before ++ (58 ∷ (word ++ rest))
+  blank_before : list_all is_blank before ≡ true
+
+word_found : (line word rest : List ℕ) → HasWord line word rest → list_all (is_in class.SmallLetter) word ≡ true → stops (is_in class.SmallLetter) rest ≡ true → word_and_rest line ≡ Some (word, rest)
+word_found line word rest h w s =
     let start : leading_run is_blank line ≡ (h.before, 58 ∷ (word ++ rest)) = ap (leading_run is_blank) h.whole ∙ run_of is_blank h.before (58 ∷ (word ++ rest)) h.blank_before refl in
-    let middle : leading_run (is_in class.SmallLetter) (word ++ rest) ≡ (word, rest) = run_of (is_in class.SmallLetter) word rest w (stops_word h.gap argument h.behind h.blank_gap h.blank_behind h.apart) in
-    rw (start, middle, argument_found h.gap argument h.behind h.blank_gap h.blank_behind d h.apart) refl
+    rw (start, run_of (is_in class.SmallLetter) word rest w s) refl
+
+begins_word : {line word argument : List ℕ} (h : Has line word argument) → HasWord line word (h.gap ++ (argument ++ h.behind))
+begins_word h = record { before = h.before; whole = h.whole; blank_before = h.blank_before }
+
+begins_text : {line word text : List ℕ} (h : HasText line word text) → HasWord line word (h.gap ++ text)
+begins_text h = record { before = h.before; whole = h.whole; blank_before = h.blank_before }
+
+-- ---- and so are texts
+
+stops_blanks : (text : List ℕ) → begins_dark text ≡ true → stops is_blank text ≡ true
+stops_blanks [] d = refl
+stops_blanks (b ∷ text) d = d
+
+some_byte : (text : List ℕ) → begins_dark text ≡ true → 0 < length text
+some_byte [] d = absurd cc
+some_byte (b ∷ text) d = omega arith
+
+not_empty : (bytes : List ℕ) → 0 < length bytes → eqb (length bytes) 0 ≡ false
+not_empty bytes l = ne_eqb (length bytes) 0 (λ e. omega (arith, l, e))
+
+text_found : (gap text : List ℕ) → IsTextBehind gap text → text_behind (gap ++ text) ≡ Some text
+text_found gap text h =
+    let run : leading_run is_blank (gap ++ text) ≡ (gap, text) = run_of is_blank gap text h.blank (stops_blanks text h.dark) in
+    rw (run, not_empty gap h.some, not_empty text (some_byte text h.dark)) refl
+
+stops_at_blank : (p : ℕ → Bool) → ((b : ℕ) → is_blank b ≡ true → not (p b) ≡ true) → (gap text : List ℕ) → list_all is_blank gap ≡ true → 0 < length gap → stops p (gap ++ text) ≡ true
+stops_at_blank p f [] text a l = absurd (omega (arith, l))
+stops_at_blank p f (b ∷ gap) text a l = f b (first_of_all is_blank b gap a)
+
+name_found : (name gap text : List ℕ) → is_name name ≡ true → IsTextBehind gap text → name_and_text (name ++ (gap ++ text)) ≡ Some (name, text)
+name_found name gap text n h =
+    let run : leading_run (is_in class.Dark) (name ++ (gap ++ text)) ≡ (name, gap ++ text) = run_of (is_in class.Dark) name (gap ++ text) (dark_name name n) (stops_at_blank (is_in class.Dark) no_dark gap text h.blank h.some) in
+    rw (run, n, text_found gap text h) refl
 
 -- ---- and what is found is there
 
@@ -135,33 +172,88 @@ colon_there (b ∷ bytes) text h =
     by_test (λ t. eqb b 58 ≡ t → cond t (Some bytes) None ≡ Some text → b ∷ bytes ≡ 58 ∷ text) (eqb b 58)
     (λ e q k. let same : bytes ≡ text = cc in ap (λ x. x ∷ bytes) (eqb-true b 58 q) ∙ ap (λ y. 58 ∷ y) same) (λ e q k. absurd cc) refl h
 
-pub there : (line word argument : List ℕ) → parts_of line ≡ Some (word, argument) → Has line word argument
-there line word argument h = colon (behind_colon ((leading_run is_blank line).1)) refl h
-  where
-    pairs : (v w a b : List ℕ) → ◌≡◌ {A = Option (List ℕ × List ℕ)} (Some (v, a)) (Some (w, b)) → (v ≡ w) × (a ≡ b)
-    pairs v w a b e = let same : ◌≡◌ {A = List ℕ × List ℕ} (v, a) (w, b) = cc in (ap (λ (p : List ℕ × List ℕ). p.0) same, ap (λ (p : List ℕ × List ℕ). p.1) same)
+pairs : (v w a b : List ℕ) → ◌≡◌ {A = Option (List ℕ × List ℕ)} (Some (v, a)) (Some (w, b)) → (v ≡ w) × (a ≡ b)
+pairs v w a b e = let same : ◌≡◌ {A = List ℕ × List ℕ} (v, a) (w, b) = cc in (ap (λ (p : List ℕ × List ℕ). p.0) same, ap (λ (p : List ℕ × List ℕ). p.1) same)
 
-    word_there : (text : List ℕ) → (leading_run is_blank line).1 ≡ 58 ∷ text → (found : Option (List ℕ)) → argument_of ((leading_run (is_in class.SmallLetter) text).1) ≡ found
-        → ◌≡◌ {A = Option (List ℕ × List ℕ)} (option_map {U = List ℕ × List ℕ} (λ (a : List ℕ). ((leading_run (is_in class.SmallLetter) text).0, a)) found) (Some (word, argument)) → Has line word argument
-    word_there text e None f q = absurd cc
-    word_there text e (Some a) f q =
+word_there : (line word rest : List ℕ) → word_and_rest line ≡ Some (word, rest) → HasWord line word rest
+word_there line word rest h = colon (behind_colon ((leading_run is_blank line).1)) refl h
+  where
+    colon : (text : Option (List ℕ)) → behind_colon ((leading_run is_blank line).1) ≡ text → option_map {U = List ℕ × List ℕ} (leading_run (is_in class.SmallLetter)) text ≡ Some (word, rest) → HasWord line word rest
+    colon None e q = absurd cc
+    colon (Some text) e q =
         let run = leading_run (is_in class.SmallLetter) text in
-        let same = pairs run.0 word a argument q in
-        let x = argument_there run.1 argument (f ∙ ap Some same.1) in
+        let same = pairs run.0 word run.1 rest q in
         record {
           before = (leading_run is_blank line).0;
-          gap = x.gap;
-          behind = x.behind;
-          whole = sym (run_whole is_blank line) ∙ ap (λ y. (leading_run is_blank line).0 ++ y) (e ∙ ap (λ y. 58 ∷ y) (sym (run_whole (is_in class.SmallLetter) text) ∙ ap (λ y. y ++ run.1) same.0 ∙ ap (λ y. word ++ y) x.whole));
+          whole = sym (run_whole is_blank line) ∙ ap (λ y. (leading_run is_blank line).0 ++ y) (colon_there ((leading_run is_blank line).1) text e ∙ ap (λ y. 58 ∷ y) (sym (run_whole (is_in class.SmallLetter) text) ∙ ap (λ y. y ++ run.1) same.0 ∙ ap (λ y. word ++ y) same.1));
           blank_before = run_all is_blank line;
-          blank_gap = x.blank_gap;
-          blank_behind = x.blank_behind;
-          apart = x.apart;
         }
 
-    colon : (text : Option (List ℕ)) → behind_colon ((leading_run is_blank line).1) ≡ text → option_and_then word_and_argument text ≡ Some (word, argument) → Has line word argument
-    colon None e q = absurd cc
-    colon (Some text) e q = word_there text (colon_there ((leading_run is_blank line).1) text e) (argument_of ((leading_run (is_in class.SmallLetter) text).1)) refl q
+there : (line word rest argument : List ℕ) → HasWord line word rest → argument_of rest ≡ Some argument → Has line word argument
+there line word rest argument h e =
+    let x = argument_there rest argument e in
+    record {
+      before = h.before;
+      gap = x.gap;
+      behind = x.behind;
+      whole = h.whole ∙ ap (λ y. h.before ++ (58 ∷ (word ++ y))) x.whole;
+      blank_before = h.blank_before;
+      blank_gap = x.blank_gap;
+      blank_behind = x.blank_behind;
+      apart = x.apart;
+    }
+
+record IsText (rest text : List ℕ) : Type 0 where
+  gap : List ℕ
+  whole : rest ≡ gap ++ text
+  behind : IsTextBehind gap text
+
+some_length : (bytes : List ℕ) → eqb (length bytes) 0 ≡ false → 0 < length bytes
+some_length [] e = absurd cc
+some_length (b ∷ bytes) e = omega arith
+
+dark_by_stop : (text : List ℕ) → stops is_blank text ≡ true → eqb (length text) 0 ≡ false → begins_dark text ≡ true
+dark_by_stop [] s e = absurd cc
+dark_by_stop (b ∷ text) s e = s
+
+text_there : (rest text : List ℕ) → text_behind rest ≡ Some text → IsText rest text
+text_there rest text h =
+    let run = leading_run is_blank rest in
+    by run.0 run.1 (run_whole is_blank rest) (run_all is_blank rest) (run_stops is_blank rest) h
+  where
+    tests : (gap behind : List ℕ) → gap ++ behind ≡ rest → list_all is_blank gap ≡ true → stops is_blank behind ≡ true → (none nothing : Bool) → eqb (length gap) 0 ≡ none → eqb (length behind) 0 ≡ nothing
+        → cond (none || nothing) None (Some behind) ≡ Some text → IsText rest text
+    tests gap behind w a s true nothing e f q = absurd cc
+    tests gap behind w a s false true e f q = absurd cc
+    tests gap behind w a s false false e f q =
+        let same : behind ≡ text = cc in
+        subst (IsText rest) same (record { gap = gap; whole = sym w; behind = record { blank = a; some = some_length gap e; dark = dark_by_stop behind s f } })
+
+    by : (gap behind : List ℕ) → gap ++ behind ≡ rest → list_all is_blank gap ≡ true → stops is_blank behind ≡ true → cond (eqb (length gap) 0 || eqb (length behind) 0) None (Some behind) ≡ Some text → IsText rest text
+    by gap behind w a s q = tests gap behind w a s (eqb (length gap) 0) (eqb (length behind) 0) refl refl q
+
+record IsNameAndText (bytes name text : List ℕ) : Type 0 where
+  rest : List ℕ
+  whole : bytes ≡ name ++ rest
+  named : is_name name ≡ true
+  behind : IsText rest text
+
+name_there : (bytes name text : List ℕ) → name_and_text bytes ≡ Some (name, text) → IsNameAndText bytes name text
+name_there bytes name text h =
+    let run = leading_run (is_in class.Dark) bytes in
+    by_test (λ t. is_name run.0 ≡ t → cond t (option_map {U = List ℕ × List ℕ} (λ behind. (run.0, behind)) (text_behind run.1)) None ≡ Some (name, text) → IsNameAndText bytes name text) (is_name run.0)
+    (λ e n q. by run.0 run.1 (run_whole (is_in class.Dark) bytes) n (text_behind run.1) refl q) (λ e n q. absurd cc) refl h
+  where
+    by : (word rest : List ℕ) → word ++ rest ≡ bytes → is_name word ≡ true → (found : Option (List ℕ)) → text_behind rest ≡ found → option_map {U = List ℕ × List ℕ} (λ behind. (word, behind)) found ≡ Some (name, text) → IsNameAndText bytes name text
+    by word rest w n None e q = absurd cc
+    by word rest w n (Some behind) e q =
+        let same = pairs word name behind text q in
+        record {
+          rest = rest;
+          whole = sym w ∙ ap (λ x. x ++ rest) same.0;
+          named = ap is_name (sym same.0) ∙ n;
+          behind = text_there rest text (e ∙ ap Some same.1);
+        }
 
 -- ---- what is asked for
 
@@ -190,8 +282,8 @@ number_sound : (line argument : List ℕ) (q : Asked) (k : Option ℕ) → value
 number_sound line argument q None v h e = absurd cc
 number_sound line argument q (Some k) v h e = asks (asks_after h v) e
 
-pub sound : (line word argument : List ℕ) (q : Asked) → Has line word argument → asked_for word argument ≡ Some q → IsCommandLine line q
-sound line word argument q h e =
+argument_sound : (line word argument : List ℕ) (q : Asked) → Has line word argument → asked_for word argument ≡ Some q → IsCommandLine line q
+argument_sound line word argument q h e =
     by_test (λ t. bytes_eq word (codes "forget") ≡ t → cond t (cond (is_name argument) (Some (forget argument)) None) (cond (bytes_eq word (codes "after")) (option_map after (value_of argument)) (cond (eqb (length argument) 0) (asked_alone word) None)) ≡ Some q → IsCommandLine line q)
     (bytes_eq word (codes "forget"))
     (λ z p k. by_test (λ t. is_name argument ≡ t → cond t (Some (forget argument)) None ≡ Some q → IsCommandLine line q) (is_name argument) (λ z n k. asks (asks_forget (word_is word (codes "forget") p h) n) k) (λ z n k. absurd cc) refl k)
@@ -200,54 +292,115 @@ sound line word argument q h e =
     (λ z p k. by_test (λ t. eqb (length argument) 0 ≡ t → cond t (asked_alone word) None ≡ Some q → IsCommandLine line q) (eqb (length argument) 0)
     (λ z n k. alone_sound line word q (subst (Has line word) (empty_by argument n) h) k) (λ z n k. absurd cc) refl k) refl k) refl e
 
-pub record IsFound (line : List ℕ) (q : Asked) : Type 0 where
-  pub word : List ℕ
-  pub argument : List ℕ
-  pub parts : parts_of line ≡ Some (word, argument)
-  pub asks : asked_for word argument ≡ Some q
+-- a word with a text
+text_sound : {line word rest text : List ℕ} (wanted : List ℕ) → bytes_eq word wanted ≡ true → HasWord line word rest → IsText rest text → HasText line wanted text
+text_sound {line} {word} {rest} {text} wanted e h x =
+    let same = (bytes_eq-Decides word wanted).0 e in
+    record {
+      before = h.before;
+      gap = x.gap;
+      whole = h.whole ∙ ap (λ w. h.before ++ (58 ∷ (w ++ rest))) same ∙ ap (λ y. h.before ++ (58 ∷ (wanted ++ y))) x.whole;
+      blank_before = h.blank_before;
+      behind = x.behind;
+    }
 
-pub complete : (line : List ℕ) (q : Asked) → IsCommandLine line q → IsFound line q
-complete line pool (asks_pool h) = record { word = codes "pool"; argument = []; parts = found line (codes "pool") [] h refl refl; asks = refl }
-complete line dump (asks_dump h) = record { word = codes "dump"; argument = []; parts = found line (codes "dump") [] h refl refl; asks = refl }
-complete line draw (asks_draw h) = record { word = codes "draw"; argument = []; parts = found line (codes "draw") [] h refl refl; asks = refl }
-complete line layout (asks_layout h) = record { word = codes "layout"; argument = []; parts = found line (codes "layout") [] h refl refl; asks = refl }
-complete line (forget x) (asks_forget h n) = record { word = codes "forget"; argument = x; parts = found line (codes "forget") x h refl (dark_name x n); asks = ap (λ (t : Bool). cond t (Some (forget x)) None) n }
-complete line (after k) (asks_after {digits} h v) = record { word = codes "after"; argument = digits; parts = found line (codes "after") digits h refl (dark_digits digits k v); asks = ap (option_map after) v }
+solve_sound : (line word rest : List ℕ) (q : Asked) → bytes_eq word (codes "solve") ≡ true → HasWord line word rest → (found : Option (List ℕ)) → text_behind rest ≡ found → option_map solve found ≡ Some q → IsCommandLine line q
+solve_sound line word rest q w h None e k = absurd cc
+solve_sound line word rest q w h (Some text) e k = asks (asks_solve (text_sound (codes "solve") w h (text_there rest text e))) k
+
+diff_there : (line word rest name text : List ℕ) → bytes_eq word (codes "diff") ≡ true → HasWord line word rest → (bytes : List ℕ) → IsText rest bytes → IsNameAndText bytes name text → IsCommandLine line (diff name text)
+diff_there line word rest name text w h bytes x y =
+    asks_diff (subst (HasText line (codes "diff")) (y.whole ∙ ap (λ b. name ++ b) y.behind.whole) (text_sound (codes "diff") w h x)) y.named y.behind.behind
+
+diff_sound : (line word rest : List ℕ) (q : Asked) → bytes_eq word (codes "diff") ≡ true → HasWord line word rest → asked_to_derive rest ≡ Some q → IsCommandLine line q
+diff_sound line word rest q w h k = by (text_behind rest) refl k
+  where
+    named : (bytes : List ℕ) → text_behind rest ≡ Some bytes → (found : Option (List ℕ × List ℕ)) → name_and_text bytes ≡ found → option_map (λ p. diff p.0 p.1) found ≡ Some q → IsCommandLine line q
+    named bytes e None f k = absurd cc
+    named bytes e (Some (name, text)) f k = asks (diff_there line word rest name text w h bytes (text_there rest bytes e) (name_there bytes name text f)) k
+
+    by : (found : Option (List ℕ)) → text_behind rest ≡ found → option_map (λ p. diff p.0 p.1) (option_and_then name_and_text found) ≡ Some q → IsCommandLine line q
+    by None e k = absurd cc
+    by (Some bytes) e k = named bytes e (name_and_text bytes) refl k
+
+plain_sound : (line word rest : List ℕ) (q : Asked) → HasWord line word rest → (found : Option (List ℕ)) → argument_of rest ≡ found → option_and_then (asked_for word) found ≡ Some q → IsCommandLine line q
+plain_sound line word rest q h None e k = absurd cc
+plain_sound line word rest q h (Some argument) e k = argument_sound line word argument q (there line word rest argument h e) k
+
+sound : (line word rest : List ℕ) (q : Asked) → HasWord line word rest → asked_in word rest ≡ Some q → IsCommandLine line q
+sound line word rest q h e =
+    by_test (λ t. bytes_eq word (codes "diff") ≡ t → cond t (asked_to_derive rest) (cond (bytes_eq word (codes "solve")) (option_map solve (text_behind rest)) (option_and_then (asked_for word) (argument_of rest))) ≡ Some q → IsCommandLine line q)
+    (bytes_eq word (codes "diff")) (λ z p k. diff_sound line word rest q p h k)
+    (λ z p k. by_test (λ t. bytes_eq word (codes "solve") ≡ t → cond t (option_map solve (text_behind rest)) (option_and_then (asked_for word) (argument_of rest)) ≡ Some q → IsCommandLine line q)
+    (bytes_eq word (codes "solve")) (λ z p k. solve_sound line word rest q p h (text_behind rest) refl k) (λ z p k. plain_sound line word rest q h (argument_of rest) refl k) refl k) refl e
+
+record IsFound (line : List ℕ) (q : Asked) : Type 0 where
+  word : List ℕ
+  rest : List ℕ
+  parts : word_and_rest line ≡ Some (word, rest)
+  asks : asked_in word rest ≡ Some q
+
+-- a word with an argument
+found_with : (line word argument : List ℕ) (q : Asked) (h : Has line word argument) → list_all (is_in class.SmallLetter) word ≡ true → list_all (is_in class.Dark) argument ≡ true
+    → ((rest : List ℕ) → argument_of rest ≡ Some argument → asked_in word rest ≡ Some q) → IsFound line q
+found_with line word argument q h w d is = record {
+  word = word;
+  rest = h.gap ++ (argument ++ h.behind);
+  parts = word_found line word (h.gap ++ (argument ++ h.behind)) (begins_word h) w (stops_word h.gap argument h.behind h.blank_gap h.blank_behind h.apart);
+  asks = is (h.gap ++ (argument ++ h.behind)) (argument_found h.gap argument h.behind h.blank_gap h.blank_behind d h.apart);
+}
+
+-- a word with a text
+found_before : (line word text : List ℕ) (q : Asked) (h : HasText line word text) → list_all (is_in class.SmallLetter) word ≡ true → ((rest : List ℕ) → text_behind rest ≡ Some text → asked_in word rest ≡ Some q) → IsFound line q
+found_before line word text q h w is = record {
+  word = word;
+  rest = h.gap ++ text;
+  parts = word_found line word (h.gap ++ text) (begins_text h) w (stops_at_blank (is_in class.SmallLetter) no_letter h.gap text h.behind.blank h.behind.some);
+  asks = is (h.gap ++ text) (text_found h.gap text h.behind);
+}
+
+complete : (line : List ℕ) (q : Asked) → IsCommandLine line q → IsFound line q
+complete line pool (asks_pool h) = found_with line (codes "pool") [] pool h refl refl (λ rest e. ap (option_and_then (asked_for (codes "pool"))) e)
+complete line dump (asks_dump h) = found_with line (codes "dump") [] dump h refl refl (λ rest e. ap (option_and_then (asked_for (codes "dump"))) e)
+complete line draw (asks_draw h) = found_with line (codes "draw") [] draw h refl refl (λ rest e. ap (option_and_then (asked_for (codes "draw"))) e)
+complete line layout (asks_layout h) = found_with line (codes "layout") [] layout h refl refl (λ rest e. ap (option_and_then (asked_for (codes "layout"))) e)
+complete line (forget x) (asks_forget h n) = found_with line (codes "forget") x (forget x) h refl (dark_name x n) (λ rest e. ap (option_and_then (asked_for (codes "forget"))) e ∙ ap (λ (t : Bool). cond t (Some (forget x)) None) n)
+complete line (after k) (asks_after {digits} h v) = found_with line (codes "after") digits (after k) h refl (dark_digits digits k v) (λ rest e. ap (option_and_then (asked_for (codes "after"))) e ∙ ap (option_map after) v)
+complete line (diff name text) (asks_diff {gap = gap} h n b) =
+    found_before line (codes "diff") (name ++ (gap ++ text)) (diff name text) h refl (λ rest e. ap (λ found. option_map (λ p. diff p.0 p.1) (option_and_then name_and_text found)) e ∙ ap (option_map (λ p. diff p.0 p.1)) (name_found name gap text n b))
+complete line (solve text) (asks_solve h) = found_before line (codes "solve") text (solve text) h refl (λ rest e. ap (option_map solve) e)
 
 -- a line with these parts asks for what they ask for
-pub asks_for : (line word argument : List ℕ) (q : Asked) → parts_of line ≡ Some (word, argument) → IsCommandLine line q → asked_for word argument ≡ Some q
-asks_for line word argument q e h =
+asks_for : (line word rest : List ℕ) (q : Asked) → word_and_rest line ≡ Some (word, rest) → IsCommandLine line q → asked_in word rest ≡ Some q
+asks_for line word rest q e h =
     let x = complete line q h in
-    let same : ◌≡◌ {A = List ℕ × List ℕ} (x.word, x.argument) (word, argument) = some_same (x.word, x.argument) (word, argument) (sym x.parts ∙ e) in
-    ap (λ (p : List ℕ × List ℕ). asked_for p.0 p.1) (sym same) ∙ x.asks
-  where
-    some_same : (p q : List ℕ × List ℕ) → Some p ≡ Some q → p ≡ q
-    some_same p q e = cc
+    let same = pairs x.word word x.rest rest (sym x.parts ∙ e) in
+    ap (λ w. asked_in w rest) (sym same.0) ∙ ap (asked_in x.word) (sym same.1) ∙ x.asks
 
 pub once : (line : List ℕ) (a b : Asked) → IsCommandLine line a → IsCommandLine line b → a ≡ b
 once line a b h k =
     let x = complete line a h in
-    some_same (sym x.asks ∙ asks_for line x.word x.argument b x.parts k)
+    some_same (sym x.asks ∙ asks_for line x.word x.rest b x.parts k)
   where
     some_same : Some a ≡ Some b → a ≡ b
     some_same e = cc
 
 -- ---- what the reader answers
 
-pub answers : (r : Option Command) (line word argument : List ℕ) → parts_of line ≡ Some (word, argument) → option_map asked_of r ≡ asked_for word argument → IfSome r (λ c. IsCommandLine line (asked_of c))
-answers None line word argument e f = tt
-answers (Some c) line word argument e f = sound line word argument (asked_of c) (there line word argument e) (sym f)
+pub answers : (r : Option Command) (line word rest : List ℕ) → word_and_rest line ≡ Some (word, rest) → option_map asked_of r ≡ asked_in word rest → IfSome r (λ c. IsCommandLine line (asked_of c))
+answers None line word rest e f = tt
+answers (Some c) line word rest e f = sound line word rest (asked_of c) (word_there line word rest e) (sym f)
 
 clash : {A : Type 0} (x : A) (o : Option A) → o ≡ None → o ≡ Some x → ⊥
 clash x o e f = cc
 
-pub answers_none : (r : Option Command) (line word argument : List ℕ) → parts_of line ≡ Some (word, argument) → option_map asked_of r ≡ asked_for word argument
+pub answers_none : (r : Option Command) (line word rest : List ℕ) → word_and_rest line ≡ Some (word, rest) → option_map asked_of r ≡ asked_in word rest
     → (IsNone r → (q : Asked) → IsCommandLine line q → ⊥) × (((q : Asked) → IsCommandLine line q → ⊥) → IsNone r)
-answers_none None line word argument e f = (λ n q h. clash q (asked_for word argument) (sym f) (asks_for line word argument q e h), λ n. refl)
-answers_none (Some c) line word argument e f = (λ n q h. no n, λ n. absurd (n (asked_of c) (sound line word argument (asked_of c) (there line word argument e) (sym f))))
+answers_none None line word rest e f = (λ n q h. clash q (asked_in word rest) (sym f) (asks_for line word rest q e h), λ n. refl)
+answers_none (Some c) line word rest e f = (λ n q h. no n, λ n. absurd (n (asked_of c) (sound line word rest (asked_of c) (word_there line word rest e) (sym f))))
   where
     no : IsNone (Some c) → ⊥
     no h = cc
 
-pub no_command : (line : List ℕ) (q : Asked) → parts_of line ≡ None → IsCommandLine line q → ⊥
-no_command line q e h = let x = complete line q h in clash (x.word, x.argument) (parts_of line) e x.parts
+pub no_command : (line : List ℕ) (q : Asked) → word_and_rest line ≡ None → IsCommandLine line q → ⊥
+no_command line q e h = let x = complete line q h in clash (x.word, x.rest) (word_and_rest line) e x.parts

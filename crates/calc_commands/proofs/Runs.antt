@@ -68,3 +68,12 @@ all_other p q f (b ∷ bytes) h = let k = both (p b) (list_all p bytes) h in rw 
 
 pub first_of_all : (p : ℕ → Bool) (b : ℕ) (bytes : List ℕ) → list_all p (b ∷ bytes) ≡ true → p b ≡ true
 first_of_all p b bytes h = (both (p b) (list_all p bytes) h).0
+
+-- a run ends where there is no more of it
+pub run_stops : (p : ℕ → Bool) (bytes : List ℕ) → stops p ((leading_run p bytes).1) ≡ true
+run_stops p [] = refl
+run_stops p (b ∷ bytes) = by (p b) refl (run_stops p bytes)
+  where
+    by : (x : Bool) → p b ≡ x → stops p ((leading_run p bytes).1) ≡ true → stops p ((keep x b bytes (leading_run p bytes)).1) ≡ true
+    by true e h = h
+    by false e h = rw e refl

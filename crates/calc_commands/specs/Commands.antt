@@ -1,5 +1,5 @@
 -- Command lines.
-use Rattle.std.specs.Prelude.{ℕ, ◌≡◌, ◌<◌, ◌==◌, List, [], ◌∷◌, ◌++◌, length, Bool, true, false, if◌then◌else◌, Some, codes}
+use Rattle.std.specs.Prelude.{ℕ, ◌≡◌, ◌<◌, ◌==◌, List, [], ◌∷◌, ◌++◌, length, Bool, true, false, not, if◌then◌else◌, Some, codes}
 use Rattle.std.specs.List.{list_all}
 use Rattle.calc_terms.specs.Leaf.{name_of}
 use Rattle.calc_terms.specs.Name.{is_name}
@@ -13,11 +13,13 @@ abbrev pub is_command : List ℕ → Bool
 is_command [] = false
 is_command (b ∷ bytes) = if is_blank b then is_command bytes else (b == 58)
 
--- what a command asks for: a name by its bytes, and after how many checks a breaker trips
+-- what a command asks for: a name by its bytes, after how many checks a breaker trips, and a text to calculate with
 pub data Asked : Type 0 where
   pool dump draw layout : Asked
   forget : List ℕ → Asked
   after : ℕ → Asked
+  diff : List ℕ → List ℕ → Asked
+  solve : List ℕ → Asked
 
 abbrev pub asked_of : Command → Asked
 asked_of command.Pool = pool
@@ -26,6 +28,8 @@ asked_of (command.Forget name) = forget (name_of name)
 asked_of (command.After checks) = after checks
 asked_of command.Draw = draw
 asked_of command.Layout = layout
+asked_of (command.Diff name text) = diff (name_of name) text.now
+asked_of (command.Solve text) = solve text.now
 
 -- a line is a colon and a word, with blanks around them, and an argument behind more blanks where there is one
 pub record Has (line word argument : List ℕ) : Type 0 where
@@ -38,6 +42,24 @@ pub record Has (line word argument : List ℕ) : Type 0 where
   pub blank_behind : list_all is_blank behind ≡ true
   pub apart : 0 < length argument → 0 < length gap
 
+abbrev pub begins_dark : List ℕ → Bool
+begins_dark [] = false
+begins_dark (b ∷ bytes) = not (is_blank b)
+
+-- a text stands behind a gap: blanks, one at least, and then something that begins with none
+pub record IsTextBehind (gap text : List ℕ) : Type 0 where
+  pub blank : list_all is_blank gap ≡ true
+  pub some : 0 < length gap
+  pub dark : begins_dark text ≡ true
+
+-- a line is a colon and a word, with blanks before the colon, and then a text up to the end
+pub record HasText (line word text : List ℕ) : Type 0 where
+  pub before : List ℕ
+  pub gap : List ℕ
+  pub whole : line ≡ before ++ (58 ∷ (word ++ (gap ++ text)))
+  pub blank_before : list_all is_blank before ≡ true
+  pub behind : IsTextBehind gap text
+
 -- the command lines, a rule for each word
 pub data IsCommandLine (line : List ℕ) : Asked → Type 0 where
   asks_pool : Has line (codes "pool") [] → IsCommandLine line pool
@@ -46,3 +68,5 @@ pub data IsCommandLine (line : List ℕ) : Asked → Type 0 where
   asks_layout : Has line (codes "layout") [] → IsCommandLine line layout
   asks_forget : {name : List ℕ} → Has line (codes "forget") name → is_name name ≡ true → IsCommandLine line (forget name)
   asks_after : {digits : List ℕ} {checks : ℕ} → Has line (codes "after") digits → value_of digits ≡ Some checks → IsCommandLine line (after checks)
+  asks_diff : {name gap text : List ℕ} → HasText line (codes "diff") (name ++ (gap ++ text)) → is_name name ≡ true → IsTextBehind gap text → IsCommandLine line (diff name text)
+  asks_solve : {text : List ℕ} → HasText line (codes "solve") text → IsCommandLine line (solve text)

@@ -7,7 +7,7 @@ use Rattle.calc_terms.specs.Name.{is_name}
 use Rattle.calc_language.specs.Tokens.{is_blank, leading_run}
 use Rattle.calc_commands.specs.declared.parts.Class.{Class}
 use Rattle.calc_commands.specs.declared.parts.Class.TheVariants as class
-use Rattle.calc_commands.specs.Commands.{Asked, pool, dump, draw, layout, forget, after}
+use Rattle.calc_commands.specs.Commands.{Asked, pool, dump, draw, layout, forget, after, diff, solve}
 use Rattle.calc_commands.specs.Numbers.{value_of}
 
 -- a byte is of a class
@@ -30,12 +30,17 @@ argument_of rest =
     let text = leading_run (is_in class.Dark) gap.1 in
     if ((length text.0 == 0) || nat_lt 0 (length gap.0)) && are_blanks text.1 then Some text.0 else None
 
--- the word and its argument
-abbrev pub word_and_argument : List ℕ → Option (List ℕ × List ℕ)
-word_and_argument text = let word = leading_run (is_in class.SmallLetter) text in option_map (λ argument. (word.0, argument)) (argument_of word.1)
+-- the word, and what stands behind it
+abbrev pub word_and_rest : List ℕ → Option (List ℕ × List ℕ)
+word_and_rest line = option_map (leading_run (is_in class.SmallLetter)) (behind_colon ((leading_run is_blank line).1))
 
-abbrev pub parts_of : List ℕ → Option (List ℕ × List ℕ)
-parts_of line = option_and_then word_and_argument (behind_colon ((leading_run is_blank line).1))
+-- the text behind blanks
+abbrev pub text_behind : List ℕ → Option (List ℕ)
+text_behind rest = let run = leading_run is_blank rest in if (length run.0 == 0) || (length run.1 == 0) then None else Some run.1
+
+-- a name, and the text behind it
+abbrev pub name_and_text : List ℕ → Option (List ℕ × List ℕ)
+name_and_text text = let run = leading_run (is_in class.Dark) text in if is_name run.0 then option_map (λ behind. (run.0, behind)) (text_behind run.1) else None
 
 -- what a word asks for
 abbrev pub asked_alone : List ℕ → Option Asked
@@ -48,3 +53,12 @@ asked_for word argument =
     if bytes_eq word (codes "forget") then (if is_name argument then Some (forget argument) else None)
     else if bytes_eq word (codes "after") then option_map after (value_of argument)
     else if length argument == 0 then asked_alone word else None
+
+abbrev pub asked_to_derive : List ℕ → Option Asked
+asked_to_derive rest = option_map (λ found. diff found.0 found.1) (option_and_then name_and_text (text_behind rest))
+
+-- what a word and what stands behind it ask for
+abbrev pub asked_in : List ℕ → List ℕ → Option Asked
+asked_in word rest =
+    if bytes_eq word (codes "diff") then asked_to_derive rest else if bytes_eq word (codes "solve") then option_map solve (text_behind rest)
+    else option_and_then (asked_for word) (argument_of rest)

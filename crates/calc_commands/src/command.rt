@@ -2,15 +2,15 @@
 ghost use Rattle.std.specs.Prelude.{◌≡◌, ◌↔◌, IfSome, IsNone, Some, None};
 ghost use Rattle.std.specs.Option.{option_map};
 ghost use Rattle.calc_commands.specs.Commands.{Asked, IsCommandLine, asked_of, is_command as begins_with_colon};
-ghost use Rattle.calc_commands.specs.Parsing.{asked_for, asked_alone};
+ghost use Rattle.calc_commands.specs.Parsing.{asked_for, asked_alone, asked_in, asked_to_derive as derivative_asked_in};
 
 use crate::numbers::read_number;
-use crate::parts::{is_blank, parts};
+use crate::parts::{argument, is_blank, name_and_text, text_behind, word_and_rest};
 use calc_terms::Name;
 
 /// What a command line asks for.
 #[derive(Clone, Copy, Debug)]
-pub enum Command {
+pub enum Command<'a> {
     /// How full the pool is.
     Pool,
     /// The bytes of the pool.
@@ -23,6 +23,10 @@ pub enum Command {
     Draw,
     /// The serial text of the layout of the last answer.
     Layout,
+    /// The derivative of an expression with respect to a name.
+    Diff(Name, &'a [u8]),
+    /// The solutions of equations.
+    Solve(&'a [u8]),
 }
 
 /// Whether the first byte that is no blank is `:`.
@@ -38,17 +42,38 @@ pub fn is_command(line: &[u8]) -> bool
 }
 
 /// What a line asks for: a colon and one of the words, with blanks around them, and an argument behind more blanks where the
-/// word takes one. There is no command in any other line.
-pub fn read_command(line: &[u8]) -> Option<Command>
+/// word takes one. What is to be calculated with is the whole text behind those. There is no command in any other line.
+pub fn read_command(line: &[u8]) -> Option<Command<'_>>
     ensures some { IfSome result (λ command. IsCommandLine line.now (asked_of command)) }
     ensures none { IsNone result ↔ ((asked : Asked) → IsCommandLine line.now asked → ⊥) }
 {
-    let (word, argument) = parts(line)?;
-    asked(word, argument)
+    let (word, rest) = word_and_rest(line)?;
+    asked(word, rest)
+}
+
+/// What a word with what stands behind it asks for.
+fn asked<'a>(word: &'a [u8], rest: &'a [u8]) -> Option<Command<'a>>
+    ensures { option_map asked_of result ≡ asked_in word.now rest.now }
+{
+    if word == b"diff".as_slice() {
+        return asked_to_derive(rest);
+    }
+    if word == b"solve".as_slice() {
+        return Some(Command::Solve(text_behind(rest)?));
+    }
+    asked_with(word, argument(rest)?)
+}
+
+/// What stands behind `diff` asks for.
+fn asked_to_derive(rest: &[u8]) -> Option<Command<'_>>
+    ensures { option_map asked_of result ≡ derivative_asked_in rest.now }
+{
+    let (name, text) = name_and_text(text_behind(rest)?)?;
+    Some(Command::Diff(name, text))
 }
 
 /// What a word with its argument asks for.
-fn asked(word: &[u8], argument: &[u8]) -> Option<Command>
+fn asked_with<'a>(word: &'a [u8], argument: &'a [u8]) -> Option<Command<'a>>
     ensures { option_map asked_of result ≡ asked_for word.now argument.now }
 {
     if word == b"forget".as_slice() {
@@ -67,7 +92,7 @@ fn asked(word: &[u8], argument: &[u8]) -> Option<Command>
 }
 
 /// What a word without an argument asks for.
-fn asked_by(word: &[u8]) -> Option<Command>
+fn asked_by(word: &[u8]) -> Option<Command<'_>>
     ensures { option_map asked_of result ≡ asked_alone word.now }
 {
     if word == b"pool".as_slice() {

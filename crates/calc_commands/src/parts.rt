@@ -1,8 +1,11 @@
-//! The word of a command line and its argument.
+//! The word of a command line, and its argument or text.
 ghost use Rattle.std.specs.Prelude.{◌≡◌, Some, None, MatchOption};
 ghost use Rattle.std.specs.List.{prefix_len};
 ghost use Rattle.calc_language.specs.Tokens.{is_blank as is_blank_of, leading_run};
-ghost use Rattle.calc_commands.specs.Parsing.{argument_of, behind_colon as behind_colon_of, is_in, are_blanks, parts_of};
+ghost use Rattle.calc_terms.specs.Leaf.{name_of};
+ghost use Rattle.calc_commands.specs.Parsing.{argument_of, behind_colon as behind_colon_of, is_in, are_blanks, name_and_text as name_and_text_of, text_behind as text_behind_of, word_and_rest as word_and_rest_of};
+
+use calc_terms::Name;
 
 /// What stands side by side in a command line.
 #[derive(Clone, Copy, Debug)]
@@ -24,14 +27,12 @@ impl Class {
     }
 }
 
-/// The word behind the colon and its argument, which is empty where there is none.
-pub(crate) fn parts(line: &[u8]) -> Option<(&[u8], &[u8])>
-    ensures { MatchOption result (parts_of line.now ≡ None) (λ found. parts_of line.now ≡ Some (found.0.now, found.1.now)) }
+/// The word behind the colon, and what stands behind it.
+pub(crate) fn word_and_rest(line: &[u8]) -> Option<(&[u8], &[u8])>
+    ensures { MatchOption result (word_and_rest_of line.now ≡ None) (λ found. word_and_rest_of line.now ≡ Some (found.0.now, found.1.now)) }
 {
     let (_, text) = split(line, Class::Blank);
-    let (word, rest) = split(behind_colon(text)?, Class::SmallLetter);
-    let argument = argument(rest)?;
-    Some((word, argument))
+    Some(split(behind_colon(text)?, Class::SmallLetter))
 }
 
 /// What stands behind a colon at the front.
@@ -42,7 +43,7 @@ fn behind_colon(text: &[u8]) -> Option<&[u8]>
 }
 
 /// The argument in what stands behind a word: nothing between blanks, behind at least one of them, or nothing at all.
-fn argument(rest: &[u8]) -> Option<&[u8]>
+pub(crate) fn argument(rest: &[u8]) -> Option<&[u8]>
     ensures { MatchOption result (argument_of rest.now ≡ None) (λ argument. argument_of rest.now ≡ Some argument.now) }
 {
     let (gap, text) = split(rest, Class::Blank);
@@ -53,6 +54,27 @@ fn argument(rest: &[u8]) -> Option<&[u8]>
     } else {
         None
     }
+}
+
+/// What stands behind blanks, up to the end: at least one blank, and not nothing.
+pub(crate) fn text_behind(rest: &[u8]) -> Option<&[u8]>
+    ensures { MatchOption result (text_behind_of rest.now ≡ None) (λ text. text_behind_of rest.now ≡ Some text.now) }
+{
+    let (gap, text) = split(rest, Class::Blank);
+    if gap.is_empty() || text.is_empty() {
+        None
+    } else {
+        Some(text)
+    }
+}
+
+/// A name at the front, and the text behind it.
+pub(crate) fn name_and_text(text: &[u8]) -> Option<(Name, &[u8])>
+    ensures { MatchOption result (name_and_text_of text.now ≡ None) (λ found. name_and_text_of text.now ≡ Some (name_of found.0, found.1.now)) }
+{
+    let (word, rest) = split(text, Class::Dark);
+    let name = Name::read(word)?;
+    Some((name, text_behind(rest)?))
 }
 
 fn blanks_alone(bytes: &[u8]) -> bool

@@ -37,6 +37,22 @@ const ASKED: &str = "\
 :forget sqrt = none\n\
 :forget abcdefgh = none\n\
 :forget x y = none\n\
+:diff x x^3 = diff x x^3\n\
+\t:diff \t a1  2 ? = diff a1 2 ?\n\
+:diff x :pool = diff x :pool\n\
+:diff = none\n\
+:diff x = none\n\
+:diff x  = none\n\
+:diff x+1 = none\n\
+:diff 1 x = none\n\
+:diff sqrt x = none\n\
+:diff abcdefgh x = none\n\
+:diffx x = none\n\
+:solve x=1;y = solve x=1;y\n\
+:solve ;  = solve ; \n\
+:solve = none\n\
+:solve  = none\n\
+:solvex = none\n\
 :expand(x) = none\n\
 :pooled = none\n\
 pool = none";
@@ -71,7 +87,26 @@ fn tell(line: &[u8], text: &mut Text)
             text.push(name.bytes());
         }
         Some(Command::After(checks)) => write_after(checks, text),
+        Some(Command::Diff(name, behind)) => {
+            text.push(b"diff ");
+            text.push(name.bytes());
+            push_behind(behind, text);
+        }
+        Some(Command::Solve(behind)) => {
+            text.push(b"solve");
+            push_behind(behind, text);
+        }
         None => text.push(b"none"),
+    }
+}
+
+/// Appends what is calculated with, where there is room for it.
+fn push_behind(behind: &[u8], text: &mut Text)
+    ensures { text.new.capacity ≡ text.old.capacity }
+{
+    if behind.len() < text.spare() as usize {
+        text.push(b" ");
+        text.push(behind);
     }
 }
 

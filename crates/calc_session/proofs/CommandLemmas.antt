@@ -1,5 +1,5 @@
 -- Lemmas on commands.
-use Rattle.std.proofs.Common.{◌≡◌, ◌∙◌, ℕ, zero, suc, List, [], ◌∷◌, ◌++◌, codes, Bool, true, false, if◌then◌else◌, Option, Some, None, Ok, Err, refl, sym, ap, arith}
+use Rattle.std.proofs.Common.{◌≡◌, ◌∙◌, ◌↔◌, ℕ, zero, suc, List, [], ◌∷◌, ◌++◌, codes, Bool, true, false, if◌then◌else◌, Option, Some, None, Ok, Err, refl, sym, ap, arith}
 use Rattle.std.specs.Prelude.{IsNone}
 use Rattle.breakers.specs.Breakers.{TripsRose, armed_first}
 use Rattle.breakers.specs.State.{State as Breaker, armed_after, planned_after}
@@ -14,7 +14,9 @@ use Rattle.node_pool.specs.declared.full.Full.{Full}
 use Rattle.node_pool.specs.State.{State as PoolState}
 use Rattle.tree_handles.specs.Forest.{flatten}
 use Rattle.tree_handles.specs.Standing.{Stands, forest, KeepsRefusals}
+use Rattle.calc_session.specs.declared.answers.LineAnswer.{LineAnswer}
 use Rattle.calc_session.specs.declared.answers.LineAnswer.TheVariants as answer
+use Rattle.calc_session.specs.declared.answers.Refusal.{Refusal}
 use Rattle.calc_session.specs.Answers.{AnswersCommand}
 use Rattle.calc_session.specs.declared.answers.Refusal.TheVariants as refusal
 use Rattle.calc_session.specs.Commanding.{IsReplyToCommand, arms_a_breaker, can_arm, cannot_arm, finds_no_breaker, forgets, has_no_room, is_to_be_drawn, knows_no_name, tells_the_layout}
@@ -141,3 +143,24 @@ answers_no_room s t before line text lack asked is same empty = record { reply =
 pub none_of : {X : Type 0} (r : Option X) → ((x : X) → r ≡ Some x → ⊥) → IsNone r
 none_of None h = refl
 none_of (Some x) h = absurd (h x refl)
+
+-- ---- interruptions
+
+pub calm_told : (given : LineAnswer) (before checked : List Breaker) → ((place : ℕ) → given ≡ answer.Refused (refusal.Interrupted place) → ⊥) → ((place : ℕ) → TripsRose before checked place → ⊥) → (place : ℕ)
+    → ((given ≡ answer.Refused (refusal.Interrupted place)) ↔ TripsRose before checked place)
+calm_told given before checked h k place = (λ e. absurd (h place e), λ rose. absurd (k place rose))
+
+pub report_uninterrupted : (place : ℕ) → answer.Report ≡ answer.Refused (refusal.Interrupted place) → ⊥
+report_uninterrupted place e = cc
+
+pub draw_uninterrupted : (place : ℕ) → answer.Draw ≡ answer.Refused (refusal.Interrupted place) → ⊥
+draw_uninterrupted place e = cc
+
+pub command_uninterrupted : (place : ℕ) → answer.Refused refusal.Command ≡ answer.Refused (refusal.Interrupted place) → ⊥
+command_uninterrupted place e = cc
+
+refusals_are : (r s : Refusal) → answer.Refused r ≡ answer.Refused s → r ≡ s
+refusals_are r s e = cc
+
+pub refusal_uninterrupted : (r : Refusal) → ((place : ℕ) → r ≡ refusal.Interrupted place → ⊥) → (place : ℕ) → answer.Refused r ≡ answer.Refused (refusal.Interrupted place) → ⊥
+refusal_uninterrupted r h place e = h place (refusals_are r (refusal.Interrupted place) e)

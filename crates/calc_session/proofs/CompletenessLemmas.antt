@@ -15,7 +15,7 @@ use Rattle.calc_session.specs.Evaluations.{IsReplyTo}
 use Rattle.calc_session.specs.Reading.{IsReplyUnread, is_long, is_nothing, has_no_token, has_a_wide_number, is_no_line, is_too_deep, stores_to_ans, finds_names_full, ReadsAs, ReadsTree}
 use Rattle.calc_session.specs.Replies.{Reply}
 use Rattle.calc_session.specs.States.{State, free_bytes, trees}
-use Rattle.calc_session.specs.Steps.{IsReply, is_unread, is_commanded, is_evaluated}
+use Rattle.calc_session.specs.Steps.{IsReply, is_unread, is_commanded, is_calculated, is_evaluated}
 
 clash : (b : Bool) → b ≡ true → b ≡ false → ⊥
 clash b e f = cc
@@ -52,6 +52,7 @@ pub read_evaluated : (room bits : Option (Tree → ℕ)) (old : State) (before a
     → IsReplyTo room bits (free_bytes old) (values old.table (trees old)) t before after store reply
 read_evaluated room bits old before after line reply tokens store t r (is_unread h same) = absurd (not_unread old.table r h)
 read_evaluated room bits old before after line reply tokens store t r (is_commanded short is h) = absurd (clash _ is r.reads.text.no_command)
+read_evaluated room bits old before after line reply tokens store t r (is_calculated short is h) = absurd (clash _ is r.reads.text.no_command)
 read_evaluated room bits old before after line reply tokens store t r (is_evaluated {store = store'} {t = t'} s h) =
     let same = one_reading s.reads r.reads in
     subst (λ (u : Tree). IsReplyTo room bits (free_bytes old) (values old.table (trees old)) u before after store reply) same.trees

@@ -18,7 +18,7 @@ use Rattle.calc_parser.proofs.Checks.{one_line}
 use Rattle.calc_terms.specs.Leaf.{name_of}
 use Rattle.calc_terms.specs.Trees.{Tree, num, symbol, undef, add, mult, power, root, neg, sub, div, is_undef, names, nodes, root_kind, size}
 use Rattle.calc_terms.specs.declared.kind.Kind.TheVariants as kind
-use Rattle.name_table.specs.Filling.{NamedTree, values, LacksNames, lacks, fills, filling, refused_filling, FaultsFilling}
+use Rattle.name_table.specs.Filling.{NamedTree, values, LacksNames, Filling, lacks, too_deep, fills, filling, refused_filling, FaultsFilling}
 use Rattle.name_table.specs.Storing.{IsKeepable, names_with}
 use Rattle.name_table.specs.Tables.{Table, table_names}
 use Rattle.name_table.specs.declared.fault.FillFault.{FillFault}
@@ -37,7 +37,7 @@ use Rattle.tree_handles.specs.Causes.{Overflows}
 use Rattle.tree_handles.specs.Expressions.{plain}
 use Rattle.tree_handles.specs.Forest.{Forest, flatten, bytes_in}
 use Rattle.tree_handles.specs.Handed.{tree_of, Gives, KeepsFront, Starts}
-use Rattle.tree_handles.specs.Roots.{without_root}
+use Rattle.tree_handles.specs.Roots.{root_tree, without_root}
 use Rattle.tree_handles.specs.Standing.{LacksBytes, Stands, forest, KeepsRefusals}
 use Rattle.tree_handles.proofs.Forests.{bytes_in-join, flatten-join, refuses_after}
 use Rattle.tree_handles.proofs.Fronts.{behind_first, behind_new, front_after_one, front_at, front_end, front_same, front_without}
@@ -50,7 +50,7 @@ use Rattle.calc_session.specs.declared.answers.Refusal.TheVariants as refusal
 use Rattle.calc_session.specs.declared.evaluating.Evaluation.{Evaluation}
 use Rattle.calc_session.specs.declared.evaluating.Evaluation.TheVariants.{Face, Undefined, Refused}
 use Rattle.calc_session.specs.Answers.{ComesTo, CountsRefusal, IsDisplayOf, LacksName, refusal_of, refusal_to_fill, reply_of}
-use Rattle.calc_session.specs.Evaluations.{HasFittingRationals, IsAnswerTo, IsReplyWith, has_no_value, holds_its_name, is_shown, is_stored, OverflowsAt, IsReduction, is_interrupted, does_not_fit, lacks_bytes, is_answered, made, IsReplyTo, finds_no_room, becomes_too_deep, is_reduced}
+use Rattle.calc_session.specs.Evaluations.{HasFittingRationals, IsAnswerTo, IsReplyWith, has_no_value, holds_its_name, is_shown, is_stored, OverflowsAt, IsReduction, is_interrupted, does_not_fit, lacks_bytes, is_answered, made, Unmade, IsReplyTo, finds_no_room, becomes_too_deep, is_reduced}
 use Rattle.calc_session.specs.Faces.{Shows}
 use Rattle.calc_session.specs.Replies.{Reply, displayed, circular, refusal_in}
 use Rattle.calc_session.proofs.FaceNames.{face_names}
@@ -311,37 +311,44 @@ defined_by_kind _ e = refl
 
 -- ---- from the tree that was read to the one that is reduced
 
-module _ (room bits : Option (Tree → ℕ)) (before after : List Breaker) (store : Option (List ℕ)) (table : Table) where
-  made_filled : (old mid : State) {i : ℕ} (ts : List Token) (t : Tree) → Gives (forest old) (forest mid) i (IsTreeOf ts) → IsTreeOf ts t → building (free_of old) t ≡ Ok (free_of mid)
-      → made (free_of old) (values table (forest old)) t ≡ filling (free_of mid) (values table (without_root i (forest mid))) (tree_of i mid)
-  made_filled old mid {i} ts t g is built =
+module _ (table : Table) (old mid : State) {i : ℕ} (ts : List Token) (t : Tree) (g : Gives (forest old) (forest mid) i (IsTreeOf ts)) (is : IsTreeOf ts t) (built : building (free_of old) t ≡ Ok (free_of mid)) where
+  pub made_filled : made (free_of old) (values table (forest old)) t ≡ filling (free_of mid) (values table (without_root i (forest mid))) (tree_of i mid)
+  made_filled =
       made_on (free_of old) (values table (forest old)) t (free_of mid) built
       ∙ ap (λ (f : Forest). filling (free_of mid) (values table f) t) (sym (given_rest g))
       ∙ ap (filling (free_of mid) (values table (without_root i (forest mid)))) (that_tree ts t (tree_of i mid) is (given_told g))
 
-  pub comes_filled : (old mid mid' : State) {i j : ℕ} {P : Tree → Type 0} (new : Forest) (ts : List Token) (t : Tree) (result : Evaluation) → Stands old → Stands mid' → mid'.size ≡ old.size → Gives (forest old) (forest mid) i (IsTreeOf ts) → IsTreeOf ts t
-      → building (free_of old) t ≡ Ok (free_of mid) → Gives (without_root i (forest mid)) (forest mid') j P
-      → filling (free_of mid) (values table (without_root i (forest mid))) (tree_of i mid) ≡ fills (free_of mid') (tree_of j mid') → LacksNames (table_names table) (tree_of j mid')
-      → ComesTo (IsReduction room bits (free_of mid' + size (tree_of j mid')) (tree_of j mid') before after store) (IsDisplayOf store (tree_of j mid')) store (without_root j (forest mid')) new result
-      → ComesTo (IsReplyTo room bits (free_of old) (values table (forest old)) t before after store) (IsKeepable store table) store (forest old) new result
-  comes_filled old mid mid' {i} {j} new ts t result st st' e g is built k filled clear h =
-      let free : free_of mid' + size (tree_of j mid') ≡ free_of old = free_before st st' e (gives_as k (given_rest g) (λ u x. x)) in
-      comes_as {Now = IsReplyTo room bits (free_of old) (values table (forest old)) t before after store} store new result
-      (λ r m. is_reduced (made_filled old mid ts t g is built ∙ filled) (subst (λ n. IsReduction room bits n (tree_of j mid') before after store r) free m))
-      (λ u d. keepable store table (tree_of j mid') u clear d) (given_rest k ∙ given_rest g) h
-
-  pub unfilled_reply : (old mid : State) {i : ℕ} (ts : List Token) (t : Tree) (f : FillFault) (r : Refusal) → Gives (forest old) (forest mid) i (IsTreeOf ts) → IsTreeOf ts t → building (free_of old) t ≡ Ok (free_of mid)
-      → filling (free_of mid) (values table (without_root i (forest mid))) (tree_of i mid) ≡ refused_filling f → after ≡ before → r ≡ refusal_to_fill f
-      → IsReplyTo room bits (free_of old) (values table (forest old)) t before after store (reply_of r)
-  unfilled_reply old mid ts t f r g is built filled same is' = subst (λ x. IsReplyTo room bits (free_of old) (values table (forest old)) t before after store (reply_of x)) (sym is') (by f (made_filled old mid ts t g is built ∙ filled))
+  pub unfilled : (f : FillFault) (r : Refusal) → filling (free_of mid) (values table (without_root i (forest mid))) (tree_of i mid) ≡ refused_filling f → r ≡ refusal_to_fill f → Unmade (made (free_of old) (values table (forest old)) t) (reply_of r)
+  unfilled f r filled is' = subst (λ x. Unmade x (reply_of r)) (sym (made_filled ∙ filled)) (subst (λ x. Unmade (refused_filling f) (reply_of x)) (sym is') (by f))
     where
-      by : (f : FillFault) → made (free_of old) (values table (forest old)) t ≡ refused_filling f → IsReplyTo room bits (free_of old) (values table (forest old)) t before after store (reply_of (refusal_to_fill f))
-      by (fill.Full full) m = finds_no_room m same
-      by fill.Deep m = becomes_too_deep m same
+      by : (f : FillFault) → Unmade (refused_filling f) (reply_of (refusal_to_fill f))
+      by (fill.Full full) = refl
+      by fill.Deep = refl
 
-  pub unbuilt_reply : (old : State) (t : Tree) (full : Full) (r : Refusal) → building (free_of old) t ≡ Err full → after ≡ before → r ≡ refusal.Full full.needed full.free
-      → IsReplyTo room bits (free_of old) (values table (forest old)) t before after store (reply_of r)
-  unbuilt_reply old t full r e same is = subst (λ x. IsReplyTo room bits (free_of old) (values table (forest old)) t before after store (reply_of x)) (sym is) (finds_no_room (made_none (free_of old) (values table (forest old)) t full e) same)
+pub unbuilt : (table : Table) (old : State) (t : Tree) (full : Full) (r : Refusal) → building (free_of old) t ≡ Err full → r ≡ refusal.Full full.needed full.free → Unmade (made (free_of old) (values table (forest old)) t) (reply_of r)
+unbuilt table old t full r e is = subst (λ x. Unmade x (reply_of r)) (sym (made_none (free_of old) (values table (forest old)) t full e)) (ap reply_of is)
+
+-- what is told of the last tree may be said otherwise
+pub gives_told : {f s : Forest} {i : ℕ} {P : Tree → Type 0} (Q : Tree → Type 0) → Gives f s i P → Q (plain (root_tree i s)) → Gives f s i Q
+gives_told Q g q = record { tree = g.tree; ends = g.ends; once = g.once; whole = g.whole; told = subst (λ (x : Forest). Q (plain x)) (last_tree g.ends) q }
+
+module _ (room bits : Option (Tree → ℕ)) (before after : List Breaker) (store : Option (List ℕ)) (table : Table) where
+  pub comes_made : (old mid : State) {i : ℕ} (new : Forest) (t : Tree) (result : Evaluation) → Stands old → Stands mid → mid.size ≡ old.size → Gives (forest old) (forest mid) i (LacksNames (table_names table))
+      → made (free_of old) (values table (forest old)) t ≡ fills (free_of mid) (tree_of i mid)
+      → ComesTo (IsReduction room bits (free_of mid + size (tree_of i mid)) (tree_of i mid) before after store) (IsDisplayOf store (tree_of i mid)) store (without_root i (forest mid)) new result
+      → ComesTo (IsReplyTo room bits (free_of old) (values table (forest old)) t before after store) (IsKeepable store table) store (forest old) new result
+  comes_made old mid {i} new t result st st' e g is h =
+      comes_as {Now = IsReplyTo room bits (free_of old) (values table (forest old)) t before after store} store new result
+      (λ r m. is_reduced is (subst (λ n. IsReduction room bits n (tree_of i mid) before after store r) (free_before st st' e g) m))
+      (λ u d. keepable store table (tree_of i mid) u (given_told g) d) (given_rest g) h
+
+  pub unmade_reply : (free : ℕ) (values : List NamedTree) (t : Tree) (reply : Reply) → Unmade (made free values t) reply → after ≡ before → IsReplyTo room bits free values t before after store reply
+  unmade_reply free values t reply h same = by (made free values t) refl h
+    where
+      by : (m : Filling) → made free values t ≡ m → Unmade m reply → IsReplyTo room bits free values t before after store reply
+      by (lacks refusal) e k = subst (IsReplyTo room bits free values t before after store) (sym k) (finds_no_room e same)
+      by too_deep e k = subst (IsReplyTo room bits free values t before after store) (sym k) (becomes_too_deep e same)
+      by (fills left u) e k = absurd k
 
 pub unfilled_count : (s t : State) (f : FillFault) (r : Refusal) → r ≡ refusal_to_fill f → FaultsFilling s t f → CountsRefusal (refusal_in (reply_of r)) s t
 unfilled_count s t f r is h = subst (λ x. CountsRefusal (refusal_in (reply_of x)) s t) (sym is) (by f h)
@@ -354,14 +361,17 @@ unfilled_count s t f r is h = subst (λ x. CountsRefusal (refusal_in (reply_of x
 calm_at : (r : Refusal) (bs : List Breaker) (place : ℕ) → (r ≡ refusal.Interrupted place → ⊥) → ((Refused r ≡ Refused (refusal.Interrupted place)) ↔ TripsRose bs bs place)
 calm_at r bs place h = (λ e. absurd (h (is_refused r (refusal.Interrupted place) e)), λ rose. absurd (none_rose bs place rose))
 
-pub calm_unbuilt : (r : Refusal) (needed free : ℕ) (bs : List Breaker) (place : ℕ) → r ≡ refusal.Full needed free → ((Refused r ≡ Refused (refusal.Interrupted place)) ↔ TripsRose bs bs place)
-calm_unbuilt r needed free bs place is = calm_at r bs place (λ e. clash (sym is ∙ e))
+pub calm_refused : (r : Refusal) (bs : List Breaker) → ((place : ℕ) → r ≡ refusal.Interrupted place → ⊥) → (place : ℕ) → ((Refused r ≡ Refused (refusal.Interrupted place)) ↔ TripsRose bs bs place)
+calm_refused r bs h place = calm_at r bs place (h place)
+
+pub full_interrupts_none : (r : Refusal) (needed free place : ℕ) → r ≡ refusal.Full needed free → r ≡ refusal.Interrupted place → ⊥
+full_interrupts_none r needed free place is e = clash (sym is ∙ e)
   where
     clash : refusal.Full needed free ≡ refusal.Interrupted place → ⊥
     clash e = cc
 
-pub calm_unfilled : (r : Refusal) (f : FillFault) (bs : List Breaker) (place : ℕ) → r ≡ refusal_to_fill f → ((Refused r ≡ Refused (refusal.Interrupted place)) ↔ TripsRose bs bs place)
-calm_unfilled r f bs place is = calm_at r bs place (λ e. clash f (sym is ∙ e))
+pub fault_interrupts_none : (r : Refusal) (f : FillFault) (place : ℕ) → r ≡ refusal_to_fill f → r ≡ refusal.Interrupted place → ⊥
+fault_interrupts_none r f place is e = clash f (sym is ∙ e)
   where
     clash : (f : FillFault) → refusal_to_fill f ≡ refusal.Interrupted place → ⊥
     clash (fill.Full full) e = cc

@@ -6,8 +6,13 @@ pub mod ReadLemmas
 pub mod EvaluationLemmas
 pub mod ReplyLemmas
 pub mod SessionLemmas
+pub mod TellingLemmas
+pub mod DerivingLemmas
+pub mod CalculatingLemmas
 pub mod OpeningLemmas
 pub mod DrawingLemmas
 pub mod CommandLemmas
+pub mod CalculatedReplies
 pub mod MeaningLemmas
 pub mod CompletenessLemmas
+pub mod SlopeLemmas

@@ -1,5 +1,5 @@
 -- What the answers to lines mean.
-use Rattle.std.proofs.Common.{◌≡◌, ◌∙◌, ℕ, List, [], Option, Some, None, true, false, refl, sym, ap, subst}
+use Rattle.std.proofs.Common.{◌≡◌, ◌∙◌, ℕ, List, [], Option, Some, None, Bool, true, false, refl, sym, ap, subst}
 use Rattle.breakers.specs.State.{State as Breaker}
 use Rattle.calc_algebra.specs.BadAndEasy.{HasValue, IsEasy}
 use Rattle.calc_algebra.specs.Numbers.{value}
@@ -25,12 +25,13 @@ use Rattle.node_pool.specs.declared.full.Full.{Full}
 use Rattle.calc_session.specs.Reading.{IsReplyUnread, is_long, is_nothing, has_no_token, has_a_wide_number, is_no_line, is_too_deep, stores_to_ans, finds_names_full, ReadsTree}
 use Rattle.calc_session.specs.Replies.{Reply, shown, stored, undefined, deep, full}
 use Rattle.calc_session.specs.States.{State, free_bytes, trees}
-use Rattle.calc_session.specs.Steps.{IsReply, is_unread, is_commanded, is_evaluated}
+use Rattle.calc_session.specs.Steps.{IsReply, is_unread, is_commanded, is_calculated, is_evaluated}
+use Rattle.calc_session.proofs.CalculatedReplies.{calculated_value, is_value}
 
 pub nothing_meant : (t : Tree) → Reduces t undef → MeansNothing t
 nothing_meant t r f a v m = r.meanings.means f a v m
 
-undef_is : (t : Tree) → is_undef t ≡ true → t ≡ undef
+pub undef_is : (t : Tree) → is_undef t ≡ true → t ≡ undef
 undef_is undef e = refl
 undef_is (num q) e = cc
 undef_is (symbol x) e = cc
@@ -61,6 +62,14 @@ none_some u e = cc
 
 some_is : (t u : Tree) → Some t ≡ Some u → u ≡ t
 some_is t u e = cc
+
+displayed_value : (r : Reply) (u : Tree) → displayed_in r ≡ Some u → is_value r ≡ true
+displayed_value (shown t) u e = refl
+displayed_value (stored t x) u e = refl
+displayed_value _ u e = absurd (none_some u e)
+
+both_values : (b : Bool) → b ≡ true → b ≡ false → ⊥
+both_values b e f = cc
 
 -- a tree is the face of what another reduces to
 record Displays (t u : Tree) : Type 0 where
@@ -140,6 +149,7 @@ module _ (room bits : Option (Tree → ℕ)) (before after : List Breaker) where
   displayed_line : (old : State) (line : List ℕ) (reply : Reply) (u : Tree) → IsReply room bits old before after line reply → displayed_in reply ≡ Some u → (t : Tree) × Becomes old line t × Displays t u
   displayed_line old line reply u (is_unread h same) e = absurd (unread_not_displayed u h e)
   displayed_line old line reply u (is_commanded a b h) e = absurd (command_not_displayed u h e)
+  displayed_line old line reply u (is_calculated a b h) e = absurd (both_values (is_value reply) (displayed_value reply u e) (calculated_value room bits before after h))
   displayed_line old line reply u (is_evaluated {tokens = tokens} {store = store} {t = t} reads h) e = displayed_tree old line tokens store t reply u reads h e
 
   pub shows_meaning : (old : State) (line : List ℕ) (reply : Reply) (u : Tree) → IsReply room bits old before after line reply → displayed_in reply ≡ Some u → ShowsMeaning old line u
@@ -182,6 +192,7 @@ module _ (room bits : Option (Tree → ℕ)) (before after : List Breaker) where
   pub has_no_meaning : (old : State) (line : List ℕ) (reply : Reply) → IsReply room bits old before after line reply → reply ≡ undefined → HasNoMeaning old line
   has_no_meaning old line reply (is_unread h same) e = absurd (unread_not_undefined h e)
   has_no_meaning old line reply (is_commanded a b h) e = absurd (command_not_undefined h e)
+  has_no_meaning old line reply (is_calculated a b h) e = absurd (both_values (is_value reply) (ap is_value e) (calculated_value room bits before after h))
   has_no_meaning old line reply (is_evaluated {tokens = tokens} {store = store} {t = t} reads h) e = undefined_tree old line tokens store t reply reads h e
 
 -- ---- two lines with one value

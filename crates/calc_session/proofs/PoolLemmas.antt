@@ -18,7 +18,7 @@ same_state s t a b c d =
     ∙ ap (λ (x : ℕ). record t { refusals = x; last_refused = s.last_refused }) c ∙ ap (λ (x : Full). record t { last_refused = x }) d
 
 -- a refusal that was counted is still the last one where only nodes change
-still_counted : (refusal : Option Full) (s t u : State) → CountsRefusal refusal s t → KeepsRefusals t u → CountsRefusal refusal s u
+pub still_counted : (refusal : Option Full) (s t u : State) → CountsRefusal refusal s t → KeepsRefusals t u → CountsRefusal refusal s u
 still_counted None s t u r k = record { size = k.size ∙ r.size; refusals = k.refusals ∙ r.refusals; last_refused = k.last_refused ∙ r.last_refused }
 still_counted (Some full) s t u r k = record { size = k.size ∙ r.size; refusals = k.refusals ∙ r.refusals; last_refused = k.last_refused ∙ r.last_refused }
 

@@ -1,5 +1,5 @@
 -- Lines, from what the parser answered.
-use Rattle.std.specs.Prelude.{◌≡◌, ◌≤◌, ℕ, List, length, false, Option, Some, None, Result, Ok, Err, IfOk}
+use Rattle.std.specs.Prelude.{◌≡◌, ◌≤◌, ◌+◌, ◌<◌, ◌^◌, ℕ, List, length, false, Option, Some, None, Result, Ok, Err, IfOk}
 use Rattle.std.specs.Option.{option_map}
 use Rattle.std.proofs.Common.{sym, subst, arith}
 use Rattle.calc_terms.specs.Leaf.{name_of}
@@ -12,7 +12,10 @@ use Rattle.calc_parser.specs.declared.checking.Shape.{Shape}
 use Rattle.name_table.specs.Storing.{IsStorable, name_in}
 use Rattle.name_table.specs.Tables.{Table}
 use Rattle.calc_commands.specs.Commands.{is_command}
-use Rattle.calc_session.specs.Reading.{is_blank_line, IsText, ReadsAs, ReadsTree}
+use Rattle.calc_tokens.specs.Scanned.{IsFirstCharacter, IsFirstWide}
+use Rattle.calc_session.specs.Arguments.{IsMisread, meets_no_token, meets_a_wide_number, forms_no_line, forms_a_deep_line, ReadsText}
+use Rattle.calc_session.specs.Reading.{is_blank_line, IsReplyUnread, has_no_token, has_a_wide_number, is_no_line, is_too_deep, IsText, ReadsAs, ReadsTree}
+use Rattle.calc_session.specs.Replies.{Reply, character_at, number_at}
 
 pub text_is : (line : List ℕ) → length line ≤ 1024 → is_blank_line line ≡ false → is_command line ≡ false → IsText line
 text_is line s b c = record { short = s; some = b; no_command = c }
@@ -29,3 +32,27 @@ pub reads_on : {E : Type 0} (r : Result (Option Name) E) (store : Option Name) (
     → IfOk r (λ n. (n ≡ store) × IsStorable (name_in store) table) → IfOk r (λ n. (u : Tree) × ReadsTree table line tokens (name_in n) u)
 reads_on (Ok n) store table line tokens t reads (same, h) = (t, subst (λ m. ReadsTree table line tokens (name_in m) t) (sym same) (record { reads = reads; storable = h }))
 reads_on (Err e) store table line tokens t reads h = tt
+
+-- ---- texts within a line
+
+-- the whole line
+pub unread : (table : Table) (line : List ℕ) (reply : Reply) → IsText line → IsMisread 0 line reply → IsReplyUnread table line reply
+unread table line reply text (meets_no_token {at = at} f) = let same : at ≡ 0 + at = omega arith in subst (λ n. IsReplyUnread table line (character_at n)) same (has_no_token text f)
+unread table line reply text (meets_a_wide_number {at = at} f) = let same : at ≡ 0 + at = omega arith in subst (λ n. IsReplyUnread table line (number_at n)) same (has_a_wide_number text f)
+unread table line reply text (forms_no_line cut denied) = is_no_line text cut denied
+unread table line reply text (forms_a_deep_line cut over) = is_too_deep text cut over
+
+-- places are within a line, or next to its end
+pub character_within : (before at : ℕ) (text : List ℕ) → before + length text ≤ 1024 → IsFirstCharacter text at → before + at < 2 ^ 16
+character_within before at text l f = let e = f.place_is in omega (arith, l, e)
+
+pub wide_within : (before at : ℕ) (text : List ℕ) → before + length text ≤ 1024 → IsFirstWide text at → before + at < 2 ^ 16
+wide_within before at text l f = let e = f.place_is in omega (arith, l, e)
+
+text_in_words : (text : List ℕ) (tokens : List Placed) (store : Option Name) (t : Tree) → ReadsText text tokens (option_map name_of store) t → ReadsText text tokens (name_in store) t
+text_in_words text tokens None t r = r
+text_in_words text tokens (Some name) t r = r
+
+pub read_text : (text : List ℕ) (tokens : List Placed) (shape : Shape) (store : Option Name) → shape.store ≡ store → AreTokensOf tokens text → (h : IsShallow (bare tokens) shape) → ReadsText text tokens (name_in store) h.0.tree
+read_text text tokens shape store is cut h =
+    subst (λ s. ReadsText text tokens (name_in s) h.0.tree) is (text_in_words text tokens shape.store h.0.tree (record { cut = cut; line-is = h.0.line; shallow = omega (arith, h.0.depth_is, h.1) }))

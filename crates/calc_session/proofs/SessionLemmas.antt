@@ -59,6 +59,10 @@ refused_leaves (refusal.Overflow op a b) s t e = e
 refused_leaves (refusal.Interrupted by) s t e = e
 refused_leaves (refusal.Circular name) s t e = e
 refused_leaves refusal.Command s t e = e
+refused_leaves refusal.NotPolynomial s t e = e
+refused_leaves refusal.NoDerivative s t e = e
+refused_leaves (refusal.NotLinear equation) s t e = e
+refused_leaves refusal.TooMany s t e = e
 
 -- ---- a new answer
 

@@ -1,9 +1,9 @@
 -- What the code answers, and the replies that its answers stand for.
-use Rattle.std.specs.Prelude.{◌≡◌, ℕ, List, [], Option, Some, None, Contains, ⊤}
+use Rattle.std.specs.Prelude.{◌≡◌, ℕ, List, [], codes, Option, Some, None, Contains, ⊤}
 use Rattle.breakers.specs.State.{State as Breaker}
 use Rattle.calc_algebra.specs.Rewritings.{HasNoNewName}
 use Rattle.calc_commands.specs.Reports.{forgot_report}
-use Rattle.calc_language.specs.Texts.{IsWritable}
+use Rattle.calc_language.specs.Texts.{IsWritable, text}
 use Rattle.calc_terms.specs.Leaf.{name_of}
 use Rattle.calc_terms.specs.Rat.{value_of}
 use Rattle.calc_terms.specs.Trees.{Tree, names}
@@ -15,16 +15,16 @@ use Rattle.rational128.specs.Refusals.{operation_of}
 use Rattle.reduce_port.specs.declared.fault.ReduceFault.{ReduceFault}
 use Rattle.reduce_port.specs.declared.fault.ReduceFault.TheVariants as fault
 use Rattle.tree_handles.specs.Forest.{Forest}
-use Rattle.tree_handles.specs.Handed.{Gives}
+use Rattle.tree_handles.specs.Handed.{Gives, tree_of}
 use Rattle.tree_handles.specs.Standing.{KeepsRefusals, Refuses}
 use Rattle.calc_session.specs.declared.answers.Refusal.{Refusal}
-use Rattle.calc_session.specs.declared.answers.Refusal.TheVariants.{Long, Character, Number, Syntax, Deep, Reserved, NamesFull, Full, Overflow, Interrupted, Circular, Command}
+use Rattle.calc_session.specs.declared.answers.Refusal.TheVariants.{Long, Character, Number, Syntax, Deep, Reserved, NamesFull, Full, Overflow, Interrupted, Circular, Command, NotPolynomial, NoDerivative, NotLinear, TooMany}
 use Rattle.calc_session.specs.declared.answers.LineAnswer.{LineAnswer}
 use Rattle.calc_session.specs.declared.answers.LineAnswer.TheVariants.{Blank, Shown, Stored, Undef, Report, Draw, Refused}
 use Rattle.calc_session.specs.declared.evaluating.Evaluation.{Evaluation}
 use Rattle.calc_session.specs.declared.evaluating.Evaluation.TheVariants as evaluation
 use Rattle.calc_session.specs.Commanding.{IsReplyToCommand}
-use Rattle.calc_session.specs.Replies.{Reply, blank, shown, stored, undefined, report, forgot, drawn, long, character_at, number_at, syntax, deep, reserved, names_full, full, overflow, interrupted, circular, command, displayed, text_of, refusal_in}
+use Rattle.calc_session.specs.Replies.{Reply, blank, shown, stored, undefined, report, forgot, drawn, long, character_at, number_at, syntax, deep, reserved, names_full, full, overflow, interrupted, circular, command, not_polynomial, no_derivative, not_linear, too_many, displayed, text_of, refusal_in}
 use Rattle.calc_session.specs.States.{State}
 use Rattle.calc_session.specs.Steps.{Leaves, Step}
 
@@ -41,6 +41,10 @@ reply_of (Overflow op a b) = overflow (operation_of op) (value_of a) (value_of b
 reply_of (Interrupted by) = interrupted by
 reply_of (Circular name) = circular (name_of name)
 reply_of Command = command
+reply_of NotPolynomial = not_polynomial
+reply_of NoDerivative = no_derivative
+reply_of (NotLinear equation) = not_linear equation
+reply_of TooMany = too_many
 
 abbrev pub number_of : Refusal → ℕ
 number_of Long = 1
@@ -55,10 +59,14 @@ number_of (Overflow op a b) = 9
 number_of (Interrupted by) = 10
 number_of (Circular name) = 11
 number_of Command = 12
+number_of NotPolynomial = 14
+number_of NoDerivative = 15
+number_of (NotLinear equation) = 16
+number_of TooMany = 17
 
 -- a command tells this
 abbrev pub IsReport : List ℕ → Reply → Type 0
-IsReport told (report text) = told ≡ text
+IsReport told (report written) = told ≡ written
 IsReport told (forgot x) = told ≡ forgot_report x
 IsReport told reply = ⊥
 
@@ -84,9 +92,9 @@ refusal_of_pool answer = None
 
 -- what is printed of an answer and its text
 abbrev pub printed : LineAnswer → List ℕ → Option (List ℕ)
-printed Blank text = None
-printed Draw text = None
-printed answer text = Some text
+printed Blank written = None
+printed Draw written = None
+printed answer written = Some written
 
 -- From a state a line is answered so, with this text, and leaves a state.
 pub record Answers (room bits : Option (Tree → ℕ)) (old : State) (before : List Breaker) (line : List ℕ) (answer : LineAnswer) (text : List ℕ) (new : State) (after : List Breaker) : Type 0 where
@@ -97,10 +105,10 @@ pub record Answers (room bits : Option (Tree → ℕ)) (old : State) (before : L
 
 -- the text, where that of a refusal is still to be written
 abbrev pub IsTextOf : LineAnswer → List ℕ → Reply → Type 0
-IsTextOf Blank text reply = text ≡ []
-IsTextOf Draw text reply = text ≡ []
-IsTextOf (Refused refusal) text reply = text ≡ []
-IsTextOf answer text reply = Some text ≡ text_of reply
+IsTextOf Blank written reply = written ≡ []
+IsTextOf Draw written reply = written ≡ []
+IsTextOf (Refused refusal) written reply = written ≡ []
+IsTextOf answer written reply = Some written ≡ text_of reply
 
 -- the same, but that the text of a refusal is still to be written
 pub record AnswersUntold (room bits : Option (Tree → ℕ)) (old : State) (before : List Breaker) (line : List ℕ) (answer : LineAnswer) (text : List ℕ) (new : State) (after : List Breaker) : Type 0 where
@@ -108,6 +116,20 @@ pub record AnswersUntold (room bits : Option (Tree → ℕ)) (old : State) (befo
   pub step : Step room bits old before line reply new after
   pub answer_is : IsAnswer answer reply
   pub text_is : IsTextOf answer text reply
+
+-- what is told of an evaluation whose tree is shown and not kept: its text, or `undef`, or nothing yet where it is refused
+abbrev pub Tells : PoolState → Evaluation → LineAnswer → List ℕ → Type 0
+Tells s (evaluation.Face h) answer written = (answer ≡ Report) × (written ≡ text (tree_of h s))
+Tells s evaluation.Undefined answer written = (answer ≡ Report) × (written ≡ codes "undef")
+Tells s (evaluation.Refused refusal) answer written = (answer ≡ Refused refusal) × (written ≡ [])
+
+-- the answer and its text are those of a reply among these, which leaves all as it was
+pub record TellsReply (IsReply : Reply → Type 0) (answer : LineAnswer) (written : List ℕ) : Type 0 where
+  pub reply : Reply
+  pub reply_is : IsReply reply
+  pub leaves : (s : State) → Leaves reply s s
+  pub answer_is : IsAnswer answer reply
+  pub text_is : IsTextOf answer written reply
 
 -- the same of a command line
 pub record AnswersCommand (old : State) (before : List Breaker) (line : List ℕ) (answer : LineAnswer) (text : List ℕ) (new : State) (after : List Breaker) : Type 0 where

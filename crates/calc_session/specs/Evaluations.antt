@@ -72,6 +72,17 @@ pub data IsReduction (room bits : Option (Tree → ℕ)) (free : ℕ) (t : Tree)
 abbrev pub made : ℕ → List NamedTree → Tree → Filling
 made free values t = elim (building free t) [ Err refusal ↦ lacks refusal | Ok left ↦ filling left values t ]
 
+-- the replies where it is refused
+abbrev pub Unmade : Filling → Reply → Type 0
+Unmade (lacks refusal) reply = reply ≡ full refusal
+Unmade too_deep reply = reply ≡ deep
+Unmade (fills left t) reply = ⊥
+
+-- The replies to a tree that is to be made so: it is refused, or the replies are those to the tree that it became, with so many bytes left.
+pub data IsReplyToMade (making : Filling) (before after : List Breaker) (IsReplyToTree : ℕ → Tree → Reply → Type 0) : Reply → Type 0 where
+  is_not_made : {reply : Reply} → Unmade making reply → after ≡ before → IsReplyToMade making before after IsReplyToTree reply
+  is_made : {left : ℕ} {t : Tree} {reply : Reply} → making ≡ fills left t → IsReplyToTree left t reply → IsReplyToMade making before after IsReplyToTree reply
+
 -- the replies to a tree that was read, where so many bytes are free and the names stand for these values
 pub data IsReplyTo (room bits : Option (Tree → ℕ)) (free : ℕ) (values : List NamedTree) (t : Tree) (before after : List Breaker) (store : Option (List ℕ)) : Reply → Type 0 where
   finds_no_room : {refusal : Full} → made free values t ≡ lacks refusal → after ≡ before → IsReplyTo room bits free values t before after store (full refusal)

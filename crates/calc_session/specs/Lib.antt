@@ -4,6 +4,12 @@ pub mod Drawing
 pub mod Reading
 pub mod Evaluations
 pub mod Commanding
+pub mod Arguments
+pub mod Deriving
+pub mod Solving
+pub mod Calculating
+pub mod Counting
+pub mod Telling
 pub mod Steps
 pub mod Seen
 pub mod Kept
@@ -11,3 +17,4 @@ pub mod Answers
 pub mod Faces
 pub mod Pools
 pub mod Meant
+pub mod Slopes

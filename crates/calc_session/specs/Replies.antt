@@ -30,11 +30,22 @@ pub data Reply : Type 0 where
   interrupted : ℕ → Reply
   circular : List ℕ → Reply
   command : Reply
+  not_polynomial : Reply
+  no_derivative : Reply
+  not_linear : ℕ → Reply
+  too_many : Reply
 
 -- a tree is displayed, and stored where there is a name
 abbrev pub displayed : Option (List ℕ) → Tree → Reply
 displayed None t = shown t
 displayed (Some x) t = stored t x
+
+-- the same as a report: the text of what is displayed, or `undef`
+abbrev pub reported : Reply → Reply
+reported (shown t) = report (text t)
+reported (stored t x) = report (text t)
+reported undefined = report (codes "undef")
+reported reply = reply
 
 -- what the pool refused
 abbrev pub refusal_in : Reply → Option Full
@@ -79,3 +90,7 @@ text_of (overflow op a b) = Some (codes "! overflow " ++ (operand_text a ++ (sig
 text_of (interrupted by) = Some (codes "! interrupted")
 text_of (circular x) = Some (codes "! circular " ++ x)
 text_of command = Some (codes "! command")
+text_of not_polynomial = Some (codes "! not polynomial")
+text_of no_derivative = Some (codes "! no derivative")
+text_of (not_linear equation) = Some (codes "! not linear " ++ count_text equation)
+text_of too_many = Some (codes "! too many")

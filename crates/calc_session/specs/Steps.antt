@@ -11,6 +11,7 @@ use Rattle.node_pool.specs.Nodes.{AreDistinct, has}
 use Rattle.tree_handles.specs.Forest.{Forest, flatten, join, root_id}
 use Rattle.tree_handles.specs.Handed.{Represents}
 use Rattle.tree_handles.specs.Inside.{holds}
+use Rattle.calc_session.specs.Calculating.{IsReplyToCalculation}
 use Rattle.calc_session.specs.Commanding.{IsReplyToCommand}
 use Rattle.calc_session.specs.Evaluations.{IsReplyTo}
 use Rattle.calc_session.specs.Reading.{IsReplyUnread, ReadsTree}
@@ -21,6 +22,7 @@ use Rattle.calc_session.specs.States.{State, free_bytes, trees}
 pub data IsReply (room bits : Option (Tree → ℕ)) (old : State) (before after : List Breaker) (line : List ℕ) : Reply → Type 0 where
   is_unread : {reply : Reply} → IsReplyUnread old.table line reply → after ≡ before → IsReply room bits old before after line reply
   is_commanded : {reply : Reply} → length line ≤ 1024 → is_command line ≡ true → IsReplyToCommand old before after line reply → IsReply room bits old before after line reply
+  is_calculated : {reply : Reply} → length line ≤ 1024 → is_command line ≡ true → IsReplyToCalculation room bits old before after line reply → IsReply room bits old before after line reply
   is_evaluated : {tokens : List Placed} {store : Option (List ℕ)} {t : Tree} {reply : Reply} → ReadsTree old.table line tokens store t
       → IsReplyTo room bits (free_bytes old) (values old.table (trees old)) t before after store reply → IsReply room bits old before after line reply
 

@@ -30,14 +30,22 @@ pub enum Refusal {
     Interrupted { by: u32 },
     /// What is to be stored under the name holds it.
     Circular { name: Name },
-    /// The line begins like a command and is none.
+    /// The line begins like a command and is none, or what is to be calculated with is a store.
     Command,
+    /// What is to be expanded is no polynomial.
+    NotPolynomial,
+    /// A power in which the name occurs has an exponent by which it is not derived.
+    NoDerivative,
+    /// A side of the equation at this place, counted from 1, is not linear.
+    NotLinear { equation: u8 },
+    /// There are over six equations, or over six names in them.
+    TooMany,
 }
 
 impl Refusal {
     ghost use Rattle.calc_session.specs.Answers.{number_of};
 
-    /// The number of the kind of refusal, from 1 to 12.
+    /// The number of the kind of refusal, from 1 to 17; there is no 13.
     pub fn number(&self) -> u8
         ensures { result ≡ number_of self.now }
     {
@@ -54,6 +62,10 @@ impl Refusal {
             Refusal::Interrupted { .. } => 10,
             Refusal::Circular { .. } => 11,
             Refusal::Command => 12,
+            Refusal::NotPolynomial => 14,
+            Refusal::NoDerivative => 15,
+            Refusal::NotLinear { .. } => 16,
+            Refusal::TooMany => 17,
         }
     }
 }

@@ -1,34 +1,41 @@
 //! Commands.
-ghost use Rattle.std.specs.Prelude.{◌≡◌, ◌≤◌, ◌+◌, ◌*◌, ◌↔◌, ℕ, List, []};
+ghost use Rattle.std.specs.Prelude.{◌≡◌, ◌≤◌, ◌+◌, ◌*◌, ◌↔◌, ℕ, List, [], length, true};
 ghost use Rattle.breakers.specs.Breakers.{TripsRose};
 ghost use Rattle.breakers.specs.State.{State as Breaker};
 ghost use Rattle.breakers.specs.Watch.{states};
-ghost use Rattle.calc_commands.specs.Commands.{IsCommandLine, forget as asks_to_forget, after as asks_to_arm, layout as asks_for_layout};
+ghost use Rattle.calc_commands.specs.Commands.{IsCommandLine, forget as asks_to_forget, after as asks_to_arm, is_command as begins_with_colon, layout as asks_for_layout};
 ghost use Rattle.calc_terms.specs.Leaf.{name_of};
 ghost use Rattle.name_table.specs.Held.{IsHeld};
 ghost use Rattle.tree_handles.specs.Standing.{Stands, forest};
-ghost use Rattle.calc_session.specs.Answers.{AnswersCommand, CountsRefusal, refusal_of_pool};
+ghost use Rattle.calc_session.specs.Answers.{AnswersCommand, AnswersUntold, CountsRefusal, refusal_of_pool};
+ghost use Rattle.calc_session.specs.Arguments.{bytes_before as bytes_before_text};
+ghost use Rattle.calc_session.specs.Counting.{AsksForTooMuch, IsCountedBut};
 ghost use Rattle.calc_session.specs.States.{State, state_of};
 
+use crate::differentiating::tell_derivative;
 use crate::drawing::write_layout;
 use crate::evaluating::refused;
-use crate::reading::is_ans;
+use crate::reading::{is_ans, read_expression};
 use crate::{LineAnswer, Refusal};
 use breakers::{Breaker, Watch};
 use calc_commands::{
     Command, read_command, write_after, write_dump, write_forgot, write_no_breaker,
     write_pool_report, write_unknown,
 };
+use calc_parser::Parser;
 use calc_terms::Name;
 use line_text::Text;
 use name_table::NameTable;
 use node_pool::Pool;
+use reduce_port::Reducer;
 
 /// Answers a command line. The text of a refusal is still to be written.
-pub fn answer_command<B: Breaker>(
+pub fn answer_command<R: Reducer, B: Breaker>(
     pool: &mut Pool,
     table: &mut NameTable,
+    parser: &mut Parser,
     text: &mut Text,
+    reducer: &R,
     watch: &mut Watch<B>,
     line: &[u8],
 ) -> LineAnswer
@@ -36,10 +43,12 @@ pub fn answer_command<B: Breaker>(
     requires held { IsHeld table.old (forest pool.old) }
     requires empty { text.old.bytes ≡ [] }
     requires room { text.old.capacity ≡ 3 * pool.old.size + 256 }
-    ensures answers { AnswersCommand (state_of pool.old table.old) (states B.state watch.old) line.now result text.new.bytes (state_of pool.new table.new) (states B.state watch.new) }
-    ensures no_check { (place : ℕ) → TripsRose (states B.state watch.old) (states B.state watch.new) place → ⊥ }
-    ensures no_interruption { (place : ℕ) → result ≡ LineAnswer.Refused (Refusal.Interrupted place) → ⊥ }
-    ensures counted { CountsRefusal (refusal_of_pool result) pool.old pool.new }
+    requires short { length line.now ≤ 1024 }
+    requires command { begins_with_colon line.now ≡ true }
+    ensures answers { AnswersUntold R.room R.bits (state_of pool.old table.old) (states B.state watch.old) line.now result text.new.bytes (state_of pool.new table.new) (states B.state watch.new) }
+    ensures interrupted { (place : ℕ) → (result ≡ LineAnswer.Refused (Refusal.Interrupted place))
+        ↔ TripsRose (states B.state watch.old) (states B.state watch.new) place }
+    ensures counted { IsCountedBut (AsksForTooMuch (state_of pool.old table.old) line.now) (λ refusal. CountsRefusal refusal pool.old pool.new) (refusal_of_pool result) }
     ensures held { IsHeld table.new (forest pool.new) }
     ensures capacity { text.new.capacity ≡ text.old.capacity }
     ensures stands { Stands pool.new }
@@ -63,7 +72,23 @@ pub fn answer_command<B: Breaker>(
         }
         Command::Draw => LineAnswer::Draw,
         Command::Layout => tell_layout(pool, table, text),
+        Command::Diff(name, expression) => {
+            match read_expression(expression, bytes_before(line, expression), parser) {
+                Ok(()) => tell_derivative(pool, table, parser, text, name, reducer, watch),
+                Err(refusal) => LineAnswer::Refused(refusal),
+            }
+        }
+        Command::Solve(_) => LineAnswer::Refused(Refusal::Command),
     }
+}
+
+/// How many bytes of a line stand before the text at its end.
+fn bytes_before(line: &[u8], text: &[u8]) -> u16
+    requires short { length line.now ≤ 1024 }
+    requires behind { length text.now ≤ length line.now }
+    ensures { result ≡ bytes_before_text line.now text.now }
+{
+    (line.len() - text.len()) as u16
 }
 
 /// Forgets a name, unless it is that of the last answer.

@@ -1,5 +1,5 @@
 //! Trees of lines, evaluated in the pool.
-ghost use Rattle.std.specs.Prelude.{◌≡◌, ◌+◌, ⊤, ℕ, [], ◌∷◌, true, false, ◌↔◌, Some, MatchOption, Contains};
+ghost use Rattle.std.specs.Prelude.{◌≡◌, ◌+◌, ⊤, ℕ, [], ◌∷◌, true, false, ◌↔◌, Some, MatchOption, IfOk, IfErr, OnOk, Contains};
 ghost use Rattle.breakers.specs.Breakers.{TripsRose};
 ghost use Rattle.breakers.specs.Watch.{states};
 ghost use Rattle.calc_algebra.specs.Reduced.{is_reduced};
@@ -8,7 +8,7 @@ ghost use Rattle.calc_terms.specs.Leaf.{name_of};
 ghost use Rattle.calc_terms.specs.Trees.{Tree, is_undef, names, size};
 ghost use Rattle.calc_tokens.specs.Placed.{bare};
 ghost use Rattle.calc_tokens.specs.Tokens.{tokens_of};
-ghost use Rattle.name_table.specs.Filling.{values};
+ghost use Rattle.name_table.specs.Filling.{fills, values, LacksNames};
 ghost use Rattle.name_table.specs.Held.{IsHeld};
 ghost use Rattle.name_table.specs.Storing.{IsKeepable, name_in};
 ghost use Rattle.node_pool.specs.State.{free_of};
@@ -16,11 +16,13 @@ ghost use Rattle.tree_handles.specs.Expressions.{IsExpression, plain};
 ghost use Rattle.tree_handles.specs.Handed.{tree_of, Gives, IsHanded, KeepsFront};
 ghost use Rattle.tree_handles.specs.Inside.{tree_at};
 ghost use Rattle.tree_handles.specs.Roots.{without_root};
-ghost use Rattle.tree_handles.specs.Standing.{Stands, forest};
-ghost use Rattle.calc_session.specs.Answers.{ComesTo, CountsRefusal, IfNotShown, IsDisplayOf, refusal_of as refusal_for, refusal_of_evaluation, refusal_to_fill, LacksName};
-ghost use Rattle.calc_session.specs.Evaluations.{IsReduction, IsReplyTo};
+ghost use Rattle.name_table.specs.Tables.{table_names};
+ghost use Rattle.tree_handles.specs.Standing.{Stands, forest, KeepsRefusals};
+ghost use Rattle.calc_session.specs.Answers.{ComesTo, CountsRefusal, IfNotShown, IsDisplayOf, refusal_of as refusal_for, refusal_of_evaluation, refusal_to_fill, reply_of, LacksName};
+ghost use Rattle.calc_session.specs.Evaluations.{IsReduction, IsReplyTo, Unmade, made};
 ghost use Rattle.calc_session.specs.Faces.{Shows};
 ghost use Rattle.calc_session.specs.Pools.{after};
+ghost use Rattle.calc_session.specs.Replies.{refusal_in};
 
 use crate::Refusal;
 use beautify::face_of;
@@ -106,18 +108,45 @@ fn build_and_reduce<R: Reducer, B: Breaker>(
     ensures front { KeepsFront [] (forest pool.old) (forest pool.new) }
     ensures stands { Stands pool.new }
 {
+    match build_and_fill(pool, table, parser) {
+        Ok(filled) => reduce_tree(pool, filled, store, reducer, watch),
+        Err(refusal) => Evaluation::Refused(refusal),
+    }
+}
+
+/// The tree of the line that was read last, once the stored trees have taken the places of their names. It stands
+/// behind all others.
+pub fn build_and_fill(
+    pool: &mut Pool,
+    table: &NameTable,
+    parser: &mut Parser,
+) -> Result<Handle, Refusal>
+    requires stands { Stands pool.old }
+    requires held { IsHeld table.now (forest pool.old) }
+    requires line { (t : Tree) × IsTreeOf (bare (tokens_of parser.old)) t }
+    ensures ok { IfOk result (λ h. Gives (forest pool.old) (forest pool.new) h (LacksNames (table_names table.now))) }
+    ensures made { (t : Tree) → IsTreeOf (bare (tokens_of parser.old)) t
+        → IfOk result (λ h. made (free_of pool.old) (values table.now (forest pool.old)) t ≡ fills (free_of pool.new) (tree_of h pool.new)) }
+    ensures refused { (t : Tree) → IsTreeOf (bare (tokens_of parser.old)) t
+        → IfErr result (λ refusal. Unmade (made (free_of pool.old) (values table.now (forest pool.old)) t) (reply_of refusal)) }
+    ensures kept { OnOk result (KeepsRefusals pool.old pool.new) }
+    ensures counted { IfErr result (λ refusal. CountsRefusal (refusal_in (reply_of refusal)) pool.old pool.new) }
+    ensures no_breaker { IfErr result (λ refusal. (place : ℕ) → refusal ≡ Refusal.Interrupted place → ⊥) }
+    ensures front { KeepsFront [] (forest pool.old) (forest pool.new) }
+    ensures stands { Stands pool.new }
+{
     let tree = match parser.build(pool) {
         Ok(tree) => tree,
-        Err(full) => return Evaluation::Refused(refused(full)),
+        Err(full) => return Err(refused(full)),
     };
     match table.fill(pool, tree) {
-        Ok(filled) => reduce_tree(pool, filled, store, reducer, watch),
-        Err(fault) => Evaluation::Refused(unfilled(fault)),
+        Ok(filled) => Ok(filled),
+        Err(fault) => Err(unfilled(fault)),
     }
 }
 
 /// What the last tree comes to; it is handed in.
-fn reduce_tree<R: Reducer, B: Breaker>(
+pub fn reduce_tree<R: Reducer, B: Breaker>(
     pool: &mut Pool,
     tree: Handle,
     store: Option<Name>,

@@ -1,16 +1,24 @@
 //! Laws of answers, each the contract of a function without a body.
-ghost use Rattle.std.specs.Prelude.{◌≡◌, ℕ, List, Option};
+ghost use Rattle.std.specs.Prelude.{◌≡◌, ◌≤◌, ◌+◌, ℕ, List, None, Option, length};
 ghost use Rattle.breakers.specs.State.{State as Breaker};
 ghost use Rattle.calc_algebra.specs.BadAndEasy.{IsEasy};
 ghost use Rattle.calc_algebra.specs.Rewritings.{Reduces};
+ghost use Rattle.calc_commands.specs.Commands.{IsCommandLine, diff};
 ghost use Rattle.calc_language.specs.Texts.{text};
-ghost use Rattle.calc_terms.specs.Trees.{Tree, undef};
+ghost use Rattle.calc_terms.specs.Trees.{Tree, nodes, size, undef};
 ghost use Rattle.calc_tokens.specs.Placed.{Placed};
-ghost use Rattle.name_table.specs.Filling.{values};
+ghost use Rattle.dual_diff.specs.Derivatives.{HasDerivative, derivative};
+ghost use Rattle.name_table.specs.Filling.{fills, values};
+ghost use Rattle.reduce_port.specs.Bounds.{MayExceed};
+ghost use Rattle.reduce_port.specs.Checks.{TripsWithin};
+ghost use Rattle.calc_session.specs.Arguments.{ReadsText};
+ghost use Rattle.calc_session.specs.Calculating.{IsReplyToExpression, made_in};
+ghost use Rattle.calc_session.specs.Deriving.{IsReplyToDerivative};
 ghost use Rattle.calc_session.specs.Evaluations.{IsReplyTo};
 ghost use Rattle.calc_session.specs.Meant.{HasNoMeaning, HasSmallRadicands, MeanTheSame, MeansNothing, ShowsMeaning};
 ghost use Rattle.calc_session.specs.Reading.{ReadsTree};
-ghost use Rattle.calc_session.specs.Replies.{Reply, shown, stored, undefined};
+ghost use Rattle.calc_session.specs.Replies.{Reply, report, shown, stored, undefined};
+ghost use Rattle.calc_session.specs.Slopes.{TellsDerivative};
 ghost use Rattle.calc_session.specs.States.{State, free_bytes, trees};
 ghost use Rattle.calc_session.specs.Steps.{IsReply};
 
@@ -44,4 +52,30 @@ pub fn lines_that_read_are_evaluated()
     ensures { (room bits : Option (Tree → ℕ)) (old : State) (before after : List Breaker) (line : List ℕ) (reply : Reply) (tokens : List Placed) (store : Option (List ℕ)) (t : Tree)
         → ReadsTree old.table line tokens store t → IsReply room bits old before after line reply
         → IsReplyTo room bits (free_bytes old) (values old.table (trees old)) t before after store reply }
+{}
+
+/// What is told of a line that asks for a derivative is the slope of what the line becomes: for all pairs of a value and a
+/// slope that this has under an assignment, the printed expression means the slope there, and `undef` is told only where it
+/// has none under any.
+pub fn derivatives_mean_the_slope()
+    ensures { (room bits : Option (Tree → ℕ)) (old : State) (before after : List Breaker) (line x text told : List ℕ)
+        → IsCommandLine line (diff x text) → IsReply room bits old before after line (report told) → TellsDerivative old line x told }
+{}
+
+/// A line that asks for a derivative is answered by what is read, built, filled and derived, and by nothing else.
+pub fn derivatives_are_calculated()
+    ensures { (room bits : Option (Tree → ℕ)) (old : State) (before after : List Breaker) (line x text : List ℕ) (reply : Reply)
+        → length line ≤ 1024 → IsCommandLine line (diff x text) → IsReply room bits old before after line reply
+        → IsReplyToExpression old before after line text (IsReplyToDerivative room bits (free_bytes old) before after x) reply }
+{}
+
+/// A derivative is told where the text is read and filled, what it becomes has one, both fit into the bytes that were free,
+/// neither room nor bits are exceeded, and no breaker trips.
+pub fn derivatives_are_told()
+    ensures { (room bits : Option (Tree → ℕ)) (old : State) (before after : List Breaker) (line x text : List ℕ) (reply : Reply) (tokens : List Placed) (tree t : Tree) (left : ℕ)
+        → length line ≤ 1024 → IsCommandLine line (diff x text) → ReadsText text tokens None tree → made_in old tree ≡ fills left t
+        → HasDerivative x t → size t + size (derivative x t) ≤ free_bytes old
+        → ¬ (MayExceed room (derivative x t) (free_bytes old)) → ¬ (MayExceed bits (derivative x t) 124)
+        → ((place : ℕ) → ¬ (TripsWithin (nodes (derivative x t)) before after place))
+        → IsReply room bits old before after line reply → (told : List ℕ) × (reply ≡ report told) }
 {}

@@ -3,16 +3,19 @@
 
 mod answers;
 mod commanding;
+mod differentiating;
 mod drawing;
 mod evaluating;
 mod laws;
 mod reading;
 mod session;
+mod telling;
 mod text;
 
 pub use answers::{DrawFault, LineAnswer, Refusal};
 pub use laws::{
-    answers_mean_their_lines, lines_that_read_are_evaluated, one_value_has_one_text,
+    answers_mean_their_lines, derivatives_are_calculated, derivatives_are_told,
+    derivatives_mean_the_slope, lines_that_read_are_evaluated, one_value_has_one_text,
     undef_has_no_meaning,
 };
 pub use session::Session;

@@ -1,5 +1,5 @@
 //! Lines, read by the grammar.
-ghost use Rattle.std.specs.Prelude.{◌≡◌, ℕ, List, None, IfOk, IfErr, codes};
+ghost use Rattle.std.specs.Prelude.{◌≡◌, ◌≤◌, ◌+◌, ℕ, List, length, None, IfOk, IfErr, codes};
 ghost use Rattle.std.specs.Str.{bytes_eq};
 ghost use Rattle.calc_language.specs.Tokens.{is_blank as is_blank_of};
 ghost use Rattle.calc_terms.specs.Leaf.{name_of};
@@ -13,6 +13,7 @@ ghost use Rattle.calc_tokens.specs.Tokens.{tokens_of};
 ghost use Rattle.name_table.specs.Storing.{IsStorable, name_in};
 ghost use Rattle.name_table.specs.Tables.{Table};
 ghost use Rattle.calc_session.specs.Answers.{reply_of};
+ghost use Rattle.calc_session.specs.Arguments.{IsMisread, IsNoExpression, ReadsText};
 ghost use Rattle.calc_session.specs.Reading.{is_blank_line as is_blank_line_of, IsReplyUnread, IsText, ReadsAs, ReadsTree};
 ghost use Rattle.calc_session.specs.Replies.{refusal_in};
 
@@ -39,7 +40,7 @@ pub fn read_line(
 {
     let shape = match parser.read(line) {
         Ok(shape) => shape,
-        Err(fault) => return Err(refusal_to_read(fault)),
+        Err(fault) => return Err(refusal_to_read(fault, 0)),
     };
     check_store(shape.store, table)
 }
@@ -64,30 +65,50 @@ fn check_store(store: Option<Name>, table: &NameTable) -> Result<Option<Name>, R
     Ok(store)
 }
 
-fn refusal_to_read(fault: LineFault) -> Refusal
-    ensures refused { (table : Table) (line : List ℕ) → IsText line → IsLineFaultOf line fault → IsReplyUnread table line (reply_of result) }
+/// Reads a text as an expression to calculate with. So many bytes of the line stand before it.
+pub fn read_expression(text: &[u8], before: u16, parser: &mut Parser) -> Result<(), Refusal>
+    requires { before + length text.now ≤ 1024 }
+    ensures tree { IfOk result (λ _. (t : Tree) × ReadsText text.now (tokens_of parser.new) None t) }
+    ensures refused { IfErr result (λ refusal. IsNoExpression before text.now (reply_of refusal)) }
+    ensures no_pool { IfErr result (λ refusal. refusal_in (reply_of refusal) ≡ None) }
+    ensures no_breaker { IfErr result (λ refusal. (place : ℕ) → refusal ≡ Refusal.Interrupted place → ⊥) }
+{
+    match parser.read(text) {
+        Ok(shape) => match shape.store {
+            None => Ok(()),
+            Some(_) => Err(Refusal::Command),
+        },
+        Err(fault) => Err(refusal_to_read(fault, before)),
+    }
+}
+
+/// The refusal of a text that is not read, where so many bytes of the line stand before it.
+fn refusal_to_read(fault: LineFault, before: u16) -> Refusal
+    requires place { (text : List ℕ) × IsLineFaultOf text fault × (before + length text ≤ 1024) }
+    ensures refused { (text : List ℕ) → IsLineFaultOf text fault → IsMisread before text (reply_of result) }
     ensures no_pool { refusal_in (reply_of result) ≡ None }
     ensures no_breaker { (place : ℕ) → result ≡ Refusal.Interrupted place → ⊥ }
 {
     match fault {
-        LineFault::Token(fault) => token_refusal(fault),
+        LineFault::Token(fault) => token_refusal(fault, before),
         LineFault::Parse(fault) => line_refusal(fault),
     }
 }
 
-fn token_refusal(fault: TokenFault) -> Refusal
-    ensures refused { (table : Table) (line : List ℕ) → IsText line → IsFaultOf line fault → IsReplyUnread table line (reply_of result) }
+fn token_refusal(fault: TokenFault, before: u16) -> Refusal
+    requires place { (text : List ℕ) × IsFaultOf text fault × (before + length text ≤ 1024) }
+    ensures refused { (text : List ℕ) → IsFaultOf text fault → IsMisread before text (reply_of result) }
     ensures no_pool { refusal_in (reply_of result) ≡ None }
     ensures no_breaker { (place : ℕ) → result ≡ Refusal.Interrupted place → ⊥ }
 {
     match fault {
-        TokenFault::Character { at } => Refusal::Character { at },
-        TokenFault::Number { at } => Refusal::Number { at },
+        TokenFault::Character { at } => Refusal::Character { at: before + at },
+        TokenFault::Number { at } => Refusal::Number { at: before + at },
     }
 }
 
 fn line_refusal(fault: ParseFault) -> Refusal
-    ensures refused { (table : Table) (line : List ℕ) (tokens : List Placed) → IsText line → AreTokensOf tokens line → IsLineFault (bare tokens) fault → IsReplyUnread table line (reply_of result) }
+    ensures refused { (before : ℕ) (text : List ℕ) (tokens : List Placed) → AreTokensOf tokens text → IsLineFault (bare tokens) fault → IsMisread before text (reply_of result) }
     ensures no_pool { refusal_in (reply_of result) ≡ None }
     ensures no_breaker { (place : ℕ) → result ≡ Refusal.Interrupted place → ⊥ }
 {

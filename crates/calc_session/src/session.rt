@@ -1,7 +1,10 @@
 //! A session, which answers line by line.
-ghost use Rattle.std.specs.Prelude.{◌≡◌, ◌<◌, ◌≤◌, ◌+◌, ◌↔◌, ℕ, [], length, slice_get, IfOk, IfErr, OnOk, Some};
+ghost use Rattle.std.specs.Prelude.{◌≡◌, ◌<◌, ◌≤◌, ◌+◌, ◌↔◌, ℕ, [], ◌∷◌, ◌++◌, length, slice_get, IfOk, IfErr, OnErr, OnOk, Some};
+ghost use Rattle.std.specs.Io.KnownBytes.{Appends};
 ghost use Rattle.breakers.specs.Breakers.{TripsRose};
 ghost use Rattle.breakers.specs.Watch.{states};
+ghost use Rattle.calc_edges.specs.Faults.{HasCause, StopsAtFailure};
+ghost use Rattle.calc_edges.specs.Taken.{AppendsPart};
 ghost use Rattle.calc_terms.specs.Leaf.{name_of};
 ghost use Rattle.name_table.specs.Held.{IsHeld};
 ghost use Rattle.name_table.specs.Storing.{name_in};
@@ -18,7 +21,7 @@ use crate::text::{write_refusal, write_undef};
 use crate::{DrawFault, LineAnswer, Refusal};
 use breakers::{Breaker, Watch};
 use calc_commands::is_command;
-use calc_edges::Sink;
+use calc_edges::{Failed, Sink};
 use calc_parser::Parser;
 use calc_terms::{Name, Rat};
 use line_text::{Text, write_text};
@@ -55,6 +58,7 @@ impl Session {
     ghost use Rattle.calc_session.specs.States.{first_state, trees};
     ghost use Rattle.calc_session.specs.Seen.{pool_of, Counts};
     ghost use Rattle.calc_session.specs.Answers.{Answers, AnswersUntold, refusal_of_pool};
+    ghost use Rattle.calc_session.specs.Counting.{AsksForTooMuch, IsCountedBut};
     ghost use Rattle.calc_session.specs.Drawing.{FailsToDraw, IsDrawn, StopsDrawing, lack_in, rows_in};
 
     /// A session with a pool of that many bytes, in which the last answer is 0 and no name is stored.
@@ -89,8 +93,9 @@ impl Session {
         ensures interrupted { (place : ℕ) → (result ≡ LineAnswer.Refused (Refusal.Interrupted place))
             ↔ TripsRose (states B.state watch.old) (states B.state watch.new) place }
 
-        // What the pool refused is answered, and nothing else that it may have refused before.
-        ensures counted { Counts (refusal_of_pool result) self.old self.new }
+        // What the pool refused is answered, and nothing else that it may have refused before. Only where a derivative has
+        // more bytes than are left, none is counted.
+        ensures counted { IsCountedBut (AsksForTooMuch self.old.state line.now) (λ refusal. Counts refusal self.old self.new) (refusal_of_pool result) }
         ensures held { IsHeld self.new.state.table (trees self.new.state) }
     {
         self.text.clear();
@@ -112,7 +117,7 @@ impl Session {
         ensures answers { AnswersUntold R.room R.bits self.old.state (states B.state watch.old) line.now result self.new.text self.new.state (states B.state watch.new) }
         ensures interrupted { (place : ℕ) → (result ≡ LineAnswer.Refused (Refusal.Interrupted place))
             ↔ TripsRose (states B.state watch.old) (states B.state watch.new) place }
-        ensures counted { Counts (refusal_of_pool result) self.old self.new }
+        ensures counted { IsCountedBut (AsksForTooMuch self.old.state line.now) (λ refusal. Counts refusal self.old self.new) (refusal_of_pool result) }
     {
         if line.len() > LINE_LIMIT {
             return LineAnswer::Refused(Refusal::Long);
@@ -121,7 +126,15 @@ impl Session {
             return LineAnswer::Blank;
         }
         if is_command(line) {
-            return answer_command(&mut self.pool, &mut self.table, &mut self.text, watch, line);
+            return answer_command(
+                &mut self.pool,
+                &mut self.table,
+                &mut self.parser,
+                &mut self.text,
+                reducer,
+                watch,
+                line,
+            );
         }
         self.answer_text(reducer, watch, line)
     }
@@ -194,6 +207,17 @@ impl Session {
         ensures { result.now ≡ self.now.text }
     {
         self.text.bytes()
+    }
+
+    /// Writes the text and a newline to a sink, as one piece.
+    pub fn print<K: Sink>(&mut self, sink: &mut K) -> Result<(), Failed>
+        ensures appended { OnOk result (Appends (K.taken sink.old) (K.taken sink.new) (self.old.text ++ 10 ∷ [])) }
+        ensures part { OnErr result (AppendsPart (K.taken sink.old) (K.taken sink.new) (self.old.text ++ 10 ∷ [])) }
+        ensures stops { OnErr result (StopsAtFailure K.taken K.faults sink.old sink.new) }
+        ensures cause { HasCause (K.faults sink.old) (K.faults sink.new) result }
+        ensures kept { self.new ≡ self.old }
+    {
+        self.text.write_line(sink)
     }
 
     /// The pool, which stands for exactly the trees of the table.

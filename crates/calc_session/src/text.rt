@@ -35,6 +35,12 @@ pub fn write_refusal(text: &mut Text, refusal: Refusal)
         Refusal::Interrupted { .. } => text.push(b"! interrupted"),
         Refusal::Circular { name } => push_circular(text, name),
         Refusal::Command => text.push(b"! command"),
+        Refusal::NotPolynomial => text.push(b"! not polynomial"),
+        Refusal::NoDerivative => text.push(b"! no derivative"),
+        Refusal::NotLinear { equation } => {
+            push_place(text, b"! not linear ", u16::from(equation));
+        }
+        Refusal::TooMany => text.push(b"! too many"),
     }
 }
 
@@ -79,7 +85,7 @@ fn push_circular(text: &mut Text, name: Name)
     text.push(name.bytes());
 }
 
-/// A word and the place of a byte.
+/// A word and a place.
 fn push_place(text: &mut Text, word: &[u8], at: u16)
     requires { length text.old.bytes + length word.now + 40 ≤ text.old.capacity }
     ensures { text.new ≡ extended text.old (word.now ++ signed_decimal (pos at)) }

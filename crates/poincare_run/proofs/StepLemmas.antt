@@ -12,7 +12,7 @@ use Rattle.calc_session.specs.Answers.{Answers, IsAnswer, IsReport, printed, rep
 use Rattle.calc_session.specs.Reading.{IsReplyUnread, is_long, is_nothing, has_no_token, has_a_wide_number, is_no_line, is_too_deep, stores_to_ans, finds_names_full}
 use Rattle.calc_session.specs.Replies.{Reply, report, forgot, text_of}
 use Rattle.calc_session.specs.States.{State}
-use Rattle.calc_session.specs.Steps.{IsReply, is_unread, is_commanded, is_evaluated}
+use Rattle.calc_session.specs.Steps.{IsReply, is_unread, is_commanded, is_calculated, is_evaluated}
 use Rattle.name_table.specs.Tables.{Table}
 use Rattle.poincare_run.specs.declared.buffer.LineBuffer.{LineBuffer}
 use Rattle.poincare_run.specs.Lines.{is_newline, lines_of, line_of_rest, whole_lines, rest_of}
@@ -37,6 +37,7 @@ long_unread line k h (finds_names_full r f g) = absurd (let short = r.text.short
 long_reply : {s : State} {before after : List Breaker} {kept : List ℕ} {reply : Reply} (line : List ℕ) → 1024 < length kept → 1024 < length line → IsReply room bits s before after kept reply → IsReply room bits s before after line reply
 long_reply line k h (is_unread r same) = is_unread (long_unread line k h r) same
 long_reply line k h (is_commanded short e f) = absurd (omega arith)
+long_reply line k h (is_calculated short e f) = absurd (omega arith)
 long_reply line k h (is_evaluated r f) = absurd (let short = r.reads.text.short in omega arith)
 
 same_reply : (s : State) (before after : List Breaker) (kept line : List ℕ) (reply : Reply) → StandsFor kept line → IsReply room bits s before after kept reply → IsReply room bits s before after line reply
@@ -92,6 +93,10 @@ refusal_undrawn draws (refusal.Overflow op a b) = refl
 refusal_undrawn draws (refusal.Interrupted by) = refl
 refusal_undrawn draws (refusal.Circular name) = refl
 refusal_undrawn draws refusal.Command = refl
+refusal_undrawn draws refusal.NotPolynomial = refl
+refusal_undrawn draws refusal.NoDerivative = refl
+refusal_undrawn draws (refusal.NotLinear equation) = refl
+refusal_undrawn draws refusal.TooMany = refl
 
 report_undrawn : (draws : Bool) (told : List ℕ) (reply : Reply) → IsReport told reply → is_drawn draws reply ≡ false
 report_undrawn draws told (report text) h = refl

@@ -39,6 +39,10 @@ refusal_sort (refusal.Overflow op a b) = refl
 refusal_sort (refusal.Interrupted by) = refl
 refusal_sort (refusal.Circular name) = refl
 refusal_sort refusal.Command = refl
+refusal_sort refusal.NotPolynomial = refl
+refusal_sort refusal.NoDerivative = refl
+refusal_sort (refusal.NotLinear equation) = refl
+refusal_sort refusal.TooMany = refl
 
 report_sort : (told : List ℕ) (reply : Reply) → IsReport told reply → sort_of reply ≡ as_other
 report_sort told (report text) h = refl

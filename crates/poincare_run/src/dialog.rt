@@ -150,7 +150,7 @@ impl<B: Breaker> Dialog<B> {
             LineAnswer::Blank => Ok(()),
             LineAnswer::Draw => self.draw(sink),
             LineAnswer::Shown | LineAnswer::Stored => self.show(sink),
-            _ => write_line(sink, self.session.text()),
+            _ => self.session.print(sink),
         }
     }
 
@@ -164,7 +164,7 @@ impl<B: Breaker> Dialog<B> {
         ensures place { place_of B.state self.new ≡ place_of B.state self.old }
         ensures cause { HasCause (K.faults sink.old) (K.faults sink.new) result }
     {
-        write_line(sink, self.session.text())?;
+        self.session.print(sink)?;
         if self.draws { self.draw(sink) } else { Ok(()) }
     }
 
@@ -182,7 +182,7 @@ impl<B: Breaker> Dialog<B> {
                 DrawFault::Write => Err(Failed),
                 DrawFault::Full(full) => {
                     self.notice.put(full);
-                    write_line(sink, self.notice.bytes())
+                    self.notice.print(sink)
                 }
             },
         }

@@ -1,7 +1,11 @@
 //! The line that stands in place of a picture.
-ghost use Rattle.std.specs.Prelude.{◌≡◌, Some};
+ghost use Rattle.std.specs.Prelude.{◌≡◌, [], ◌∷◌, ◌++◌, OnErr, OnOk, Some};
+ghost use Rattle.std.specs.Io.KnownBytes.{Appends};
+ghost use Rattle.calc_edges.specs.Faults.{HasCause, StopsAtFailure};
+ghost use Rattle.calc_edges.specs.Taken.{AppendsPart};
 ghost use Rattle.calc_session.specs.Replies.{full as full_reply, text_of};
 
+use calc_edges::{Failed, Sink};
 use calc_session::{Refusal, write_refusal};
 use line_text::Text;
 use node_pool::Full;
@@ -45,9 +49,13 @@ impl Notice {
         write_refusal(&mut self.text, refusal);
     }
 
-    pub fn bytes(&self) -> &[u8]
-        ensures { result.now ≡ self.now }
+    /// Writes the text and a newline to a sink, as one piece.
+    pub fn print<K: Sink>(&mut self, sink: &mut K) -> Result<(), Failed>
+        ensures appended { OnOk result (Appends (K.taken sink.old) (K.taken sink.new) (self.old ++ 10 ∷ [])) }
+        ensures part { OnErr result (AppendsPart (K.taken sink.old) (K.taken sink.new) (self.old ++ 10 ∷ [])) }
+        ensures stops { OnErr result (StopsAtFailure K.taken K.faults sink.old sink.new) }
+        ensures cause { HasCause (K.faults sink.old) (K.faults sink.new) result }
     {
-        self.text.bytes()
+        self.text.write_line(sink)
     }
 }

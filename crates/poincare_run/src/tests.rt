@@ -332,12 +332,11 @@ fn answers_are_drawn(rt: HostRuntime) -> Result<(), Fail> {
 fn a_failing_write_ends_a_picture(rt: HostRuntime) -> Result<(), Fail> {
     let rows = [
         (1, 4, ""),
-        (2, 4, "1/2"),
-        (3, 4, "1/2\n"),
-        (4, 4, "1/2\n1\n"),
-        (5, 4, "1/2\n1\n-\n"),
-        (6, 4, "1/2\n1\n-\n2\n"),
-        (9, 0, "1/2\n1\n-\n2\n1\n-\n2\n"),
+        (2, 4, "1/2\n"),
+        (3, 4, "1/2\n1\n"),
+        (4, 4, "1/2\n1\n-\n"),
+        (5, 4, "1/2\n1\n-\n2\n"),
+        (8, 0, "1/2\n1\n-\n2\n1\n-\n2\n"),
     ];
     for (failing, status, output) in rows {
         let got = converse_failing(rt.alloc(), &["--draw"], b"1/2\n:draw", failing)?;

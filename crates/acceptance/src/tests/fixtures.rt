@@ -8,7 +8,7 @@ use beautify::face_of;
 use breakers::{Breaker, CountBreaker, Watch};
 use calc_parser::{build, check};
 use calc_terms::Kind;
-use calc_tokens::scan;
+use calc_tokens::{Tokens, scan};
 use node_order::compare;
 use node_pool::Pool;
 use reduce_port::{ReduceFault, Reducer};
@@ -38,7 +38,7 @@ pub fn armed(alloc: Global, polls: u64) -> Result<Watch<CountBreaker>, AllocErro
 }
 
 /// The tree of a line, which becomes the last one.
-pub fn read(pool: &mut Pool, line: &[u8]) -> Option<Handle>
+pub fn read(alloc: Global, pool: &mut Pool, line: &[u8]) -> Option<Handle>
     requires stands { Stands pool.old }
     ensures gives { IfSome result (λ h. Gives (forest pool.old) (forest pool.new) h (λ t. t ≡ t)) }
     ensures stands { Stands pool.new }
@@ -46,9 +46,8 @@ pub fn read(pool: &mut Pool, line: &[u8]) -> Option<Handle>
     if line.len() > 1024 {
         return None;
     }
-    let Ok(tokens) = scan(line) else {
-        return None;
-    };
+    let mut tokens = Tokens::open(alloc).ok()?;
+    scan(&mut tokens, line).ok()?;
     let Ok(_shape) = check(&tokens) else {
         return None;
     };
@@ -81,11 +80,11 @@ pub fn answer<R: Reducer>(
 }
 
 /// Whether a tree is the one that a text reads as.
-pub fn is_tree_of(pool: &mut Pool, answer: &Handle, text: &[u8]) -> bool
+pub fn is_tree_of(alloc: Global, pool: &mut Pool, answer: &Handle, text: &[u8]) -> bool
     requires stands { Stands pool.old }
     requires handed { IsHanded answer.now (forest pool.old) }
 {
-    match read(pool, text) {
+    match read(alloc, pool, text) {
         Some(tree) => compare(pool, answer.id(), tree.id()) == Ordering::Equal,
         None => false,
     }

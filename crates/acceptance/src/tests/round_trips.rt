@@ -36,7 +36,10 @@ fn round_trip(rt: &impl Abort, alloc: Global, shape: &Shape, expected: &str) -> 
     let tree = grow(&mut pool, shape)?;
     let text = written(rt, alloc, &pool, &tree)?;
     assert_eq!(rt; text.bytes(), expected.as_bytes(), "{expected}");
-    assert!(rt; is_tree_of(&mut pool, &tree, text.bytes()), "{expected}");
+    assert!(rt;
+        is_tree_of(alloc, &mut pool, &tree, text.bytes()),
+        "{expected}"
+    );
     Ok(())
 }
 

@@ -39,6 +39,7 @@ x^(-1/3) = 72\n\
 
 /// The bytes that are used when the face of a line's answer stands alone, or none where it was refused.
 fn bytes_of_face<R: Reducer>(
+    alloc: Global,
     reducer: &R,
     pool: &mut Pool,
     line: &[u8],
@@ -46,7 +47,7 @@ fn bytes_of_face<R: Reducer>(
 ) -> Option<u32>
     requires stands { Stands pool.old }
 {
-    let Some(tree) = read(pool, line) else {
+    let Some(tree) = read(alloc, pool, line) else {
         return None;
     };
     match answer(reducer, pool, tree, watch) {
@@ -63,7 +64,7 @@ fn first_other(alloc: Global, table: &str) -> Result<Option<usize>, AllocError> 
         };
         let mut pool = opened(alloc, SIZE)?;
         let mut watch = armed(alloc, u64::MAX)?;
-        let found = bytes_of_face(&DeepReducer, &mut pool, line.as_bytes(), &mut watch);
+        let found = bytes_of_face(alloc, &DeepReducer, &mut pool, line.as_bytes(), &mut watch);
         if found.is_none() || found != bytes.parse().ok() {
             return Ok(Some(place));
         }

@@ -24,6 +24,7 @@ pub enum Outcome {
 
 /// Reduces a line under a breaker that trips after so many polls, and compares the answer with a text.
 fn tried<R: Reducer>(
+    alloc: Global,
     reducer: &R,
     pool: &mut Pool,
     line: &[u8],
@@ -32,12 +33,12 @@ fn tried<R: Reducer>(
 ) -> Outcome
     requires stands { Stands pool.old }
 {
-    let Some(tree) = read(pool, line) else {
+    let Some(tree) = read(alloc, pool, line) else {
         return Outcome::Unread;
     };
     match answer(reducer, pool, tree, watch) {
         Ok(face) => {
-            if is_tree_of(pool, &face, text) {
+            if is_tree_of(alloc, pool, &face, text) {
                 Outcome::Wanted
             } else {
                 Outcome::Other
@@ -50,10 +51,10 @@ fn tried<R: Reducer>(
 }
 
 /// The nodes of a line's tree.
-fn nodes_of(pool: &mut Pool, line: &[u8]) -> u32
+fn nodes_of(alloc: Global, pool: &mut Pool, line: &[u8]) -> u32
     requires stands { Stands pool.old }
 {
-    match read(pool, line) {
+    match read(alloc, pool, line) {
         Some(tree) => tree_nodes(pool, tree.id()),
         None => 0,
     }
@@ -68,6 +69,7 @@ fn outcome_of(
 ) -> Result<Outcome, AllocError> {
     let mut pool = opened(alloc, SIZE)?;
     let found = tried(
+        alloc,
         &DeepReducer,
         &mut pool,
         line.as_bytes(),
@@ -105,7 +107,7 @@ pub fn first_other(
 /// it lets as many pass, and then the next poll trips.
 fn has_a_check_for_each_node(alloc: Global, line: &str, text: &str) -> Result<bool, AllocError> {
     let mut pool = opened(alloc, SIZE)?;
-    let nodes = nodes_of(&mut pool, line.as_bytes());
+    let nodes = nodes_of(alloc, &mut pool, line.as_bytes());
     for polls in 0..nodes {
         let mut watch = armed(alloc, u64::from(polls))?;
         if outcome_of(alloc, line, text, &mut watch)? != Outcome::Interrupted(0) {

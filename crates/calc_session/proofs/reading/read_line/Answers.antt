@@ -1,12 +1,17 @@
+use Rattle.std.proofs.Common.{arith}
 use Rattle.calc_tokens.specs.Tokens.{tokens_of}
 use Rattle.name_table.specs.Storing.{name_in}
+use Rattle.calc_session.specs.Answers.{reply_of}
 use Rattle.calc_session.specs.Reading.{ReadsAs}
-use Rattle.calc_session.proofs.ReadLemmas.{read_line, reads_on}
+use Rattle.calc_session.proofs.ReadLemmas.{read_line, reads_on, unread}
 use Rattle.calc_session.proofs.reading.read_line.Goals as goal
 use Rattle.calc_session.proofs.reading.read_line.Goals.{After-check_store}
 
+pub refusal_to_read-requires : goal.refusal_to_read-requires
+refusal_to_read-requires c = let short = c.requires.short in record { place = (c.args.line.now, (c.read.ensures.refused c.in-Err.fault).0 c.in-Err.is, omega (arith, short)) }
+
 pub returns-in-Err-clause-refused : goal.returns-in-Err-clause-refused
-returns-in-Err-clause-refused c = c.refusal_to_read.ensures.refused c.args.table.now c.args.line.now c.requires ((c.read.ensures.refused c.in-Err.fault).0 c.in-Err.is)
+returns-in-Err-clause-refused c = unread c.args.table.now c.args.line.now (reply_of c.refusal_to_read.result) c.requires (c.refusal_to_read.ensures.refused c.args.line.now ((c.read.ensures.refused c.in-Err.fault).0 c.in-Err.is))
 
 read : (c : After-check_store) → ReadsAs c.args.line.now (tokens_of c.read.new.self) (name_in c.in-Ok.shape.store) c.in-Ok.ensures.shape.0.tree
 read c = read_line c.args.line.now (tokens_of c.read.new.self) c.in-Ok.shape c.requires c.in-Ok.ensures.tokens c.in-Ok.ensures.shape

@@ -1,12 +1,14 @@
-use Rattle.std.proofs.Common.{◌∙◌, refl, sym, subst, arith}
+use Rattle.std.proofs.Common.{◌∙◌, inl, refl, sym, subst, arith}
 use Rattle.breakers.specs.Watch.{states}
 use Rattle.calc_session.specs.Answers.{AnswersUntold, refusal_of_pool}
+use Rattle.calc_session.specs.Counting.{AsksForTooMuch, IsCountedBut}
 use Rattle.calc_session.specs.Reading.{is_long, is_nothing}
 use Rattle.calc_session.specs.Kept.{seen_of}
 use Rattle.calc_session.specs.Seen.{Seen, Counts}
 use Rattle.calc_session.specs.States.{state_of}
 use Rattle.calc_session.specs.declared.answers.Refusal.TheVariants as refusal
-use Rattle.calc_session.proofs.SessionLemmas.{answers_blank, answers_command, answers_unread, calm_blank, calm_long, counts_refusal}
+use Rattle.calc_session.proofs.SessionLemmas.{answers_blank, answers_unread, calm_blank, calm_long}
+use Rattle.calc_session.proofs.CalculatingLemmas.{counted_seen}
 use Rattle.calc_session.proofs.session.Session.answer.Goals as goal
 
 pub returns-then-line-gt-LINE_LIMIT-clause-answers : goal.returns-then-line-gt-LINE_LIMIT-clause-answers
@@ -25,13 +27,21 @@ returns-then-is_blank_line-clause-answers g c =
 pub returns-then-is_blank_line-clause-interrupted : goal.returns-then-is_blank_line-clause-interrupted
 returns-then-is_blank_line-clause-interrupted g c = calm_blank (states g.B.Breaker.state c.args.watch.now)
 
+pub returns-then-line-gt-LINE_LIMIT-clause-counted : goal.returns-then-line-gt-LINE_LIMIT-clause-counted
+returns-then-line-gt-LINE_LIMIT-clause-counted g c = inl (refl, refl)
+
+pub returns-then-is_blank_line-clause-counted : goal.returns-then-is_blank_line-clause-counted
+returns-then-is_blank_line-clause-counted g c = inl (refl, refl)
+
 pub returns-then-is_command-clause-answers : goal.returns-then-is_command-clause-answers
 returns-then-is_command-clause-answers g c =
-    subst (λ (o : Seen). AnswersUntold g.R.Reducer.room g.R.Reducer.bits o.state (states g.B.Breaker.state c.args.watch.now) c.args.line.now c.answer_command.result c.answer_command.new.text.bytes (state_of c.answer_command.new.pool c.answer_command.new.table) (states g.B.Breaker.state c.answer_command.new.watch)) c.self.view_is
-    (answers_command g.R.Reducer.room g.R.Reducer.bits (states g.B.Breaker.state c.args.watch.now) (states g.B.Breaker.state c.answer_command.new.watch) c.args.line.now (state_of c.self.inside.pool c.self.inside.table) (state_of c.answer_command.new.pool c.answer_command.new.table) c.answer_command.result c.answer_command.new.text.bytes
-    (omega (arith, c.if-line-gt-LINE_LIMIT.false)) (sym c.is_command.ensures ∙ c.if-is_command.true) c.answer_command.ensures.answers)
+    subst (λ (o : Seen). AnswersUntold g.R.Reducer.room g.R.Reducer.bits o.state (states g.B.Breaker.state c.args.watch.now) c.args.line.now c.answer_command.result c.answer_command.new.text.bytes (state_of c.answer_command.new.pool c.answer_command.new.table) (states g.B.Breaker.state c.answer_command.new.watch)) c.self.view_is c.answer_command.ensures.answers
 
 pub returns-then-is_command-clause-counted : goal.returns-then-is_command-clause-counted
 returns-then-is_command-clause-counted g c =
     let new : Seen = record { state = state_of c.answer_command.new.pool c.answer_command.new.table; refusals = c.answer_command.new.pool.refusals; last_refused = c.answer_command.new.pool.last_refused; text = c.answer_command.new.text.bytes } in
-    subst (λ (o : Seen). Counts (refusal_of_pool c.answer_command.result) o new) c.self.view_is (counts_refusal (refusal_of_pool c.answer_command.result) (seen_of c.self.inside) new c.answer_command.ensures.counted)
+    subst (λ (o : Seen). IsCountedBut (AsksForTooMuch o.state c.args.line.now) (λ r. Counts r o new) (refusal_of_pool c.answer_command.result)) c.self.view_is
+    (counted_seen (AsksForTooMuch (state_of c.self.inside.pool c.self.inside.table) c.args.line.now) (seen_of c.self.inside) new (refusal_of_pool c.answer_command.result) c.answer_command.ensures.counted)
+
+pub returns-clause-counted : goal.returns-clause-counted
+returns-clause-counted g c = inl c.answer_text.ensures.counted

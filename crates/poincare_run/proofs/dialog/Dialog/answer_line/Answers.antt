@@ -1,10 +1,10 @@
-use Rattle.std.proofs.Common.{◌∷◌, ◌++◌, [], sym, ap, subst, refl}
-use Rattle.std.specs.Io.KnownBytes.{Appends}
+use Rattle.std.proofs.Common.{[], sym, ap, subst, refl}
 use Rattle.std.proofs.KnownBytes.{Appends-nil}
 use Rattle.std.proofs.lemmas.Result.{on_ok_weaker, on_err_weaker}
 use Rattle.poincare_run.specs.Buffer.{Holds}
-use Rattle.poincare_run.specs.Progress.{Place}
-use Rattle.poincare_run.proofs.PictureLemmas.{answers_so, fails_so}
+use Rattle.calc_session.specs.Seen.{Seen}
+use Rattle.poincare_run.specs.Progress.{Place, place_of}
+use Rattle.poincare_run.proofs.PictureLemmas.{answers_so, fails_so, same_place}
 use Rattle.poincare_run.proofs.StepLemmas.{written_blank, written_drawn, written_shown, written_text}
 use Rattle.poincare_run.proofs.dialog.Dialog.answer_line.Goals as goal
 
@@ -31,12 +31,14 @@ returns-in-Shown g c = record {
 }
 
 pub returns-in_default : goal.returns-in_default
-returns-in_default g c = record {
-  ok = on_ok_weaker c.write_line.result (λ all bytes h. let t = c.take_line.ensures.takes bytes h in
-      answers_so _ _ bytes _ _ t _ _ _ (written_text _ _ bytes _ _ t c.in_default.not-Blank c.in_default.not-Draw c.in_default.not-Shown c.in_default.not-Stored) _ refl (rw c.text.ensures at all)) c.write_line.ensures.appended;
-  err = on_err_weaker c.write_line.result (λ part bytes h. let t = c.take_line.ensures.takes bytes h in
-      fails_so _ _ bytes _ _ t _ _ _ (written_text _ _ bytes _ _ t c.in_default.not-Blank c.in_default.not-Draw c.in_default.not-Shown c.in_default.not-Stored) (rw c.text.ensures at part)) c.write_line.ensures.part;
-  stops = c.write_line.ensures.stops;
-  cleared = c.take_line.ensures.cleared;
-  cause = c.write_line.ensures.cause;
-}
+returns-in_default g c =
+    let same = same_place (place_of g.B.Breaker.state c.take_line.new.self) c.print.new.self.state (ap (λ (s : Seen). s.state) c.print.ensures.kept) in
+    record {
+      ok = on_ok_weaker c.print.result (λ all bytes h. let t = c.take_line.ensures.takes bytes h in
+          answers_so _ _ bytes _ _ t _ _ _ (written_text _ _ bytes _ _ t c.in_default.not-Blank c.in_default.not-Draw c.in_default.not-Shown c.in_default.not-Stored) _ same all) c.print.ensures.appended;
+      err = on_err_weaker c.print.result (λ part bytes h. let t = c.take_line.ensures.takes bytes h in
+          fails_so _ _ bytes _ _ t _ _ _ (written_text _ _ bytes _ _ t c.in_default.not-Blank c.in_default.not-Draw c.in_default.not-Shown c.in_default.not-Stored) part) c.print.ensures.part;
+      stops = c.print.ensures.stops;
+      cleared = c.take_line.ensures.cleared;
+      cause = c.print.ensures.cause;
+    }

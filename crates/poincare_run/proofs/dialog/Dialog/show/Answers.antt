@@ -1,8 +1,8 @@
-use Rattle.std.proofs.Common.{◌≡◌, ◌++◌, ◌∷◌, [], List, ℕ, sym, subst}
-use Rattle.std.specs.Io.KnownBytes.{Appends}
+use Rattle.std.proofs.Common.{◌≡◌, ◌++◌, ◌∷◌, [], List, ℕ, ap, sym, subst}
 use Rattle.std.proofs.lemmas.Result.{on_err_weaker}
 use Rattle.calc_edges.specs.Taken.{AppendsPart}
 use Rattle.calc_edges.proofs.Parts.{AppendsPart-after}
+use Rattle.calc_session.specs.Seen.{Seen}
 use Rattle.poincare_run.specs.Steps.{picture_text}
 use Rattle.poincare_run.proofs.PictureLemmas.{picture_wanted}
 use Rattle.poincare_run.proofs.dialog.Dialog.show.Goals as goal
@@ -11,8 +11,8 @@ pub returns-then-self-clause-err : goal.returns-then-self-clause-err
 returns-then-self-clause-err g c = on_err_weaker c.draw.result (λ part.
     let s = c.args.self.now.session in
     let a = g.K.Sink.taken c.args.sink.now in
-    let b = g.K.Sink.taken c.write_line.new.sink in
+    let b = g.K.Sink.taken c.print.new.sink in
     let d = g.K.Sink.taken c.draw.new.sink in
-    let text : Appends a b (s.text ++ 10 ∷ []) = subst (λ (t : List ℕ). Appends a b (t ++ 10 ∷ [])) c.text.ensures c.in_ok-write_line.ensures.appended in
+    let same : picture_text c.print.new.self.state ≡ picture_text s.state = ap (λ (t : Seen). picture_text t.state) c.print.ensures.kept in
     subst (λ (x : List ℕ). AppendsPart a d ((s.text ++ 10 ∷ []) ++ x)) (sym (picture_wanted c.args.self.now.draws s.state c.if-self.true))
-    (AppendsPart-after a b d (s.text ++ 10 ∷ []) (picture_text s.state) text part)) c.draw.ensures.err
+    (AppendsPart-after a b d (s.text ++ 10 ∷ []) (picture_text s.state) c.in_ok-print.ensures.appended (subst (AppendsPart b d) same part))) c.draw.ensures.err

@@ -1,0 +1,61 @@
+-- A calculation is answered by a report or a refusal.
+use Rattle.std.proofs.Common.{◌≡◌, ◌∙◌, ℕ, List, Bool, true, false, Option, Some, None, refl, sym, ap}
+use Rattle.breakers.specs.State.{State as Breaker}
+use Rattle.calc_terms.specs.Trees.{Tree}
+use Rattle.name_table.specs.Filling.{Filling, lacks, too_deep, fills}
+use Rattle.calc_session.specs.Arguments.{IsMisread, meets_no_token, meets_a_wide_number, forms_no_line, forms_a_deep_line, IsNoExpression, is_misread, forms_a_store}
+use Rattle.calc_session.specs.Calculating.{IsReplyToExpression, is_no_expression, is_read, IsReplyToCalculation, derives, solves}
+use Rattle.calc_session.specs.Deriving.{IsReplyToDerivative, has_none, lacks_bytes, is_reduced}
+use Rattle.calc_session.specs.Evaluations.{Unmade, IsReplyToMade, is_not_made, is_made}
+use Rattle.calc_session.specs.Replies.{Reply, shown, stored, undefined, reported}
+use Rattle.calc_session.specs.Solving.{IsReplyToEquations, is_not_solved}
+use Rattle.calc_session.specs.States.{State}
+
+-- a tree is displayed, or the line is undefined
+abbrev pub is_value : Reply → Bool
+is_value (shown t) = true
+is_value (stored t x) = true
+is_value undefined = true
+is_value reply = false
+
+reported_value : (r : Reply) → is_value (reported r) ≡ false
+reported_value (shown t) = refl
+reported_value (stored t x) = refl
+reported_value undefined = refl
+reported_value _ = refl
+
+misread_value : {n : ℕ} {text : List ℕ} {reply : Reply} → IsMisread n text reply → is_value reply ≡ false
+misread_value (meets_no_token f) = refl
+misread_value (meets_a_wide_number f) = refl
+misread_value (forms_no_line c d) = refl
+misread_value (forms_a_deep_line c d) = refl
+
+no_value : {n : ℕ} {text : List ℕ} {reply : Reply} → IsNoExpression n text reply → is_value reply ≡ false
+no_value (is_misread h) = misread_value h
+no_value (forms_a_store r) = refl
+
+unmade_value : (making : Filling) (reply : Reply) → Unmade making reply → is_value reply ≡ false
+unmade_value (lacks refusal) reply e = ap is_value e
+unmade_value too_deep reply e = ap is_value e
+unmade_value (fills left t) reply e = absurd e
+
+module _ (room bits : Option (Tree → ℕ)) (before after : List Breaker) where
+  derived_value : {free left : ℕ} {x : List ℕ} {t : Tree} {reply : Reply} → IsReplyToDerivative room bits free before after x left t reply → is_value reply ≡ false
+  derived_value (has_none h same) = refl
+  derived_value (lacks_bytes l same) = refl
+  derived_value (is_reduced {reply = reply} d l r) = reported_value reply
+
+  made_value : {making : Filling} {Is : ℕ → Tree → Reply → Type 0} {reply : Reply} → ((left : ℕ) (t : Tree) (r : Reply) → Is left t r → is_value r ≡ false) → IsReplyToMade making before after Is reply → is_value reply ≡ false
+  made_value {making} {Is} {reply} by (is_not_made u same) = unmade_value making reply u
+  made_value {reply = reply} by (is_made {left = left} {t = t} e h) = by left t reply h
+
+  expressed_value : {old : State} {line text : List ℕ} {Is : ℕ → Tree → Reply → Type 0} {reply : Reply} → ((left : ℕ) (t : Tree) (r : Reply) → Is left t r → is_value r ≡ false) → IsReplyToExpression old before after line text Is reply → is_value reply ≡ false
+  expressed_value by (is_no_expression h same) = no_value h
+  expressed_value by (is_read reads h) = made_value by h
+
+  solved_value : {old : State} {line text : List ℕ} {reply : Reply} → IsReplyToEquations old before after line text reply → is_value reply ≡ false
+  solved_value (is_not_solved same) = refl
+
+  pub calculated_value : {old : State} {line : List ℕ} {reply : Reply} → IsReplyToCalculation room bits old before after line reply → is_value reply ≡ false
+  calculated_value (derives asked h) = expressed_value (λ left t r d. derived_value d) h
+  calculated_value (solves asked h) = solved_value h

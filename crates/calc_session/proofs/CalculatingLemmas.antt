@@ -1,0 +1,95 @@
+-- Lemmas on command lines that calculate.
+use Rattle.std.proofs.Common.{◌≡◌, ◌∙◌, ℕ, ◌≤◌, ◌+◌, ◌-◌, List, [], ◌∷◌, ◌++◌, length, length-append, codes, Bool, true, false, Option, Some, None, inl, inr, refl, sym, ap, subst, arith}
+use Rattle.breakers.specs.State.{State as Breaker}
+use Rattle.calc_commands.specs.Commands.{Asked, IsCommandLine, asks_diff, HasText, diff, solve, is_command}
+use Rattle.calc_terms.specs.Trees.{Tree}
+use Rattle.calc_tokens.specs.Placed.{Placed}
+use Rattle.name_table.specs.Filling.{values}
+use Rattle.name_table.specs.Tables.{Table}
+use Rattle.node_pool.specs.declared.full.Full.{Full}
+use Rattle.node_pool.specs.State.{State as PoolState, free_of}
+use Rattle.tree_handles.specs.Standing.{forest}
+use Rattle.calc_session.specs.declared.answers.LineAnswer.{LineAnswer}
+use Rattle.calc_session.specs.declared.answers.LineAnswer.TheVariants as answer
+use Rattle.calc_session.specs.declared.answers.Refusal.{Refusal}
+use Rattle.calc_session.specs.declared.answers.Refusal.TheVariants as refusal
+use Rattle.calc_session.specs.Answers.{AnswersUntold, CountsRefusal, TellsReply, reply_of}
+use Rattle.calc_session.specs.Arguments.{IsNoExpression, ReadsText, bytes_before}
+use Rattle.calc_session.specs.Calculating.{IsReplyToCalculation, IsReplyToExpression, is_no_expression, is_read, derives, solves}
+use Rattle.calc_session.specs.Counting.{AsksForTooMuch, IsCountedBut, LacksDerivativeOf}
+use Rattle.calc_session.specs.Deriving.{IsReplyToDerivative}
+use Rattle.calc_session.specs.Evaluations.{IsReplyToMade, made}
+use Rattle.calc_session.specs.Replies.{Reply, command}
+use Rattle.calc_session.specs.Seen.{Seen, Counts, pool_of}
+use Rattle.calc_session.specs.Solving.{is_not_solved}
+use Rattle.calc_session.specs.States.{State, state_of}
+use Rattle.calc_session.specs.Steps.{is_calculated, Leaves}
+use Rattle.calc_session.proofs.SessionLemmas.{counts_refusal, refused_leaves, same_counts}
+
+-- a text that is calculated with stands in its line
+pub text_within : {line x text : List ℕ} → IsCommandLine line (diff x text) → length text ≤ length line
+text_within {line} (asks_diff {name = name} {gap = gap} {text = text} h n b) =
+    let whole = ap length h.whole in
+    let a = length-append gap text in
+    let c = length-append name (gap ++ text) in
+    let d = length-append h.gap (name ++ (gap ++ text)) in
+    let e = length-append (codes "diff") (h.gap ++ (name ++ (gap ++ text))) in
+    let f = length-append h.before (58 ∷ (codes "diff" ++ (h.gap ++ (name ++ (gap ++ text))))) in
+    omega (arith, whole, a, c, d, e, f)
+
+module _ (room bits : Option (Tree → ℕ)) (p : PoolState) (table : Table) (before : List Breaker) (line x text : List ℕ) (short : length line ≤ 1024) (is : is_command line ≡ true) (asked : IsCommandLine line (diff x text)) where
+  -- what is not read
+  pub answers_no_expression : (refusal : Refusal) (n : ℕ) (written : List ℕ) → n ≡ bytes_before line text → IsNoExpression n text (reply_of refusal) → written ≡ []
+      → AnswersUntold room bits (state_of p table) before line (answer.Refused refusal) written (state_of p table) before
+  answers_no_expression refusal n written e h empty = record {
+    reply = reply_of refusal;
+    step = record { reply_is = is_calculated short is (derives asked (is_no_expression (subst (λ k. IsNoExpression k text (reply_of refusal)) e h) refl)); state_is = refused_leaves refusal (state_of p table) (state_of p table) refl };
+    answer_is = refl;
+    text_is = empty;
+  }
+
+  -- what is read
+  pub answers_derivative : (after : List Breaker) (tokens : List Placed) (t : Tree) (new : State) (given : LineAnswer) (written : List ℕ) → ReadsText text tokens None t → new ≡ state_of p table
+      → TellsReply (IsReplyToMade (made (free_of p) (values table (forest p)) t) before after (IsReplyToDerivative room bits (free_of p) before after x)) given written
+      → AnswersUntold room bits (state_of p table) before line given written new after
+  answers_derivative after tokens t new given written reads same h = record {
+    reply = h.reply;
+    step = record { reply_is = is_calculated short is (derives asked (is_read reads h.reply_is)); state_is = subst (Leaves h.reply (state_of p table)) (sym same) (h.leaves (state_of p table)) };
+    answer_is = h.answer_is;
+    text_is = h.text_is;
+  }
+
+  -- its refusal is counted, or known before
+  pub counts_derivative : (new : PoolState) (tokens : List Placed) (t : Tree) (r : Option Full) → ReadsText text tokens None t
+      → IsCountedBut (LacksDerivativeOf (made (free_of p) (values table (forest p)) t) x) (λ y. CountsRefusal y p new) r → IsCountedBut (AsksForTooMuch (state_of p table) line) (λ y. CountsRefusal y p new) r
+  counts_derivative new tokens t r reads (inl c) = inl c
+  counts_derivative new tokens t r reads (inr (lack, e, l, c)) = inr (lack, e, record { name = x; text = text; asks = asked; tokens = tokens; tree = t; reads = reads; lacks = l }, c)
+
+-- equations are not solved yet
+pub answers_unsolved : (room bits : Option (Tree → ℕ)) (s : State) (before : List Breaker) (line text written : List ℕ) → length line ≤ 1024 → is_command line ≡ true → IsCommandLine line (solve text) → written ≡ []
+    → AnswersUntold room bits s before line (answer.Refused refusal.Command) written s before
+answers_unsolved room bits s before line text written short is asked empty = record {
+  reply = command;
+  step = record { reply_is = is_calculated short is (solves asked (is_not_solved refl)); state_is = refl };
+  answer_is = refl;
+  text_is = empty;
+}
+
+-- ---- as a session is seen
+
+pub counted_seen : (Known : Full → Type 0) (old new : Seen) (r : Option Full) → IsCountedBut Known (λ y. CountsRefusal y (pool_of old) (pool_of new)) r → IsCountedBut Known (λ y. Counts y old new) r
+counted_seen Known old new r (inl c) = inl (counts_refusal r old new c)
+counted_seen Known old new r (inr (lack, e, k, c)) = inr (lack, e, k, counts_refusal None old new c)
+
+pub same_counted : (line : List ℕ) (a b new : Seen) (r : Option Full) → a.state ≡ b.state → a.refusals ≡ b.refusals → a.last_refused ≡ b.last_refused
+    → IsCountedBut (AsksForTooMuch a.state line) (λ y. Counts y a new) r → IsCountedBut (AsksForTooMuch b.state line) (λ y. Counts y b new) r
+same_counted line a b new r s e f (inl c) = inl (same_counts r a b new e f c)
+same_counted line a b new r s e f (inr (lack, is, k, c)) = inr (lack, is, subst (λ t. AsksForTooMuch t line lack) s k, same_counts None a b new e f c)
+
+pub counted_renewed : (Known : Full → Type 0) (old new end : Seen) (r : Option Full) → end.refusals ≡ new.refusals → end.last_refused ≡ new.last_refused → IsCountedBut Known (λ y. Counts y old new) r → IsCountedBut Known (λ y. Counts y old end) r
+counted_renewed Known old new end r e f (inl c) = inl (renewed r c)
+  where
+    renewed : (q : Option Full) → Counts q old new → Counts q old end
+    renewed None h = (e ∙ h.0, f ∙ h.1)
+    renewed (Some full) h = (e ∙ h.0, f ∙ h.1)
+counted_renewed Known old new end r e f (inr (lack, is, k, c)) = inr (lack, is, k, (e ∙ c.0, f ∙ c.1))

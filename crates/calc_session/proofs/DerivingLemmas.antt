@@ -1,0 +1,86 @@
+-- Lemmas on what the derivative of a tree comes to.
+use Rattle.std.proofs.Common.{◌≡◌, ◌∙◌, ℕ, ◌+◌, ◌≤◌, ◌<◌, List, [], ◌∷◌, nat_le, nat_lt, cond, Bool, true, false, Option, None, Result, Ok, Err, IsOk, ◌↔◌, refl, sym, ap, subst, arith}
+use Rattle.std.proofs.lemmas.Bool.{leb-false, leb-true, ltb-false}
+use Rattle.breakers.specs.State.{State as Breaker}
+use Rattle.calc_language.specs.Texts.{IsWritable}
+use Rattle.calc_parser.specs.Building.{building}
+use Rattle.calc_terms.specs.Trees.{Tree, depth, root_size, size, symbol}
+use Rattle.dual_diff.specs.Derivatives.{HasDerivative, derivative}
+use Rattle.name_table.specs.Filling.{NamedTree, Filling, lacks, too_deep, fills, filling, filling_one}
+use Rattle.node_pool.specs.declared.full.Full.{Full}
+use Rattle.node_pool.specs.State.{State, free_of}
+use Rattle.tree_handles.specs.Forest.{Forest}
+use Rattle.tree_handles.specs.Handed.{tree_of, Gives, IsHanded, KeepsFront}
+use Rattle.tree_handles.specs.Roots.{without_root}
+use Rattle.tree_handles.specs.Standing.{Stands, forest}
+use Rattle.tree_handles.proofs.Fronts.{behind_first, behind_new, front_after_one, front_at, front_end, front_same, front_without}
+use Rattle.tree_handles.proofs.Given.{given_rest, given_told}
+use Rattle.tree_handles.proofs.Lasts.{ends_at, ends_without}
+use Rattle.tree_walks.specs.Replacing.{occurrences, replaced, replacing}
+use Rattle.calc_session.specs.declared.evaluating.Evaluation.{Evaluation}
+use Rattle.calc_session.specs.Answers.{ComesTo, IsDisplayOf}
+use Rattle.calc_session.specs.Deriving.{IsReplyToDerivative, is_reduced}
+use Rattle.calc_session.specs.Evaluations.{IsReduction, made}
+use Rattle.calc_session.specs.Replies.{Reply, reported}
+use Rattle.calc_session.proofs.EvaluationLemmas.{comes_as, free_same}
+
+pub over : (a b : ℕ) → (a ≤ b → ⊥) → b < a
+over a b h = by (nat_le a b) refl
+  where
+    by : (t : Bool) → nat_le a b ≡ t → b < a
+    by true e = absurd (h (leb-true a b e))
+    by false e = leb-false a b e
+
+-- ---- the depth of a filled tree
+
+filled_is : (l m : ℕ) (t u : Tree) → fills l t ≡ fills m u → t ≡ u
+filled_is l m t u e = cc
+
+one_shallow : (free : ℕ) (v : NamedTree) (t : Tree) (left : ℕ) (u : Tree) → filling_one free v t ≡ fills left u → depth u ≤ 64
+one_shallow free v t left u e = by (replacing free (occurrences v.name t) (size v.tree) (root_size (symbol v.name))) e
+  where
+    test : (n : ℕ) (b : Bool) → nat_lt 64 (depth (replaced v.name v.tree t)) ≡ b → cond b too_deep (fills n (replaced v.name v.tree t)) ≡ fills left u → depth u ≤ 64
+    test n true d k = absurd cc
+    test n false d k = omega (arith, ltb-false 64 (depth (replaced v.name v.tree t)) d, ap depth (filled_is n left (replaced v.name v.tree t) u k))
+
+    by : (r : Result ℕ Full) → elim r [ Err full ↦ lacks full | Ok n ↦ cond (nat_lt 64 (depth (replaced v.name v.tree t))) too_deep (fills n (replaced v.name v.tree t)) ] ≡ fills left u → depth u ≤ 64
+    by (Err full) k = absurd cc
+    by (Ok n) k = test n (nat_lt 64 (depth (replaced v.name v.tree t))) refl k
+
+filling_shallow : (vs : List NamedTree) (free : ℕ) (t : Tree) (left : ℕ) (u : Tree) → depth t ≤ 64 → filling free vs t ≡ fills left u → depth u ≤ 64
+filling_shallow [] free t left u d e = omega (arith, d, ap depth (filled_is free left t u e))
+filling_shallow (v ∷ vs) free t left u d e = by (filling_one free v t) refl (λ l w k. filling_shallow vs l w left u k) e
+  where
+    by : (m : Filling) → filling_one free v t ≡ m → ((l : ℕ) (w : Tree) → depth w ≤ 64 → filling l vs w ≡ fills left u → depth u ≤ 64)
+        → elim m [ lacks full ↦ lacks full | too_deep ↦ too_deep | fills l w ↦ filling l vs w ] ≡ fills left u → depth u ≤ 64
+    by (lacks full) one more k = absurd cc
+    by too_deep one more k = absurd cc
+    by (fills l w) one more k = more l w (one_shallow free v t l w one) k
+
+pub made_shallow : (free : ℕ) (vs : List NamedTree) (t : Tree) (left : ℕ) (u : Tree) → depth t ≤ 64 → made free vs t ≡ fills left u → depth u ≤ 64
+made_shallow free vs t left u d e = by (building free t) e
+  where
+    by : (r : Result ℕ Full) → elim r [ Err refusal ↦ lacks refusal | Ok n ↦ filling n vs t ] ≡ fills left u → depth u ≤ 64
+    by (Err full) k = absurd cc
+    by (Ok n) k = filling_shallow vs n t left u d k
+
+-- ---- the derivative in the place of its tree
+
+-- a tree was added behind one that is gone now
+pub beside_released : {old mid new : Forest} {i d : ℕ} {P : Tree → Type 0} → IsHanded i old → Gives old mid d P → new ≡ without_root i mid → Gives (without_root i old) new d P
+beside_released {i = i} h g e = record { tree = g.tree; ends = ends_at (ends_without i g.ends h.root) e; once = g.once; whole = g.whole; told = g.told }
+
+pub front_beside : {old mid new end : Forest} {i d : ℕ} {P : Tree → Type 0} → Gives old mid d P → new ≡ without_root i mid → KeepsFront (d ∷ []) new end → KeepsFront (i ∷ []) old end
+front_beside g e k = front_after_one (behind_new g.ends front_same) (front_at (front_without behind_first (front_end g.ends front_same)) e) k
+
+module _ (room bits : Option (Tree → ℕ)) (before after : List Breaker) (x : List ℕ) where
+  pub comes_reduced : (old mid : State) (new : Forest) {i d : ℕ} {P : Tree → Type 0} (result : Evaluation) → Stands old → Stands mid → mid.size ≡ old.size → Gives (without_root i (forest old)) (forest old) i P
+      → (g : Gives (without_root i (forest old)) (forest mid) d (λ t. t ≡ derivative x (tree_of i old))) → HasDerivative x (tree_of i old) → size (derivative x (tree_of i old)) ≤ free_of old
+      → ComesTo (IsReduction room bits (free_of mid + size (tree_of d mid)) (tree_of d mid) before after None) (IsDisplayOf None (tree_of d mid)) None (without_root d (forest mid)) new result
+      → ComesTo (λ r. IsReplyToDerivative room bits (free_of old + size (tree_of i old)) before after x (free_of old) (tree_of i old) (reported r)) IsWritable None (without_root i (forest old)) new result
+  comes_reduced old mid new {i} {d} result st st' e g k derivable fits h =
+      comes_as {Now = λ r. IsReplyToDerivative room bits (free_of old + size (tree_of i old)) before after x (free_of old) (tree_of i old) (reported r)} None new result
+      (λ r m. is_reduced derivable fits
+      (subst (λ n. IsReduction room bits n (derivative x (tree_of i old)) before after None r) (free_same st st' e g k)
+      (subst (λ t. IsReduction room bits (free_of mid + size (tree_of d mid)) t before after None r) (given_told k) m)))
+      (λ u w. w.writable) (given_rest k) h

@@ -1,0 +1,68 @@
+use Rattle.std.proofs.Common.{◌∙◌, ◌≤◌, None, inl, refl, sym, subst}
+use Rattle.breakers.specs.Watch.{states}
+use Rattle.calc_language.specs.Texts.{IsWritable}
+use Rattle.calc_terms.specs.Leaf.{name_of}
+use Rattle.calc_terms.specs.Trees.{depth, size}
+use Rattle.name_table.specs.Filling.{values}
+use Rattle.node_pool.specs.State.{free_of}
+use Rattle.tree_handles.specs.Handed.{tree_of}
+use Rattle.tree_handles.specs.Standing.{forest}
+use Rattle.tree_handles.proofs.Given.{given_rest, gives_as}
+use Rattle.calc_session.specs.Answers.{refusal_of_evaluation, reply_of}
+use Rattle.calc_session.specs.Counting.{LacksDerivativeOf}
+use Rattle.calc_session.specs.Deriving.{IsReplyToDerivative, LacksDerivative}
+use Rattle.calc_session.specs.Evaluations.{IsReplyToMade, is_not_made, is_made, made}
+use Rattle.calc_session.specs.Replies.{refusal_in, reported}
+use Rattle.calc_session.proofs.DerivingLemmas.{made_shallow}
+use Rattle.calc_session.proofs.EvaluationLemmas.{calm_refused, comes_as, free_before, front_over, gives_told, size_kept}
+use Rattle.calc_session.proofs.TellingLemmas.{as_reported, counted_then}
+use Rattle.calc_session.proofs.differentiating.derive_expression.Goals as goal
+
+pub build_and_fill-requires-clause-line : goal.build_and_fill-requires-clause-line
+build_and_fill-requires-clause-line g c = let (t, is, shallow) = c.requires.line in (t, (None, is))
+
+pub derive_tree-requires-clause-last : goal.derive_tree-requires-clause-last
+derive_tree-requires-clause-last g c =
+    let (t, is, shallow) = c.requires.line in
+    gives_told (λ u. depth u ≤ 64) (gives_as c.in-Ok.ensures.ok (sym (given_rest c.in-Ok.ensures.ok)) (λ u x. x))
+    (made_shallow (free_of c.args.pool.now) (values c.args.table.now (forest c.args.pool.now)) t (free_of c.build_and_fill.new.pool) (tree_of c.in-Ok.tree c.build_and_fill.new.pool) shallow (c.in-Ok.ensures.made t (None, is)))
+
+pub returns-in-Ok-clause-reply : goal.returns-in-Ok-clause-reply
+returns-in-Ok-clause-reply g c = λ t is.
+    let old = c.args.pool.now in
+    let mid = c.build_and_fill.new.pool in
+    let u = tree_of c.in-Ok.tree mid in
+    let before = states g.B.Breaker.state c.args.watch.now in
+    let after = states g.B.Breaker.state c.derive_tree.new.watch in
+    let x = name_of c.args.name in
+    comes_as {Now = λ reply. IsReplyToMade (made (free_of old) (values c.args.table.now (forest old)) t) before after (IsReplyToDerivative g.R.Reducer.room g.R.Reducer.bits (free_of old) before after x) (reported reply)} None (forest c.derive_tree.new.pool) c.derive_tree.result
+    (λ r m. is_made (c.in-Ok.ensures.made t (None, is)) (subst (λ n. IsReplyToDerivative g.R.Reducer.room g.R.Reducer.bits n before after x (free_of mid) u (reported r)) (free_before c.requires.stands c.build_and_fill.ensures.stands c.in-Ok.ensures.kept.size c.in-Ok.ensures.ok) m))
+    (λ v w. w) (given_rest c.in-Ok.ensures.ok) c.derive_tree.ensures.reply
+
+pub returns-in-Ok-clause-counted : goal.returns-in-Ok-clause-counted
+returns-in-Ok-clause-counted g c = λ t is.
+    let old = c.args.pool.now in
+    let mid = c.build_and_fill.new.pool in
+    counted_then (LacksDerivative (name_of c.args.name) (free_of mid) (tree_of c.in-Ok.tree mid)) (LacksDerivativeOf (made (free_of old) (values c.args.table.now (forest old)) t) (name_of c.args.name)) old mid c.derive_tree.new.pool (refusal_of_evaluation c.derive_tree.result)
+    (λ lack l. record { left = free_of mid; tree = tree_of c.in-Ok.tree mid; is_made = c.in-Ok.ensures.made t (None, is); lacks = l }) c.in-Ok.ensures.kept c.derive_tree.ensures.counted
+
+pub returns-in-Ok-clause-front : goal.returns-in-Ok-clause-front
+returns-in-Ok-clause-front g c = front_over c.in-Ok.ensures.ok c.derive_tree.ensures.front
+
+pub returns-in-Ok-clause-size : goal.returns-in-Ok-clause-size
+returns-in-Ok-clause-size g c = c.derive_tree.ensures.size ∙ c.in-Ok.ensures.kept.size
+
+pub returns-in-Err-clause-reply : goal.returns-in-Err-clause-reply
+returns-in-Err-clause-reply g c = λ t is.
+    let before = states g.B.Breaker.state c.args.watch.now in
+    as_reported (IsReplyToMade (made (free_of c.args.pool.now) (values c.args.table.now (forest c.args.pool.now)) t) before before (IsReplyToDerivative g.R.Reducer.room g.R.Reducer.bits (free_of c.args.pool.now) before before (name_of c.args.name)))
+    c.in-Err.refusal (is_not_made (c.in-Err.ensures.refused t (None, is)) refl)
+
+pub returns-in-Err-clause-interrupted : goal.returns-in-Err-clause-interrupted
+returns-in-Err-clause-interrupted g c = calm_refused c.in-Err.refusal (states g.B.Breaker.state c.args.watch.now) c.in-Err.ensures.no_breaker
+
+pub returns-in-Err-clause-counted : goal.returns-in-Err-clause-counted
+returns-in-Err-clause-counted g c = λ t is. inl c.in-Err.ensures.counted
+
+pub returns-in-Err-clause-size : goal.returns-in-Err-clause-size
+returns-in-Err-clause-size g c = size_kept (refusal_in (reply_of c.in-Err.refusal)) c.args.pool.now c.build_and_fill.new.pool c.in-Err.ensures.counted

@@ -1,0 +1,17 @@
+use Rattle.std.proofs.Common.{None, Some, sym}
+use Rattle.calc_tokens.specs.Tokens.{tokens_of}
+use Rattle.calc_session.specs.Arguments.{is_misread, forms_a_store}
+use Rattle.calc_session.proofs.ReadLemmas.{read_text}
+use Rattle.calc_session.proofs.reading.read_expression.Goals as goal
+
+pub refusal_to_read-requires : goal.refusal_to_read-requires
+refusal_to_read-requires c = record { place = (c.args.text.now, (c.read.ensures.refused c.in-Err.fault).0 c.in-Err.is, c.requires) }
+
+pub returns-in-None-clause-tree : goal.returns-in-None-clause-tree
+returns-in-None-clause-tree c = (c.in-Ok.ensures.shape.0.tree, read_text c.args.text.now (tokens_of c.read.new.self) c.in-Ok.shape None c.in-None.is c.in-Ok.ensures.tokens c.in-Ok.ensures.shape)
+
+pub returns-in-Some-clause-refused : goal.returns-in-Some-clause-refused
+returns-in-Some-clause-refused c = forms_a_store (read_text c.args.text.now (tokens_of c.read.new.self) c.in-Ok.shape (Some _) c.in-Some.is c.in-Ok.ensures.tokens c.in-Ok.ensures.shape)
+
+pub returns-in-Err-clause-refused : goal.returns-in-Err-clause-refused
+returns-in-Err-clause-refused c = is_misread (c.refusal_to_read.ensures.refused c.args.text.now ((c.read.ensures.refused c.in-Err.fault).0 c.in-Err.is))
