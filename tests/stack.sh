@@ -1,0 +1,68 @@
+#!/bin/sh
+# Runs the program on the lines that take most of the machine's stack, with little of it: 128 KiB for the default pool,
+# 384 KiB for the greatest. Its argument is the program. Each row has to be answered as it is with all the stack there is.
+# The last line says how many rows passed and failed; the status is 1 where one failed.
+program=${1:?usage: tests/stack.sh PROGRAM}
+folder=$(mktemp -d) || exit 1
+trap 'rm -rf "$folder"' EXIT
+passed=0
+failed=0
+
+# repeat NUMBER TEXT
+repeat() {
+    awk -v number="$1" -v text="$2" 'BEGIN { for (i = 0; i < number; i++) printf "%s", text }'
+}
+
+# row KIBIBYTES NAME WORD..: the lines of $folder/input, answered with so much stack
+row() {
+    size=$1
+    name=$2
+    shift 2
+    "$program" "$@" <"$folder/input" >"$folder/wanted"
+    status=$?
+    (
+        ulimit -S -s "$size" && exec env -i "$program" "$@" <"$folder/input" >"$folder/written"
+    ) 2>/dev/null
+    if [ $? = "$status" ] && [ -s "$folder/written" ] && cmp -s "$folder/wanted" "$folder/written"; then
+        passed=$((passed + 1))
+    else
+        failed=$((failed + 1))
+        echo "failed: $name with $size KiB of stack, words '$*'"
+    fi
+}
+
+# tried NAME WORD..: in the default pool and in the greatest
+tried() {
+    name=$1
+    shift
+    row 128 "$name" "$@"
+    row 384 "$name" --pool 524280 "$@"
+}
+
+echo "1+1" >"$folder/input"
+tried "1+1"
+{ repeat 63 "-"; echo x; } >"$folder/input"
+tried "63 minus signs"
+{ repeat 511 "x*"; echo x; } >"$folder/input"
+tried "a product of 512 x"
+{ repeat 510 "x+"; echo x; } >"$folder/input"
+tried "a sum of 511 x"
+{ repeat 64 "("; printf x; repeat 64 ")"; echo; } >"$folder/input"
+tried "64 nested parentheses"
+{ repeat 31 "(x+1/"; printf x; repeat 31 ")"; echo; } >"$folder/input"
+tried "62 nested sums and quotients" --draw
+{ repeat 31 "1/(1+"; printf x; repeat 31 ")"; echo; } >"$folder/input"
+tried "a deep quotient and its picture" --draw
+{ repeat 62 "√("; printf x; repeat 62 ")"; echo; } >"$folder/input"
+tried "62 nested roots and their picture" --draw
+{ repeat 62 "x^"; echo x; } >"$folder/input"
+tried "62 nested powers and their picture" --draw
+echo "(√(2)+√(3)+√(5)+√(7)+√(11)+√(13)+√(17)+√(19))^2" >"$folder/input"
+tried "the square of a sum of roots"
+echo "1/(√(2)+√(3)+√(5)+√(7)+√(11))" >"$folder/input"
+tried "the inverse of a sum of roots"
+echo ":dump" >"$folder/input"
+tried "a dump"
+
+echo "$passed passed, $failed failed"
+[ "$failed" = 0 ]
