@@ -9,7 +9,7 @@ import pathlib
 import random
 import sys
 
-from sessions import answers, pool_and_bytes
+from sessions import answers, pool_and_bytes, run
 
 TABLE = pathlib.Path(__file__).resolve().parent / "derivatives.txt"
 POOL_LINES = [":diff x x^3", ":diff x 1/x", ":diff x √(x)×y", ":diff x (x+1)^2×(x-y)", ":diff y y^2/(1+y)", ":diff z 2+x"]
@@ -109,15 +109,5 @@ def check_slopes():
 CHECKS = [check_answers, check_pools, check_interruptions, check_slopes]
 
 
-def main():
-    failed = 0
-    for check in CHECKS:
-        if not check():
-            failed += 1
-            print(f"failed: {check.__name__}: {check.__doc__}")
-    print(f"{len(CHECKS) - failed} passed, {failed} failed")
-    return 1 if failed else 0
-
-
 if __name__ == "__main__":
-    sys.exit(main())
+    sys.exit(run(CHECKS))

@@ -110,15 +110,16 @@ CHECKS = [check_answers, check_pools, check_interruptions, check_many_names, che
           check_whole_trees, check_generated]
 
 
-def main():
+def run(checks):
+    """The status of the program: 1 where a check failed."""
     failed = 0
-    for check in CHECKS:
+    for check in checks:
         if not check():
             failed += 1
             print(f"failed: {check.__name__}: {check.__doc__ or 'the sessions of tests/sessions.txt'}")
-    print(f"{len(CHECKS) - failed} passed, {failed} failed")
+    print(f"{len(checks) - failed} passed, {failed} failed")
     return 1 if failed else 0
 
 
 if __name__ == "__main__":
-    sys.exit(main())
+    sys.exit(run(CHECKS))
