@@ -14,7 +14,7 @@ use Rattle.tree_handles.specs.Standing.{forest, Stands, IsCounted}
 use Rattle.tree_handles.specs.Forest.{Label, Forest, empty, tree, join, arity, node_of, flatten, first_trees, rest_trees, with_nth, AllNodes}
 use Rattle.tree_handles.specs.Inside.{holds, tree_at, kids_of, with_kids}
 use Rattle.tree_handles.specs.Roots.{has_root, root_tree, without_root}
-use Rattle.tree_handles.specs.Walks.{skip}
+use Rattle.tree_handles.specs.Walks.{skip, IsChildPlace}
 use Rattle.tree_handles.proofs.Forests.{flatten-join, first-rest, skip-flatten, skip-first, flatten-with_nth, arity-with_nth, has-flatten}
 use Rattle.tree_handles.proofs.Parts.{IsAt, at, place_is, has_mid, live_node}
 use Rattle.tree_handles.proofs.Roots.{IsTop, top, root_held}
@@ -183,6 +183,12 @@ added i n ci from end to s st live within root apart hf be re bt rt =
     let a : holds i (tree r.label r.kids-are empty) ≡ false = subst (λ (f : Forest). holds i f ≡ false) r.tree-is apart in
     subst (λ (c : Forest). IsAdded i n from end to (forest s) (with_kids i (with_nth n c (kids_of i (forest s))) (without_root ci (forest s))) s.nodes) (sym r.tree-is)
     (added_at i n ci from end to (forest s) s.nodes r st.flat st.pool.distinct live within a hf be re bt rt)
+
+-- the same at a known place
+pub added_place : (i ci from end to : ℕ) (s : State) → Stands s → holds i (forest s) ≡ true → has_root ci (forest s) ≡ true → holds i (root_tree ci (forest s)) ≡ false
+    → from ≡ place_of ci s.nodes → IsBoundary end s.nodes → since end s.nodes ≡ skip 1 (since from s.nodes) → (n : ℕ) → IsChildPlace n i to s
+    → IsAdded i n from end to (forest s) (with_kids i (with_nth n (root_tree ci (forest s)) (kids_of i (forest s))) (without_root ci (forest s))) s.nodes
+added_place i ci from end to s st live root apart hf be re n h = added i n ci from end to s st live h.within root apart hf be re h.boundary h.rest
 
 -- what is added is counted
 pub counted_added : (i n ci : ℕ) (s : State) → Stands s → AllNodes IsCounted (with_kids i (with_nth n (root_tree ci (forest s)) (kids_of i (forest s))) (without_root ci (forest s)))

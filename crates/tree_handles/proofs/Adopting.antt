@@ -7,14 +7,14 @@ use Rattle.calc_terms.specs.Node.{Node}
 use Rattle.node_pool.specs.Nodes.{has, with_children, AreDistinct}
 use Rattle.node_pool.specs.State.{State}
 use Rattle.node_pool.proofs.Splits.{with_children-append}
-use Rattle.tree_handles.specs.Forest.{Label, Forest, empty, tree, join, arity, kids, node_of, flatten, first_trees, rest_trees, root_id, AllNodes}
+use Rattle.tree_handles.specs.Forest.{Label, Forest, empty, tree, join, arity, kids, node_of, flatten, first_trees, rest_trees, root_id, with_root_kids, with_nth, AllNodes}
 use Rattle.tree_handles.specs.Handed.{Ends}
 use Rattle.tree_handles.specs.Inside.{kids_of}
-use Rattle.tree_handles.specs.Roots.{has_root, behind_root, adopted}
+use Rattle.tree_handles.specs.Roots.{has_root, behind_root, adopted, put}
 use Rattle.tree_handles.specs.Standing.{Stands, forest, IsCounted}
 use Rattle.tree_handles.proofs.Distinct.{distinct, not_before}
 use Rattle.tree_handles.proofs.Forests.{flatten-join, join_assoc, arity-join, arity-first_trees, first-rest, first_trees-join, rest_trees-join, join-empty, all-join, all-left, all-right, all-first_trees, all-rest_trees}
-use Rattle.tree_handles.proofs.Lasts.{kids_of_root}
+use Rattle.tree_handles.proofs.Lasts.{kids_of_root, last_put}
 use Rattle.tree_handles.proofs.Outcomes.{by_test}
 use Rattle.tree_handles.proofs.Releases.{arity_le, few_nodes}
 use Rattle.tree_handles.proofs.Roots.{top}
@@ -56,6 +56,26 @@ two_behind {i = i} {t = t} {u = u} {v = v} {others = others} a b c =
     let whole = c.whole ∙ ap (λ (x : Forest). join x v) (b.whole ∙ ap (λ (x : Forest). join x u) a.whole ∙ join_assoc others t u) ∙ join_assoc others (join t u) v ∙ ap (join others) (join_assoc t u v) in
     let behind = ap (behind_root i) whole ∙ behind-right i others (join t (join u v)) a.clear ∙ behind_alone i t (join u v) a.alone a.root in
     omega (arith, ap arity behind, arity-join u v, b.alone, c.alone)
+
+-- the tree just behind a root
+pub record IsNextAdopted (i : ℕ) (t u f new : Forest) : Type 0 where
+  pub within : 1 ≤ arity (behind_root i new)
+  pub forest : adopted i 1 new ≡ put i (with_nth (arity (kids u)) t (kids u)) f
+
+next_parts : (i : ℕ) (t u g f new : Forest) → arity u ≡ 1 → root_id u ≡ i → arity t ≡ 1 → has_root i g ≡ false → f ≡ join g u → new ≡ join f t → put i (with_nth (arity (kids u)) t (kids u)) f ≡ join g (with_root_kids (with_nth (arity (kids u)) t (kids u)) u) → IsNextAdopted i t u f new
+next_parts i t empty g f new one is single clear e h p = absurd (omega arith)
+next_parts i t (tree l k (tree m j s)) g f new one is single clear e h p = absurd (omega arith)
+next_parts i t (tree l k empty) g f new one is single clear e h p =
+    let whole : new ≡ join g (tree l k t) = h ∙ ap (λ (x : Forest). join x t) e ∙ join_assoc g (tree l k empty) t in
+    let last : with_nth (arity k) t k ≡ join k t =
+    ap (λ (x : Forest). with_nth (arity k) t x) (sym (join-empty k)) ∙ rw (first_trees-join k empty, rest_trees-join k empty) (ap (join k) (join-empty t)) in
+    record {
+      within = omega (arith, ap arity (ap (behind_root i) whole ∙ behind_there i g t k l clear is), single);
+      forest = ap (adopted i 1) whole ∙ adopted_all i 1 g t k l clear is (sym single) ∙ ap (λ (x : Forest). join g (tree l x empty)) (sym last) ∙ sym p;
+    }
+
+pub next_adopted : {i j : ℕ} {t u g f new : Forest} → Ends i u g f → Ends j t f new → IsNextAdopted i t u f new
+next_adopted {i = i} {t = t} {u = u} {g = g} {f = f} {new = new} a b = next_parts i t u g f new a.alone a.root b.alone a.clear a.whole b.whole (last_put (with_nth (arity (kids u)) t (kids u)) a)
 
 -- ---- the call
 

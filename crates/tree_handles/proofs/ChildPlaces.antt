@@ -12,11 +12,11 @@ use Rattle.tree_handles.specs.Expressions.{nth, plain, IsExpression, AllExpressi
 use Rattle.tree_handles.specs.Forest.{Forest, empty, tree, join, arity, root_id, node_of, first_trees, rest_trees, forest_of, flatten, tree_nth}
 use Rattle.tree_handles.specs.Inside.{holds, kids_of, tree_at}
 use Rattle.tree_handles.specs.Standing.{Stands, forest}
-use Rattle.tree_handles.specs.Walks.{skip}
+use Rattle.tree_handles.specs.Walks.{skip, IsChildPlace}
 use Rattle.tree_handles.proofs.Distinct.{distinct, child_tree, held_parent, not_before}
 use Rattle.tree_handles.proofs.Forests.{forest_of-flatten, flatten-first_rest, skip-first, nth_tree, arity-join, arity-rest_trees}
 use Rattle.tree_handles.proofs.Nths.{first_trees-behind}
-use Rattle.tree_handles.proofs.Parts.{IsAt, is_before, kid_place, live_at, live_node, root_nth}
+use Rattle.tree_handles.proofs.Parts.{IsAt, IsTaken, is_before, kid_place, live_at, live_node, root_nth, child_taken}
 use Rattle.tree_handles.proofs.Readings.{expression_child, whole_child}
 use Rattle.tree_handles.proofs.Swapping.{IsSwap, swaps}
 
@@ -237,3 +237,15 @@ swap i n x m y first mid second end s st lt h e q bm rm be re =
     let b = placed m i y s st h.second in
     swaps i n m first mid second end s st lt h.second.within (subst (λ (k : ℕ). IsBoundary k s.nodes) (sym e) a.boundary) (ap (λ (k : ℕ). since k s.nodes) e ∙ a.rest)
     (subst (λ (k : ℕ). IsBoundary k s.nodes) (sym q) b.boundary) (ap (λ (k : ℕ). since k s.nodes) q ∙ b.rest) bm rm be re
+
+-- ---- a child that is known by its identifier
+
+pub known_place : (n i x place : ℕ) (s : State) → Stands s → IsChildAt n i x (forest s) → place ≡ place_of x s.nodes → IsChildPlace n i place s
+known_place n i x place s st h e =
+    let a = placed n i x s st h in
+    record { within = omega (arith, h.within); boundary = subst (λ (k : ℕ). IsBoundary k s.nodes) (sym e) a.boundary; rest = ap (λ (k : ℕ). since k s.nodes) e ∙ a.rest }
+
+pub known_taken : (n i x from end : ℕ) (s : State) → Stands s → IsChildAt n i x (forest s) → from ≡ place_of x s.nodes → IsBoundary end s.nodes → since end s.nodes ≡ skip 1 (since from s.nodes) → IsTaken i n from end (forest s) s.nodes
+known_taken n i x from end s st h e be re =
+    let a = known_place n i x from s st h e in
+    child_taken i n from end s st (held_parent n i (forest s) h.within) h.within a.boundary a.rest be re

@@ -8,7 +8,7 @@ use Rattle.node_pool.specs.State.{State}
 use Rattle.node_pool.proofs.Sizes.{used-append, size_from}
 use Rattle.node_pool.proofs.Cuts.{since-append}
 use Rattle.node_pool.proofs.Exchanges.{exchanged-append}
-use Rattle.node_pool.proofs.Splits.{boundary-append, place_of-append, moved_left, moved_right, without-append, with_children-append}
+use Rattle.node_pool.proofs.Splits.{boundary-append, place_of-append, moved_right, without-append, with_children-append}
 use Rattle.tree_handles.specs.Forest.{Forest, empty, tree, join, arity, kids, node_of, flatten, first_trees, rest_trees, tree_nth, set_nth, swapped_nth, merged_nth, AllNodes}
 use Rattle.tree_handles.specs.Inside.{tree_at, kids_of, with_kids}
 use Rattle.tree_handles.specs.Roots.{has_root, root_tree, without_root}
@@ -35,7 +35,7 @@ pub record IsSwap (i n m first mid second end : ℕ) (s : State) : Type 0 where
   pub high : second ≤ end
   pub done : exchanged first mid second end s.nodes ≡ flatten (with_kids i (swapped_nth n m (kids_of i (forest s))) (forest s))
 
-behind_one : (at place : ℕ) (ns x : List Node) (t : Forest) (rest : List Node) → arity t ≡ 1 → IsBoundary at ns → since at ns ≡ skip 1 (since place ns) → since place ns ≡ flatten t ++ rest → ns ≡ x ++ (flatten t ++ rest) → at ≡ used x + used (flatten t)
+pub behind_one : (at place : ℕ) (ns x : List Node) (t : Forest) (rest : List Node) → arity t ≡ 1 → IsBoundary at ns → since at ns ≡ skip 1 (since place ns) → since place ns ≡ flatten t ++ rest → ns ≡ x ++ (flatten t ++ rest) → at ≡ used x + used (flatten t)
 behind_one at place ns x t rest one b r h e =
     let count : 1 ≡ arity t + 0 = omega arith in
     let behind : since at ns ≡ rest = r ∙ ap (skip 1) h ∙ ap (λ (j : ℕ). skip j (flatten t ++ rest)) count ∙ skip-flatten t 0 rest in

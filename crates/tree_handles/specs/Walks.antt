@@ -1,16 +1,24 @@
 -- Walks over nodes in prefix order.
-use Rattle.std.specs.Prelude.{ℕ, zero, suc, ◌+◌, ◌≡◌, ◌≤◌, ◌<◌, List, [], ◌∷◌, ◌++◌, length}
+use Rattle.std.specs.Prelude.{ℕ, zero, suc, ◌+◌, ◌≡◌, ◌≤◌, ◌<◌, List, [], ◌∷◌, ◌++◌, length, drop}
 use Rattle.calc_terms.specs.Node.{Node}
-use Rattle.node_pool.specs.Nodes.{used}
-use Rattle.node_pool.specs.Places.{since, until}
+use Rattle.node_pool.specs.Nodes.{used, place_of}
+use Rattle.node_pool.specs.Places.{since, until, IsBoundary}
+use Rattle.node_pool.specs.State.{State}
 use Rattle.tree_handles.specs.Forest.{Forest, join, arity, flatten, first_trees, rest_trees, forest_of}
-use Rattle.tree_handles.specs.Inside.{released}
+use Rattle.tree_handles.specs.Inside.{kids_of, released}
+use Rattle.tree_handles.specs.Standing.{forest}
 
 -- what is behind a number of trees
 abbrev pub skip : ℕ → List Node → List Node
 skip zero ns = ns
 skip (suc k) [] = []
 skip (suc k) (n ∷ ns) = skip (k + n.children) ns
+
+-- where a node's child begins, counted from 0, or the place behind the last one
+pub record IsChildPlace (at parent place : ℕ) (s : State) : Type 0 where
+  pub within : at ≤ arity (kids_of parent (forest s))
+  pub boundary : IsBoundary place s.nodes
+  pub rest : since place s.nodes ≡ skip at (drop 1 (since (place_of parent s.nodes) s.nodes))
 
 -- so many whole trees stand first
 pub record BeginsTrees (n : ℕ) (ns : List Node) : Type 0 where

@@ -22,8 +22,8 @@ pub use fault::NumberFault;
 pub use handle::{Handle, node, number, symbol};
 pub use measure::{count_trees, tree_bytes, tree_depth, tree_nodes};
 pub use moving::{
-    add_child, adopt, merge_children, move_last, replace_child, swap_children, swap_siblings,
-    take_child,
+    add_before, add_child, adopt, merge_children, move_last, replace_child, replace_known_child,
+    swap_children, swap_siblings, take_child, take_known_child,
 };
 pub use read::{child_id, children, count, kind, name, rational};
 pub use releasing::{drop_behind, release};

@@ -1,11 +1,12 @@
 //! Moving children.
 ghost use Rattle.std.specs.Prelude.{◌≡◌, ◌<◌, ◌≤◌, ◌+◌, ◌-◌, ℕ, true, false};
-ghost use Rattle.tree_handles.specs.Children.{AreSiblings};
+ghost use Rattle.tree_handles.specs.Children.{IsChildAt, AreSiblings};
 ghost use Rattle.tree_handles.specs.Forest.{Forest, join, arity, kids, with_root_kids, tree_nth, without_nth, with_nth, set_nth, swapped_nth, merged_nth, root_id, root_count};
 ghost use Rattle.tree_handles.specs.Handed.{Ends};
 ghost use Rattle.tree_handles.specs.Inside.{holds, kids_of, with_kids};
 ghost use Rattle.tree_handles.specs.Roots.{has_root, root_tree, without_root, put, behind_root, adopted};
 ghost use Rattle.tree_handles.specs.Standing.{Stands, forest, KeepsRefusals};
+ghost use Rattle.tree_handles.specs.Walks.{IsChildPlace};
 
 use crate::handle::Handle;
 use crate::read::{child_id, children};
@@ -26,15 +27,31 @@ pub fn take_child(pool: &mut Pool, parent: &Handle, at: u16) -> Handle
     ensures kept { KeepsRefusals pool.old pool.new }
     ensures stands { Stands pool.new }
 {
+    let child = child_id(pool, parent.id(), at);
+    take_known_child(pool, parent, child)
+}
+
+/// The same of a child that is known by its identifier. No step is made over its siblings.
+pub fn take_known_child(pool: &mut Pool, parent: &Handle, child: Id) -> Handle
+    requires stands { Stands pool.old }
+    requires known { (at : ℕ) × IsChildAt at parent.now child (forest pool.old) }
+    ensures forest { (at : ℕ) → let old = forest pool.old in IsChildAt at parent.now child old
+        → let kids = kids_of parent.now old in forest pool.new ≡ join (with_kids parent.now (without_nth at kids) old) (tree_nth at kids) }
+    ensures handle { result ≡ child }
+    // From a root.
+    ensures last { (at : ℕ) → let old = forest pool.old in IsChildAt at parent.now child old → has_root parent.now old ≡ true
+        → let kids = kids (root_tree parent.now old) in Ends result (tree_nth at kids) (put parent.now (without_nth at kids) old) (forest pool.new) }
+    ensures kept { KeepsRefusals pool.old pool.new }
+    ensures stands { Stands pool.new }
+{
     let owner = parent.id();
-    let id = child_id(pool, owner, at);
     let children = children(pool, owner);
-    let from = child_place(pool, owner, at);
+    let from = pool.locate(child);
     let end = behind(pool, from, 1);
     let used = pool.used();
     pool.move_block(from, end - from, used);
     pool.set_children(owner, children - 1);
-    Handle::of(id)
+    Handle::of(child)
 }
 
 /// A root becomes a child, before the one that had the place, and its handle's unit becomes the parent's.
@@ -58,11 +75,44 @@ pub fn add_child(pool: &mut Pool, parent: &Handle, at: u16, child: Handle)
     ensures kept { KeepsRefusals pool.old pool.new }
     ensures stands { Stands pool.new }
 {
+    let to = child_place(pool, parent.id(), at);
+    add_at(pool, parent, to, child);
+}
+
+/// The same before a child that is known by its identifier. No step is made over its siblings.
+pub fn add_before(pool: &mut Pool, parent: &Handle, next: Id, child: Handle)
+    requires stands { Stands pool.old }
+    requires known { (at : ℕ) × IsChildAt at parent.now next (forest pool.old) }
+    requires root { has_root child (forest pool.old) ≡ true }
+    requires apart { holds parent.now (root_tree child (forest pool.old)) ≡ false }
+    ensures forest { (at : ℕ) → let old = forest pool.old in IsChildAt at parent.now next old
+        → forest pool.new ≡ with_kids parent.now (with_nth at (root_tree child old) (kids_of parent.now old)) (without_root child old) }
+    // To a root.
+    ensures root { (at : ℕ) → let old = forest pool.old in IsChildAt at parent.now next old → has_root parent.now old ≡ true
+        → forest pool.new ≡ put parent.now (with_nth at (root_tree child old) (kids (root_tree parent.now old))) (without_root child old) }
+    ensures kept { KeepsRefusals pool.old pool.new }
+    ensures stands { Stands pool.new }
+{
+    let to = pool.locate(next);
+    add_at(pool, parent, to, child);
+}
+
+/// The same where a child begins or behind the last one.
+fn add_at(pool: &mut Pool, parent: &Handle, to: u32, child: Handle)
+    requires stands { Stands pool.old }
+    requires live { holds parent.now (forest pool.old) ≡ true }
+    requires place { (at : ℕ) × IsChildPlace at parent.now to pool.old }
+    requires root { has_root child (forest pool.old) ≡ true }
+    requires apart { holds parent.now (root_tree child (forest pool.old)) ≡ false }
+    ensures forest { (at : ℕ) → let old = forest pool.old in IsChildPlace at parent.now to pool.old
+        → forest pool.new ≡ with_kids parent.now (with_nth at (root_tree child old) (kids_of parent.now old)) (without_root child old) }
+    ensures kept { KeepsRefusals pool.old pool.new }
+    ensures stands { Stands pool.new }
+{
     let owner = parent.id();
     let children = children(pool, owner);
     let from = pool.locate(child.id());
     let end = behind(pool, from, 1);
-    let to = child_place(pool, owner, at);
     pool.move_block(from, end - from, to);
     pool.set_children(owner, children + 1);
 }
@@ -101,6 +151,28 @@ pub fn replace_child(pool: &mut Pool, parent: &Handle, at: u16, new: Handle) -> 
     let old = take_child(pool, parent, at);
     add_child(pool, parent, at, new);
     old
+}
+
+/// A root that stands last takes the place of a child that is known by its identifier, whose tree stands last then. No
+/// step is made over its siblings, and nothing else is moved where both trees take as many bytes.
+pub fn replace_known_child(pool: &mut Pool, child: Id, new: Handle) -> Handle
+    requires stands { Stands pool.old }
+    requires known { (parent : ℕ) × (at : ℕ) × (t : Forest) × (others : Forest) × Ends new t others (forest pool.old) × IsChildAt at parent child others }
+    ensures forest { (parent at : ℕ) (t others : Forest) → Ends new t others (forest pool.old) → IsChildAt at parent child others
+        → let kids = kids_of parent others in forest pool.new ≡ join (with_kids parent (set_nth at t kids) others) (tree_nth at kids) }
+    ensures handle { result ≡ child }
+    // At a root.
+    ensures last { (parent at : ℕ) (t others : Forest) → Ends new t others (forest pool.old) → IsChildAt at parent child others → has_root parent others ≡ true
+        → let kids = kids (root_tree parent others) in Ends result (tree_nth at kids) (put parent (set_nth at t kids) others) (forest pool.new) }
+    ensures kept { KeepsRefusals pool.old pool.new }
+    ensures stands { Stands pool.new }
+{
+    let first = pool.locate(child);
+    let mid = behind(pool, first, 1);
+    let second = pool.locate(new.id());
+    let end = behind(pool, second, 1);
+    pool.swap_blocks(first, mid, second, end);
+    Handle::of(child)
 }
 
 /// Two children change places.
