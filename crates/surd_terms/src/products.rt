@@ -1,5 +1,5 @@
 //! Products of two terms.
-ghost use Rattle.std.specs.Prelude.{◌≡◌, ◌↔◌, ◌*◌, ◌/◌, pos, ◌<◌, ◌≤◌, ◌^◌, IsErr, IfOk, IfErr, IfSome, [], ◌∷◌};
+ghost use Rattle.std.specs.Prelude.{◌≡◌, ◌↔◌, ◌*◌, ◌/◌, pos, ◌<◌, ◌≤◌, ◌^◌, ◌⊎◌, IsErr, IfOk, IfErr, MatchOption, [], ◌∷◌};
 ghost use Rattle.calc_algebra.specs.Clean.{IsClean};
 ghost use Rattle.calc_terms.specs.Fractions.{whole_fraction};
 ghost use Rattle.calc_terms.specs.Gcd.{gcd as gcd_of};
@@ -8,7 +8,7 @@ ghost use Rattle.calc_algebra.specs.SquareClasses.{Same};
 ghost use Rattle.calc_algebra.specs.Surds.{term_times};
 ghost use Rattle.rational128.specs.Refusals.{DoesNotFit};
 ghost use Rattle.surd_terms.specs.Calculations.{calculation, first_misfit, misfit_of, IsProductMisfit};
-ghost use Rattle.surd_terms.specs.Products.{IsExtracted, HasRational};
+ghost use Rattle.surd_terms.specs.Products.{AreSquareFree, IsExtracted, HasRational, undivided};
 ghost use Rattle.surd_terms.specs.Terms.{coefficient_of, term_of};
 
 use crate::cancelling::scaled_product;
@@ -69,10 +69,11 @@ pub fn product_with(a: Term, b: Term, clean: u128) -> Result<Term, Overflow>
     Ok(Term::new(coefficient, radicand))
 }
 
-/// What is left under the root of the product of two terms, before trial division, where that may be needed: the product
-/// of the radicands over what they share.
+/// What is left under the root of the product of two terms, before trial division: the product of the radicands over what
+/// they share. None where that needs no division, as both are square-free, or has more than 128 bits.
 pub fn undivided(a: Term, b: Term) -> Option<u128>
-    ensures { let g = gcd_of (term_of a).radicand (term_of b).radicand in IfSome result (λ n. n ≡ ((term_of a).radicand / g) * ((term_of b).radicand / g)) }
+    ensures { let n = undivided (term_of a).radicand (term_of b).radicand in
+        MatchOption result (AreSquareFree (term_of a).radicand (term_of b).radicand ⊎ (2 ^ 128 ≤ n)) (λ m. m ≡ n) }
 {
     let (r, s) = (a.radicand(), b.radicand());
     if r < SQUARE_FREE_BELOW && s < SQUARE_FREE_BELOW {
