@@ -20,6 +20,7 @@ pub mod SquareFreeSums
 pub mod Overflows
 pub mod Placings
 pub mod ListedTerms
+pub mod Exchanged
 pub mod FreeBytes
 pub mod Rooms
 pub mod Over

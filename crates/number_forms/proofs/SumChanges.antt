@@ -53,7 +53,7 @@ sum_value t h = ap value (sum_is t h)
 
 -- ---- a term more
 
-inserted_of : (n : ℕ) (t : Term) (u : Tree) (ts : Trees) (v : Surd) → IsTerm u → term_of u ≡ t → v ≡ terms_of ts → 0 < t.radicand → IsApart t.radicand v → IsPlace n t.radicand ts → AreTerms ts → Rises (terms_of ts)
+pub inserted_of : (n : ℕ) (t : Term) (u : Tree) (ts : Trees) (v : Surd) → IsTerm u → term_of u ≡ t → v ≡ terms_of ts → 0 < t.radicand → IsApart t.radicand v → IsPlace n t.radicand ts → AreTerms ts → Rises (terms_of ts)
     → IsSumOf (t ∷ v) (add (inserted n (more u none) ts))
 inserted_of n t u ts v w e q o a p are rises =
     let radicand : t.radicand ≡ (term_of u).radicand = ap (λ (x : Term). x.radicand) (sym e) in

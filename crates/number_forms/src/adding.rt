@@ -22,7 +22,7 @@ ghost use Rattle.tree_handles.specs.Handed.{tree_of, IsHanded, Gives, KeepsFront
 ghost use Rattle.tree_handles.specs.Faults.{Faults, OfOverflow};
 ghost use Rattle.tree_handles.specs.Roots.{without_root};
 
-use crate::joining::join_term;
+use crate::joining::{NOWHERE, join_term};
 use crate::listing::{FEW, Listing, MANY, NONE};
 use crate::rationals::{is_rational, keep_other, take_rationals};
 use crate::read::{is_zero, term_count};
@@ -241,7 +241,7 @@ pub(crate) fn join_terms<const N: usize>(
     let terms: Listing<N> = Listing::of(pool, number);
     for at in 0..term_count(pool, number) {
         let term = listed_term(pool, number, &terms, at);
-        join_term(pool, sum, list, term)?;
+        join_term(pool, sum, list, term, NOWHERE)?;
     }
     Ok(())
 }

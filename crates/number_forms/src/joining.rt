@@ -1,22 +1,23 @@
 //! Terms joined to a sum of terms that stands last.
-ghost use Rattle.std.specs.Prelude.{◌≡◌, ◌<◌, ◌≤◌, ◌-◌, ◌^◌, ◌∷◌, [], IsTrue, IfOk, IfErr, IfSome, OnOk};
+ghost use Rattle.std.specs.Prelude.{◌≡◌, ◌<◌, ◌≤◌, ◌-◌, ◌^◌, ◌∷◌, [], ℕ, IsTrue, IfOk, IfErr, IfSome, OnOk};
 ghost use Rattle.calc_algebra.specs.Clean.{IsClean};
-ghost use Rattle.calc_algebra.specs.Numbers.{value, term_of as term_of_tree};
+ghost use Rattle.calc_algebra.specs.Numbers.{value, term_of as term_of_tree, terms_of};
 ghost use Rattle.calc_terms.specs.Trees.{add, count};
 ghost use Rattle.node_pool.specs.State.{free_of};
 ghost use Rattle.number_forms.specs.Sums.{IsSum, IsSumOf, IsApart, IsPlace, AreBelow, removed};
 ghost use Rattle.number_forms.specs.Joins.{IsMatch};
 ghost use Rattle.number_forms.specs.Lacks.{OfFull};
-ghost use Rattle.number_forms.specs.Listings.{Lists};
+ghost use Rattle.number_forms.specs.Listings.{Lists, IsTermAt};
 ghost use Rattle.number_forms.specs.Overflows.{JoinOverflows};
 ghost use Rattle.tree_handles.specs.Standing.{LacksBytes, Stands, forest, KeepsRefusals, Refuses};
 ghost use Rattle.tree_handles.specs.Causes.{IsCaused, Overflows};
-ghost use Rattle.tree_handles.specs.Handed.{tree_of, Gives, KeepsFront};
+ghost use Rattle.tree_handles.specs.Handed.{tree_of, Ends, Gives, KeepsFront};
 ghost use Rattle.surd_terms.specs.Terms.{term_of};
 ghost use Rattle.tree_handles.specs.Expressions.{children_of, nth, plain, IsExpression};
 ghost use Rattle.tree_handles.specs.Faults.{Faults, OfOverflow};
+ghost use Rattle.tree_handles.specs.Forest.{Forest, kids, with_nth};
 ghost use Rattle.tree_handles.specs.Inside.{tree_at};
-ghost use Rattle.tree_handles.specs.Roots.{without_root};
+ghost use Rattle.tree_handles.specs.Roots.{root_tree, without_root, put};
 
 use crate::listing::Listing;
 use crate::placing::place_term;
@@ -24,10 +25,19 @@ use crate::term::term_at;
 use node_pool::{Full, Id, Pool};
 use rational128::Overflow;
 use surd_terms::{Joined, Term, join, undivided};
-use tree_handles::{Handle, NumberFault, add_child, child_ids, children, release, take_child};
+use tree_handles::{
+    Handle, NumberFault, add_before, adopt, child_ids, children, release, replace_known_child,
+    take_known_child,
+};
 
 /// A clean number below this one is square-free, so that each class has one.
 const SQUARE_FREE_BELOW: u128 = 1_000_000_000_000;
+
+/// A term takes so many bytes at most.
+const TERM_BYTES: u32 = 96;
+
+/// No sum has a term at this place.
+pub(crate) const NOWHERE: u16 = u16::MAX;
 
 /// How a term meets a sum: apart from all of its terms, with its place among them; or alike with the one at a
 /// place, and what the two make.
@@ -38,12 +48,14 @@ enum Match {
     Term(u16, Term),
 }
 
-/// Joins a term to a sum: with the term of its class, which may leave none, or at its place.
+/// Joins a term to a sum: with the term of its class, which may leave none, or at its place. Where one with its
+/// radicand was seen at a place, that is found at once.
 pub(crate) fn join_term<const N: usize>(
     pool: &mut Pool,
     sum: &Handle,
     list: &mut Listing<N>,
     term: Term,
+    seen: u16,
 ) -> Result<(), NumberFault>
     requires stands { Stands pool.old }
     requires sum { Gives (without_root sum.now (forest pool.old)) (forest pool.old) sum.now IsSum }
@@ -58,14 +70,10 @@ pub(crate) fn join_term<const N: usize>(
     ensures room { IfErr result (OfFull (λ full. free_of pool.old < 96)) }
     ensures stands { Stands pool.new }
 {
-    match match_in(pool, sum.id(), list, term)? {
+    match match_in(pool, sum.id(), list, term, seen)? {
         Match::Apart(at) => insert(pool, sum, list, at, term)?,
         Match::Zero(at) => remove(pool, sum, list, at),
-        Match::Term(at, joined) => {
-            remove(pool, sum, list, at);
-            let place = place_of(pool, sum.id(), list, joined.radicand());
-            insert(pool, sum, list, place, joined)?;
-        }
+        Match::Term(at, joined) => replace(pool, sum, list, at, joined)?,
     }
     Ok(())
 }
@@ -76,6 +84,7 @@ fn match_in<const N: usize>(
     sum: Id,
     list: &Listing<N>,
     term: Term,
+    seen: u16,
 ) -> Result<Match, Overflow>
     requires stands { Stands pool.now }
     requires expression { IsExpression sum (forest pool.now) }
@@ -88,7 +97,7 @@ fn match_in<const N: usize>(
     if term.radicand() < SQUARE_FREE_BELOW && are_square_free(pool, sum, list) {
         return match_at_place(pool, sum, list, term);
     }
-    match match_equal(pool, sum, list, term) {
+    match match_equal(pool, sum, list, term, seen) {
         Ok(Some(found)) => Ok(found),
         Ok(None) => match_anywhere(pool, sum, list, term),
         Err(overflow) => Err(overflow),
@@ -101,6 +110,7 @@ fn match_equal<const N: usize>(
     sum: Id,
     list: &Listing<N>,
     term: Term,
+    seen: u16,
 ) -> Result<Option<Match>, Overflow>
     requires stands { Stands pool.now }
     requires expression { IsExpression sum (forest pool.now) }
@@ -110,7 +120,7 @@ fn match_equal<const N: usize>(
     ensures overflow { IfErr result (JoinOverflows (plain (tree_at sum (forest pool.now))) (term_of term)) }
     ensures caused { IfErr result Overflows }
 {
-    let at = place_of(pool, sum, list, term.radicand());
+    let at = place_near(pool, sum, list, term.radicand(), seen);
     if at == children(pool, sum) {
         return Ok(None);
     }
@@ -222,10 +232,105 @@ fn insert<const N: usize>(
     ensures room { IfErr result (λ full. free_of pool.old < 96) }
     ensures stands { Stands pool.new }
 {
+    let next = next_term(pool, sum.id(), list, at);
     let child = place_term(pool, term)?;
     let id = child.id();
-    add_child(pool, sum, at, child);
+    put_before(pool, sum, next, child);
     list.insert(at, id);
+    Ok(())
+}
+
+/// The term of a sum at a place, none behind the last one.
+fn next_term<const N: usize>(pool: &Pool, sum: Id, list: &Listing<N>, at: u16) -> Option<Id>
+    requires stands { Stands pool.now }
+    requires expression { IsExpression sum (forest pool.now) }
+    requires lists { Lists list.now sum (forest pool.now) }
+    requires within { at ≤ count (children_of (plain (tree_at sum (forest pool.now)))) }
+    ensures { IsTermAt at sum (forest pool.now) result }
+{
+    if at == children(pool, sum) {
+        return None;
+    }
+    Some(list.term(pool, sum, at))
+}
+
+/// The tree that stands last, just behind a sum, becomes its term before another one, or its last one.
+fn put_before(pool: &mut Pool, sum: &Handle, next: Option<Id>, child: Handle)
+    requires stands { Stands pool.old }
+    requires placed { (at : ℕ) × (before : Forest) × (u : Forest) × (others : Forest) × (t : Forest) × Ends sum.now u before others × Ends child t others (forest pool.old) × IsTermAt at sum.now others next }
+    ensures forest { (at : ℕ) (before u others t : Forest) → Ends sum.now u before others → Ends child t others (forest pool.old) → IsTermAt at sum.now others next
+        → forest pool.new ≡ put sum.now (with_nth at t (kids (root_tree sum.now others))) others }
+    ensures kept { KeepsRefusals pool.old pool.new }
+    ensures stands { Stands pool.new }
+{
+    match next {
+        Some(next) => add_before(pool, sum, next, child),
+        None => adopt(pool, sum, 1),
+    }
+}
+
+/// Puts the one term that two make in the place of the one of them that stands in a sum.
+fn replace<const N: usize>(
+    pool: &mut Pool,
+    sum: &Handle,
+    list: &mut Listing<N>,
+    at: u16,
+    term: Term,
+) -> Result<(), Full>
+    requires stands { Stands pool.old }
+    requires sum { Gives (without_root sum.now (forest pool.old)) (forest pool.old) sum.now IsSum }
+    requires lists { Lists list.old sum.now (forest pool.old) }
+    requires within { at < count (children_of (tree_of sum.now pool.old)) }
+    requires apart { IsApart (term_of term).radicand (terms_of (removed at (children_of (tree_of sum.now pool.old)))) }
+    ensures ok { OnOk result (Gives (without_root sum.now (forest pool.old)) (forest pool.new) sum.now (IsSumOf (term_of term ∷ terms_of (removed at (children_of (tree_of sum.now pool.old)))))) }
+    ensures lists { OnOk result (Lists list.new sum.now (forest pool.new)) }
+    ensures front { KeepsFront (sum.now ∷ []) (forest pool.old) (forest pool.new) }
+    ensures kept { OnOk result (KeepsRefusals pool.old pool.new) }
+    ensures full { IfErr result (Refuses pool.old pool.new) }
+    ensures caused { IfErr result (LacksBytes pool.new) }
+    ensures room { IfErr result (λ full. free_of pool.old < 96) }
+    ensures stands { Stands pool.new }
+{
+    let stays = radicand_at(pool, sum.id(), list, at) == term.radicand();
+    if stays && pool.free() >= TERM_BYTES {
+        exchange(pool, sum, list, at, term)
+    } else {
+        remove(pool, sum, list, at);
+        let place = place_of(pool, sum.id(), list, term.radicand());
+        insert(pool, sum, list, place, term)
+    }
+}
+
+/// The same where the radicand stays. The new term is placed before the old one is released, so that nothing else is
+/// moved where it takes as many bytes.
+fn exchange<const N: usize>(
+    pool: &mut Pool,
+    sum: &Handle,
+    list: &mut Listing<N>,
+    at: u16,
+    term: Term,
+) -> Result<(), Full>
+    requires stands { Stands pool.old }
+    requires sum { Gives (without_root sum.now (forest pool.old)) (forest pool.old) sum.now IsSum }
+    requires lists { Lists list.old sum.now (forest pool.old) }
+    requires within { at < count (children_of (tree_of sum.now pool.old)) }
+    requires radicand { (term_of_tree (nth at (children_of (tree_of sum.now pool.old)))).radicand ≡ (term_of term).radicand }
+    requires apart { IsApart (term_of term).radicand (terms_of (removed at (children_of (tree_of sum.now pool.old)))) }
+    ensures ok { OnOk result (Gives (without_root sum.now (forest pool.old)) (forest pool.new) sum.now (IsSumOf (term_of term ∷ terms_of (removed at (children_of (tree_of sum.now pool.old)))))) }
+    ensures lists { OnOk result (Lists list.new sum.now (forest pool.new)) }
+    ensures front { KeepsFront (sum.now ∷ []) (forest pool.old) (forest pool.new) }
+    ensures kept { OnOk result (KeepsRefusals pool.old pool.new) }
+    ensures full { IfErr result (Refuses pool.old pool.new) }
+    ensures caused { IfErr result (LacksBytes pool.new) }
+    ensures room { IfErr result (λ full. free_of pool.old < 96) }
+    ensures stands { Stands pool.new }
+{
+    let old = list.term(pool, sum.id(), at);
+    let new = place_term(pool, term)?;
+    let id = new.id();
+    let gone = replace_known_child(pool, old, new);
+    release(pool, gone);
+    list.set(at, id);
     Ok(())
 }
 
@@ -250,6 +355,27 @@ fn place_of<const N: usize>(pool: &Pool, sum: Id, list: &Listing<N>, radicand: u
     low
 }
 
+/// The same, where one with that radicand may have been seen at a place.
+fn place_near<const N: usize>(
+    pool: &Pool,
+    sum: Id,
+    list: &Listing<N>,
+    radicand: u128,
+    seen: u16,
+) -> u16
+    requires stands { Stands pool.now }
+    requires expression { IsExpression sum (forest pool.now) }
+    requires sum { IsSum (plain (tree_at sum (forest pool.now))) }
+    requires lists { Lists list.now sum (forest pool.now) }
+    ensures { IsPlace result radicand (children_of (plain (tree_at sum (forest pool.now)))) }
+{
+    if seen < children(pool, sum) && radicand_at(pool, sum, list, seen) == radicand {
+        seen
+    } else {
+        place_of(pool, sum, list, radicand)
+    }
+}
+
 /// The radicand of a term of a sum.
 fn radicand_at<const N: usize>(pool: &Pool, sum: Id, list: &Listing<N>, at: u16) -> u128
     requires stands { Stands pool.now }
@@ -263,28 +389,29 @@ fn radicand_at<const N: usize>(pool: &Pool, sum: Id, list: &Listing<N>, at: u16)
     term_at(pool, list.term(pool, sum, at)).radicand()
 }
 
-/// A clean number, which is what is left under the root of the product of two terms if a sum has that radicand.
+/// A clean number, which is what is left under the root of the product of two terms if a sum has that radicand; and the
+/// place of its term.
 pub(crate) fn clean_radicand<const N: usize>(
     pool: &Pool,
     sum: Id,
     list: &Listing<N>,
     a: Term,
     b: Term,
-) -> u128
+) -> (u128, u16)
     requires stands { Stands pool.now }
     requires expression { IsExpression sum (forest pool.now) }
     requires sum { IsSum (plain (tree_at sum (forest pool.now))) }
     requires lists { Lists list.now sum (forest pool.now) }
-    ensures { IsClean result }
+    ensures { IsClean result.0 }
 {
     let Some(rest) = undivided(a, b) else {
-        return 1;
+        return (1, NOWHERE);
     };
     let at = place_of(pool, sum, list, rest);
     if at == children(pool, sum) {
-        return 1;
+        return (1, NOWHERE);
     }
-    radicand_at(pool, sum, list, at)
+    (radicand_at(pool, sum, list, at), at)
 }
 
 /// Takes a term out of a sum.
@@ -300,7 +427,8 @@ fn remove<const N: usize>(pool: &mut Pool, sum: &Handle, list: &mut Listing<N>, 
     ensures room { free_of pool.old ≤ free_of pool.new }
     ensures stands { Stands pool.new }
 {
-    let child = take_child(pool, sum, at);
+    let id = list.term(pool, sum.id(), at);
+    let child = take_known_child(pool, sum, id);
     release(pool, child);
     list.remove(at);
 }

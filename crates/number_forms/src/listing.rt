@@ -1,7 +1,8 @@
 //! The terms of a sum under way, listed by their identifiers.
-ghost use Rattle.std.specs.Prelude.{◌≡◌, ◌<◌, true, [], insert, remove};
+ghost use Rattle.std.specs.Prelude.{◌≡◌, ◌<◌, true, [], insert, remove, slice_set};
 ghost use Rattle.calc_terms.specs.Trees.{count};
 ghost use Rattle.number_forms.specs.Listings.{Lists};
+ghost use Rattle.tree_handles.specs.Children.{IsChildAt};
 ghost use Rattle.tree_handles.specs.Expressions.{IsExpression, nth, plain, children_of};
 ghost use Rattle.tree_handles.specs.Inside.{tree_at};
 ghost use Rattle.tree_handles.specs.Standing.{Stands, forest};
@@ -60,6 +61,7 @@ impl<const N: usize> Listing<N> {
         requires expression { IsExpression sum (forest pool.now) }
         requires lists { Lists self.now sum (forest pool.now) }
         requires within { at < count (children_of (plain (tree_at sum (forest pool.now)))) }
+        ensures child { IsChildAt at sum result (forest pool.now) }
         ensures expression { IsExpression result (forest pool.now) }
         ensures plain { plain (tree_at result (forest pool.now)) ≡ nth at (children_of (plain (tree_at sum (forest pool.now)))) }
     {
@@ -79,6 +81,19 @@ impl<const N: usize> Listing<N> {
         let place = usize::from(at);
         if self.whole && place <= self.ids.len() && !self.ids.is_full() {
             self.ids.insert(place, id);
+        } else {
+            self.whole = false;
+        }
+    }
+
+    /// Another term came in the place of one.
+    pub(crate) fn set(&mut self, at: u16, id: Id)
+        ensures { self.new.whole ≡ true → (self.old.whole ≡ true) × (self.new.ids.items ≡ slice_set self.old.ids.items at id) }
+    {
+        let ids = self.ids.as_mut_slice();
+        let place = usize::from(at);
+        if self.whole && place < ids.len() {
+            ids[place] = id;
         } else {
             self.whole = false;
         }

@@ -260,9 +260,9 @@ pub(crate) fn join_products<const N: usize>(
 {
     for at in from..term_count(pool, number) {
         let other = listed_term(pool, number, terms, at);
-        let clean = clean_radicand(pool, sum.id(), list, term, other);
+        let (clean, seen) = clean_radicand(pool, sum.id(), list, term, other);
         let product = product_with(term, other, clean)?;
-        join_term(pool, sum, list, product)?;
+        join_term(pool, sum, list, product, seen)?;
     }
     Ok(())
 }

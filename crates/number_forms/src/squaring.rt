@@ -21,7 +21,7 @@ ghost use Rattle.tree_handles.specs.Roots.{without_root};
 ghost use Rattle.tree_handles.specs.Standing.{Stands, forest, KeepsRefusals};
 
 use crate::adding::number_of;
-use crate::joining::join_term;
+use crate::joining::{NOWHERE, join_term};
 use crate::listing::{FEW, Listing, MANY, NONE};
 use crate::multiplying::join_products;
 use crate::read::term_count;
@@ -139,7 +139,7 @@ fn join_square_row<const N: usize>(
     ensures stands { Stands pool.new }
 {
     let square = product(term, term)?;
-    join_term(pool, sum, list, square)?;
+    join_term(pool, sum, list, square, NOWHERE)?;
     // It fits, since the square does.
     let double = twice(term)?;
     join_products(pool, sum, list, double, number, terms, from)?;

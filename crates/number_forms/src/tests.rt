@@ -6,5 +6,6 @@ mod building;
 mod pools;
 mod recognized;
 mod rooms;
+mod squares;
 mod values;
 mod wide;

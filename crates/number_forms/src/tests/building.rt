@@ -134,6 +134,22 @@ pub(super) fn has_terms(pool: &Pool, number: &Handle, rows: &Rows) -> bool
     at == count
 }
 
+/// Whether a Number has these terms at these places.
+pub(super) fn has_terms_at(pool: &Pool, number: &Handle, rows: &[(u16, Row); 4]) -> bool
+    requires stands { Stands pool.now }
+    requires handed { IsHanded number.now (forest pool.now) }
+    requires number { is_number (tree_of number.now pool.now) ≡ true }
+{
+    let id = number.id();
+    let count = term_count(pool, id);
+    for (at, row) in rows {
+        if *at >= count || !is_row(nth_term(pool, id, *at), row) {
+            return false;
+        }
+    }
+    true
+}
+
 /// Whether a term is this multiple of a root.
 fn is_row(term: Term, row: &Row) -> bool {
     let coefficient = term.coefficient();

@@ -34,7 +34,7 @@ pub(super) fn four(pool: &mut Pool, s: i128) -> Result<Handle, NumberFault>
 }
 
 /// The same for the primes from 2 to 13.
-fn six(pool: &mut Pool, s: i128) -> Result<Handle, NumberFault>
+pub(super) fn six(pool: &mut Pool, s: i128) -> Result<Handle, NumberFault>
     requires { Stands pool.old }
     ensures ok { IfOk result (λ h. Gives (forest pool.old) (forest pool.new) h (λ t. is_number t ≡ true)) }
     ensures stands { Stands pool.new }

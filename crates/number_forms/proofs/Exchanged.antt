@@ -1,0 +1,104 @@
+-- A term of a sum that stands last, known by its identifier: another comes before it, or in its place.
+use Rattle.std.proofs.Common.{◌≡◌, ℕ, zero, suc, ◌<◌, ◌≤◌, [], ◌∷◌, true, refl, sym, ap, ◌∙◌, subst, arith}
+use Rattle.calc_algebra.specs.Numbers.{is_term, term_of, terms_of}
+use Rattle.calc_algebra.specs.Surds.{Term}
+use Rattle.calc_terms.specs.Trees.{Tree, Trees, none, more, add, count}
+use Rattle.calc_algebra.proofs.NumberLaws.{term_words}
+use Rattle.node_pool.specs.State.{State}
+use Rattle.number_forms.specs.Listings.{IsTermAt}
+use Rattle.number_forms.specs.Sums.{IsSum, IsSumOf, IsApart, IsPlace, removed}
+use Rattle.number_forms.proofs.Joined.{are_removed, rises_removed}
+use Rattle.number_forms.proofs.LastSums.{kids_represented, represents_without, sum_is, resum, gives_at}
+use Rattle.number_forms.proofs.SquareFreeSums.{rises_in_sum}
+use Rattle.number_forms.proofs.SumChanges.{inserted_of}
+use Rattle.tree_handles.specs.Children.{IsChildAt}
+use Rattle.tree_handles.specs.Expressions.{nth, plain, children_of, inserted}
+use Rattle.tree_handles.specs.Forest.{Forest, arity, kids, root_id, with_nth, set_nth, tree_nth}
+use Rattle.tree_handles.specs.Handed.{Represents, Ends, Gives}
+use Rattle.tree_handles.specs.Inside.{kids_of}
+use Rattle.tree_handles.specs.Roots.{root_tree, without_root, put, adopted}
+use Rattle.tree_handles.specs.Standing.{Stands, forest}
+use Rattle.tree_handles.proofs.Adopting.{next_adopted}
+use Rattle.tree_handles.proofs.Given.{represents_as, represents_with, given_root, given_handed, given_told, given_same, given_rest}
+use Rattle.tree_handles.proofs.Joins.{kids_of-join_left}
+use Rattle.tree_handles.proofs.Lasts.{last_root, last_tree, last_rest, other_root, other_tree, kids_of_root}
+use Rattle.tree_handles.proofs.Nths.{with_nth-without_nth}
+use Rattle.tree_handles.proofs.Plains.{alone, count-plains}
+use Rattle.tree_handles.proofs.Roots.{root_held}
+
+-- ---- another term comes before it
+
+-- a tree stands behind a sum that stood last
+pub kept_kids : {i j : ℕ} {u g t f h : Forest} → Ends i u g f → Ends j t f h → kids_of i h ≡ kids_of i f
+kept_kids {i = i} {t = t} {f = f} a b = ap (kids_of i) b.whole ∙ kids_of-join_left i f t (root_held i f (last_root a))
+
+pub kept_child : {i j : ℕ} {u g t f h : Forest} (n x : ℕ) → Ends i u g f → Ends j t f h → IsChildAt n i x f → IsChildAt n i x h
+kept_child n x a b c =
+    let same = kept_kids a b in
+    record { within = subst (λ (k : Forest). n < arity k) (sym same) c.within; id-is = c.id-is ∙ ap (λ (k : Forest). root_id (tree_nth n k)) (sym same) }
+
+pub put_next : {i j : ℕ} {u g t f h new : Forest} (n : ℕ) → Ends i u g f → Ends j t f h → new ≡ put i (with_nth n (root_tree j h) (kids (root_tree i h))) (without_root j h) → new ≡ put i (with_nth n t (kids (root_tree i f))) f
+put_next {i = i} n a b e = e ∙ (λ k. put i (with_nth n (last_tree b k) (kids (other_tree i b (last_root a) k))) (last_rest b k))
+
+-- behind all terms
+pub put_last : {i j : ℕ} {u g t f new : Forest} (n : ℕ) (s : State) → Stands s → Ends i u g f → Ends j t f (forest s) → n ≡ arity (kids_of i f) → new ≡ adopted i 1 (forest s) → new ≡ put i (with_nth n t (kids (root_tree i f))) f
+put_last {i} {j} {u} {g} {t} {f} n s st a b c e =
+    let same : kids_of i f ≡ kids u = sym (kept_kids a b) ∙ kids_of_root i st (other_root i b (last_root a)) ∙ ap kids (other_tree i b (last_root a) ∙ last_tree a) in
+    let many : arity (kids u) ≡ n = sym (c ∙ ap arity same) in
+    e ∙ (next_adopted a b).forest ∙ ap (λ (m : ℕ). put i (with_nth m t (kids u)) f) many ∙ ap (λ (x : Forest). put i (with_nth n t (kids x)) f) (sym (last_tree a))
+
+-- in the words of the roots
+pub put_as : {i h : ℕ} {g f new f2 : Forest} {P Q : Tree → Type 0} (at : ℕ) (e : Gives g f i P) (p : Gives f new h Q) → f2 ≡ put i (with_nth at p.tree (kids (root_tree i f))) f → f2 ≡ put i (with_nth at (root_tree h new) (kids (root_tree i new))) (without_root h new)
+put_as {i} at e p q = q ∙ sym (λ k. put i (with_nth at (last_tree p.ends k) (kids (given_same i p (given_root e) k))) (given_rest p k))
+
+-- ---- another term comes in its place
+
+count_removed : (n : ℕ) (ts : Trees) → n < count ts → count ts ≡ suc (count (removed n ts))
+count_removed n none l = absurd (omega arith)
+count_removed zero (more t ts) l = refl
+count_removed (suc n) (more t ts) l = ap suc (count_removed n ts (omega arith))
+
+nth_before : (k n : ℕ) (ts : Trees) → k < n → nth k (removed n ts) ≡ nth k ts
+nth_before k n none l = refl
+nth_before k zero (more t ts) l = absurd (omega arith)
+nth_before zero (suc n) (more t ts) l = refl
+nth_before (suc k) (suc n) (more t ts) l = nth_before k n ts (omega arith)
+
+nth_behind : (n : ℕ) (ts : Trees) → nth n (removed n ts) ≡ nth (suc n) ts
+nth_behind n none = refl
+nth_behind zero (more t ts) = refl
+nth_behind (suc n) (more t ts) = nth_behind n ts
+
+-- its place among the others
+place_removed : (t : Tree) (n : ℕ) → IsSum t → n < count (children_of t) → IsPlace n (term_of (nth n (children_of t))).radicand (removed n (children_of t))
+place_removed t n h l =
+    let ts = children_of t in
+    let r = (term_of (nth n ts)).radicand in
+    let c = count_removed n ts l in
+    record {
+      within = omega (arith, l, c);
+      below = λ k x. subst (λ (u : Tree). (term_of u).radicand < r) (sym (nth_before k n ts x)) (rises_in_sum t k n h x l);
+      above = λ x. let up = rises_in_sum t n (suc n) h (omega arith) (omega (arith, x, c)) in subst (λ (u : Tree). r ≤ (term_of u).radicand) (sym (nth_behind n ts)) (omega (arith, up));
+    }
+
+set_represented : {c k : Forest} {u : Tree} {ts : Trees} (n : ℕ) → Represents c (more u none) → Represents k ts → n < count ts → Represents (set_nth n c k) (inserted n (more u none) (removed n ts))
+set_represented {c = c} {k = k} {ts = ts} n a b l =
+    let many : count ts ≡ arity k = ap count (sym b.plain_trees) ∙ count-plains k in
+    represents_as (represents_with n a (represents_without n b)) (with_nth-without_nth n c k (omega (arith, l, many))) refl
+
+pub exchanged_sum : {i h at : ℕ} {g f f1 f3 : Forest} (t : Term) (e : Gives g f i IsSum) (p : Gives f f1 h (λ u. (is_term u ≡ true) × (term_of u ≡ t))) → 0 < t.radicand → at < count (children_of (plain (root_tree i f)))
+    → (term_of (nth at (children_of (plain (root_tree i f))))).radicand ≡ t.radicand → IsApart t.radicand (terms_of (removed at (children_of (plain (root_tree i f)))))
+    → f3 ≡ put i (set_nth at p.tree (kids (root_tree i f))) f → Gives g f3 i (IsSumOf (t ∷ terms_of (removed at (children_of (plain (root_tree i f))))))
+exchanged_sum {i} {h} {at} {g} {f} t e p o l r a q =
+    let tree = root_tree i f in
+    let ts = children_of (plain tree) in
+    let others = removed at ts in
+    let u = plain p.tree in
+    let is = given_told e in
+    let add-is : plain tree ≡ add ts = sum_is (plain tree) is in
+    let parts : IsSum (add ts) = subst IsSum add-is is in
+    let handed = given_handed e in
+    let one : Represents p.tree (more u none) = record { once = p.once; whole = p.whole; plain_trees = alone p.tree p.ends.alone } in
+    let place : IsPlace at t.radicand others = subst (λ (n : ℕ). IsPlace at n others) r (place_removed (plain tree) at is l) in
+    gives_at (resum e (set_nth at p.tree (kids tree)) (inserted at (more u none) others) ts (ap plain (sym (last_tree e.ends)) ∙ add-is) (set_represented at one (kids_represented tree handed.once handed.whole) l)
+    (inserted_of at t u others (terms_of others) (term_words u p.told.0) p.told.1 refl o a place (are_removed at ts parts.0) (rises_removed at ts parts.1))) q

@@ -1,0 +1,71 @@
+use Rattle.std.proofs.Common.{rules, ◌≡◌, ℕ, inl, sym, ap, ◌∙◌, subst, arith, ◌<◌, ◌≤◌}
+use Rattle.node_pool.specs.State.{free_of}
+use Rattle.node_pool.specs.declared.full.Full.{Full}
+use Rattle.number_forms.proofs.Exchanged.{exchanged_sum}
+use Rattle.number_forms.proofs.LastSums.{kids_represented, once_nth}
+use Rattle.number_forms.proofs.ListedTerms.{lists_at, lists_other}
+use Rattle.number_forms.proofs.Overflows.{passed_on}
+use Rattle.number_forms.proofs.SumChanges.{same_plain, read_expression, many_kids}
+use Rattle.calc_terms.specs.Trees.{Tree, count}
+use Rattle.surd_terms.specs.Terms.{term_of}
+use Rattle.tree_handles.specs.Children.{IsChildAt}
+use Rattle.tree_handles.specs.Expressions.{children_of}
+use Rattle.tree_handles.specs.Forest.{kids, tree_nth, set_nth}
+use Rattle.tree_handles.specs.Handed.{AllOnce, IsOwned, Ends, tree_of}
+use Rattle.tree_handles.specs.Roots.{root_tree, put}
+use Rattle.tree_handles.specs.Standing.{forest}
+use Rattle.tree_handles.proofs.Fronts.{behind_first, front_same, front_at, front_put}
+use Rattle.tree_handles.proofs.Given.{given_root, given_handed}
+use Rattle.tree_handles.proofs.Lasts.{last_root, last_tree, last_rest}
+use Rattle.number_forms.proofs.joining.exchange.Goals as goal
+use Rattle.number_forms.proofs.joining.exchange.Given.{Over}
+use Rattle.number_forms.proofs.joining.exchange.Goals.{After-release}
+
+pub term-old-requires : goal.term-old-requires
+term-old-requires g c = (search rules, (c.requires.stands, (read_expression _ c.args.sum.now c.args.pool.now c.id.ensures c.requires.stands (given_handed c.requires.sum), (lists_at {N = g.row.N} _ _ _ _ c.id.ensures c.requires.lists, subst (λ (t : Tree). c.args.at < count (children_of t)) (sym (same_plain _ c.args.sum.now c.args.pool.now c.id.ensures c.requires.stands (given_root c.requires.sum))) c.requires.within))))
+
+pub replace_known_child-gone-requires-clause-known : goal.replace_known_child-gone-requires-clause-known
+replace_known_child-gone-requires-clause-known g c =
+    let p = c.in_ok-new.ensures.ok in
+    (c.args.sum.now, c.args.at, p.tree, forest c.args.pool.now, p.ends, subst (λ (i : ℕ). IsChildAt c.args.at i c.term-old.result (forest c.args.pool.now)) c.id.ensures c.term-old.ensures.child)
+
+-- the old term stands last
+taken : (g : Over) (c : After-release g) → Ends c.replace_known_child-gone.result (tree_nth c.args.at (kids (root_tree c.args.sum.now (forest c.args.pool.now))))
+    (put c.args.sum.now (set_nth c.args.at c.in_ok-new.ensures.ok.tree (kids (root_tree c.args.sum.now (forest c.args.pool.now)))) (forest c.args.pool.now)) (forest c.replace_known_child-gone.new.pool)
+taken g c =
+    let p = c.in_ok-new.ensures.ok in
+    c.replace_known_child-gone.ensures.last c.args.sum.now c.args.at p.tree (forest c.args.pool.now) p.ends (subst (λ (i : ℕ). IsChildAt c.args.at i c.term-old.result (forest c.args.pool.now)) c.id.ensures c.term-old.ensures.child) (given_root c.requires.sum)
+
+done : (g : Over) (c : After-release g) → forest c.release.new.pool ≡ put c.args.sum.now (set_nth c.args.at c.in_ok-new.ensures.ok.tree (kids (root_tree c.args.sum.now (forest c.args.pool.now)))) (forest c.args.pool.now)
+done g c =
+    let x = taken g c in
+    let handed = given_handed c.requires.sum in
+    let tree = root_tree c.args.sum.now (forest c.args.pool.now) in
+    let owned : IsOwned c.replace_known_child-gone.result (forest c.replace_known_child-gone.new.pool) =
+    record { root = last_root x; once = subst AllOnce (sym (last_tree x)) (once_nth c.args.at (kids tree) (kids_represented tree handed.once handed.whole).once) } in
+    c.release.ensures.owned owned ∙ last_rest x
+
+pub release-requires-clause-releasable : goal.release-requires-clause-releasable
+release-requires-clause-releasable g c =
+    let p = c.in_ok-new.ensures.ok in
+    inl (last_root (c.replace_known_child-gone.ensures.last c.args.sum.now c.args.at p.tree (forest c.args.pool.now) p.ends (subst (λ (i : ℕ). IsChildAt c.args.at i c.term-old.result (forest c.args.pool.now)) c.id.ensures c.term-old.ensures.child) (given_root c.requires.sum)))
+
+pub returns-in_err-new-clause-room : goal.returns-in_err-new-clause-room
+returns-in_err-new-clause-room g c =
+    let lacking : 96 ≤ free_of c.args.pool.now → ⊥ = λ enough. absurd (cc (c.in_err-new.ensures.room enough)) in
+    passed_on c.from_residual.result c.in_err-new.field-0.0 (λ (full : Full). free_of c.args.pool.now < 96) c.from_residual.ensures.0 c.from_residual.ensures.1 (omega (arith, lacking))
+
+pub returns-clause-ok : goal.returns-clause-ok
+returns-clause-ok g c =
+    exchanged_sum (term_of c.args.term) c.requires.sum c.in_ok-new.ensures.ok c.args.term.positive c.requires.within c.requires.radicand c.requires.apart (done g (goal.at.returns-clause-ok g c).After-release)
+
+pub returns-clause-front : goal.returns-clause-front
+returns-clause-front g c = front_at (front_put _ behind_first front_same) (done g (goal.at.returns-clause-front g c).After-release)
+
+pub returns-clause-lists : goal.returns-clause-lists
+returns-clause-lists g c =
+    let i = c.args.sum.now in
+    let p = c.in_ok-new.ensures.ok in
+    let many = many_kids i c.args.pool.now c.requires.stands (given_handed c.requires.sum) in
+    lists_other c.args.list.now c.set.new.self i c.args.at c.id-id.result c.args.pool.now c.release.new.pool p.tree (forest c.args.pool.now) c.requires.stands c.release.ensures.stands (given_root c.requires.sum) (given_root c.requires.sum)
+    c.set.ensures c.requires.lists p.ends.alone (p.ends.root ∙ sym c.id-id.ensures) (omega (arith, many, c.requires.within)) (done g (goal.at.returns-clause-lists g c).After-release)
