@@ -22,7 +22,7 @@ use Rattle.sum_reduce.proofs.CollectedParts.{opened_parts, permuted_parts, first
 use Rattle.sum_reduce.proofs.Rearranged.{of_lists}
 
 -- what a tree counts as a term or a factor
-abbrev counted_in : Tree → ℕ
+abbrev pub counted_in : Tree → ℕ
 counted_in t = if is_number t then 0 else counted t
 
 counted_at_most : (t : Tree) → counted_in t ≤ counted t
@@ -138,7 +138,7 @@ before_counted : (q : Fraction) (p : Tree) → IsFactor q → IsMonic p → coun
 before_counted q (add ts) f m = omega (arith, mapped_counted q ts f (monic_parts (add ts) m).1 (monic_sum ts m).no_sum)
 before_counted q p f m = spliced_counted (num q) p tt
 
-put_counted : (c p : Tree) → IsNumber c → IsMonic p → counted_in (with_coefficient c p) ≤ counted p
+pub put_counted : (c p : Tree) → IsNumber c → IsMonic p → counted_in (with_coefficient c p) ≤ counted p
 put_counted (num q) p h m = by (is_zero_fraction q) (is_one_fraction q) refl refl
   where
     by : (x y : Bool) → is_zero_fraction q ≡ x → is_one_fraction q ≡ y → counted_in (if x then num zero_fraction else (if y then p else rational_before q p)) ≤ counted p
@@ -172,7 +172,7 @@ permuted_counted (permuted_more {t} k) = ap (λ (n : ℕ). counted_in t + n) (pe
 permuted_counted (permuted_swap {t} {u} {ts}) = omega arith
 permuted_counted (permuted_trans k l) = permuted_counted l ∙ permuted_counted k
 
-like_monic : (us : Trees) (p : Tree) → 2 ≤ count us → AreLike p us → AllPartsOf HasForm us → IsMonic p
+pub like_monic : (us : Trees) (p : Tree) → 2 ≤ count us → AreLike p us → AllPartsOf HasForm us → IsMonic p
 like_monic none p l a h = absurd (omega arith)
 like_monic (more t us) p l a h = subst IsMonic a.1 (taken t (parts_reduced t h.0) (parts_defined t h.0) a.0).monic
 

@@ -72,7 +72,7 @@ module _ (P : Tree → Type 0)
       by false = (of_num one_fraction, (h, hs))
   split_parts ts h = (of_num one_fraction, h)
 
-  part_parts : (t : Tree) → AllParts P t → AllParts P (part_of t)
+  pub part_parts : (t : Tree) → AllParts P t → AllParts P (part_of t)
   part_parts (mult ts) h = product_tree_parts (split_product ts).factors (split_parts ts h.1).1
   part_parts t h = h
 

@@ -41,7 +41,7 @@ coefficients_span : (gs : List ℕ) (us : Trees) → SpansTrees gs us → Spans 
 coefficients_span gs none h = tt
 coefficients_span gs (more t us) h = spans_append gs (value (coefficient_of t)) (sum_of_coefficients us) (coefficient_spans gs t h.0) (coefficients_span gs us h.1)
 
-total_spans : (gs : List ℕ) (us : Trees) (c : Tree) → SpansTrees gs us → IsNumberOf (sum_of_coefficients us) c → SpansTree gs c
+pub total_spans : (gs : List ℕ) (us : Trees) (c : Tree) → SpansTrees gs us → IsNumberOf (sum_of_coefficients us) c → SpansTree gs c
 total_spans gs us c h k =
     let n = number_words c k.number in
     tree_spanned gs c n (spans_same gs c (sum_of_coefficients us) n k.worth (coefficients_span gs us h))

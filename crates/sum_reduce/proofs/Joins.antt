@@ -2,7 +2,7 @@
 use Rattle.std.specs.declared.cmp.Ordering.{Ordering}
 use Rattle.std.specs.declared.cmp.Ordering.TheVariants.{Less, Equal, Greater}
 use Rattle.std.specs.Ordering.{is_eq}
-use Rattle.std.proofs.Common.{ℕ, zero, suc, ◌+◌, ◌≤◌, ◌<◌, ◌≡◌, ◌++◌, Bool, true, false, ◌&&◌, not, refl, sym, ap, ◌∙◌, subst, arith, append-nil}
+use Rattle.std.proofs.Common.{ℕ, zero, suc, ◌+◌, ◌≤◌, ◌<◌, ◌≡◌, ◌++◌, [], ◌∷◌, Bool, true, false, ◌&&◌, not, refl, sym, ap, ◌∙◌, subst, arith, append-nil}
 use Rattle.std.proofs.lemmas.Bool.{and_parts}
 use Rattle.calc_algebra.specs.Numbers.{is_number, value, are_numbers}
 use Rattle.calc_algebra.specs.Reduced.{part_of, NoneIs, is_reduced}
@@ -16,7 +16,8 @@ use Rattle.calc_algebra.proofs.NumberRewrites.{sum_of_numbers, coefficient_times
 use Rattle.calc_algebra.proofs.SquareClassLaws.{Same-Agree}
 use Rattle.calc_algebra.proofs.SurdLaws.{Agree-refl, Agree-trans, Agree-eq, Agree-Same, Agree-append, append_comm}
 use Rattle.calc_algebra.proofs.TreeOrderLaws.{tree_cmp_equal, tree_cmp_refl}
-use Rattle.coefficients.specs.Coefficients.{coefficient_of, with_coefficient}
+use Rattle.calc_bits.specs.Denominators.{SharesDenominators}
+use Rattle.coefficients.specs.Coefficients.{coefficient_of, factors_of, with_coefficient}
 use Rattle.coefficients.proofs.Bounds.{coefficient_nest}
 use Rattle.coefficients.proofs.Coefficients.{taken, coefficient_same, put_formed, put_reduces}
 use Rattle.coefficients.proofs.Factors.{monic_part, monic_parts, monic_no_number}
@@ -30,8 +31,13 @@ use Rattle.sum_reduce.specs.Joining.{IsAdded, IsJoining}
 use Rattle.sum_reduce.specs.Stages.{IsStage, widths}
 use Rattle.number_forms.specs.Sums.{removed}
 use Rattle.sum_reduce.specs.Terms.{AreFormed, is_loose, is_partner, opened}
-use Rattle.number_forms.specs.Answers.{IsNumberOf}
+use Rattle.number_forms.specs.Answers.{IsNumberOver}
 use Rattle.calc_algebra.proofs.Names.{Within, no_new_name, within_of, within_same, within_both, within_beside, within_trans, within_right, within_none, within_eq, names_permuted, number_names}
+use Rattle.sum_reduce.proofs.Addends.{term_addends}
+use Rattle.sum_reduce.proofs.Held.{held_after, held_beside, held_behind, held_equal, held_permuted, held_same}
+use Rattle.sum_reduce.proofs.HeldTerms.{partner_held, put_held}
+use Rattle.tree_bits.specs.Children.{addends_of_each}
+use Rattle.tree_bits.specs.HeldTrees.{addend}
 use Rattle.sum_reduce.proofs.Names.{names_of_part}
 use Rattle.calc_measures.proofs.Nests.{nest_permuted, nest_number}
 use Rattle.sum_reduce.proofs.Nests.{nest_of_part}
@@ -63,7 +69,7 @@ partners t u h =
     record { first = not_true (is_number t) a; second = not_true (is_number u) x; parts = tree_cmp_equal (part_of t) (part_of u) (equal_words (tree_cmp (part_of t) (part_of u)) y) }
 
 -- neither a Number nor a sum
-tight_other : (t : Tree) → is_loose t ≡ false → is_number t ≡ false → is_add t ≡ false
+pub tight_other : (t : Tree) → is_loose t ≡ false → is_number t ≡ false → is_add t ≡ false
 tight_other t h n = by (is_add t) (is_number t) h n
   where
     by : (a k : Bool) → (a && not k) ≡ false → k ≡ false → a ≡ false
@@ -107,6 +113,7 @@ joining_first t ts rest p f s n o =
         two = λ h. absurd (omega (arith, h));
         worth = same_eq (sym (append-nil (value (coefficient_of t))));
       };
+      held = held_after (held_permuted p) (held_beside (held_equal (term_addends t g.0 n (tight_other t l.0 n))) (held_same (addends_of_each rest)));
     }
 
 -- ---- a partner's coefficient is added
@@ -132,8 +139,8 @@ more_meanings c d e p u rest hc hd he w k =
     (KeepsMeanings-trans (same_factor c d p) (coefficient_for (add (more c (more d none))) e p (sum_of_numbers c d e (number_words c hc) (number_words d hd) (number_words e he) w))))
 
 pub joining_more : (ts : Trees) (c p : Tree) (rest : Trees) (less at : ℕ) (e : Tree) → IsJoining ts c p rest less → at < count rest → is_partner p (nth at rest) ≡ true
-    → is_number e ≡ true → Same (value e) (value c ++ value (coefficient_of (nth at rest))) → IsJoining ts e p (removed at rest) (less + nodes p)
-joining_more ts c p rest less at e j l q he w =
+    → is_number e ≡ true → Same (value e) (value c ++ value (coefficient_of (nth at rest))) → SharesDenominators (value c ++ value (coefficient_of (nth at rest))) (value e) → IsJoining ts e p (removed at rest) (less + nodes p)
+joining_more ts c p rest less at e j l q he w d =
     let u = nth at rest in
     let perm = taken_permuted at rest l in
     let a = partners p u q in
@@ -155,6 +162,9 @@ joining_more ts c p rest less at e j l q he w =
       other = j.other;
       width = omega (arith, j.width, widths_permuted perm, width_other u a.second (tight_other u s.0 a.second), ap nodes same);
       added = added_more ts c e p rest (removed at rest) u less j.added perm a.second same w;
+      held =
+          held_after j.held (held_after (held_behind (addend (value c) (factors_of p) ∷ []) (held_permuted perm))
+          (partner_held c e p u (removed at rest) f.0 a.second (tight_other u s.0 a.second) same he w d));
     }
 
 -- fewer may be told
@@ -169,6 +179,7 @@ joining_less fewer l j = record {
   nest = j.nest;
   other = j.other;
   width = omega (arith, j.width);
+  held = j.held;
   added = let a = j.added in record { like = a.like; flat = a.flat; moved = a.moved; are = a.are; some = a.some; two = λ h. a.two (omega (arith, h, l)); worth = a.worth };
 }
 
@@ -225,6 +236,7 @@ written c p ts rest less j l =
         width = omega (arith, fewer);
         collects = collects_then (collects_ordered j.added.moved) (collects_like j.added.like c p (j.added.two l) j.added.are (record { number = j.number; worth = j.added.worth }));
         rearranged = λ u. absurd (not_unlike ts c p rest less j.added l u);
+        held = held_after j.held (held_beside (put_held c p n j.monic) (held_same (addends_of_each rest)));
       };
       fewer = fewer;
     }
@@ -327,14 +339,14 @@ next_partner us at f h = record {
 pub first_partner : (us : Trees) (at : ℕ) → IsPairAt is_partner at us → is_number (nth at us) ≡ false
 first_partner us at h = (partners (nth at us) (nth (suc at) us) h.pair).first
 
-pub partner_step : (ts : Trees) (c e : Tree) (us vs : Trees) (at less : ℕ) → IsJoining ts c (nth at us) (removed at us) less → IsPairAt is_partner at us → vs ≡ removed (suc at) us → IsNumberOf (value c ++ value (coefficient_of (nth (suc at) us))) e
+pub partner_step : (ts : Trees) (c e : Tree) (us vs : Trees) (at less : ℕ) → IsJoining ts c (nth at us) (removed at us) less → IsPairAt is_partner at us → vs ≡ removed (suc at) us → IsNumberOver (value c ++ value (coefficient_of (nth (suc at) us))) e
     → IsJoining ts e (nth at vs) (removed at vs) (less + nodes (nth at us))
 partner_step ts c e us vs at less j h q w =
     let next : nth at (removed at us) ≡ nth (suc at) us = nth_behind_removed at at us (omega arith) in
     let l : at < count us = let w = h.within in omega (arith, w) in
     let few : at < count (removed at us) = omega (arith, count_removed at us l, h.within) in
     joining_at vs at (ap (nth at) q ∙ nth_removed at (suc at) us (omega arith)) (ap (removed at) q ∙ removed_two at us)
-    (joining_more ts c (nth at us) (removed at us) less at e j few (ap (is_partner (nth at us)) next ∙ h.pair) w.number (rw next w.worth))
+    (joining_more ts c (nth at us) (removed at us) less at e j few (ap (is_partner (nth at us)) next ∙ h.pair) w.number (rw next w.worth) (rw next w.parts))
 
 pub partner_within : (us vs : Trees) (at : ℕ) → IsPairAt is_partner at us → vs ≡ removed (suc at) us → at < count vs
 partner_within us vs at h q = omega (arith, ap count q, count_removed (suc at) us h.within, h.within)

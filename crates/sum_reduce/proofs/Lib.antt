@@ -24,3 +24,13 @@ pub mod CollectedParts
 pub mod CollectedCounts
 pub mod CollectedSpans
 pub mod CollectedPowers
+pub mod SumBytes
+pub mod Rooms
+pub mod Held
+pub mod HeldFactors
+pub mod Addends
+pub mod HeldTerms
+pub mod PutsFit
+pub mod FewBits
+pub mod CountedMultiples
+pub mod CollectedExponents

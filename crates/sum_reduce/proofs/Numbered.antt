@@ -10,7 +10,7 @@ use Rattle.calc_algebra.specs.Reduced.{NoneIs}
 use Rattle.calc_terms.specs.Trees.{Tree, num, add, Trees, none, more, append, count, is_num, are_rationals}
 use Rattle.calc_algebra.proofs.MeaningRewrites.{permuted_more}
 use Rattle.node_pool.specs.State.{State}
-use Rattle.number_forms.specs.Answers.{IsNumberOf, AnswersRationals}
+use Rattle.number_forms.specs.Answers.{IsNumberOver, AnswersRationals}
 use Rattle.tree_handles.specs.declared.fault.NumberFault.{NumberFault}
 use Rattle.tree_handles.specs.declared.fault.NumberFault.TheVariants as fault
 use Rattle.tree_handles.specs.Expressions.{nth}
@@ -32,12 +32,12 @@ use Rattle.sum_reduce.proofs.Places.{taken_permuted}
 use Rattle.sum_reduce.proofs.Stages.{none_permuted, formed_permuted, stage_after, stage_permuted, stage_same, stage_added}
 
 -- one of them is added
-pub number_step : (d e : Tree) (us vs : Trees) (at : ℕ) → IsNextNumber 0 at us → is_number d ≡ true → IsNumberOf (value d ++ value (nth at us)) e → AreFormed (more d us) → vs ≡ removed at us → IsStage (more d us) (more e vs)
+pub number_step : (d e : Tree) (us vs : Trees) (at : ℕ) → IsNextNumber 0 at us → is_number d ≡ true → IsNumberOver (value d ++ value (nth at us)) e → AreFormed (more d us) → vs ≡ removed at us → IsStage (more d us) (more e vs)
 number_step d e us vs at h n w f q =
     let perm = permuted_more {t = d} (taken_permuted at us h.within) in
     let g = formed_permuted perm f in
     subst (λ (x : Trees). IsStage (more d us) (more e x)) (sym q)
-    (stage_after (stage_permuted perm f (omega arith)) (stage_added d (nth at us) e (removed at us) n h.number w.number w.worth g.1.1))
+    (stage_after (stage_permuted perm f (omega arith)) (stage_added d (nth at us) e (removed at us) n h.number w.number w.worth w.parts g.1.1))
 
 pub flat_step : (us vs : Trees) (at : ℕ) → IsNextNumber 0 at us → vs ≡ removed at us → NoneIs is_loose us → NoneIs is_loose vs
 flat_step us vs at h q s = subst (NoneIs is_loose) (sym q) (none_permuted is_loose (taken_permuted at us h.within) s).1

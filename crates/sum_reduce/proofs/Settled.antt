@@ -90,7 +90,7 @@ rises_strictly (more t (more u us)) n h s = (
   rises_strictly (more u us) n.1 h.1 (λ k d l m. rw add-one (rw add-one at (s (suc k) d (omega arith) (omega arith)))),
 )
 
-no_sums : (ts : Trees) → NoneIs is_number ts → NoneIs is_loose ts → NoneIs is_add ts
+pub no_sums : (ts : Trees) → NoneIs is_number ts → NoneIs is_loose ts → NoneIs is_add ts
 no_sums none n h = tt
 no_sums (more t ts) n h = (by (is_add t) (is_number t) n.0 h.0, no_sums ts n.1 h.1)
   where

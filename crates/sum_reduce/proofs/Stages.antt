@@ -8,6 +8,7 @@ use Rattle.calc_terms.specs.Trees.{Tree, Trees, more, count, names, names_of}
 use Rattle.calc_algebra.proofs.MeaningRewrites.{Permuted, Permuted-refl, permuted_none, permuted_more, permuted_swap, permuted_trans, permuted_sum, joined_in_sum}
 use Rattle.calc_algebra.proofs.NumberLaws.{number_words}
 use Rattle.calc_algebra.proofs.NumberRewrites.{sum_of_numbers}
+use Rattle.calc_bits.specs.Denominators.{SharesDenominators}
 use Rattle.coefficients.proofs.Forms.{number_parts}
 use Rattle.calc_algebra.proofs.Rewritings.{keeps, Rewrites-trans}
 use Rattle.sum_reduce.specs.Collected.{collects_opened, collects_ordered, collects_numbers, collects_then}
@@ -15,6 +16,8 @@ use Rattle.sum_reduce.specs.Stages.{IsStage}
 use Rattle.sum_reduce.specs.Terms.{AreFormed, opened}
 use Rattle.calc_algebra.proofs.Names.{no_new_name, within_both, within_trans, within_right, within_none, within_eq, names_permuted, number_names}
 use Rattle.calc_measures.proofs.Nests.{nest_permuted, nest_number}
+use Rattle.sum_reduce.proofs.Held.{held_after, held_permuted}
+use Rattle.sum_reduce.proofs.HeldTerms.{opened_held, added_held}
 use Rattle.sum_reduce.proofs.Opened.{opened_keeps, names_opened, nest_opened, widths_opened, opened_formed, opened_some, opened_numbers, opened_tight}
 use Rattle.sum_reduce.proofs.Rearranged.{to_lists, tight_opened, unlike_after, rearranged_permuted, rearranged_opened, rearranged_after, rearranged_added}
 use Rattle.sum_reduce.proofs.Widths.{widths_permuted, width_number}
@@ -63,6 +66,7 @@ stage_after a b = record {
   width = omega (arith, a.width, b.width);
   collects = collects_then a.collects b.collects;
   rearranged = λ h. let x = a.rearranged h in rearranged_after x (b.rearranged (unlike_after x h));
+  held = held_after a.held b.held;
 }
 
 pub stage_permuted : {ts us : Trees} → Permuted ts us → AreFormed ts → 1 ≤ count ts → IsStage ts us
@@ -75,6 +79,7 @@ stage_permuted h f l = record {
   width = omega (arith, widths_permuted h);
   collects = collects_ordered (to_lists h);
   rearranged = λ u. rearranged_permuted h;
+  held = held_permuted h;
 }
 
 pub stage_same : (ts : Trees) → AreFormed ts → 1 ≤ count ts → IsStage ts ts
@@ -90,11 +95,12 @@ stage_opened ts f l = record {
   width = omega (arith, widths_opened ts);
   collects = collects_opened;
   rearranged = λ u. rearranged_opened ts (opened ts) (tight_opened (opened ts) (opened_tight ts f));
+  held = opened_held ts f;
 }
 
 -- two Numbers become one
-pub stage_added : (d n e : Tree) (ts : Trees) → is_number d ≡ true → is_number n ≡ true → is_number e ≡ true → Same (value e) (value d ++ value n) → AreFormed ts → IsStage (more d (more n ts)) (more e ts)
-stage_added d n e ts hd hn he w f = record {
+pub stage_added : (d n e : Tree) (ts : Trees) → is_number d ≡ true → is_number n ≡ true → is_number e ≡ true → Same (value e) (value d ++ value n) → SharesDenominators (value d ++ value n) (value e) → AreFormed ts → IsStage (more d (more n ts)) (more e ts)
+stage_added d n e ts hd hn he w s f = record {
   rewrites = record {
     no_new_name = no_new_name (within_both (names d ++ (names n ++ names_of ts)) (names e) (names_of ts)
         (within_trans (within_none (names d ++ (names n ++ names_of ts))) (within_eq (number_names e he)))
@@ -111,4 +117,5 @@ stage_added d n e ts hd hn he w f = record {
   width = omega (arith, width_number d hd, width_number n hn, width_number e he);
   collects = collects_numbers hd hn (record { number = he; worth = w });
   rearranged = λ u. rearranged_added d n e ts hd hn he w;
+  held = added_held d n e ts hd hn he w s;
 }

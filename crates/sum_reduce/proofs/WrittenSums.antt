@@ -45,7 +45,7 @@ term_in t h = absurd h
 
 -- ---- which terms make the Number
 
-number_terms-terms : (ts us : Trees) → AreTerms ts → NoneIs is_number us → number_terms (append ts us) ≡ ts
+pub number_terms-terms : (ts us : Trees) → AreTerms ts → NoneIs is_number us → number_terms (append ts us) ≡ ts
 number_terms-terms none none h k = refl
 number_terms-terms none (more u us) h k = ap (λ b. if b then more u (number_terms us) else none) (no_term u k.0)
 number_terms-terms (more t ts) us h k = ap (λ b. if b then more t (number_terms (append ts us)) else none) (term_test t h.0) ∙ ap (more t) (number_terms-terms ts us h.1 k)
@@ -54,7 +54,7 @@ other_terms-none : (us : Trees) → NoneIs is_number us → other_terms us ≡ u
 other_terms-none none k = refl
 other_terms-none (more u us) k = ap (λ b. if b then other_terms us else more u us) (no_term u k.0)
 
-other_terms-terms : (ts us : Trees) → AreTerms ts → NoneIs is_number us → other_terms (append ts us) ≡ us
+pub other_terms-terms : (ts us : Trees) → AreTerms ts → NoneIs is_number us → other_terms (append ts us) ≡ us
 other_terms-terms none us h k = other_terms-none us k
 other_terms-terms (more t ts) us h k = ap (λ b. if b then other_terms (append ts us) else more t (append ts us)) (term_test t h.0) ∙ other_terms-terms ts us h.1 k
 
@@ -75,7 +75,7 @@ pub record AreNumberTerms (ts : Trees) : Type 0 where
   pub terms : AreTerms ts
   pub rising : Rises (terms_of ts)
 
-number_terms_in : (a : Tree) → IsNumber a → AreNumberTerms (terms_of_number a)
+pub number_terms_in : (a : Tree) → IsNumber a → AreNumberTerms (terms_of_number a)
 number_terms_in a h = by (as_number a h)
   where
     by : AsNumber a → AreNumberTerms (terms_of_number a)

@@ -1,16 +1,19 @@
 -- A part whose coefficient stands beside the sum.
-use Rattle.std.specs.Prelude.{ℕ, ◌+◌, ◌≡◌, ◌≤◌, true, false, IsPermutation}
+use Rattle.std.specs.Prelude.{ℕ, ◌+◌, ◌≡◌, ◌≤◌, ◌∷◌, true, false, IsPermutation}
 use Rattle.calc_measures.specs.Loads.{nest_of}
 use Rattle.calc_algebra.specs.Numbers.{is_number, value, are_numbers}
 use Rattle.calc_algebra.specs.Reduced.{NoneIs}
 use Rattle.calc_algebra.specs.SquareClasses.{Same}
 use Rattle.calc_terms.specs.Trees.{Tree, add, mult, Trees, none, more, append, count, nodes}
-use Rattle.coefficients.specs.Coefficients.{IsMonic}
+use Rattle.coefficients.specs.Coefficients.{IsMonic, factors_of}
 use Rattle.calc_algebra.specs.Rewritings.{HasNoNewName, KeepsMeanings}
 use Rattle.node_order.specs.Sorting.{list_of}
+use Rattle.sum_reduce.specs.Bits.{KeepsHeld}
 use Rattle.sum_reduce.specs.Collected.{AreLike, sum_of_coefficients}
 use Rattle.sum_reduce.specs.Stages.{widths}
 use Rattle.sum_reduce.specs.Terms.{AreFormed, is_loose}
+use Rattle.tree_bits.specs.Children.{addends_of_each}
+use Rattle.tree_bits.specs.HeldTrees.{addend}
 
 -- these terms of ts have that part, and their coefficients were added
 pub record IsAdded (ts : Trees) (c p : Tree) (rest : Trees) (less : ℕ) : Type 0 where
@@ -34,3 +37,4 @@ pub record IsJoining (ts : Trees) (c p : Tree) (rest : Trees) (less : ℕ) : Typ
   pub other : are_numbers ts ≡ false
   pub width : nodes p + widths rest + less ≤ widths ts
   pub added : IsAdded ts c p rest less
+  pub held : KeepsHeld (addends_of_each ts) (addend (value c) (factors_of p) ∷ addends_of_each rest)

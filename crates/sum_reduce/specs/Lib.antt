@@ -6,3 +6,5 @@ pub mod Overflows
 pub mod Stages
 pub mod Arranging
 pub mod Joining
+pub mod Rooms
+pub mod Bits

@@ -7,8 +7,10 @@ use Rattle.calc_algebra.specs.SquareClasses.{Same}
 use Rattle.calc_terms.specs.Trees.{Tree, add, Trees, none, more, count, nodes}
 use Rattle.calc_algebra.specs.Rewritings.{Rewrites}
 use Rattle.node_order.specs.Sorting.{list_of}
+use Rattle.sum_reduce.specs.Bits.{KeepsHeld}
 use Rattle.sum_reduce.specs.Collected.{numbers_in, others_in, sum_of_values, AreUnlike, Collects}
 use Rattle.sum_reduce.specs.Terms.{AreFormed, opened}
+use Rattle.tree_bits.specs.Children.{addends_of_each}
 
 -- 1 for a Number, the nodes of its part for another term, and all terms of a sum: where partners are joined it falls
 abbrev mutual
@@ -36,3 +38,4 @@ pub record IsStage (ts us : Trees) : Type 0 where
   pub width : widths us ≤ widths ts
   pub collects : Collects ts us
   pub rearranged : AreUnlike (others_in (opened ts)) → IsRearranged ts us
+  pub held : KeepsHeld (addends_of_each ts) (addends_of_each us)

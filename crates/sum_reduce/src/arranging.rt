@@ -1,20 +1,28 @@
 //! The terms of a sum are opened, joined and put in order.
-ghost use Rattle.std.specs.Prelude.{◌≡◌, ◌<◌, ◌≤◌, ◌+◌, ◌^◌, true, false, IfErr, IfSome, MatchOption, OnOk, [], ◌∷◌};
+ghost use Rattle.std.specs.Prelude.{ℕ, List, length, ◌≡◌, ◌<◌, ◌≤◌, ◌+◌, ◌*◌, ◌^◌, true, false, IfErr, IfSome, MatchOption, OnOk, [], ◌∷◌};
+ghost use Rattle.calc_algebra.specs.Reduced.{NoneIs};
 ghost use Rattle.calc_measures.specs.PlainValues.{plain_value};
-ghost use Rattle.calc_terms.specs.Trees.{add, count, are_rationals};
+ghost use Rattle.calc_room.specs.Needs.{sum_need};
+ghost use Rattle.calc_room.specs.Spans.{SpansTrees};
+ghost use Rattle.calc_terms.specs.Trees.{add, count, are_rationals, size};
 ghost use Rattle.like_children.specs.Neighbours.{IsPairAt, IsNextPair, NoPairBetween};
-ghost use Rattle.sum_reduce.specs.Overflows.{Overflows};
-ghost use Rattle.tree_handles.specs.Causes.{IsCaused};
+ghost use Rattle.node_pool.specs.State.{free_of};
+ghost use Rattle.number_forms.specs.Lacks.{LacksBelow};
+ghost use Rattle.number_forms.specs.Sums.{removed};
 ghost use Rattle.sum_reduce.specs.Arranging.{IsLed, IsArranged, IsSettled, AnswersFold};
+ghost use Rattle.sum_reduce.specs.Bits.{HaveFewBits};
+ghost use Rattle.sum_reduce.specs.Overflows.{Overflows};
+ghost use Rattle.sum_reduce.specs.Rooms.{terms_room, LacksTerms};
 ghost use Rattle.sum_reduce.specs.Stages.{IsStage, widths};
 ghost use Rattle.sum_reduce.specs.Sums.{IsSum, Changes, terms_in};
 ghost use Rattle.sum_reduce.specs.Terms.{AreFormed, is_loose, is_partner};
-ghost use Rattle.calc_algebra.specs.Reduced.{NoneIs};
-ghost use Rattle.number_forms.specs.Sums.{removed};
+ghost use Rattle.tree_bits.specs.Children.{addends_of_each};
+ghost use Rattle.tree_handles.specs.Causes.{IsCaused};
 ghost use Rattle.tree_handles.specs.Expressions.{nth};
 ghost use Rattle.tree_handles.specs.Faults.{Faults, OfOverflow};
 ghost use Rattle.tree_handles.specs.Handed.{KeepsFront};
 ghost use Rattle.tree_handles.specs.Standing.{Stands, forest, KeepsRefusals};
+ghost use Rattle.tree_room.specs.Handed.{counted_in_all, sum_count};
 
 use crate::joining::join_terms;
 use crate::numbers::join_numbers;
@@ -76,6 +84,9 @@ fn arrange(pool: &mut Pool, sum: &Handle) -> Result<(), NumberFault>
     ensures faults { IfErr result (Faults pool.old pool.new) }
     ensures caused { IfErr result (IsCaused pool.new) }
     ensures overflow { IfErr result (OfOverflow (Overflows (terms_in sum.now (forest pool.old)))) }
+    ensures bits { HaveFewBits (addends_of_each (terms_in sum.now (forest pool.old))) → IfErr result (OfOverflow (λ o. ⊥)) }
+    ensures room { (gs : List ℕ) → SpansTrees gs (terms_in sum.now (forest pool.old))
+        → IfErr result (LacksBelow (sum_need * 2 ^ length gs) (free_of pool.old)) }
     ensures stands { Stands pool.new }
 {
     open_sums(pool, sum);
@@ -114,11 +125,15 @@ fn join_pairs(pool: &mut Pool, sum: &Handle, first: u16) -> Result<(), NumberFau
     ensures ok { OnOk result (Changes sum.now (forest pool.old) (forest pool.new)) }
     ensures stage { OnOk result (IsStage (terms_in sum.now (forest pool.old)) (terms_in sum.now (forest pool.new))) }
     ensures fewer { OnOk result (widths (terms_in sum.now (forest pool.new)) < widths (terms_in sum.now (forest pool.old))) }
+    ensures counts { OnOk result (counted_in_all (terms_in sum.now (forest pool.new)) ≤ counted_in_all (terms_in sum.now (forest pool.old))) }
     ensures front { KeepsFront (sum.now ∷ []) (forest pool.old) (forest pool.new) }
     ensures kept { OnOk result (KeepsRefusals pool.old pool.new) }
     ensures faults { IfErr result (Faults pool.old pool.new) }
     ensures caused { IfErr result (IsCaused pool.new) }
     ensures overflow { IfErr result (OfOverflow (Overflows (terms_in sum.now (forest pool.old)))) }
+    ensures bits { HaveFewBits (addends_of_each (terms_in sum.now (forest pool.old))) → IfErr result (OfOverflow (λ o. ⊥)) }
+    ensures room { let ts = terms_in sum.now (forest pool.old) in
+        (gs : List ℕ) → SpansTrees gs ts → IfErr result (LacksTerms gs ts (free_of pool.old + size (add ts))) }
     ensures stands { Stands pool.new }
 {
     let mut next = Some(first);
@@ -145,6 +160,9 @@ pub fn settle(pool: &mut Pool, sum: &Handle) -> Result<(), NumberFault>
     ensures faults { IfErr result (Faults pool.old pool.new) }
     ensures caused { IfErr result (IsCaused pool.new) }
     ensures overflow { IfErr result (OfOverflow (Overflows (terms_in sum.now (forest pool.old)))) }
+    ensures bits { HaveFewBits (addends_of_each (terms_in sum.now (forest pool.old))) → IfErr result (OfOverflow (λ o. ⊥)) }
+    ensures room { let ts = terms_in sum.now (forest pool.old) in
+        (gs : List ℕ) → SpansTrees gs ts → IfErr result (LacksBelow (terms_room (1 + sum_count ts) (2 ^ length gs)) (free_of pool.old + size (add ts))) }
     ensures stands { Stands pool.new }
 {
     arrange(pool, sum)?;

@@ -1,25 +1,37 @@
 //! Terms with identical parts become one.
-ghost use Rattle.std.specs.Prelude.{◌≡◌, ◌==◌, ◌<◌, ◌+◌, ◌^◌, ◌++◌, ℕ, true, false, IfOk, IfErr, OnOk, [], ◌∷◌};
+ghost use Rattle.std.specs.Prelude.{ℕ, List, length, ◌≡◌, ◌==◌, ◌<◌, ◌≤◌, ◌+◌, ◌*◌, ◌^◌, ◌++◌, true, false, IfOk, IfErr, OnOk, [], ◌∷◌};
 ghost use Rattle.calc_algebra.specs.Numbers.{is_number, value};
 ghost use Rattle.calc_algebra.specs.Reduced.{is_reduced, part_of, NoneIs};
-ghost use Rattle.calc_terms.specs.Trees.{Trees, count, is_undef, none, more};
-ghost use Rattle.coefficients.specs.Coefficients.{coefficient_of, with_coefficient};
-ghost use Rattle.number_forms.specs.Answers.{IsNumberOf};
+ghost use Rattle.calc_bits.specs.Bounds.{HasFewBits};
+ghost use Rattle.calc_room.specs.Counts.{counted};
+ghost use Rattle.calc_room.specs.Needs.{sum_need};
+ghost use Rattle.calc_room.specs.Spans.{SpansTree, SpansTrees};
+ghost use Rattle.calc_terms.specs.Trees.{Trees, add, count, is_undef, none, more, size};
+ghost use Rattle.coefficients.specs.Coefficients.{coefficient_of, factors_of, with_coefficient, IsMonic};
 ghost use Rattle.coefficients.specs.Overflows.{NamesPut};
+ghost use Rattle.coefficients.specs.Rooms.{LacksRoom};
 ghost use Rattle.like_children.specs.Neighbours.{IsPairAt};
-ghost use Rattle.sum_reduce.specs.Overflows.{NamesSum, Overflows};
-ghost use Rattle.tree_handles.specs.Causes.{IsCaused};
-ghost use Rattle.tree_handles.specs.Standing.{LacksBytes, Stands, forest, KeepsRefusals, Refuses};
-ghost use Rattle.tree_handles.specs.Handed.{tree_of, IsHanded, Gives, KeepsFront};
+ghost use Rattle.node_pool.specs.State.{free_of};
+ghost use Rattle.number_forms.specs.Answers.{IsNumberOver};
+ghost use Rattle.number_forms.specs.Lacks.{LacksBelow};
+ghost use Rattle.number_forms.specs.Sums.{removed};
+ghost use Rattle.sum_reduce.specs.Bits.{HaveFewBits};
 ghost use Rattle.sum_reduce.specs.Joining.{IsJoining};
+ghost use Rattle.sum_reduce.specs.Overflows.{NamesSum, Overflows};
+ghost use Rattle.sum_reduce.specs.Rooms.{LacksTerms};
 ghost use Rattle.sum_reduce.specs.Stages.{IsStage, widths};
 ghost use Rattle.sum_reduce.specs.Sums.{IsSum, Changes, Takes, terms_in};
-ghost use Rattle.number_forms.specs.Sums.{removed};
 ghost use Rattle.sum_reduce.specs.Terms.{AreFormed, is_loose, is_partner};
+ghost use Rattle.tree_bits.specs.Children.{addends_of_each};
+ghost use Rattle.tree_bits.specs.HeldTrees.{Addend, addend};
+ghost use Rattle.tree_handles.specs.Causes.{IsCaused};
 ghost use Rattle.tree_handles.specs.Expressions.{nth, inserted};
 ghost use Rattle.tree_handles.specs.Faults.{Faults, OfOverflow};
 ghost use Rattle.tree_handles.specs.Forest.{Forest};
+ghost use Rattle.tree_handles.specs.Handed.{tree_of, IsHanded, Gives, KeepsFront};
 ghost use Rattle.tree_handles.specs.Roots.{without_root};
+ghost use Rattle.tree_handles.specs.Standing.{LacksBytes, Stands, forest, KeepsRefusals, Refuses};
+ghost use Rattle.tree_room.specs.Handed.{counted_in_all};
 
 use crate::partners::Parts;
 use coefficients::{put_coefficient, take_coefficient};
@@ -44,6 +56,7 @@ fn take_coefficient_at(pool: &mut Pool, sum: &Handle, at: u16) -> Result<Handle,
     ensures kept { OnOk result (KeepsRefusals pool.old pool.new) }
     ensures full { IfErr result (Refuses pool.old pool.new) }
     ensures caused { IfErr result (LacksBytes pool.new) }
+    ensures room { IfErr result (λ full. free_of pool.old < 40) }
     ensures stands { Stands pool.new }
 {
     let term = take_child(pool, sum, at);
@@ -64,6 +77,7 @@ fn coefficient_alone(pool: &mut Pool, term: Handle) -> Result<Handle, Full>
     ensures kept { OnOk result (KeepsRefusals pool.old pool.new) }
     ensures full { IfErr result (Refuses pool.old pool.new) }
     ensures caused { IfErr result (LacksBytes pool.new) }
+    ensures room { IfErr result (λ full. free_of pool.old < 40) }
     ensures stands { Stands pool.new }
 {
     let (coefficient, part) = take_coefficient(pool, term)?;
@@ -90,12 +104,15 @@ fn add_partner(
     ensures ok { IfOk result (λ h. Takes sum.now (without_root so_far (forest pool.old)) (forest pool.new) h) }
     ensures terms { IfOk result (λ _. terms_in sum.now (forest pool.new) ≡ removed at (terms_in sum.now (forest pool.old))) }
     ensures number { let ts = terms_in sum.now (forest pool.old) in
-        IfOk result (λ h. IsNumberOf (value (tree_of so_far pool.old) ++ value (coefficient_of (nth at ts))) (tree_of h pool.new)) }
+        IfOk result (λ h. IsNumberOver (value (tree_of so_far pool.old) ++ value (coefficient_of (nth at ts))) (tree_of h pool.new)) }
     ensures front { KeepsFront (sum.now ∷ so_far ∷ []) (forest pool.old) (forest pool.new) }
     ensures kept { OnOk result (KeepsRefusals pool.old pool.new) }
     ensures faults { IfErr result (Faults pool.old pool.new) }
     ensures caused { IfErr result (IsCaused pool.new) }
     ensures overflow { IfErr result (OfOverflow (NamesSum (tree_of so_far pool.old) (coefficient_of (nth at (terms_in sum.now (forest pool.old)))))) }
+    ensures bits { HasFewBits (value (tree_of so_far pool.old) ++ value (coefficient_of (nth at (terms_in sum.now (forest pool.old))))) → IfErr result (OfOverflow (λ o. ⊥)) }
+    ensures room { (gs : List ℕ) → SpansTree gs (tree_of so_far pool.old) → SpansTree gs (nth at (terms_in sum.now (forest pool.old)))
+        → IfErr result (LacksBelow (sum_need * 2 ^ length gs) (free_of pool.old + size (tree_of so_far pool.old))) }
     ensures stands { Stands pool.new }
 {
     let term = take_child(pool, sum, at);
@@ -125,6 +142,10 @@ fn add_partners(
     ensures caused { IfErr result (IsCaused pool.new) }
     ensures overflow { let us = terms_in sum.now (forest pool.old) in (ts : Trees) (less : ℕ) → IsJoining ts (tree_of coefficient pool.old) (nth at us) (removed at us) less
         → IfErr result (OfOverflow (Overflows ts)) }
+    ensures bits { let us = terms_in sum.now (forest pool.old) in (ts : Trees) (less : ℕ) → IsJoining ts (tree_of coefficient pool.old) (nth at us) (removed at us) less
+        → HaveFewBits (addends_of_each ts) → IfErr result (OfOverflow (λ o. ⊥)) }
+    ensures room { let us = terms_in sum.now (forest pool.old) in (ts : Trees) (less : ℕ) → IsJoining ts (tree_of coefficient pool.old) (nth at us) (removed at us) less
+        → (gs : List ℕ) → SpansTrees gs ts → IfErr result (LacksTerms gs ts (free_of pool.old + size (add us) + size (tree_of coefficient pool.old))) }
     ensures stands { Stands pool.new }
 {
     let mut total = coefficient;
@@ -153,6 +174,11 @@ fn put_back(pool: &mut Pool, sum: &Handle, at: u16, coefficient: Handle) -> Resu
     ensures faults { IfErr result (Faults pool.old pool.new) }
     ensures caused { IfErr result (IsCaused pool.new) }
     ensures overflow { IfErr result (OfOverflow (NamesPut (tree_of coefficient pool.old) (nth at (terms_in sum.now (forest pool.old))))) }
+    ensures bits { let p = nth at (terms_in sum.now (forest pool.old)) in
+        (xs : List Addend) → IsMonic p → HaveFewBits (addend (value (tree_of coefficient pool.old)) (factors_of p) ∷ xs) → IfErr result (OfOverflow (λ o. ⊥)) }
+    ensures room { let p = nth at (terms_in sum.now (forest pool.old)) in
+        (gs : List ℕ) → is_number (tree_of coefficient pool.old) ≡ true → SpansTree gs (tree_of coefficient pool.old) → SpansTree gs p
+        → IfErr result (LacksRoom (counted p) (free_of pool.old + size (tree_of coefficient pool.old) + size p) gs) }
     ensures stands { Stands pool.new }
 {
     let part = take_child(pool, sum, at);
@@ -172,6 +198,7 @@ pub fn join_terms(pool: &mut Pool, sum: &Handle, at: u16) -> Result<(), NumberFa
     ensures ok { OnOk result (Changes sum.now (forest pool.old) (forest pool.new)) }
     ensures stage { OnOk result (IsStage (terms_in sum.now (forest pool.old)) (terms_in sum.now (forest pool.new))) }
     ensures fewer { OnOk result (widths (terms_in sum.now (forest pool.new)) < widths (terms_in sum.now (forest pool.old))) }
+    ensures counts { OnOk result (counted_in_all (terms_in sum.now (forest pool.new)) ≤ counted_in_all (terms_in sum.now (forest pool.old))) }
     ensures within { OnOk result (at < count (terms_in sum.now (forest pool.new))) }
     ensures others { OnOk result (NoneIs is_loose (removed at (terms_in sum.now (forest pool.new)))) }
     ensures front { KeepsFront (sum.now ∷ []) (forest pool.old) (forest pool.new) }
@@ -179,6 +206,9 @@ pub fn join_terms(pool: &mut Pool, sum: &Handle, at: u16) -> Result<(), NumberFa
     ensures faults { IfErr result (Faults pool.old pool.new) }
     ensures caused { IfErr result (IsCaused pool.new) }
     ensures overflow { IfErr result (OfOverflow (Overflows (terms_in sum.now (forest pool.old)))) }
+    ensures bits { HaveFewBits (addends_of_each (terms_in sum.now (forest pool.old))) → IfErr result (OfOverflow (λ o. ⊥)) }
+    ensures room { let ts = terms_in sum.now (forest pool.old) in
+        (gs : List ℕ) → SpansTrees gs ts → IfErr result (LacksTerms gs ts (free_of pool.old + size (add ts))) }
     ensures stands { Stands pool.new }
 {
     let coefficient = take_coefficient_at(pool, sum, at)?;

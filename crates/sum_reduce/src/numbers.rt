@@ -1,22 +1,29 @@
 //! The Numbers among the terms, added from left to right.
-ghost use Rattle.std.specs.Prelude.{◌≡◌, ◌==◌, ◌<◌, ◌≤◌, ◌++◌, true, false, MatchOption, IfOk, IfErr, OnOk, [], ◌∷◌};
+ghost use Rattle.std.specs.Prelude.{ℕ, List, length, ◌≡◌, ◌==◌, ◌<◌, ◌≤◌, ◌+◌, ◌*◌, ◌^◌, ◌++◌, true, false, MatchOption, IfOk, IfErr, OnOk, [], ◌∷◌};
+ghost use Rattle.calc_algebra.specs.Numbers.{is_number, value};
+ghost use Rattle.calc_bits.specs.Bounds.{HasFewBits};
+ghost use Rattle.calc_measures.specs.PlainValues.{calculated, plain_value};
+ghost use Rattle.calc_room.specs.Needs.{sum_need};
+ghost use Rattle.calc_room.specs.Spans.{SpansTree, SpansTrees};
 ghost use Rattle.calc_terms.specs.Fits.{add_op};
 ghost use Rattle.calc_terms.specs.Fractions.{Fraction};
-ghost use Rattle.calc_algebra.specs.Numbers.{is_number, value};
-ghost use Rattle.calc_measures.specs.PlainValues.{calculated, plain_value};
-ghost use Rattle.calc_terms.specs.Trees.{num, is_num, add, more, count, are_rationals};
-ghost use Rattle.number_forms.specs.Answers.{IsNumberOf, AnswersRationals};
+ghost use Rattle.calc_terms.specs.Trees.{num, is_num, add, more, count, are_rationals, size};
 ghost use Rattle.like_children.specs.Numbers.{IsNextNumber, NoNumberBetween};
-ghost use Rattle.sum_reduce.specs.Overflows.{NamesSum, Overflows};
-ghost use Rattle.tree_handles.specs.Causes.{IsCaused};
-ghost use Rattle.tree_handles.specs.Handed.{tree_of, IsHanded, KeepsFront};
-ghost use Rattle.sum_reduce.specs.Arranging.{IsGathered, IsLed, IsNumbered, AnswersTotal, AnswersFold};
-ghost use Rattle.sum_reduce.specs.Sums.{IsSum, Changes, Takes, terms_in};
+ghost use Rattle.node_pool.specs.State.{free_of};
+ghost use Rattle.number_forms.specs.Answers.{IsNumberOver, AnswersRationals};
+ghost use Rattle.number_forms.specs.Lacks.{LacksBelow};
 ghost use Rattle.number_forms.specs.Sums.{removed};
+ghost use Rattle.sum_reduce.specs.Arranging.{IsGathered, IsLed, IsNumbered, AnswersTotal, AnswersFold};
+ghost use Rattle.sum_reduce.specs.Bits.{HaveFewBits};
+ghost use Rattle.sum_reduce.specs.Overflows.{NamesSum, Overflows};
+ghost use Rattle.sum_reduce.specs.Sums.{IsSum, Changes, Takes, terms_in};
 ghost use Rattle.sum_reduce.specs.Terms.{AreFormed};
+ghost use Rattle.tree_bits.specs.Children.{addends_of_each};
+ghost use Rattle.tree_handles.specs.Causes.{IsCaused};
 ghost use Rattle.tree_handles.specs.Expressions.{nth};
 ghost use Rattle.tree_handles.specs.Faults.{Faults, OfOverflow};
 ghost use Rattle.tree_handles.specs.Forest.{Forest};
+ghost use Rattle.tree_handles.specs.Handed.{tree_of, IsHanded, KeepsFront};
 ghost use Rattle.tree_handles.specs.Roots.{without_root};
 ghost use Rattle.tree_handles.specs.Standing.{Stands, forest, KeepsRefusals};
 
@@ -37,7 +44,7 @@ fn add_number(pool: &mut Pool, sum: &Handle, at: u16, so_far: Handle) -> Result<
     ensures ok { IfOk result (λ h. Takes sum.now (without_root so_far (forest pool.old)) (forest pool.new) h) }
     ensures terms { IfOk result (λ _. terms_in sum.now (forest pool.new) ≡ removed at (terms_in sum.now (forest pool.old))) }
     ensures number { let ts = terms_in sum.now (forest pool.old) in
-        IfOk result (λ h. IsNumberOf (value (tree_of so_far pool.old) ++ value (nth at ts)) (tree_of h pool.new)) }
+        IfOk result (λ h. IsNumberOver (value (tree_of so_far pool.old) ++ value (nth at ts)) (tree_of h pool.new)) }
     ensures rationals { let ts = terms_in sum.now (forest pool.old) in
         (p q : Fraction) → tree_of so_far pool.old ≡ num p → nth at ts ≡ num q → AnswersRationals (calculated add_op p q) pool.new result }
     ensures front { KeepsFront (sum.now ∷ so_far ∷ []) (forest pool.old) (forest pool.new) }
@@ -45,6 +52,9 @@ fn add_number(pool: &mut Pool, sum: &Handle, at: u16, so_far: Handle) -> Result<
     ensures faults { IfErr result (Faults pool.old pool.new) }
     ensures caused { IfErr result (IsCaused pool.new) }
     ensures overflow { IfErr result (OfOverflow (NamesSum (tree_of so_far pool.old) (nth at (terms_in sum.now (forest pool.old))))) }
+    ensures bits { HasFewBits (value (tree_of so_far pool.old) ++ value (nth at (terms_in sum.now (forest pool.old)))) → IfErr result (OfOverflow (λ o. ⊥)) }
+    ensures room { (gs : List ℕ) → SpansTree gs (tree_of so_far pool.old) → SpansTree gs (nth at (terms_in sum.now (forest pool.old)))
+        → IfErr result (LacksBelow (sum_need * 2 ^ length gs) (free_of pool.old + size (tree_of so_far pool.old))) }
     ensures stands { Stands pool.new }
 {
     let number = take_child(pool, sum, at);
@@ -67,6 +77,9 @@ fn add_all_numbers(pool: &mut Pool, sum: &Handle, number: Handle) -> Result<Hand
     ensures faults { IfErr result (Faults pool.old pool.new) }
     ensures caused { IfErr result (IsCaused pool.new) }
     ensures overflow { IfErr result (OfOverflow (Overflows (more (tree_of number pool.old) (terms_in sum.now (forest pool.old))))) }
+    ensures bits { HaveFewBits (addends_of_each (more (tree_of number pool.old) (terms_in sum.now (forest pool.old)))) → IfErr result (OfOverflow (λ o. ⊥)) }
+    ensures room { (gs : List ℕ) → SpansTree gs (tree_of number pool.old) → SpansTrees gs (terms_in sum.now (forest pool.old))
+        → IfErr result (LacksBelow (sum_need * 2 ^ length gs) (free_of pool.old + size (tree_of number pool.old))) }
     ensures stands { Stands pool.new }
 {
     let mut total = number;
@@ -108,6 +121,9 @@ pub fn join_numbers(pool: &mut Pool, sum: &Handle) -> Result<(), NumberFault>
     ensures faults { IfErr result (Faults pool.old pool.new) }
     ensures caused { IfErr result (IsCaused pool.new) }
     ensures overflow { IfErr result (OfOverflow (Overflows (terms_in sum.now (forest pool.old)))) }
+    ensures bits { HaveFewBits (addends_of_each (terms_in sum.now (forest pool.old))) → IfErr result (OfOverflow (λ o. ⊥)) }
+    ensures room { (gs : List ℕ) → SpansTrees gs (terms_in sum.now (forest pool.old))
+        → IfErr result (LacksBelow (sum_need * 2 ^ length gs) (free_of pool.old)) }
     ensures stands { Stands pool.new }
 {
     match number_to_move(pool, sum) {

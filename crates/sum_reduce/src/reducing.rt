@@ -1,22 +1,30 @@
 //! A sum becomes one reduced tree.
-ghost use Rattle.std.specs.Prelude.{ℕ, List, ◌+◌, ◌≡◌, ◌≤◌, true, false, IfOk, IfErr, OnOk, [], ◌∷◌};
+ghost use Rattle.std.specs.Prelude.{ℕ, List, length, ◌+◌, ◌*◌, ◌^◌, ◌≡◌, ◌≤◌, true, false, IfOk, IfErr, OnOk, [], ◌∷◌};
+ghost use Rattle.calc_algebra.specs.Reduced.{are_reduced};
 ghost use Rattle.calc_measures.specs.PlainValues.{plain_value};
 ghost use Rattle.calc_room.specs.Counts.{counted, counted_among};
 ghost use Rattle.calc_room.specs.Powers.{HasPowersOf};
 ghost use Rattle.calc_room.specs.Spans.{SpansTree};
-ghost use Rattle.calc_terms.specs.Trees.{count, is_add, are_rationals, has_undef};
+ghost use Rattle.calc_terms.specs.Trees.{count, is_add, are_rationals, has_undef, size};
+ghost use Rattle.node_pool.specs.State.{free_of};
 ghost use Rattle.number_forms.specs.Answers.{AnswersRationals};
-ghost use Rattle.sum_reduce.specs.Overflows.{Overflows};
-ghost use Rattle.tree_handles.specs.Causes.{IsCaused};
-ghost use Rattle.calc_algebra.specs.Reduced.{are_reduced};
-ghost use Rattle.tree_handles.specs.Handed.{tree_of, IsHanded, Gives, KeepsFront};
+ghost use Rattle.number_forms.specs.Lacks.{LacksBelow};
 ghost use Rattle.sum_reduce.specs.Collected.{others_in, AreUnlike, IsWrittenSum};
+ghost use Rattle.sum_reduce.specs.Overflows.{Overflows};
 ghost use Rattle.sum_reduce.specs.SumAnswers.{IsSumAnswer, IsCollected};
 ghost use Rattle.sum_reduce.specs.Terms.{opened};
+ghost use Rattle.tree_bits.specs.Children.{IsSumHeld, addends_of_each};
+ghost use Rattle.tree_bits.specs.Exponents.{is_counted, are_counted, counts_of, counts_of_all};
+ghost use Rattle.tree_bits.specs.HeldTrees.{IsTreeHeld};
+ghost use Rattle.tree_bits.specs.Powers.{IsWithin};
+ghost use Rattle.tree_handles.specs.Causes.{IsCaused};
 ghost use Rattle.tree_handles.specs.Expressions.{children_of};
 ghost use Rattle.tree_handles.specs.Faults.{Faults, OfOverflow};
+ghost use Rattle.tree_handles.specs.Handed.{tree_of, IsHanded, Gives, KeepsFront};
 ghost use Rattle.tree_handles.specs.Roots.{without_root};
 ghost use Rattle.tree_handles.specs.Standing.{Stands, forest, KeepsRefusals};
+ghost use Rattle.tree_room.specs.Handed.{sum_count};
+ghost use Rattle.tree_room.specs.Needs.{sum_room};
 
 use crate::arranging::settle;
 use crate::endings::written;
@@ -48,11 +56,26 @@ pub fn reduce_sum(pool: &mut Pool, sum: Handle) -> Result<Handle, NumberFault>
     ensures faults { IfErr result (Faults pool.old pool.new) }
     ensures caused { IfErr result (IsCaused pool.new) }
     ensures overflow { IfErr result (OfOverflow (Overflows (children_of (tree_of sum pool.old)))) }
+    ensures defined { IfErr result (OfOverflow (λ o. has_undef (children_of (tree_of sum pool.old)) ≡ false)) }
+
+    // Bytes are lacking only where fewer are at hand, free or in the sum, than a sum of so many nodes that count needs.
+    ensures room { let ts = children_of (tree_of sum pool.old) in
+        (gs : List ℕ) → SpansTree gs (tree_of sum pool.old)
+        → IfErr result (LacksBelow (sum_room (sum_count ts) (2 ^ length gs)) (free_of pool.old + size (tree_of sum pool.old))) }
 
     // The answer counts 1 more at most than the terms that are no Numbers, has no new powers, and is spanned by what spans the sum.
     ensures counted { IfOk result (λ h. counted (tree_of h pool.new) ≤ 1 + counted_among (children_of (tree_of sum pool.old))) }
     ensures powers { IfOk result (λ h. HasPowersOf (children_of (tree_of sum pool.old)) (tree_of h pool.new)) }
     ensures spanned { (gs : List ℕ) → SpansTree gs (tree_of sum pool.old) → IfOk result (λ h. SpansTree gs (tree_of h pool.new)) }
+
+    // What holds the sum of the terms holds the answer, and nothing overflows where these are few bits. A sum of exponents counts a
+    // base no more often than they do together.
+    ensures held { let ts = children_of (tree_of sum pool.old) in
+        (h l : ℕ) → has_undef ts ≡ false → IsSumHeld (addends_of_each ts) h l → IfOk result (λ t. IsTreeHeld (tree_of t pool.new) h l) }
+    ensures bits { let ts = children_of (tree_of sum pool.old) in
+        (h l : ℕ) → IsSumHeld (addends_of_each ts) h l → 2 * h + 4 * l ≤ 124 → IfErr result (OfOverflow (λ o. ⊥)) }
+    ensures exponents { let ts = children_of (tree_of sum pool.old) in
+        are_counted ts ≡ true → IfOk result (λ t. (is_counted (tree_of t pool.new) ≡ true) × IsWithin (counts_of (tree_of t pool.new)) (counts_of_all ts)) }
 
     ensures stands { Stands pool.new }
 {

@@ -1,7 +1,7 @@
-use Rattle.std.proofs.Common.{◌≤◌, sym, subst}
+use Rattle.std.proofs.Common.{◌≤◌, sym, subst, ap, arith}
 use Rattle.calc_algebra.specs.Reduced.{NoneIs}
 use Rattle.calc_measures.specs.PlainValues.{plain_value}
-use Rattle.calc_terms.specs.Trees.{Trees, add, count}
+use Rattle.calc_terms.specs.Trees.{Trees, add, count, sizes}
 use Rattle.sum_reduce.specs.Arranging.{AnswersFold}
 use Rattle.sum_reduce.proofs.Results.{passed_on}
 use Rattle.tree_handles.specs.Standing.{forest}
@@ -16,6 +16,14 @@ use Rattle.coefficients.proofs.Named.{passed_named}
 use Rattle.sum_reduce.specs.Collected.{collects_opened}
 use Rattle.sum_reduce.specs.Overflows.{Overflows}
 use Rattle.sum_reduce.proofs.Hindered.{overflows_after, overflows_as}
+use Rattle.calc_room.specs.Spans.{SpansRoot, SpansTrees}
+use Rattle.coefficients.proofs.Lacks.{passed_lacks}
+use Rattle.sum_reduce.proofs.CollectedParts.{opened_parts}
+use Rattle.sum_reduce.proofs.SumBytes.{changes_free, opened_sizes}
+use Rattle.sum_reduce.specs.Bits.{HaveFewBits}
+use Rattle.sum_reduce.proofs.Held.{few_after}
+use Rattle.sum_reduce.proofs.HeldTerms.{opened_held}
+use Rattle.tree_bits.specs.Children.{addends_of_each}
 use Rattle.sum_reduce.proofs.arranging.arrange.Goals as goal
 
 pub join_numbers-requires-clause-sum : goal.join_numbers-requires-clause-sum
@@ -71,3 +79,18 @@ pub returns-in_err-join_numbers-clause-overflow : goal.returns-in_err-join_numbe
 returns-in_err-join_numbers-clause-overflow c =
     passed_named c.from_residual.result c.in_err-join_numbers.field-0.0 _ (Overflows (terms_in c.args.sum.now (forest c.args.pool.now))) c.from_residual.ensures.1 c.in_err-join_numbers.ensures.overflow
     (λ x h. overflows_after collects_opened x (overflows_as c.open_sums.ensures.opened x h))
+
+pub returns-in_err-join_numbers-clause-room : goal.returns-in_err-join_numbers-clause-room
+returns-in_err-join_numbers-clause-room c = λ gs s.
+    let ts = terms_in c.args.sum.now (forest c.args.pool.now) in
+    let o = c.open_sums.ensures in
+    let free = changes_free c.requires.stands o.stands o.kept c.requires.sum o.changes in
+    passed_lacks c.from_residual.result c.in_err-join_numbers.field-0.0 _ _ c.from_residual.ensures.1
+    (c.in_err-join_numbers.ensures.room gs (subst (SpansTrees gs) (sym o.opened) (opened_parts (SpansRoot gs) ts s)))
+    (λ full l. omega (arith, l, free, ap sizes o.opened, opened_sizes ts))
+
+pub returns-in_err-join_numbers-clause-bits : goal.returns-in_err-join_numbers-clause-bits
+returns-in_err-join_numbers-clause-bits c = λ b.
+    let ts = terms_in c.args.sum.now (forest c.args.pool.now) in
+    passed_named c.from_residual.result c.in_err-join_numbers.field-0.0 (λ o. ⊥) (λ o. ⊥) c.from_residual.ensures.1
+    (c.in_err-join_numbers.ensures.bits (subst HaveFewBits (ap addends_of_each (sym c.open_sums.ensures.opened)) (few_after (opened_held ts c.requires.formed) b))) (λ x h. h)

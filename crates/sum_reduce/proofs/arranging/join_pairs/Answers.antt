@@ -14,6 +14,12 @@ use Rattle.sum_reduce.proofs.Sums.{changes_same, changes_after}
 use Rattle.coefficients.proofs.Named.{passed_named}
 use Rattle.sum_reduce.specs.Overflows.{Overflows}
 use Rattle.sum_reduce.proofs.Hindered.{overflows_after}
+use Rattle.coefficients.proofs.Lacks.{passed_lacks}
+use Rattle.sum_reduce.proofs.CollectedSpans.{spans_collected}
+use Rattle.sum_reduce.proofs.Rooms.{fewer_lack}
+use Rattle.sum_reduce.proofs.SumBytes.{changes_free}
+use Rattle.tree_room.specs.Handed.{sum_count}
+use Rattle.sum_reduce.proofs.Held.{few_after}
 use Rattle.sum_reduce.proofs.arranging.join_pairs.Goals as goal
 
 pub loop-next-init : goal.loop-next-init
@@ -23,6 +29,7 @@ loop-next-init c =
       changes = changes_same c.requires.sum;
       stage = stage_same _ c.requires.formed (omega (arith, w));
       fewer = c.requires.pair;
+      counts = omega arith;
       flat = c.requires.flat;
       fits = c.requires.fits;
       front = front_same;
@@ -41,6 +48,7 @@ loop-next-preserved c =
       changes = changes_after i.changes j.ok;
       stage = stage_after i.stage j.stage;
       fewer = match_option_given (is_loose (nth c.in-Some.at us) ≡ false → NoPairBetween is_partner (c.in-Some.at + 1) (count us) us) _ (λ n. IsNextPair is_partner (c.in-Some.at + 1) n us) (λ n. IsPairAt is_partner n us) c.pair_behind-next.result fewer (λ n x. x.pair) p.pair;
+      counts = omega (arith, i.counts, j.counts);
       flat = p.flat;
       fits = p.fits;
       front = front_after_one behind_first i.front c.join_terms.ensures.front;
@@ -52,3 +60,18 @@ pub returns-in_err-join_terms-clause-overflow : goal.returns-in_err-join_terms-c
 returns-in_err-join_terms-clause-overflow c =
     passed_named c.from_residual.result c.in_err-join_terms.field-0.0 _ (Overflows (terms_in c.args.sum.now (forest c.args.pool.now))) c.from_residual.ensures.1 c.in_err-join_terms.ensures.overflow
     (overflows_after c.loop-next.invariant.stage.collects)
+
+pub returns-in_err-join_terms-clause-room : goal.returns-in_err-join_terms-clause-room
+returns-in_err-join_terms-clause-room c = λ gs s.
+    let i = c.loop-next.invariant in
+    let ts = terms_in c.args.sum.now (forest c.args.pool.now) in
+    let us = terms_in c.args.sum.now (forest c.loop-next.pool) in
+    let free = changes_free c.requires.stands i.stands i.kept c.requires.sum i.changes in
+    passed_lacks c.from_residual.result c.in_err-join_terms.field-0.0 _ _ c.from_residual.ensures.1
+    (c.in_err-join_terms.ensures.room gs (spans_collected gs ts us i.stage.collects s))
+    (λ full l. fewer_lack gs _ (sum_count us) (sum_count ts) (omega (arith, i.counts)) (omega (arith, l, free)))
+
+pub returns-in_err-join_terms-clause-bits : goal.returns-in_err-join_terms-clause-bits
+returns-in_err-join_terms-clause-bits c = λ b.
+    passed_named c.from_residual.result c.in_err-join_terms.field-0.0 (λ o. ⊥) (λ o. ⊥) c.from_residual.ensures.1
+    (c.in_err-join_terms.ensures.bits (few_after c.loop-next.invariant.stage.held b)) (λ x h. h)

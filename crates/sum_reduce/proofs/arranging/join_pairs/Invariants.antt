@@ -1,4 +1,4 @@
-use Rattle.std.proofs.Common.{◌<◌, ◌+◌, ◌^◌, [], ◌∷◌, MatchOption, IfSome}
+use Rattle.std.proofs.Common.{◌<◌, ◌≤◌, ◌+◌, ◌^◌, [], ◌∷◌, MatchOption, IfSome}
 use Rattle.calc_algebra.specs.Reduced.{NoneIs}
 use Rattle.tree_handles.specs.Handed.{KeepsFront}
 use Rattle.tree_handles.specs.Standing.{Stands, forest, KeepsRefusals}
@@ -6,6 +6,7 @@ use Rattle.like_children.specs.Neighbours.{IsPairAt}
 use Rattle.sum_reduce.specs.Stages.{IsStage, widths}
 use Rattle.sum_reduce.specs.Sums.{Changes, terms_in}
 use Rattle.sum_reduce.specs.Terms.{is_loose, is_partner}
+use Rattle.tree_room.specs.Handed.{counted_in_all}
 use Rattle.sum_reduce.proofs.arranging.join_pairs.Given as goal
 
 abbrev pub invariant-loop-next : goal.invariant-loop-next
@@ -13,6 +14,7 @@ invariant-loop-next l = record {
   changes : Changes l.sum (forest l.fn.pool) (forest l.pool);
   stage : IsStage (terms_in l.sum (forest l.fn.pool)) (terms_in l.sum (forest l.pool));
   fewer : MatchOption l.next (widths (terms_in l.sum (forest l.pool)) < widths (terms_in l.sum (forest l.fn.pool))) (λ n. IsPairAt is_partner n (terms_in l.sum (forest l.pool)));
+  counts : counted_in_all (terms_in l.sum (forest l.pool)) ≤ counted_in_all (terms_in l.sum (forest l.fn.pool));
   flat : IfSome l.next (λ n. NoneIs is_loose (terms_in l.sum (forest l.pool)));
   fits : IfSome l.next (λ n. n + 1 < 2 ^ 16);
   front : KeepsFront (l.sum ∷ []) (forest l.fn.pool) (forest l.pool);

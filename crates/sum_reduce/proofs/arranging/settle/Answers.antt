@@ -1,3 +1,4 @@
+use Rattle.std.proofs.Common.{◌+◌, arith}
 use Rattle.tree_handles.proofs.Forests.{keeps_after}
 use Rattle.tree_handles.proofs.Fronts.{behind_first, front_after_one}
 use Rattle.sum_reduce.proofs.Orders.{arranged_flat, folded_alone}
@@ -10,6 +11,13 @@ use Rattle.sum_reduce.specs.Collected.{collects_then}
 use Rattle.sum_reduce.specs.Overflows.{Overflows}
 use Rattle.sum_reduce.specs.Sums.{terms_in}
 use Rattle.sum_reduce.proofs.Hindered.{overflows_after}
+use Rattle.coefficients.proofs.Lacks.{passed_lacks}
+use Rattle.node_pool.specs.State.{free_of}
+use Rattle.sum_reduce.proofs.CollectedSpans.{spans_collected}
+use Rattle.sum_reduce.proofs.Rooms.{fewer_lack, terms_lack, arranged_counts}
+use Rattle.sum_reduce.proofs.SumBytes.{changes_free}
+use Rattle.tree_room.specs.Handed.{sum_count}
+use Rattle.sum_reduce.proofs.Held.{few_after}
 use Rattle.sum_reduce.proofs.arranging.settle.Goals as goal
 
 pub join_pairs-requires-clause-flat : goal.join_pairs-requires-clause-flat
@@ -42,3 +50,41 @@ returns-in_err-arrange-2-clause-overflow c =
 
 pub next_pair-requires-clause-told : goal.next_pair-requires-clause-told
 next_pair-requires-clause-told c = λ n l. formed_nth n (terms_in c.args.sum.now (forest c.loop-at.pool)) l c.loop-at.invariant.stage.formed
+
+pub returns-in_err-arrange-clause-room : goal.returns-in_err-arrange-clause-room
+returns-in_err-arrange-clause-room c = λ gs s.
+    let ts = terms_in c.args.sum.now (forest c.args.pool.now) in
+    passed_lacks c.from_residual.result c.in_err-arrange.field-0.0 _ _ c.from_residual.ensures.1 (c.in_err-arrange.ensures.room gs s)
+    (λ full l. terms_lack gs ts (free_of c.args.pool.now) (1 + sum_count ts) c.requires.formed s (omega arith) l)
+
+pub returns-in_err-join_pairs-clause-room : goal.returns-in_err-join_pairs-clause-room
+returns-in_err-join_pairs-clause-room c = λ gs s.
+    let i = c.loop-at.invariant in
+    let ts = terms_in c.args.sum.now (forest c.args.pool.now) in
+    let us = terms_in c.args.sum.now (forest c.loop-at.pool) in
+    let free = changes_free c.requires.stands i.stands i.kept c.requires.sum i.changes in
+    passed_lacks c.from_residual-in_err-join_pairs.result c.in_err-join_pairs.field-0.0 _ _ c.from_residual-in_err-join_pairs.ensures.1
+    (c.in_err-join_pairs.ensures.room gs (spans_collected gs ts us i.stage.collects s))
+    (λ full l. fewer_lack gs _ (sum_count us) (1 + sum_count ts) (arranged_counts i.stage.collects c.requires.formed i.arranged) (omega (arith, l, free)))
+
+pub returns-in_err-arrange-2-clause-room : goal.returns-in_err-arrange-2-clause-room
+returns-in_err-arrange-2-clause-room c = λ gs s.
+    let i = c.loop-at.invariant in
+    let j = c.in_ok-join_pairs.ensures in
+    let ts = terms_in c.args.sum.now (forest c.args.pool.now) in
+    let vs = terms_in c.args.sum.now (forest c.join_pairs.new.pool) in
+    let spans = spans_collected gs ts vs (collects_then i.stage.collects j.stage.collects) s in
+    let free = changes_free c.requires.stands j.stands (keeps_after _ _ _ i.kept j.kept) c.requires.sum (changes_after i.changes j.ok) in
+    let few = arranged_counts i.stage.collects c.requires.formed i.arranged in
+    passed_lacks c.from_residual-in_err-arrange-2.result c.in_err-arrange-2.field-0.0 _ _ c.from_residual-in_err-arrange-2.ensures.1 (c.in_err-arrange-2.ensures.room gs spans)
+    (λ full l. omega (arith, terms_lack gs vs (free_of c.join_pairs.new.pool) (1 + sum_count ts) j.stage.formed spans (omega (arith, few, j.counts)) l, free))
+
+pub returns-in_err-join_pairs-clause-bits : goal.returns-in_err-join_pairs-clause-bits
+returns-in_err-join_pairs-clause-bits c = λ b.
+    passed_named c.from_residual-in_err-join_pairs.result c.in_err-join_pairs.field-0.0 (λ o. ⊥) (λ o. ⊥) c.from_residual-in_err-join_pairs.ensures.1
+    (c.in_err-join_pairs.ensures.bits (few_after c.loop-at.invariant.stage.held b)) (λ x h. h)
+
+pub returns-in_err-arrange-2-clause-bits : goal.returns-in_err-arrange-2-clause-bits
+returns-in_err-arrange-2-clause-bits c = λ b.
+    passed_named c.from_residual-in_err-arrange-2.result c.in_err-arrange-2.field-0.0 (λ o. ⊥) (λ o. ⊥) c.from_residual-in_err-arrange-2.ensures.1
+    (c.in_err-arrange-2.ensures.bits (few_after c.in_ok-join_pairs.ensures.stage.held (few_after c.loop-at.invariant.stage.held b))) (λ x h. h)

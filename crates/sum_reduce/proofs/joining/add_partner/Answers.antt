@@ -1,7 +1,7 @@
-use Rattle.std.proofs.Common.{◌∙◌, ap}
-use Rattle.calc_algebra.specs.Numbers.{is_number}
+use Rattle.std.proofs.Common.{◌∙◌, ap, ℕ, ◌<◌, sym, subst, arith, ◌++◌}
+use Rattle.calc_algebra.specs.Numbers.{is_number, value}
 use Rattle.calc_algebra.specs.Reduced.{is_reduced}
-use Rattle.calc_terms.specs.Trees.{is_undef}
+use Rattle.calc_terms.specs.Trees.{is_undef, size, sizes}
 use Rattle.calc_algebra.proofs.NumberLaws.{number_test}
 use Rattle.coefficients.specs.Coefficients.{coefficient_of}
 use Rattle.coefficients.proofs.Coefficients.{taken}
@@ -11,10 +11,19 @@ use Rattle.tree_handles.proofs.Fronts.{behind_first, behind_later, front_after_o
 use Rattle.tree_handles.proofs.Given.{given_told}
 use Rattle.tree_handles.proofs.Outcomes.{eqb-sym}
 use Rattle.sum_reduce.specs.Sums.{terms_in}
-use Rattle.sum_reduce.proofs.Results.{if_ok_map}
+use Rattle.sum_reduce.proofs.Results.{if_ok_both, if_ok_map}
 use Rattle.sum_reduce.proofs.Sums.{sum_within, term_out, takes_handed, takes_behind, takes_front, rewritten, other_handed, other_same, other_clear, both_rewritten}
 use Rattle.coefficients.proofs.Named.{result_named}
 use Rattle.sum_reduce.proofs.Hindered.{numbers_named, names_as}
+use Rattle.node_pool.specs.State.{free_of}
+use Rattle.calc_room.specs.Spans.{SpansRoot, SpansTree}
+use Rattle.coefficients.proofs.Lacks.{refusal_lacks, result_lacks}
+use Rattle.sum_reduce.proofs.CollectedParts.{coefficient_parts}
+use Rattle.sum_reduce.proofs.Rooms.{number_lacks}
+use Rattle.sum_reduce.proofs.SumBytes.{out_free, takes_free, sizes_taken}
+use Rattle.tree_handles.specs.Handed.{tree_of}
+use Rattle.tree_handles.proofs.Forests.{keeps_after}
+use Rattle.calc_bits.specs.Bounds.{HasFewBits}
 use Rattle.sum_reduce.proofs.joining.add_partner.Goals as goal
 
 pub take_child-term-requires-clause-within : goal.take_child-term-requires-clause-within
@@ -87,7 +96,12 @@ returns-clause-number c =
     let o = term_out c.args.at c.requires.sum c.requires.within (c.take_child-term.ensures.last c.requires.sum.handed.root) in
     let r = rewritten o.takes c.in_ok-coefficient.ensures.ok in
     let same = given_told c.in_ok-coefficient.ensures.ok ∙ ap coefficient_of o.tree in
-    if_ok_map c.add_numbers.result c.add_numbers.ensures.ok (λ h k. let t = given_told k in record { number = t.number; worth = rw (other_same c.requires.apart c.requires.handed r.takes, same) at t.worth })
+    if_ok_both c.add_numbers.result c.add_numbers.ensures.ok c.add_numbers.ensures.measured
+    (λ h k m. let t = given_told k in record {
+      number = t.number;
+      worth = rw (other_same c.requires.apart c.requires.handed r.takes, same) at t.worth;
+      parts = rw (other_same c.requires.apart c.requires.handed r.takes, same) at m.parts;
+    })
 
 pub returns-clause-front : goal.returns-clause-front
 returns-clause-front c =
@@ -107,3 +121,30 @@ returns-clause-overflow c =
     let same = given_told c.in_ok-coefficient.ensures.ok ∙ ap coefficient_of o.tree in
     result_named c.add_numbers.result _ _ (numbers_named _ _ c.add_numbers.new.pool c.add_numbers.result c.add_numbers.ensures.rationals c.add_numbers.ensures.overflow)
     (λ x h. names_as x (other_same c.requires.apart c.requires.handed r.takes) same h)
+
+pub returns-in_err-coefficient-clause-room : goal.returns-in_err-coefficient-clause-room
+returns-in_err-coefficient-clause-room c = λ gs s t.
+    let o = term_out c.args.at c.requires.sum c.requires.within (c.take_child-term.ensures.last c.requires.sum.handed.root) in
+    let free = out_free c.requires.stands c.take_child-term.ensures.stands c.take_child-term.ensures.kept c.requires.within o in
+    refusal_lacks c.from_residual.result c.in_err-coefficient.field-0.0 _ c.from_residual.ensures.1
+    (number_lacks gs (tree_of c.args.so_far c.args.pool.now) (free_of c.args.pool.now) c.requires.so_far s (subst (λ (n : ℕ). n < 40) free c.in_err-coefficient.ensures.room))
+
+pub returns-clause-room : goal.returns-clause-room
+returns-clause-room c = λ gs s t.
+    let o = term_out c.args.at c.requires.sum c.requires.within (c.take_child-term.ensures.last c.requires.sum.handed.root) in
+    let r = rewritten o.takes c.in_ok-coefficient.ensures.ok in
+    let ts = terms_in c.args.sum.now (forest c.args.pool.now) in
+    let same = given_told c.in_ok-coefficient.ensures.ok ∙ ap coefficient_of o.tree in
+    let kept = keeps_after _ _ _ c.take_child-term.ensures.kept c.in_ok-coefficient.ensures.kept in
+    let free = takes_free c.requires.stands c.in_ok-coefficient.ensures.stands kept r.takes in
+    let before = other_same c.requires.apart c.requires.handed r.takes in
+    result_lacks c.add_numbers.result _ _ (c.add_numbers.ensures.room gs (subst (SpansTree gs) (sym before) s) (subst (SpansTree gs) (sym same) (coefficient_parts (SpansRoot gs) (λ q. tt) (λ vs. tt) (λ vs. tt) (nth c.args.at ts) t)))
+    (λ f l. omega (arith, l, free, ap size before, ap sizes (r.terms ∙ o.terms), sizes_taken c.args.at ts c.requires.within))
+
+pub returns-clause-bits : goal.returns-clause-bits
+returns-clause-bits c = λ b.
+    let o = term_out c.args.at c.requires.sum c.requires.within (c.take_child-term.ensures.last c.requires.sum.handed.root) in
+    let r = rewritten o.takes c.in_ok-coefficient.ensures.ok in
+    let same = given_told c.in_ok-coefficient.ensures.ok ∙ ap coefficient_of o.tree in
+    let before = other_same c.requires.apart c.requires.handed r.takes in
+    c.add_numbers.ensures.bits (subst HasFewBits (λ i. value (sym before i) ++ value (sym same i)) b)

@@ -15,6 +15,12 @@ use Rattle.tree_handles.specs.Expressions.{nth}
 use Rattle.tree_handles.specs.Handed.{tree_of}
 use Rattle.sum_reduce.specs.Overflows.{NamesSum, Overflows}
 use Rattle.sum_reduce.proofs.Hindered.{partner_hinders}
+use Rattle.node_pool.specs.State.{free_of}
+use Rattle.number_forms.proofs.Rooms.{full_as}
+use Rattle.number_forms.specs.Sums.{removed}
+use Rattle.sum_reduce.proofs.Rooms.{joining_spans, spans_next, partner_lacks}
+use Rattle.sum_reduce.proofs.SumBytes.{taken_free}
+use Rattle.sum_reduce.proofs.FewBits.{next_partner_few}
 use Rattle.sum_reduce.proofs.joining.add_partners.Goals as goal
 
 pub loop-pool-init : goal.loop-pool-init
@@ -117,3 +123,22 @@ returns-in-Err-clause-overflow c = λ ts less j.
     let d = tree_of c.loop-pool.total c.loop-pool.pool in
     fault_named c.in-Err.fault (NamesSum d (coefficient_of (nth (suc c.args.at) us))) (Overflows ts) (rw add-one at c.in-Err.ensures.overflow)
     (partner_hinders ts d us c.args.at less (i.joining ts less j) (c.is_pair.ensures.pair c.loop-pool-test.true))
+
+pub returns-in-Err-clause-room : goal.returns-in-Err-clause-room
+returns-in-Err-clause-room c = λ ts less j gs s.
+    let i = c.loop-pool.invariant in
+    let us = terms_in c.args.sum.now (forest c.loop-pool.pool) in
+    let d = tree_of c.loop-pool.total c.loop-pool.pool in
+    let k = i.joining ts less j in
+    let w = joining_spans gs ts d (nth c.args.at us) (removed c.args.at us) less k s in
+    let next = spans_next gs us c.args.at w (c.is_pair.ensures.pair c.loop-pool-test.true) in
+    let free = taken_free c.requires.stands i.stands i.kept c.requires.taken.1 (i.takes _ c.requires.taken.1) in
+    full_as c.in-Err.fault (c.in-Err.ensures.room gs w.coefficient (rw add-one next))
+    (λ full l. omega (arith, partner_lacks gs ts d us c.args.at less (free_of c.loop-pool.pool) k i.within s l, free))
+
+pub returns-in-Err-clause-bits : goal.returns-in-Err-clause-bits
+returns-in-Err-clause-bits c = λ ts less j b.
+    let i = c.loop-pool.invariant in
+    let us = terms_in c.args.sum.now (forest c.loop-pool.pool) in
+    let d = tree_of c.loop-pool.total c.loop-pool.pool in
+    c.in-Err.ensures.bits (rw add-one (next_partner_few ts d us c.args.at less (i.joining ts less j) (c.is_pair.ensures.pair c.loop-pool-test.true) b))

@@ -12,6 +12,16 @@ use Rattle.sum_reduce.proofs.Widths.{some_node}
 use Rattle.coefficients.proofs.Named.{passed_named, result_named}
 use Rattle.sum_reduce.specs.Overflows.{Overflows}
 use Rattle.sum_reduce.proofs.Hindered.{partner_hinders, part_hinders}
+use Rattle.node_pool.specs.State.{free_of}
+use Rattle.number_forms.specs.Sums.{removed}
+use Rattle.coefficients.proofs.Lacks.{passed_lacks, refusal_lacks, result_lacks}
+use Rattle.sum_reduce.proofs.Rooms.{joined_counts, joining_spans, spans_next, terms_lack, few_lack, partner_lacks, part_lacks}
+use Rattle.sum_reduce.proofs.SumBytes.{takes_free}
+use Rattle.tree_handles.proofs.Forests.{keeps_after}
+use Rattle.tree_room.specs.Handed.{sum_count}
+use Rattle.sum_reduce.proofs.FewBits.{next_partner_few}
+use Rattle.sum_reduce.proofs.Held.{few_after}
+use Rattle.tree_bits.specs.Children.{addends_of_each}
 use Rattle.sum_reduce.proofs.joining.join_terms.Goals as goal
 
 pub take_coefficient_at-requires-clause-within : goal.take_coefficient_at-requires-clause-within
@@ -184,3 +194,86 @@ returns-clause-overflow c =
     let j = joining_start ts us _ c.args.at c.requires.formed c.requires.flat c.requires.pair c.in_ok-coefficient.ensures.terms c.in_ok-coefficient.ensures.coefficient in
     let k = partner_step ts _ _ us (terms_in c.args.sum.now (forest c.add_partner.new.pool)) c.args.at 0 j p (rw add-one at c.in_ok-both.ensures.terms) (rw add-one at c.in_ok-both.ensures.number) in
     result_named c.put_back.result _ (Overflows ts) c.put_back.ensures.overflow (part_hinders (c.in_ok-total.ensures.joining ts _ k) (omega (arith, some_node (nth c.args.at us))))
+
+pub returns-clause-counts : goal.returns-clause-counts
+returns-clause-counts c =
+    let ts = terms_in c.args.sum.now (forest c.args.pool.now) in
+    let us = terms_in c.args.sum.now (forest c.take_coefficient_at.new.pool) in
+    let vs = terms_in c.args.sum.now (forest c.add_partners.new.pool) in
+    let p = pair_start ts us c.args.at c.requires.formed c.requires.pair c.in_ok-coefficient.ensures.terms in
+    let j = joining_start ts us _ c.args.at c.requires.formed c.requires.flat c.requires.pair c.in_ok-coefficient.ensures.terms c.in_ok-coefficient.ensures.coefficient in
+    let k = partner_step ts _ _ us (terms_in c.args.sum.now (forest c.add_partner.new.pool)) c.args.at 0 j p (rw add-one at c.in_ok-both.ensures.terms) (rw add-one at c.in_ok-both.ensures.number) in
+    on_ok_map c.put_back.result c.put_back.ensures.terms (λ e. joined_counts ts _ (nth c.args.at vs) (removed c.args.at vs) _ _ c.args.at (c.in_ok-total.ensures.joining ts _ k) e)
+
+pub returns-in_err-coefficient-clause-room : goal.returns-in_err-coefficient-clause-room
+returns-in_err-coefficient-clause-room c = λ gs s.
+    let ts = terms_in c.args.sum.now (forest c.args.pool.now) in
+    refusal_lacks c.from_residual.result c.in_err-coefficient.field-0.0 _ c.from_residual.ensures.1
+    (terms_lack gs ts (free_of c.args.pool.now) (sum_count ts) c.requires.formed s (omega arith) (few_lack gs (free_of c.args.pool.now) c.in_err-coefficient.ensures.room))
+
+pub returns-in_err-both-clause-room : goal.returns-in_err-both-clause-room
+returns-in_err-both-clause-room c = λ gs s.
+    let ts = terms_in c.args.sum.now (forest c.args.pool.now) in
+    let us = terms_in c.args.sum.now (forest c.take_coefficient_at.new.pool) in
+    let p = pair_start ts us c.args.at c.requires.formed c.requires.pair c.in_ok-coefficient.ensures.terms in
+    let j = joining_start ts us _ c.args.at c.requires.formed c.requires.flat c.requires.pair c.in_ok-coefficient.ensures.terms c.in_ok-coefficient.ensures.coefficient in
+    let w = joining_spans gs ts _ (nth c.args.at us) (removed c.args.at us) 0 j s in
+    let free = takes_free c.requires.stands c.in_ok-coefficient.ensures.stands c.in_ok-coefficient.ensures.kept c.in_ok-coefficient.ensures.ok in
+    passed_lacks c.from_residual-in_err-both.result c.in_err-both.field-0.0 _ _ c.from_residual-in_err-both.ensures.1
+    (c.in_err-both.ensures.room gs w.coefficient (rw add-one (spans_next gs us c.args.at w p)))
+    (λ full l. omega (arith, partner_lacks gs ts _ us c.args.at 0 (free_of c.take_coefficient_at.new.pool) j (pair_here c.args.at us p) s l, free))
+
+pub returns-in_err-total-clause-room : goal.returns-in_err-total-clause-room
+returns-in_err-total-clause-room c = λ gs s.
+    let ts = terms_in c.args.sum.now (forest c.args.pool.now) in
+    let us = terms_in c.args.sum.now (forest c.take_coefficient_at.new.pool) in
+    let p = pair_start ts us c.args.at c.requires.formed c.requires.pair c.in_ok-coefficient.ensures.terms in
+    let j = joining_start ts us _ c.args.at c.requires.formed c.requires.flat c.requires.pair c.in_ok-coefficient.ensures.terms c.in_ok-coefficient.ensures.coefficient in
+    let k = partner_step ts _ _ us (terms_in c.args.sum.now (forest c.add_partner.new.pool)) c.args.at 0 j p (rw add-one at c.in_ok-both.ensures.terms) (rw add-one at c.in_ok-both.ensures.number) in
+    let kept = keeps_after _ _ _ c.in_ok-coefficient.ensures.kept c.in_ok-both.ensures.kept in
+    let free = takes_free c.requires.stands c.in_ok-both.ensures.stands kept (takes_after c.in_ok-coefficient.ensures.ok c.in_ok-both.ensures.ok) in
+    passed_lacks c.from_residual-in_err-total.result c.in_err-total.field-0.0 _ _ c.from_residual-in_err-total.ensures.1 (c.in_err-total.ensures.room ts _ k gs s) (λ full l. omega (arith, l, free))
+
+pub returns-clause-room : goal.returns-clause-room
+returns-clause-room c = λ gs s.
+    let ts = terms_in c.args.sum.now (forest c.args.pool.now) in
+    let us = terms_in c.args.sum.now (forest c.take_coefficient_at.new.pool) in
+    let vs = terms_in c.args.sum.now (forest c.add_partners.new.pool) in
+    let p = pair_start ts us c.args.at c.requires.formed c.requires.pair c.in_ok-coefficient.ensures.terms in
+    let j = joining_start ts us _ c.args.at c.requires.formed c.requires.flat c.requires.pair c.in_ok-coefficient.ensures.terms c.in_ok-coefficient.ensures.coefficient in
+    let k = partner_step ts _ _ us (terms_in c.args.sum.now (forest c.add_partner.new.pool)) c.args.at 0 j p (rw add-one at c.in_ok-both.ensures.terms) (rw add-one at c.in_ok-both.ensures.number) in
+    let d = c.in_ok-total.ensures.joining ts _ k in
+    let w = joining_spans gs ts _ (nth c.args.at vs) (removed c.args.at vs) _ d s in
+    let kept = keeps_after _ _ _ (keeps_after _ _ _ c.in_ok-coefficient.ensures.kept c.in_ok-both.ensures.kept) c.in_ok-total.ensures.kept in
+    let free = takes_free c.requires.stands c.in_ok-total.ensures.stands kept (c.in_ok-total.ensures.ok _ (takes_after c.in_ok-coefficient.ensures.ok c.in_ok-both.ensures.ok)) in
+    result_lacks c.put_back.result _ _ (c.put_back.ensures.room gs d.number w.coefficient w.part)
+    (λ full l. omega (arith, part_lacks gs ts _ vs c.args.at _ (free_of c.add_partners.new.pool) d c.in_ok-total.ensures.within s l, free))
+
+pub returns-in_err-both-clause-bits : goal.returns-in_err-both-clause-bits
+returns-in_err-both-clause-bits c = λ b.
+    let ts = terms_in c.args.sum.now (forest c.args.pool.now) in
+    let us = terms_in c.args.sum.now (forest c.take_coefficient_at.new.pool) in
+    let p = pair_start ts us c.args.at c.requires.formed c.requires.pair c.in_ok-coefficient.ensures.terms in
+    let j = joining_start ts us _ c.args.at c.requires.formed c.requires.flat c.requires.pair c.in_ok-coefficient.ensures.terms c.in_ok-coefficient.ensures.coefficient in
+    passed_named c.from_residual-in_err-both.result c.in_err-both.field-0.0 (λ o. ⊥) (λ o. ⊥) c.from_residual-in_err-both.ensures.1
+    (c.in_err-both.ensures.bits (rw add-one (next_partner_few ts _ us c.args.at 0 j p b))) (λ x h. h)
+
+pub returns-in_err-total-clause-bits : goal.returns-in_err-total-clause-bits
+returns-in_err-total-clause-bits c = λ b.
+    let ts = terms_in c.args.sum.now (forest c.args.pool.now) in
+    let us = terms_in c.args.sum.now (forest c.take_coefficient_at.new.pool) in
+    let p = pair_start ts us c.args.at c.requires.formed c.requires.pair c.in_ok-coefficient.ensures.terms in
+    let j = joining_start ts us _ c.args.at c.requires.formed c.requires.flat c.requires.pair c.in_ok-coefficient.ensures.terms c.in_ok-coefficient.ensures.coefficient in
+    let k = partner_step ts _ _ us (terms_in c.args.sum.now (forest c.add_partner.new.pool)) c.args.at 0 j p (rw add-one at c.in_ok-both.ensures.terms) (rw add-one at c.in_ok-both.ensures.number) in
+    passed_named c.from_residual-in_err-total.result c.in_err-total.field-0.0 (λ o. ⊥) (λ o. ⊥) c.from_residual-in_err-total.ensures.1 (c.in_err-total.ensures.bits ts _ k b) (λ x h. h)
+
+pub returns-clause-bits : goal.returns-clause-bits
+returns-clause-bits c = λ b.
+    let ts = terms_in c.args.sum.now (forest c.args.pool.now) in
+    let us = terms_in c.args.sum.now (forest c.take_coefficient_at.new.pool) in
+    let vs = terms_in c.args.sum.now (forest c.add_partners.new.pool) in
+    let p = pair_start ts us c.args.at c.requires.formed c.requires.pair c.in_ok-coefficient.ensures.terms in
+    let j = joining_start ts us _ c.args.at c.requires.formed c.requires.flat c.requires.pair c.in_ok-coefficient.ensures.terms c.in_ok-coefficient.ensures.coefficient in
+    let k = partner_step ts _ _ us (terms_in c.args.sum.now (forest c.add_partner.new.pool)) c.args.at 0 j p (rw add-one at c.in_ok-both.ensures.terms) (rw add-one at c.in_ok-both.ensures.number) in
+    let d = c.in_ok-total.ensures.joining ts _ k in
+    c.put_back.ensures.bits (addends_of_each (removed c.args.at vs)) d.monic (few_after d.held b)

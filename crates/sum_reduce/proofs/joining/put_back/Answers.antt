@@ -1,7 +1,7 @@
-use Rattle.std.proofs.Common.{◌∙◌, ap, arith}
+use Rattle.std.proofs.Common.{◌∙◌, ap, arith, ◌^◌, length, sym, subst, ◌∷◌}
 use Rattle.calc_algebra.specs.Reduced.{is_reduced}
-use Rattle.calc_terms.specs.Trees.{more, none, count}
-use Rattle.coefficients.specs.Coefficients.{with_coefficient}
+use Rattle.calc_terms.specs.Trees.{more, none, count, Tree, size}
+use Rattle.coefficients.specs.Coefficients.{with_coefficient, factors_of, IsMonic}
 use Rattle.tree_handles.specs.Expressions.{inserted}
 use Rattle.tree_handles.specs.Standing.{forest}
 use Rattle.tree_handles.proofs.Fronts.{behind_first, behind_later, front_after_two}
@@ -12,6 +12,15 @@ use Rattle.sum_reduce.specs.Sums.{terms_in}
 use Rattle.sum_reduce.proofs.Places.{count_removed}
 use Rattle.sum_reduce.proofs.Sums.{sum_within, sum_arity, term_out, takes_handed, takes_behind, takes_front, other_handed, other_same, other_clear, both_rewritten, put_in, roots_apart, beside_front}
 use Rattle.coefficients.proofs.Named.{passed_named, put_as}
+use Rattle.calc_algebra.specs.Numbers.{is_number, value}
+use Rattle.calc_room.specs.Counts.{counted}
+use Rattle.calc_room.specs.Spans.{SpansTree}
+use Rattle.coefficients.specs.Rooms.{put_room}
+use Rattle.coefficients.proofs.Lacks.{passed_lacks}
+use Rattle.sum_reduce.proofs.SumBytes.{out_free}
+use Rattle.sum_reduce.specs.Bits.{HaveFewBits}
+use Rattle.sum_reduce.proofs.PutsFit.{put_fits}
+use Rattle.tree_bits.specs.HeldTrees.{addend}
 use Rattle.sum_reduce.proofs.joining.put_back.Goals as goal
 
 pub take_child-part-requires-clause-within : goal.take_child-part-requires-clause-within
@@ -95,3 +104,20 @@ returns-in_err-term-clause-overflow c =
     let o = term_out c.args.at c.requires.sum c.requires.within (c.take_child-part.ensures.last c.requires.sum.handed.root) in
     passed_named c.from_residual.result c.in_err-term.field-0.0 _ _ c.from_residual.ensures.1 c.in_err-term.ensures.named
     (λ x h. put_as x (other_same c.requires.apart c.requires.handed o.takes) o.tree h)
+
+pub returns-in_err-term-clause-room : goal.returns-in_err-term-clause-room
+returns-in_err-term-clause-room c = λ gs n s t.
+    let o = term_out c.args.at c.requires.sum c.requires.within (c.take_child-part.ensures.last c.requires.sum.handed.root) in
+    let same = other_same c.requires.apart c.requires.handed o.takes in
+    let free = out_free c.requires.stands c.take_child-part.ensures.stands c.take_child-part.ensures.kept c.requires.within o in
+    passed_lacks c.from_residual.result c.in_err-term.field-0.0 _ _ c.from_residual.ensures.1
+    (c.in_err-term.ensures.room gs (ap is_number same ∙ n) (subst (SpansTree gs) (sym same) s) (subst (SpansTree gs) (sym o.tree) t))
+    (λ full l. omega (arith, l, free, ap size same, ap size o.tree, ap (λ (x : Tree). put_room (counted x) (2 ^ length gs)) o.tree))
+
+pub returns-in_err-term-clause-bits : goal.returns-in_err-term-clause-bits
+returns-in_err-term-clause-bits c = λ xs m b.
+    let o = term_out c.args.at c.requires.sum c.requires.within (c.take_child-part.ensures.last c.requires.sum.handed.root) in
+    let same = other_same c.requires.apart c.requires.handed o.takes in
+    passed_named c.from_residual.result c.in_err-term.field-0.0 (λ o. ⊥) (λ o. ⊥) c.from_residual.ensures.1
+    (put_fits c.in_err-term.field-0.0 c.put_coefficient.new.pool _ _ xs c.in_err-term.ensures.named c.in_err-term.ensures.caused (subst IsMonic (sym o.tree) m)
+    (subst HaveFewBits (λ i. addend (value (sym same i)) (factors_of (sym o.tree i)) ∷ xs) b)) (λ x h. h)

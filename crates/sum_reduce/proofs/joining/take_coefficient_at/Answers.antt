@@ -1,4 +1,4 @@
-use Rattle.std.proofs.Common.{◌∙◌, ap, arith}
+use Rattle.std.proofs.Common.{◌∙◌, ap, arith, ℕ, ◌<◌, subst}
 use Rattle.calc_algebra.specs.Numbers.{is_number}
 use Rattle.calc_algebra.specs.Reduced.{is_reduced, part_of}
 use Rattle.calc_terms.specs.Trees.{more, none, count, is_undef}
@@ -12,6 +12,12 @@ use Rattle.tree_handles.proofs.Roots.{root_held}
 use Rattle.sum_reduce.specs.Sums.{terms_in}
 use Rattle.sum_reduce.proofs.Places.{count_removed}
 use Rattle.sum_reduce.proofs.Sums.{sum_within, term_out, takes_handed, takes_behind, takes_front, part_back, both_over, both_apart}
+use Rattle.std.specs.Prelude.{IfErr}
+use Rattle.node_pool.specs.State.{free_of}
+use Rattle.sum_reduce.proofs.Results.{passed_on}
+use Rattle.sum_reduce.proofs.Rooms.{taking_lacks}
+use Rattle.sum_reduce.proofs.SumBytes.{out_free}
+use Rattle.tree_handles.specs.Handed.{tree_of}
 use Rattle.sum_reduce.proofs.joining.take_coefficient_at.Goals as goal
 
 pub take_child-term-requires-clause-within : goal.take_child-term-requires-clause-within
@@ -83,3 +89,10 @@ pub returns-in_err-coefficient-clause-front : goal.returns-in_err-coefficient-cl
 returns-in_err-coefficient-clause-front c =
     let o = term_out c.args.at c.requires.sum c.requires.within (c.take_child-term.ensures.last c.requires.sum.handed.root) in
     front_after_one (takes_behind o.takes) (takes_front o.takes) c.take_coefficient.ensures.front
+
+pub returns-in_err-coefficient-clause-room : goal.returns-in_err-coefficient-clause-room
+returns-in_err-coefficient-clause-room c =
+    let o = term_out c.args.at c.requires.sum c.requires.within (c.take_child-term.ensures.last c.requires.sum.handed.root) in
+    let free = out_free c.requires.stands c.take_child-term.ensures.stands c.take_child-term.ensures.kept c.requires.within o in
+    passed_on c.from_residual.result c.in_err-coefficient.field-0.0 (λ r. IfErr r (λ full. free_of c.args.pool.now < 40)) c.from_residual.ensures.0 c.from_residual.ensures.1
+    (subst (λ (n : ℕ). n < 40) free (taking_lacks (tree_of c.take_child-term.result c.take_child-term.new.pool) c.in_err-coefficient.ensures.full))

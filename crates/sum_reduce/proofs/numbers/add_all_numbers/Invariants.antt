@@ -1,8 +1,8 @@
-use Rattle.std.proofs.Common.{◌≡◌, true, [], ◌∷◌}
+use Rattle.std.proofs.Common.{◌≡◌, ◌≤◌, true, [], ◌∷◌}
 use Rattle.calc_algebra.specs.Numbers.{is_number}
 use Rattle.calc_measures.specs.PlainValues.{plain_value}
 use Rattle.calc_algebra.specs.Reduced.{NoneIs}
-use Rattle.calc_terms.specs.Trees.{add, more, count, is_num, are_rationals}
+use Rattle.calc_terms.specs.Trees.{add, more, count, is_num, are_rationals, sizes}
 use Rattle.tree_handles.specs.Handed.{tree_of, KeepsFront}
 use Rattle.tree_handles.specs.Forest.{Forest}
 use Rattle.tree_handles.specs.Standing.{Stands, forest, KeepsRefusals}
@@ -17,6 +17,7 @@ abbrev pub invariant-loop-at : goal.invariant-loop-at
 invariant-loop-at l = record {
   takes : (f : Forest) → Takes l.sum f (forest l.fn.pool) l.fn.number → Takes l.sum f (forest l.pool) l.total;
   number : is_number (tree_of l.total l.pool) ≡ true;
+  smaller : sizes (terms_in l.sum (forest l.pool)) ≤ sizes (terms_in l.sum (forest l.fn.pool));
   stage : IsStage (more (tree_of l.fn.number l.fn.pool) (terms_in l.sum (forest l.fn.pool))) (more (tree_of l.total l.pool) (terms_in l.sum (forest l.pool)));
   flat : NoneIs is_loose (terms_in l.sum (forest l.fn.pool)) → NoneIs is_loose (terms_in l.sum (forest l.pool));
   folded : is_num (tree_of l.fn.number l.fn.pool) ≡ true → are_rationals (terms_in l.sum (forest l.fn.pool)) ≡ true

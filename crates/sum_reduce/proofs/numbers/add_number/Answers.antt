@@ -1,12 +1,17 @@
-use Rattle.std.proofs.Common.{◌∙◌, ap}
-use Rattle.calc_algebra.specs.Numbers.{is_number}
+use Rattle.std.proofs.Common.{◌∙◌, ap, sym, subst, arith, ◌++◌}
+use Rattle.calc_algebra.specs.Numbers.{is_number, value}
 use Rattle.tree_handles.proofs.Fronts.{behind_first, behind_later, front_after_two}
 use Rattle.tree_handles.proofs.Given.{given_told}
 use Rattle.tree_handles.proofs.Outcomes.{eqb-sym}
-use Rattle.sum_reduce.proofs.Results.{if_ok_map}
+use Rattle.sum_reduce.proofs.Results.{if_ok_both, if_ok_map}
 use Rattle.sum_reduce.proofs.Sums.{sum_within, term_out, takes_handed, takes_behind, takes_front, other_handed, other_same, other_clear, both_rewritten}
 use Rattle.coefficients.proofs.Named.{result_named}
 use Rattle.sum_reduce.proofs.Hindered.{numbers_named, names_as}
+use Rattle.calc_room.specs.Spans.{SpansTree}
+use Rattle.calc_terms.specs.Trees.{size}
+use Rattle.coefficients.proofs.Lacks.{result_lacks}
+use Rattle.sum_reduce.proofs.SumBytes.{out_free}
+use Rattle.calc_bits.specs.Bounds.{HasFewBits}
 use Rattle.sum_reduce.proofs.numbers.add_number.Goals as goal
 
 pub take_child-number-requires-clause-within : goal.take_child-number-requires-clause-within
@@ -50,7 +55,12 @@ returns-clause-terms c =
 pub returns-clause-number : goal.returns-clause-number
 returns-clause-number c =
     let o = term_out c.args.at c.requires.sum c.requires.within (c.take_child-number.ensures.last c.requires.sum.handed.root) in
-    if_ok_map c.add_numbers.result c.add_numbers.ensures.ok (λ h k. let t = given_told k in record { number = t.number; worth = rw (other_same c.requires.apart c.requires.handed o.takes, o.tree) at t.worth })
+    if_ok_both c.add_numbers.result c.add_numbers.ensures.ok c.add_numbers.ensures.measured
+    (λ h k m. let t = given_told k in record {
+      number = t.number;
+      worth = rw (other_same c.requires.apart c.requires.handed o.takes, o.tree) at t.worth;
+      parts = rw (other_same c.requires.apart c.requires.handed o.takes, o.tree) at m.parts;
+    })
 
 pub returns-clause-rationals : goal.returns-clause-rationals
 returns-clause-rationals c =
@@ -67,3 +77,16 @@ returns-clause-overflow c =
     let o = term_out c.args.at c.requires.sum c.requires.within (c.take_child-number.ensures.last c.requires.sum.handed.root) in
     result_named c.add_numbers.result _ _ (numbers_named _ _ c.add_numbers.new.pool c.add_numbers.result c.add_numbers.ensures.rationals c.add_numbers.ensures.overflow)
     (λ x h. names_as x (other_same c.requires.apart c.requires.handed o.takes) o.tree h)
+
+pub returns-clause-room : goal.returns-clause-room
+returns-clause-room c = λ gs s t.
+    let o = term_out c.args.at c.requires.sum c.requires.within (c.take_child-number.ensures.last c.requires.sum.handed.root) in
+    let same = other_same c.requires.apart c.requires.handed o.takes in
+    result_lacks c.add_numbers.result _ _ (c.add_numbers.ensures.room gs (subst (SpansTree gs) (sym same) s) (subst (SpansTree gs) (sym o.tree) t))
+    (λ f l. omega (arith, l, ap size same, out_free c.requires.stands c.take_child-number.ensures.stands c.take_child-number.ensures.kept c.requires.within o))
+
+pub returns-clause-bits : goal.returns-clause-bits
+returns-clause-bits c = λ b.
+    let o = term_out c.args.at c.requires.sum c.requires.within (c.take_child-number.ensures.last c.requires.sum.handed.root) in
+    let same = other_same c.requires.apart c.requires.handed o.takes in
+    c.add_numbers.ensures.bits (subst HasFewBits (λ i. value (sym same i) ++ value (sym o.tree i)) b)

@@ -1,4 +1,4 @@
-use Rattle.std.proofs.Common.{◌∙◌, ap}
+use Rattle.std.proofs.Common.{◌∙◌, ap, sym, subst, arith}
 use Rattle.calc_algebra.specs.Numbers.{is_number}
 use Rattle.calc_measures.specs.PlainValues.{plain_value}
 use Rattle.calc_terms.specs.Trees.{add, more}
@@ -15,6 +15,14 @@ use Rattle.sum_reduce.proofs.Sums.{changes_same, changes_front, sum_within, term
 use Rattle.coefficients.proofs.Named.{passed_named}
 use Rattle.sum_reduce.specs.Overflows.{Overflows}
 use Rattle.sum_reduce.proofs.Hindered.{overflows_after, overflows_as, taken_first}
+use Rattle.calc_room.specs.Spans.{SpansRoot, SpansTree, SpansTrees}
+use Rattle.coefficients.proofs.Lacks.{passed_lacks}
+use Rattle.sum_reduce.proofs.CollectedParts.{permuted_parts}
+use Rattle.sum_reduce.proofs.Places.{taken_permuted}
+use Rattle.sum_reduce.proofs.SumBytes.{out_free}
+use Rattle.sum_reduce.specs.Bits.{HaveFewBits}
+use Rattle.sum_reduce.proofs.Held.{few_after, held_permuted}
+use Rattle.tree_bits.specs.Children.{addends_of_each}
 use Rattle.sum_reduce.proofs.numbers.join_numbers.Goals as goal
 
 pub take_child-number-requires-clause-within : goal.take_child-number-requires-clause-within
@@ -113,6 +121,8 @@ returns-in-None c =
       faults = tt;
       caused = tt;
       overflow = tt;
+      bits = λ b. tt;
+      room = λ gs s. tt;
       stands = c.requires.stands;
     }
 
@@ -122,3 +132,20 @@ returns-in_err-total-in-Some-clause-overflow c =
     let o = term_out c.in-Some.at c.requires.sum c.in-Some.ensures.within (c.take_child-number.ensures.last c.requires.sum.handed.root) in
     passed_named c.from_residual.result c.in_err-total-in-Some.field-0.0 _ (Overflows ts) c.from_residual.ensures.1 c.in_err-total-in-Some.ensures.overflow
     (λ x h. overflows_after (taken_first c.in-Some.at ts c.in-Some.ensures.within) x (overflows_as (λ i. more (o.tree i) (o.terms i)) x h))
+
+pub returns-in_err-total-in-Some-clause-room : goal.returns-in_err-total-in-Some-clause-room
+returns-in_err-total-in-Some-clause-room c = λ gs s.
+    let ts = terms_in c.args.sum.now (forest c.args.pool.now) in
+    let o = term_out c.in-Some.at c.requires.sum c.in-Some.ensures.within (c.take_child-number.ensures.last c.requires.sum.handed.root) in
+    let all = permuted_parts (SpansRoot gs) (taken_permuted c.in-Some.at ts c.in-Some.ensures.within) s in
+    let free = out_free c.requires.stands c.take_child-number.ensures.stands c.take_child-number.ensures.kept c.in-Some.ensures.within o in
+    passed_lacks c.from_residual.result c.in_err-total-in-Some.field-0.0 _ _ c.from_residual.ensures.1
+    (c.in_err-total-in-Some.ensures.room gs (subst (SpansTree gs) (sym o.tree) all.0) (subst (SpansTrees gs) (sym o.terms) all.1)) (λ full l. omega (arith, l, free))
+
+pub returns-in_err-total-in-Some-clause-bits : goal.returns-in_err-total-in-Some-clause-bits
+returns-in_err-total-in-Some-clause-bits c = λ b.
+    let ts = terms_in c.args.sum.now (forest c.args.pool.now) in
+    let o = term_out c.in-Some.at c.requires.sum c.in-Some.ensures.within (c.take_child-number.ensures.last c.requires.sum.handed.root) in
+    let first = few_after (held_permuted (taken_permuted c.in-Some.at ts c.in-Some.ensures.within)) b in
+    passed_named c.from_residual.result c.in_err-total-in-Some.field-0.0 (λ o. ⊥) (λ o. ⊥) c.from_residual.ensures.1
+    (c.in_err-total-in-Some.ensures.bits (subst HaveFewBits (λ i. addends_of_each (more (sym o.tree i) (sym o.terms i))) first)) (λ x h. h)

@@ -1,4 +1,4 @@
-use Rattle.std.proofs.Common.{◌≡◌, true, false, ◌∙◌, sym, subst, refl, ap, arith}
+use Rattle.std.proofs.Common.{◌≡◌, true, false, ◌∙◌, sym, subst, refl, ap, arith, ◌^◌, length}
 use Rattle.calc_measures.specs.PlainValues.{plain_value}
 use Rattle.number_forms.specs.Answers.{AnswersRationals}
 use Rattle.tree_handles.specs.Handed.{tree_of}
@@ -19,6 +19,16 @@ use Rattle.calc_room.specs.Spans.{SpansTree}
 use Rattle.sum_reduce.proofs.CollectedCounts.{collected_counts, written_counted}
 use Rattle.sum_reduce.proofs.CollectedPowers.{collected_powers}
 use Rattle.sum_reduce.proofs.CollectedSpans.{spans_collected, spans_written, spans_terms}
+use Rattle.calc_terms.specs.Trees.{size, Tree}
+use Rattle.coefficients.proofs.Lacks.{passed_lacks, sum_whole}
+use Rattle.coefficients.proofs.Named.{passed_named}
+use Rattle.sum_reduce.proofs.Rooms.{sum_lacks}
+use Rattle.sum_reduce.proofs.Held.{holds}
+use Rattle.sum_reduce.proofs.HeldTerms.{tree_held}
+use Rattle.tree_bits.specs.HeldTrees.{IsTreeHeld}
+use Rattle.sum_reduce.proofs.CollectedExponents.{counted_defined, exponents_collected, written_counts}
+use Rattle.tree_bits.specs.Exponents.{is_counted, counts_of, counts_of_all}
+use Rattle.tree_bits.specs.Powers.{IsWithin}
 use Rattle.sum_reduce.proofs.reducing.reduce_sum.Goals as goal
 
 pub returns-then-has_undef_term-clause-counted : goal.returns-then-has_undef_term-clause-counted
@@ -98,3 +108,37 @@ returns-then-has_undef_term-clause-collected c = λ d. absurd (not_both (sym d �
 
 pub returns-then-has_undef_term-clause-written : goal.returns-then-has_undef_term-clause-written
 returns-then-has_undef_term-clause-written c = λ d u. absurd (not_both (sym d ∙ sym c.has_undef_term.ensures ∙ c.if-has_undef_term.true))
+
+pub returns-in_err-settle-clause-defined : goal.returns-in_err-settle-clause-defined
+returns-in_err-settle-clause-defined c =
+    passed_named c.from_residual.result c.in_err-settle.field-0.0 _ _ c.from_residual.ensures.1 c.in_err-settle.ensures.overflow (λ o h. sym c.has_undef_term.ensures ∙ c.if-has_undef_term.false)
+
+pub returns-in_err-settle-clause-room : goal.returns-in_err-settle-clause-room
+returns-in_err-settle-clause-room c = λ gs s.
+    let t = tree_of c.args.sum c.args.pool.now in
+    let ts = terms_in c.args.sum (forest c.args.pool.now) in
+    passed_lacks c.from_residual.result c.in_err-settle.field-0.0 _ _ c.from_residual.ensures.1 (c.in_err-settle.ensures.room gs (spans_terms gs t c.requires.sum s))
+    (λ full l. sum_lacks ts _ (2 ^ length gs) (omega (arith, l, ap size (sum_whole t c.requires.sum))))
+
+pub returns-clause-held : goal.returns-clause-held
+returns-clause-held c = λ h l d k.
+    let s = c.in_ok-settle.ensures in
+    subst (λ (t : Tree). IsTreeHeld t h l) (sym (given_told c.written.ensures.tree)) (tree_held s.settled.arranged s.stage.some (holds s.stage.held k))
+
+pub returns-then-has_undef_term-clause-held : goal.returns-then-has_undef_term-clause-held
+returns-then-has_undef_term-clause-held c = λ h l d k. absurd (not_both (sym d ∙ sym c.has_undef_term.ensures ∙ c.if-has_undef_term.true))
+
+pub returns-in_err-settle-clause-bits : goal.returns-in_err-settle-clause-bits
+returns-in_err-settle-clause-bits c = λ h l k few.
+    passed_named c.from_residual.result c.in_err-settle.field-0.0 (λ o. ⊥) (λ o. ⊥) c.from_residual.ensures.1 (c.in_err-settle.ensures.bits (record { high = h; low = l; held = k; few = few })) (λ x h. h)
+
+pub returns-clause-exponents : goal.returns-clause-exponents
+returns-clause-exponents c = λ h.
+    let ts = terms_in c.args.sum (forest c.args.pool.now) in
+    let us = terms_in c.args.sum (forest c.settle.new.pool) in
+    let formed = reduced_formed ts c.requires.reduced (sym c.has_undef_term.ensures ∙ c.if-has_undef_term.false) in
+    let w = written_counts us (counts_of_all ts) (exponents_collected c.in_ok-settle.ensures.stage.collects formed h) in
+    subst (λ (t : Tree). (is_counted t ≡ true) × IsWithin (counts_of t) (counts_of_all ts)) (sym (given_told c.written.ensures.tree)) (w.counted, w.within)
+
+pub returns-then-has_undef_term-clause-exponents : goal.returns-then-has_undef_term-clause-exponents
+returns-then-has_undef_term-clause-exponents c = λ h. absurd (not_both (sym (counted_defined (terms_in c.args.sum (forest c.args.pool.now)) h) ∙ sym c.has_undef_term.ensures ∙ c.if-has_undef_term.true))

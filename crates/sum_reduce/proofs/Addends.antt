@@ -1,0 +1,238 @@
+-- The addends of terms, of multiples of terms, and of sums.
+use Rattle.std.proofs.Common.{◌≡◌, ◌≢◌, ◌≤◌, ◌⊎◌, inl, inr, [], ◌∷◌, Bool, true, false, if◌then◌else◌, refl, sym, ap, ◌∙◌, subst, arith, append-nil, map, one-mul}
+use Rattle.calc_terms.specs.Fractions.{Fraction, times, zero_fraction, one_fraction, is_one_fraction}
+use Rattle.calc_terms.proofs.FractionFacts.{zero_test, one_is}
+use Rattle.calc_terms.specs.Trees.{Tree, num, add, mult, root, Trees, none, more, append, count, is_add, AllParts, AllPartsOf}
+use Rattle.calc_algebra.specs.Numbers.{IsNumber, AreTerms, is_number, is_term, natural_of, terms_of, value}
+use Rattle.calc_algebra.specs.Reduced.{Split, split_product, num_one, product_tree, part_of, number_terms, other_terms, HasForm, NoneIs, IsProductForm, IsSumForm}
+use Rattle.calc_algebra.specs.Surds.{Surd, term, surd_of, surd_one, surd_scale, term_times, surd_times}
+use Rattle.calc_algebra.proofs.InverseLaws.{product_not_zero}
+use Rattle.calc_algebra.proofs.NumberClasses.{one_not_zero}
+use Rattle.calc_algebra.proofs.NumberLaws.{number_test, term_words}
+use Rattle.calc_measures.specs.Loads.{has_coefficient}
+use Rattle.coefficients.specs.Coefficients.{coefficient_of, factors_of, spliced, IsMonic}
+use Rattle.coefficients.specs.Multiples.{mapped, rational_times_number, rational_times_sum, rational_times_term}
+use Rattle.coefficients.proofs.Coefficients.{leading_factors, product_form_of}
+use Rattle.coefficients.proofs.Factors.{AreFactors, factors_monic, factors_of_tree, monic_coefficient, monic_factors, monic_part, monic_parts, monic_no_number, no_split, none_leads, spliced_split}
+use Rattle.coefficients.proofs.Forms.{parts_reduced}
+use Rattle.coefficients.proofs.NumberMultiples.{IsFactor, not_one_is, number_scaled, terms-scaled, times_one}
+use Rattle.coefficients.proofs.Splits.{IsCoefficient, Leads, in_front}
+use Rattle.coefficients.proofs.SumMultiples.{number_term}
+use Rattle.coefficients.proofs.TermMultiples.{multiple}
+use Rattle.sum_reduce.proofs.CollectedParts.{last_parts}
+use Rattle.sum_reduce.proofs.WrittenSums.{number_terms-terms, other_terms-terms}
+use Rattle.tree_bits.specs.Factors.{distributed}
+use Rattle.tree_bits.specs.HeldTrees.{Addend, addend, addend_of, addends, addends_of}
+
+clash : true ≡ false → ⊥
+clash e = cc
+
+-- ---- terms
+
+pub one_value : value num_one ≡ surd_one
+one_value = ap (λ (b : Bool). if b then [] else surd_of one_fraction) (zero_test one_fraction one_not_zero)
+
+pub rational_value : (q : Fraction) → q ≢ zero_fraction → value (num q) ≡ surd_of q
+rational_value q h = ap (λ (b : Bool). if b then [] else surd_of q) (zero_test q h)
+
+-- the factors of a product's part are those behind its coefficient
+factors_behind : (ts : Trees) → AllParts HasForm (mult ts) → is_number (mult ts) ≡ false → factors_of (product_tree (split_product ts).factors) ≡ (split_product ts).factors
+factors_behind ts h n =
+    let f = product_form_of ts h n in
+    elim (in_front ts f.no_product f.front) [
+      | inl k ↦
+          let m : IsMonic (mult ts) = record { reduced = parts_reduced (mult ts) h; defined = refl; no_coefficient = k } in
+          subst (λ (s : Split). factors_of (product_tree s.factors) ≡ s.factors) (sym (no_split ts k)) (factors_of_tree ts (monic_factors (mult ts) m))
+      | inr l ↦ subst (λ (s : Split). factors_of (product_tree s.factors) ≡ s.factors) (sym l.is) (factors_of_tree l.factors (leading_factors ts l h n f))
+    ]
+
+addend_is : (t : Tree) → AllParts HasForm t → is_number t ≡ false → addend_of t ≡ addend (value (coefficient_of t)) (factors_of (part_of t))
+addend_is (mult ts) h n = ap (addend (value (split_product ts).coefficient)) (sym (factors_behind ts h n))
+addend_is t h n = ap (λ (v : Surd). addend v (more t none)) (sym one_value)
+
+one_addend : (t : Tree) → is_number t ≡ false → is_add t ≡ false → addends t ≡ addend_of t ∷ []
+one_addend (add ts) n s = absurd (clash s)
+one_addend t n s = ap (λ (b : Bool). if b then addend (value t) none ∷ [] else addend_of t ∷ []) n
+
+pub term_addends : (t : Tree) → AllParts HasForm t → is_number t ≡ false → is_add t ≡ false → addends t ≡ addend (value (coefficient_of t)) (factors_of (part_of t)) ∷ []
+term_addends t h n s = one_addend t n s ∙ ap (λ (a : Addend). a ∷ []) (addend_is t h n)
+
+pub monic_addends : (p : Tree) → IsMonic p → is_add p ≡ false → addends p ≡ addend surd_one (factors_of p) ∷ []
+monic_addends p m s =
+    term_addends p (monic_parts p m) (monic_no_number p m) s
+    ∙ (λ i. addend (value (monic_coefficient p m i)) (factors_of (monic_part p m i)) ∷ [])
+    ∙ ap (λ (v : Surd). addend v (factors_of p) ∷ []) one_value
+
+pub spliced_addends : (c p : Tree) → IsNumber c → IsMonic p → is_number (spliced c p) ≡ false → addends (spliced c p) ≡ addend (value c) (factors_of p) ∷ []
+spliced_addends c p k m n =
+    one_addend (spliced c p) n refl ∙ ap (λ (s : Split). addend (value s.coefficient) s.factors ∷ []) (spliced_split c (factors_of p) k m.no_coefficient)
+
+-- ---- sums
+
+-- the terms of a Number, and others behind them
+pub record IsSplit (ts : Trees) : Type 0 where
+  pub numbers : Trees
+  pub others : Trees
+  pub whole : ts ≡ append numbers others
+  pub terms : AreTerms numbers
+  pub no_number : NoneIs is_number others
+  pub no_sum : NoneIs is_add others
+  pub formed : AllPartsOf HasForm others
+
+in_two : (ts : Trees) → ts ≡ append (number_terms ts) (other_terms ts)
+in_two none = refl
+in_two (more t ts) = by (is_term t) (in_two ts)
+  where
+    by : (b : Bool) → ts ≡ append (number_terms ts) (other_terms ts) → more t ts ≡ append (if b then more t (number_terms ts) else none) (if b then other_terms ts else more t ts)
+    by true e = ap (more t) e
+    by false e = refl
+
+first_terms : (ts : Trees) → AreTerms (number_terms ts)
+first_terms none = tt
+first_terms (more t ts) = by (is_term t) refl (first_terms ts)
+  where
+    by : (b : Bool) → is_term t ≡ b → AreTerms (number_terms ts) → AreTerms (if b then more t (number_terms ts) else none)
+    by true e h = (term_words t e, h)
+    by false e h = tt
+
+last_none : (p : Tree → Bool) (ts us : Trees) → NoneIs p (append ts us) → NoneIs p us
+last_none p none us h = h
+last_none p (more t ts) us h = last_none p ts us h.1
+
+pub split_sum : (ts : Trees) → IsSumForm ts → AllPartsOf HasForm ts → IsSplit ts
+split_sum ts s h =
+    let e = in_two ts in
+    record {
+      numbers = number_terms ts;
+      others = other_terms ts;
+      whole = e;
+      terms = first_terms ts;
+      no_number = s.no_number;
+      no_sum = last_none is_add (number_terms ts) (other_terms ts) (subst (NoneIs is_add) e s.no_sum);
+      formed = last_parts HasForm (number_terms ts) (other_terms ts) (subst (AllPartsOf HasForm) e h);
+    }
+
+pub sum_addends : (ns os : Trees) → AreTerms ns → NoneIs is_number os → addends (add (append ns os)) ≡ addend (terms_of ns) none ∷ addends_of os
+sum_addends ns os a n = λ i. addend (terms_of (number_terms-terms ns os a n i)) none ∷ addends_of (other_terms-terms ns os a n i)
+
+-- ---- multiples
+
+-- a rational times a surd
+pub surd_multiple : (c : Fraction) (v : Surd) → surd_times (surd_of c) v ≡ surd_scale c v
+surd_multiple c v = append-nil _ ∙ each v
+  where
+    each : (v : Surd) → map (term_times (term c 1)) v ≡ surd_scale c v
+    each [] = refl
+    each (t ∷ v) = λ i. term (times c t.coefficient) (one-mul t.radicand i) ∷ each v i
+
+scaled_one : (q : Fraction) → surd_of q ≡ surd_scale q surd_one
+scaled_one q = ap surd_of (sym (times_one q))
+
+before_value : (c : Tree) (us : Trees) → IsNumber c → has_coefficient us ≡ false → value (coefficient_of (mult (append (factors_of c) us))) ≡ value c
+before_value c us k h = ap (λ (s : Split). value s.coefficient) (spliced_split c us k h)
+
+module _ (q : Fraction) (f : IsFactor q) where
+  abbrev IsTimes : Tree → Surd → Type 0
+  IsTimes u v = value (coefficient_of u) ≡ surd_scale q v
+
+  no_coefficient : (us : Trees) → has_coefficient us ≡ false → IsTimes (mult (more (num q) us)) (value num_one)
+  no_coefficient us h = before_value (num q) us tt h ∙ rational_value q f.not_zero ∙ scaled_one q ∙ ap (surd_scale q) (sym one_value)
+
+  -- the coefficient becomes 1
+  gone : (us : Trees) → AreFactors us → value (coefficient_of (product_tree us)) ≡ surd_one
+  gone us a = ap value (monic_coefficient (product_tree us) (factors_monic us a)) ∙ one_value
+
+  led : (c : Tree) (us : Trees) → IsCoefficient c → AreFactors us → IsTimes (rational_times_term q (mult (append (factors_of c) us))) (value c)
+  led c us k a = by c k.number k.not_zero
+    where
+      h : has_coefficient us ≡ false
+      h = none_leads us a.no_number
+
+      by : (c : Tree) → IsNumber c → c ≢ num zero_fraction → IsTimes (rational_times_term q (mult (append (factors_of c) us))) (value c)
+      by (num d) n z = rational (is_one_fraction (times q d)) refl ∙ ap (surd_scale q) (sym (rational_value d not_zero))
+        where
+          not_zero : d ≢ zero_fraction
+          not_zero e = z (ap num e)
+
+          rational : (b : Bool) → is_one_fraction (times q d) ≡ b → IsTimes (if b then product_tree us else mult (more (num (times q d)) us)) (surd_of d)
+          rational true e = gone us a ∙ ap surd_of (sym (one_is (times q d) e))
+          rational false e = before_value (num (times q d)) us tt h ∙ rational_value (times q d) (product_not_zero q d f.not_zero not_zero)
+      by (root (num r)) n z =
+          before_value (mult (more (num q) (more (root (num r)) none))) us (f.not_zero, f.not_one, n) h ∙ ap (λ (x : Fraction). term x (natural_of r.num) ∷ []) (sym (times_one q))
+      by (mult (more (num d) (more (root (num r)) none))) n z = irrational (is_one_fraction (times q d)) refl
+        where
+          -- other factors stand behind it
+          whole : (us : Trees) → 1 ≤ count us → product_tree (more (root (num r)) us) ≡ mult (more (root (num r)) us)
+          whole none l = absurd (omega arith)
+          whole (more u us) l = refl
+
+          irrational : (b : Bool) → is_one_fraction (times q d) ≡ b → IsTimes (if b then product_tree (more (root (num r)) us) else mult (more (num (times q d)) (more (root (num r)) us))) (term d (natural_of r.num) ∷ [])
+          irrational true e =
+              ap (λ (t : Tree). value (coefficient_of t)) (whole us a.some) ∙ before_value (root (num r)) us n.2 h ∙ ap (λ (x : Fraction). term x (natural_of r.num) ∷ []) (sym (one_is (times q d) e))
+          irrational false e = before_value (mult (more (num (times q d)) (more (root (num r)) none))) us (product_not_zero q d f.not_zero n.0, not_one_is (times q d) e, n.2) h
+      by (add vs) n z =
+          ap (λ (b : Bool). value (coefficient_of (if b then mult (more (rational_times_number q vs) us) else mult (more (num q) (more (add vs) us))))) (number_test (add vs) n)
+          ∙ before_value (rational_times_number q vs) us (number_scaled q vs f n) h ∙ terms-scaled q vs f n.1
+      by c n z = absurd n
+
+  unled : (ts : Trees) → has_coefficient ts ≡ false → rational_times_term q (mult ts) ≡ mult (more (num q) ts)
+  unfolding is_number
+  unled (more (num c) ts) h = absurd (clash h)
+  unled (more (add us) ts) h = ap (λ (b : Bool). if b then mult (more (rational_times_number q us) ts) else mult (more (num q) (more (add us) ts))) h
+  unled ts h = refl
+
+  product_times : (ts : Trees) → AllParts HasForm (mult ts) → is_number (mult ts) ≡ false → IsProductForm ts → (has_coefficient ts ≡ false) ⊎ Leads ts
+      → IsTimes (rational_times_term q (mult ts)) (value (split_product ts).coefficient)
+  product_times ts h n g (inl k) =
+      ap (λ (t : Tree). value (coefficient_of t)) (unled ts k) ∙ no_coefficient ts k ∙ ap (λ (s : Split). surd_scale q (value s.coefficient)) (sym (no_split ts k))
+  product_times ts h n g (inr l) =
+      ap (λ (us : Trees). value (coefficient_of (rational_times_term q (mult us)))) l.whole ∙ led l.c l.factors l.coefficient (leading_factors ts l h n g)
+      ∙ ap (λ (s : Split). surd_scale q (value s.coefficient)) (sym l.is)
+
+  -- the coefficient is multiplied
+  times_coefficient : (t : Tree) → AllParts HasForm t → is_number t ≡ false → is_add t ≡ false → IsTimes (rational_times_term q t) (value (coefficient_of t))
+  unfolding is_number
+  times_coefficient (num c) h n s = absurd (clash n)
+  times_coefficient (add ts) h n s = absurd (clash s)
+  times_coefficient (mult ts) h n s = let g = product_form_of ts h n in product_times ts h n g (in_front ts g.no_product g.front)
+  times_coefficient t h n s = no_coefficient (more t none) n
+
+  -- ---- and of sums
+
+  number_multiples : (ts : Trees) → AreTerms ts → AreTerms (mapped (rational_times_term q) ts)
+  number_multiples none h = tt
+  number_multiples (more t ts) h = ((number_term q t f h.0).one, number_multiples ts h.1)
+
+  terms_multiples : (ts : Trees) → AreTerms ts → terms_of (mapped (rational_times_term q) ts) ≡ surd_scale q (terms_of ts)
+  terms_multiples none h = refl
+  terms_multiples (more t ts) h = λ i. (number_term q t f h.0).term_is i ∷ terms_multiples ts h.1 i
+
+  other_multiples : (ts : Trees) → AllPartsOf HasForm ts → NoneIs is_number ts → NoneIs is_add ts → NoneIs is_number (mapped (rational_times_term q) ts)
+  other_multiples none h n s = tt
+  other_multiples (more t ts) h n s = ((multiple q f t h.0 n.0 s.0).no_number, other_multiples ts h.1 n.1 s.1)
+
+  mapped_both : (ts us : Trees) → mapped (rational_times_term q) (append ts us) ≡ append (mapped (rational_times_term q) ts) (mapped (rational_times_term q) us)
+  mapped_both none us = refl
+  mapped_both (more t ts) us = ap (more (rational_times_term q t)) (mapped_both ts us)
+
+  one_multiple : (t : Tree) → AllParts HasForm t → is_number t ≡ false → is_add t ≡ false
+      → addend_of (rational_times_term q t) ≡ addend (surd_times (surd_of q) (addend_of t).coefficient) (addend_of t).factors
+  one_multiple t h n s =
+      let m = multiple q f t h n s in
+      addend_is (rational_times_term q t) m.formed m.no_number ∙ (λ i. addend (times_coefficient t h n s i) (factors_of (m.part i)))
+      ∙ ap (λ (v : Surd). addend v (factors_of (part_of t))) (sym (surd_multiple q (value (coefficient_of t))))
+      ∙ ap (λ (a : Addend). addend (surd_times (surd_of q) a.coefficient) a.factors) (sym (addend_is t h n))
+
+  all_multiples : (ts : Trees) → AllPartsOf HasForm ts → NoneIs is_number ts → NoneIs is_add ts → addends_of (mapped (rational_times_term q) ts) ≡ distributed (surd_of q) (addends_of ts)
+  all_multiples none h n s = refl
+  all_multiples (more t ts) h n s = λ i. one_multiple t h.0 n.0 s.0 i ∷ all_multiples ts h.1 n.1 s.1 i
+
+  pub multiple_addends : (ts : Trees) → IsSplit ts → addends (rational_times_sum q ts) ≡ distributed (surd_of q) (addends (add ts))
+  multiple_addends ts x =
+      let ns = x.numbers in
+      let os = x.others in
+      ap (λ (us : Trees). addends (rational_times_sum q us)) x.whole ∙ ap (λ (us : Trees). addends (add us)) (mapped_both ns os)
+      ∙ sum_addends (mapped (rational_times_term q) ns) (mapped (rational_times_term q) os) (number_multiples ns x.terms) (other_multiples os x.formed x.no_number x.no_sum)
+      ∙ (λ i. addend ((terms_multiples ns x.terms ∙ sym (surd_multiple q (terms_of ns))) i) none ∷ all_multiples os x.formed x.no_number x.no_sum i)
+      ∙ ap (distributed (surd_of q)) (sym (sum_addends ns os x.terms x.no_number))
+      ∙ ap (λ (us : Trees). distributed (surd_of q) (addends (add us))) (sym x.whole)

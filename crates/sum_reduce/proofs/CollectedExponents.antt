@@ -1,0 +1,375 @@
+-- Exponents that count their bases are collected to exponents that count them no more often.
+use Rattle.std.proofs.Common.{◌≡◌, ℕ, ◌≤◌, ◌<◌, ◌++◌, [], length, ℤ, pos, ◌+ℤ◌, ◌*ℤ◌, Bool, true, false, ◌&&◌, ◌==◌, if◌then◌else◌, refl, sym, ap, ◌∙◌, subst, arith}
+use Rattle.std.proofs.lemmas.Bool.{and_parts, and_from, eqb-true}
+use Rattle.calc_terms.specs.Fractions.{Fraction, lowest, lowest_parts, times, whole_fraction, zero_fraction, one_fraction, is_zero_fraction, is_one_fraction}
+use Rattle.calc_terms.proofs.FractionFacts.{zero_is, one_is, whole_denominator, whole_numerator}
+use Rattle.calc_terms.specs.Trees.{Tree, num, symbol, undef, add, mult, root, Trees, none, more, append, count, is_add, has_undef, AllPartsOf}
+use Rattle.calc_algebra.specs.Numbers.{IsNumber, IsTerm, AreTerms, Rises, is_number, term_of, terms_of, value}
+use Rattle.calc_algebra.specs.Reduced.{NoneIs, HasForm, part_of, product_tree}
+use Rattle.calc_algebra.specs.SquareClasses.{Same}
+use Rattle.calc_algebra.specs.Surds.{surd_of}
+use Rattle.calc_algebra.proofs.ExponentLaws.{whole_plus, whole_times}
+use Rattle.calc_algebra.proofs.MeaningRewrites.{Permuted, permuted_none, permuted_more, permuted_swap, permuted_trans}
+use Rattle.calc_algebra.proofs.NumberClasses.{number_rational}
+use Rattle.calc_algebra.proofs.NumberLaws.{number_words}
+use Rattle.calc_algebra.proofs.SquareClassLaws.{Same-trans}
+use Rattle.calc_algebra.proofs.MeaningLaws.{Same-sym}
+use Rattle.calc_algebra.proofs.TermLaws.{joined_radicand, Same-append, Same-eq, Same-refl, zero_term}
+use Rattle.coefficients.specs.Coefficients.{coefficient_of, rational_before, with_coefficient, IsMonic}
+use Rattle.coefficients.specs.Multiples.{mapped, rational_times_term}
+use Rattle.coefficients.proofs.Coefficients.{monic_sum}
+use Rattle.coefficients.proofs.Factors.{monic_no_number}
+use Rattle.number_forms.specs.Answers.{IsNumberOf}
+use Rattle.sum_reduce.specs.Collected.{AreLike, sum_of_coefficients, Collects, collects_opened, collects_ordered, collects_numbers, collects_like, collects_then}
+use Rattle.sum_reduce.specs.Terms.{terms_of_loose, opened, terms_of_number, sum_tree, leads_number, written_tree}
+use Rattle.sum_reduce.proofs.CollectedCounts.{collected_formed, like_monic}
+use Rattle.sum_reduce.proofs.CollectedParts.{first_parts}
+use Rattle.sum_reduce.proofs.CountedMultiples.{within_same, within_after, within_both, nothing_within, sum_within, product_within, multiple_added}
+use Rattle.sum_reduce.proofs.Rearranged.{of_lists}
+use Rattle.tree_bits.specs.Exponents.{Counts, counts, multiple, added, is_counted, are_counted, counts_of, counts_of_all}
+use Rattle.tree_bits.specs.Powers.{IsWithin}
+
+-- ---- lists of exponents
+
+-- they count, and no more often than c
+pub record AreCounted (ts : Trees) (c : Counts) : Type 0 where
+  pub all : are_counted ts ≡ true
+  pub within : IsWithin (counts_of_all ts) c
+
+pub record IsCountedIn (t : Tree) (c : Counts) : Type 0 where
+  pub counted : is_counted t ≡ true
+  pub within : IsWithin (counts_of t) c
+
+none_counted : (c : Counts) → AreCounted none c
+none_counted c = record { all = refl; within = nothing_within c }
+
+more_counted : {t : Tree} {ts : Trees} {c d : Counts} → IsCountedIn t c → AreCounted ts d → AreCounted (more t ts) (added c d)
+more_counted a b = record { all = and_from _ _ a.counted b.all; within = within_both a.within b.within }
+
+only_counted : {t : Tree} {c : Counts} → IsCountedIn t c → AreCounted (more t none) c
+only_counted a = record { all = and_from _ _ a.counted refl; within = within_after (record { up = omega arith; down = omega arith }) a.within }
+
+counted_after : {ts : Trees} {c d : Counts} → AreCounted ts c → IsWithin c d → AreCounted ts d
+counted_after a w = record { all = a.all; within = within_after a.within w }
+
+append_counted : (ts us : Trees) {c d : Counts} → AreCounted ts c → AreCounted us d → AreCounted (append ts us) (added c d)
+append_counted none us a b = record { all = b.all; within = within_after b.within (record { up = omega arith; down = omega arith }) }
+append_counted (more t ts) us a b =
+    let (x, y) = and_parts (is_counted t) (are_counted ts) a.all in
+    let rest = append_counted ts us (record { all = y; within = within_same (counts_of_all ts) }) b in
+    let all = more_counted (record { counted = x; within = within_same (counts_of t) }) rest in
+    record { all = all.all; within = within_after all.within (record { up = omega (arith, a.within.up); down = omega (arith, a.within.down) }) }
+
+-- ---- opened, and in another order
+
+loose_counted : (t : Tree) → is_counted t ≡ true → AreCounted (terms_of_loose t) (counts_of t)
+loose_counted (add ts) h = by (is_number (add ts))
+  where
+    by : (b : Bool) → AreCounted (if b then more (add ts) none else ts) (counts_of_all ts)
+    by true = only_counted (record { counted = h; within = within_same (counts_of_all ts) })
+    by false = record { all = h; within = within_same (counts_of_all ts) }
+loose_counted t h = only_counted (record { counted = h; within = within_same (counts_of t) })
+
+opened_counted : (ts : Trees) → are_counted ts ≡ true → AreCounted (opened ts) (counts_of_all ts)
+opened_counted none h = none_counted (counts 0 0)
+opened_counted (more t ts) h =
+    let (a, b) = and_parts (is_counted t) (are_counted ts) h in
+    append_counted (terms_of_loose t) (opened ts) (loose_counted t a) (opened_counted ts b)
+
+permuted_counted : {ts us : Trees} → Permuted ts us → are_counted ts ≡ true → AreCounted us (counts_of_all ts)
+permuted_counted permuted_none h = none_counted (counts 0 0)
+permuted_counted (permuted_more {t} {ts} k) h =
+    let (a, b) = and_parts (is_counted t) (are_counted ts) h in
+    more_counted (record { counted = a; within = within_same (counts_of t) }) (permuted_counted k b)
+permuted_counted (permuted_swap {t} {u} {ts}) h =
+    let (a, x) = and_parts (is_counted t) (is_counted u && are_counted ts) h in
+    let (b, c) = and_parts (is_counted u) (are_counted ts) x in
+    record { all = and_from _ _ b (and_from _ _ a c); within = record { up = omega arith; down = omega arith } }
+permuted_counted (permuted_trans k l) h = let a = permuted_counted k h in counted_after (permuted_counted l a.all) a.within
+
+-- ---- whole numbers
+
+pub one_whole : one_fraction ≡ whole_fraction (pos 1)
+unfolding one_fraction
+one_whole = refl
+
+pub zero_whole : zero_fraction ≡ whole_fraction (pos 0)
+unfolding zero_fraction
+zero_whole = refl
+
+one_den : (n : ℕ) → (n == 1) ≡ true → n ≡ 1
+one_den n h = eqb-true n 1 h
+
+pub whole_of : (q : Fraction) → (q.den == 1) ≡ true → q ≡ whole_fraction q.num
+whole_of q h = lowest_parts q ∙ ap (lowest q.num) (one_den q.den h)
+
+whole_test : (z : ℤ) → ((whole_fraction z).den == 1) ≡ true
+whole_test z = ap (λ (n : ℕ). n == 1) (whole_denominator z)
+
+-- the whole number z as an exponent
+pub num_counted : (z : ℤ) → IsCountedIn (num (whole_fraction z)) (multiple z (counts 1 0))
+num_counted z = record { counted = whole_test z; within = subst (λ (c : Counts). IsWithin c (multiple z (counts 1 0))) (ap (λ (y : ℤ). multiple y (counts 1 0)) (sym (whole_numerator z))) (within_same (multiple z (counts 1 0))) }
+
+pub num_value : (q : Fraction) → Same (value (num q)) (surd_of q)
+num_value q = by (is_zero_fraction q) refl
+  where
+    by : (b : Bool) → is_zero_fraction q ≡ b → Same (if b then [] else surd_of q) (surd_of q)
+    by true e = subst (λ (x : Fraction). Same [] (surd_of x)) (sym (zero_is q e)) (Same-sym (zero_term 1))
+    by false e = Same-refl (surd_of q)
+
+clash : true ≡ false → ⊥
+clash e = cc
+
+unclear : false ≡ true → ⊥
+unclear e = cc
+
+-- ---- two Numbers
+
+rational_radicand : (t : Tree) → IsTerm t → is_counted t ≡ true → (term_of t).radicand ≡ 1
+rational_radicand (num q) h k = refl
+rational_radicand (root (num r)) h k = absurd (unclear k)
+rational_radicand (mult (more (num q) (more (root (num r)) none))) h k = absurd (unclear ((and_parts (q.den == 1) false k).1))
+rational_radicand t h k = absurd h
+
+pub record IsWhole (t : Tree) : Type 0 where
+  pub z : ℤ
+  pub is : t ≡ num (whole_fraction z)
+
+one_class : (ts : Trees) → AreTerms ts → Rises (terms_of ts) → 2 ≤ length (terms_of ts) → are_counted ts ≡ true → ⊥
+one_class none a r l h = absurd (omega arith)
+one_class (more t none) a r l h = absurd (omega arith)
+one_class (more t (more u ts)) a r l h =
+    let (x, y) = and_parts (is_counted t) (is_counted u && are_counted ts) h in
+    let (z, w) = and_parts (is_counted u) (are_counted ts) y in
+    let below : (term_of t).radicand < (term_of u).radicand = r.0.0 in
+    absurd (omega (arith, below, rational_radicand t a.0 x, rational_radicand u a.1.0 z))
+
+pub whole_number : (t : Tree) → IsNumber t → is_counted t ≡ true → IsWhole t
+whole_number (num q) h k = record { z = q.num; is = ap num (whole_of q k) }
+whole_number (add ts) h k = absurd (one_class ts h.1 h.2 h.0 k)
+whole_number (root a) h k = absurd (unclear k)
+whole_number (mult (more (num q) (more (root (num r)) none))) h k = absurd (unclear ((and_parts (q.den == 1) false k).1))
+whole_number t h k = absurd h
+
+-- what is the whole number z
+pub as_whole : (n : Tree) (z : ℤ) → is_number n ≡ true → Same (value n) (surd_of (whole_fraction z)) → n ≡ num (whole_fraction z)
+as_whole n z h w = number_rational n (whole_fraction z) (number_words n h) w
+
+whole_counts : (t : Tree) (z : ℤ) → t ≡ num (whole_fraction z) → counts_of t ≡ multiple z (counts 1 0)
+whole_counts t z e = ap counts_of e ∙ ap (λ (y : ℤ). multiple y (counts 1 0)) (whole_numerator z)
+
+numbers_counted : (a b n : Tree) → is_number a ≡ true → is_number b ≡ true → is_counted a ≡ true → is_counted b ≡ true → IsNumberOf (value a ++ value b) n → IsCountedIn n (added (counts_of a) (counts_of b))
+numbers_counted a b n x y h k w =
+    let p = whole_number a (number_words a x) h in
+    let q = whole_number b (number_words b y) k in
+    let sum : Same (value a ++ value b) (surd_of (whole_fraction (p.z +ℤ q.z))) =
+    Same-trans (Same-append (subst (λ (t : Tree). Same (value t) (surd_of (whole_fraction p.z))) (sym p.is) (num_value (whole_fraction p.z))) (subst (λ (t : Tree). Same (value t) (surd_of (whole_fraction q.z))) (sym q.is) (num_value (whole_fraction q.z))))
+    (Same-trans (joined_radicand (whole_fraction p.z) (whole_fraction q.z) 1) (Same-eq (ap surd_of (whole_plus p.z q.z)))) in
+    let is : n ≡ num (whole_fraction (p.z +ℤ q.z)) = as_whole n (p.z +ℤ q.z) w.number (Same-trans w.worth sum) in
+    let c = num_counted (p.z +ℤ q.z) in
+    subst (λ (t : Tree). IsCountedIn t (added (counts_of a) (counts_of b))) (sym is) (record {
+      counted = c.counted;
+      within = within_after c.within (subst (IsWithin (multiple (p.z +ℤ q.z) (counts 1 0))) (λ i. added (sym (whole_counts a p.z p.is) i) (sym (whole_counts b q.z q.is) i)) (sum_within p.z q.z (counts 1 0)));
+    })
+
+pub zero_counted : (c : Counts) → IsCountedIn (num zero_fraction) c
+zero_counted c =
+    let n = num_counted (pos 0) in
+    subst (λ (x : Fraction). IsCountedIn (num x) c) (sym zero_whole) (record { counted = n.counted; within = within_after n.within (record { up = omega arith; down = omega arith }) })
+
+-- ---- terms with one part
+
+-- a whole number times a part that counts
+record IsWholeTerm (t : Tree) : Type 0 where
+  z : ℤ
+  coefficient : coefficient_of t ≡ num (whole_fraction z)
+  part : is_counted (part_of t) ≡ true
+  within : IsWithin (multiple z (counts_of (part_of t))) (counts_of t)
+
+once : (c : Counts) → IsWithin (multiple (pos 1) c) c
+once c = record { up = omega arith; down = omega arith }
+
+at_least_once : (c : Counts) → IsWithin c (multiple (pos 1) c)
+at_least_once c = record { up = omega arith; down = omega arith }
+
+multiple_term : (q : Fraction) (w : Tree) → is_counted (mult (more (num q) (more w none))) ≡ true → IsWholeTerm (mult (more (num q) (more w none)))
+multiple_term q (root a) h = absurd (unclear ((and_parts (q.den == 1) false h).1))
+multiple_term q w h =
+    let (x, y) = and_parts (q.den == 1) (is_counted w) h in
+    record { z = q.num; coefficient = ap num (whole_of q x); part = y; within = within_same (multiple q.num (counts_of w)) }
+
+whole_term : (t : Tree) → is_number t ≡ false → is_counted t ≡ true → IsWholeTerm t
+unfolding is_number
+whole_term (num q) n h = absurd (clash n)
+whole_term (symbol x) n h = record { z = pos 1; coefficient = ap num one_whole; part = h; within = once (counts 1 0) }
+whole_term (add ts) n h = record { z = pos 1; coefficient = ap num one_whole; part = h; within = once (counts_of_all ts) }
+whole_term (mult (more (num q) (more w none))) n h = multiple_term q w h
+whole_term t n h = absurd (unclear h)
+
+-- their coefficients add up to a whole number
+record IsWholeSum (us : Trees) (p : Tree) : Type 0 where
+  z : ℤ
+  sum : Same (sum_of_coefficients us) (surd_of (whole_fraction z))
+  within : IsWithin (multiple z (counts_of p)) (counts_of_all us)
+
+whole_sum : (us : Trees) (p : Tree) → AreLike p us → are_counted us ≡ true → IsWholeSum us p
+whole_sum none p a h = record { z = pos 0; sum = subst (λ (x : Fraction). Same [] (surd_of x)) zero_whole (Same-sym (zero_term 1)); within = record { up = omega arith; down = omega arith } }
+whole_sum (more t us) p a h =
+    let (x, y) = and_parts (is_counted t) (are_counted us) h in
+    let u = whole_term t a.0 x in
+    let r = whole_sum us p a.2 y in
+    record {
+      z = u.z +ℤ r.z;
+      sum =
+          Same-trans (Same-append (subst (λ (c : Tree). Same (value c) (surd_of (whole_fraction u.z))) (sym u.coefficient) (num_value (whole_fraction u.z))) r.sum)
+          (Same-trans (joined_radicand (whole_fraction u.z) (whole_fraction r.z) 1) (Same-eq (ap surd_of (whole_plus u.z r.z))));
+      within = within_after (sum_within u.z r.z (counts_of p)) (within_both (subst (λ (w : Tree). IsWithin (multiple u.z (counts_of w)) (counts_of t)) a.1 u.within) r.within);
+    }
+
+like_part : (us : Trees) (p : Tree) → 2 ≤ count us → AreLike p us → are_counted us ≡ true → is_counted p ≡ true
+like_part none p l a h = absurd (omega arith)
+like_part (more t us) p l a h = subst (λ (w : Tree). is_counted w ≡ true) a.1 (whole_term t a.0 (and_parts (is_counted t) (are_counted us) h).0).part
+
+-- ---- a whole number before a part
+
+-- the whole numbers whose product is 1
+one_product : (z : ℤ) → is_one_fraction (whole_fraction z) ≡ true → z ≡ pos 1
+one_product z h = sym (whole_numerator z) ∙ ap (λ (q : Fraction). q.num) (one_is (whole_fraction z) h ∙ one_whole) ∙ whole_numerator (pos 1)
+
+before_counted : (z : ℤ) (w : Tree) → is_counted w ≡ true → IsCountedIn (mult (more (num (whole_fraction z)) (more w none))) (multiple z (counts_of w))
+before_counted z w h = record {
+  counted = and_from _ _ (whole_test z) h;
+  within = subst (λ (y : ℤ). IsWithin (multiple (whole_fraction z).num (counts_of w)) (multiple y (counts_of w))) (whole_numerator z) (within_same (multiple (whole_fraction z).num (counts_of w)));
+}
+
+module _ (z : ℤ) where
+  product_is : (c : Fraction) → (c.den == 1) ≡ true → times (whole_fraction z) c ≡ whole_fraction (z *ℤ c.num)
+  product_is c h = ap (times (whole_fraction z)) (whole_of c h) ∙ whole_times z c.num
+
+  -- into a term of a sum
+  times_rational : (c : Fraction) → is_counted (num c) ≡ true → IsCountedIn (num (times (whole_fraction z) c)) (multiple z (counts_of (num c)))
+  times_rational c h =
+      let n = num_counted (z *ℤ c.num) in
+      subst (λ (x : Fraction). IsCountedIn (num x) (multiple z (counts_of (num c)))) (sym (product_is c h)) (record { counted = n.counted; within = within_after n.within (product_within z c.num (counts 1 0)) })
+
+  times_product : (c : Fraction) (w : Tree) → is_counted (mult (more (num c) (more w none))) ≡ true
+      → IsCountedIn (rational_times_term (whole_fraction z) (mult (more (num c) (more w none)))) (multiple z (multiple c.num (counts_of w)))
+  times_product c w h = by (is_one_fraction (times (whole_fraction z) c)) refl
+    where
+      x : (c.den == 1) ≡ true
+      x = (and_parts (c.den == 1) (is_counted w) h).0
+
+      y : is_counted w ≡ true
+      y = (and_parts (c.den == 1) (is_counted w) h).1
+
+      by : (b : Bool) → is_one_fraction (times (whole_fraction z) c) ≡ b
+          → IsCountedIn (if b then product_tree (more w none) else mult (more (num (times (whole_fraction z) c)) (more w none))) (multiple z (multiple c.num (counts_of w)))
+      by true e =
+          let one : z *ℤ c.num ≡ pos 1 = one_product (z *ℤ c.num) (ap is_one_fraction (sym (product_is c x)) ∙ e) in
+          record {
+            counted = y;
+            within = within_after (subst (λ (n : ℤ). IsWithin (counts_of w) (multiple n (counts_of w))) (sym one) (at_least_once (counts_of w))) (product_within z c.num (counts_of w));
+          }
+      by false e =
+          let a = before_counted (z *ℤ c.num) w y in
+          subst (λ (r : Fraction). IsCountedIn (mult (more (num r) (more w none))) (multiple z (multiple c.num (counts_of w)))) (sym (product_is c x))
+          (record { counted = a.counted; within = within_after a.within (product_within z c.num (counts_of w)) })
+
+  times_counted : (t : Tree) → is_add t ≡ false → is_counted t ≡ true → IsCountedIn (rational_times_term (whole_fraction z) t) (multiple z (counts_of t))
+  times_counted (num c) s h = times_rational c h
+  times_counted (symbol x) s h = before_counted z (symbol x) h
+  times_counted (add ts) s h = absurd (clash s)
+  times_counted (mult (more (num c) (more w none))) s h = times_product c w h
+  times_counted t s h = absurd (unclear h)
+
+  all_times_counted : (ts : Trees) → NoneIs is_add ts → are_counted ts ≡ true → AreCounted (mapped (rational_times_term (whole_fraction z)) ts) (multiple z (counts_of_all ts))
+  all_times_counted none s h = none_counted (multiple z (counts 0 0))
+  all_times_counted (more t ts) s h =
+      let (a, b) = and_parts (is_counted t) (are_counted ts) h in
+      counted_after (more_counted (times_counted t s.0 a) (all_times_counted ts s.1 b)) (multiple_added z (counts_of t) (counts_of_all ts))
+
+  part_counted : (p : Tree) → IsMonic p → is_counted p ≡ true → IsCountedIn (rational_before (whole_fraction z) p) (multiple z (counts_of p))
+  unfolding is_number
+  part_counted (num c) m h = absurd (clash (monic_no_number (num c) m))
+  part_counted (symbol x) m h = before_counted z (symbol x) h
+  part_counted (add ts) m h = let a = all_times_counted ts (monic_sum ts m).no_sum h in record { counted = a.all; within = a.within }
+  part_counted (mult (more (num c) ts)) m h = absurd (clash m.no_coefficient)
+  part_counted p m h = absurd (unclear h)
+
+  pub put_counted : (p : Tree) → IsMonic p → is_counted p ≡ true → IsCountedIn (with_coefficient (num (whole_fraction z)) p) (multiple z (counts_of p))
+  put_counted p m h = by (is_zero_fraction (whole_fraction z)) (is_one_fraction (whole_fraction z)) refl
+    where
+      by : (a b : Bool) → is_one_fraction (whole_fraction z) ≡ b
+          → IsCountedIn (if a then num zero_fraction else (if b then p else rational_before (whole_fraction z) p)) (multiple z (counts_of p))
+      by true b e = zero_counted (multiple z (counts_of p))
+      by false true e = record { counted = h; within = subst (λ (n : ℤ). IsWithin (counts_of p) (multiple n (counts_of p))) (sym (one_product z e)) (at_least_once (counts_of p)) }
+      by false false e = part_counted p m h
+
+like_counted : (us : Trees) (c p : Tree) → 2 ≤ count us → AreLike p us → AllPartsOf HasForm us → are_counted us ≡ true → IsNumberOf (sum_of_coefficients us) c → IsCountedIn (with_coefficient c p) (counts_of_all us)
+like_counted us c p l a f h w =
+    let x = whole_sum us p a h in
+    let is : c ≡ num (whole_fraction x.z) = as_whole c x.z w.number (Same-trans w.worth x.sum) in
+    let k = put_counted x.z p (like_monic us p l a f) (like_part us p l a h) in
+    subst (λ (d : Tree). IsCountedIn (with_coefficient d p) (counts_of_all us)) (sym is) (record { counted = k.counted; within = within_after k.within x.within })
+
+-- ---- collected
+
+parts_of : (ts us : Trees) → are_counted (append ts us) ≡ true → (are_counted ts ≡ true) × (are_counted us ≡ true)
+parts_of none us h = (refl, h)
+parts_of (more t ts) us h =
+    let (a, b) = and_parts (is_counted t) (are_counted (append ts us)) h in
+    let (x, y) = parts_of ts us b in
+    (and_from _ _ a x, y)
+
+both_counts : (ts us : Trees) → IsWithin (added (counts_of_all ts) (counts_of_all us)) (counts_of_all (append ts us))
+both_counts none us = record { up = omega arith; down = omega arith }
+both_counts (more t ts) us = let a = both_counts ts us in record { up = omega (arith, a.up); down = omega (arith, a.down) }
+
+pub exponents_collected : {ts us : Trees} → Collects ts us → AllPartsOf HasForm ts → are_counted ts ≡ true → AreCounted us (counts_of_all ts)
+exponents_collected (collects_opened {ts}) f h = opened_counted ts h
+exponents_collected (collects_ordered {ts} {us} k) f h = permuted_counted (of_lists ts us k) h
+exponents_collected (collects_numbers {ts} {a} {b} {n} x y k) f h =
+    let (p, r) = and_parts (is_counted a) (is_counted b && are_counted ts) h in
+    let (q, s) = and_parts (is_counted b) (are_counted ts) r in
+    counted_after (more_counted (numbers_counted a b n x y p q k) (record { all = s; within = within_same (counts_of_all ts) })) (record { up = omega arith; down = omega arith })
+exponents_collected (collects_like {ts} us c p l a k) f h =
+    let (x, y) = parts_of us ts h in
+    counted_after (more_counted (like_counted us c p l a (first_parts HasForm us ts f) x k) (record { all = y; within = within_same (counts_of_all ts) })) (both_counts us ts)
+exponents_collected (collects_then k l) f h = let a = exponents_collected k f h in counted_after (exponents_collected l (collected_formed k f) a.all) a.within
+
+-- ---- the tree of terms
+
+number_terms : (t : Tree) → is_counted t ≡ true → AreCounted (terms_of_number t) (counts_of t)
+number_terms (num q) h = by (is_zero_fraction q)
+  where
+    by : (b : Bool) → AreCounted (if b then none else more (num q) none) (counts_of (num q))
+    by true = none_counted (counts_of (num q))
+    by false = only_counted (record { counted = h; within = within_same (counts_of (num q)) })
+number_terms (add ts) h = record { all = h; within = within_same (counts_of_all ts) }
+number_terms t h = only_counted (record { counted = h; within = within_same (counts_of t) })
+
+tree_of_terms : (ts : Trees) (c : Counts) → AreCounted ts c → IsCountedIn (sum_tree ts) c
+tree_of_terms none c a = zero_counted c
+tree_of_terms (more t none) c a = record { counted = (and_parts (is_counted t) true a.all).0; within = within_after (record { up = omega arith; down = omega arith }) a.within }
+tree_of_terms (more t (more u ts)) c a = record { counted = a.all; within = a.within }
+
+pub written_counts : (ts : Trees) (c : Counts) → AreCounted ts c → IsCountedIn (written_tree ts) c
+written_counts none c a = tree_of_terms none c a
+written_counts (more t ts) c a = by (leads_number (more t ts))
+  where
+    by : (b : Bool) → IsCountedIn (if b then sum_tree (append (terms_of_number t) ts) else sum_tree (more t ts)) c
+    by true =
+        let (x, y) = and_parts (is_counted t) (are_counted ts) a.all in
+        tree_of_terms (append (terms_of_number t) ts) c
+        (counted_after (append_counted (terms_of_number t) ts (number_terms t x) (record { all = y; within = within_same (counts_of_all ts) })) a.within)
+    by false = tree_of_terms (more t ts) c a
+
+-- ---- exponents that count are defined
+
+pub counted_defined : (ts : Trees) → are_counted ts ≡ true → has_undef ts ≡ false
+counted_defined none h = refl
+counted_defined (more t ts) h = let (a, b) = and_parts (is_counted t) (are_counted ts) h in first t a (counted_defined ts b)
+  where
+    first : (t : Tree) → is_counted t ≡ true → has_undef ts ≡ false → has_undef (more t ts) ≡ false
+    first undef k e = absurd (unclear k)
+    first t k e = e

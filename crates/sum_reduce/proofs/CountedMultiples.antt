@@ -1,0 +1,125 @@
+-- Multiples of how often an exponent counts its base.
+use Rattle.std.proofs.Common.{◌≡◌, ℕ, zero, suc, ◌+◌, ◌*◌, ◌≤◌, ℤ, pos, negsuc, ◌+ℤ◌, ◌*ℤ◌, refl, ap, arith}
+use Rattle.std.proofs.lemmas.Int.{ints}
+use Rattle.std.proofs.lemmas.Nat.{mul-le}
+use Rattle.std.specs.Prelude.{neg_ℤ}
+use Rattle.tree_bits.specs.Exponents.{Counts, counts, multiple, added}
+use Rattle.tree_bits.specs.Powers.{IsWithin}
+
+-- ---- within
+
+pub within_same : (c : Counts) → IsWithin c c
+within_same c = record { up = omega arith; down = omega arith }
+
+pub within_after : {c d e : Counts} → IsWithin c d → IsWithin d e → IsWithin c e
+within_after a b = record { up = omega (arith, a.up, b.up); down = omega (arith, a.down, b.down) }
+
+pub within_both : {c d e f : Counts} → IsWithin c d → IsWithin e f → IsWithin (added c e) (added d f)
+within_both a b = record { up = omega (arith, a.up, b.up); down = omega (arith, a.down, b.down) }
+
+pub nothing_within : (c : Counts) → IsWithin (counts 0 0) c
+nothing_within c = record { up = omega arith; down = omega arith }
+
+-- ---- whole numbers by their signs
+
+abbrev above : ℤ → ℕ
+above (pos n) = n
+above (negsuc n) = 0
+
+abbrev below : ℤ → ℕ
+below (pos n) = 0
+below (negsuc n) = suc n
+
+record IsMultiple (z : ℤ) (c : Counts) : Type 0 where
+  up : (multiple z c).up ≡ above z * c.up + below z * c.down
+  down : (multiple z c).down ≡ above z * c.down + below z * c.up
+
+by_signs : (z : ℤ) (c : Counts) → IsMultiple z c
+by_signs (pos n) c = record { up = omega arith; down = omega arith }
+by_signs (negsuc n) c = record { up = omega arith; down = omega arith }
+
+-- ---- sums
+
+record IsSumOf (y z w : ℤ) : Type 0 where
+  above-most : above w ≤ above y + above z
+  below-most : below w ≤ below y + below z
+
+sum_signs : (y z w : ℤ) → y +ℤ z ≡ w → IsSumOf y z w
+sum_signs (pos a) (pos b) (pos n) e = record { above-most = omega (arith, ints, e); below-most = omega arith }
+sum_signs (pos a) (pos b) (negsuc n) e = absurd (omega (arith, ints, e))
+sum_signs (pos a) (negsuc b) (pos n) e = record { above-most = omega (arith, ints, e); below-most = omega arith }
+sum_signs (pos a) (negsuc b) (negsuc n) e = record { above-most = omega arith; below-most = omega (arith, ints, e) }
+sum_signs (negsuc a) (pos b) (pos n) e = record { above-most = omega (arith, ints, e); below-most = omega arith }
+sum_signs (negsuc a) (pos b) (negsuc n) e = record { above-most = omega arith; below-most = omega (arith, ints, e) }
+sum_signs (negsuc a) (negsuc b) (pos n) e = absurd (omega (arith, ints, e))
+sum_signs (negsuc a) (negsuc b) (negsuc n) e = record { above-most = omega arith; below-most = omega (arith, ints, e) }
+
+spread : (w y z u v p : ℕ) → w ≤ y + z → u ≤ v + p → (q r : ℕ) → w * q + u * r ≤ (y * q + v * r) + (z * q + p * r)
+spread w y z u v p h k q r =
+    let a : w * q ≤ (y + z) * q = mul-le w q (y + z) q h (omega arith) in
+    let b : u * r ≤ (v + p) * r = mul-le u r (v + p) r k (omega arith) in
+    omega (arith, a, b)
+
+pub sum_within : (y z : ℤ) (c : Counts) → IsWithin (multiple (y +ℤ z) c) (added (multiple y c) (multiple z c))
+sum_within y z c =
+    let s = sum_signs y z (y +ℤ z) refl in
+    let a = by_signs y c in
+    let b = by_signs z c in
+    let d = by_signs (y +ℤ z) c in
+    record {
+      up = omega (arith, a.up, b.up, d.up, spread (above (y +ℤ z)) (above y) (above z) (below (y +ℤ z)) (below y) (below z) s.above-most s.below-most c.up c.down);
+      down = omega (arith, a.down, b.down, d.down, spread (above (y +ℤ z)) (above y) (above z) (below (y +ℤ z)) (below y) (below z) s.above-most s.below-most c.down c.up);
+    }
+
+-- ---- multiples of multiples, and of sums
+
+record IsProductOf (y z : ℤ) : Type 0 where
+  above-is : above (y *ℤ z) ≡ above y * above z + below y * below z
+  below-is : below (y *ℤ z) ≡ above y * below z + below y * above z
+
+turned : (n : ℕ) → (above (neg_ℤ (pos n)) ≡ 0) × (below (neg_ℤ (pos n)) ≡ n)
+turned zero = (refl, refl)
+turned (suc n) = (refl, refl)
+
+product_signs : (y z : ℤ) → IsProductOf y z
+product_signs (pos a) (pos b) = record { above-is = omega arith; below-is = omega arith }
+product_signs (pos a) (negsuc b) = record { above-is = omega (arith, (turned (a * suc b)).0); below-is = omega (arith, (turned (a * suc b)).1) }
+product_signs (negsuc a) (pos b) = record { above-is = omega (arith, (turned (suc a * b)).0); below-is = omega (arith, (turned (suc a * b)).1) }
+product_signs (negsuc a) (negsuc b) = record { above-is = omega arith; below-is = omega arith }
+
+regrouped : (p n s t y z u d : ℕ) → p ≡ s * y + t * z → n ≡ s * z + t * y → p * u + n * d ≡ s * (y * u + z * d) + t * (y * d + z * u)
+regrouped p n s t y z u d e f = omega (arith, ap (λ x. x * u) e, ap (λ x. x * d) f)
+
+pub product_within : (y z : ℤ) (c : Counts) → IsWithin (multiple (y *ℤ z) c) (multiple y (multiple z c))
+product_within y z c =
+    let p = product_signs y z in
+    let a = by_signs (y *ℤ z) c in
+    let b = by_signs y (multiple z c) in
+    let d = by_signs z c in
+    record {
+      up =
+          omega (
+            arith,
+            a.up,
+            b.up,
+            ap (λ n. above y * n) d.up,
+            ap (λ n. below y * n) d.down,
+            regrouped (above (y *ℤ z)) (below (y *ℤ z)) (above y) (below y) (above z) (below z) c.up c.down p.above-is p.below-is,
+          );
+      down =
+          omega (
+            arith,
+            a.down,
+            b.down,
+            ap (λ n. above y * n) d.down,
+            ap (λ n. below y * n) d.up,
+            regrouped (above (y *ℤ z)) (below (y *ℤ z)) (above y) (below y) (above z) (below z) c.down c.up p.above-is p.below-is,
+          );
+    }
+
+pub multiple_added : (z : ℤ) (c d : Counts) → IsWithin (added (multiple z c) (multiple z d)) (multiple z (added c d))
+multiple_added z c d =
+    let a = by_signs z c in
+    let b = by_signs z d in
+    let e = by_signs z (added c d) in
+    record { up = omega (arith, a.up, b.up, e.up); down = omega (arith, a.down, b.down, e.down) }

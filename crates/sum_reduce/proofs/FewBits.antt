@@ -1,0 +1,43 @@
+-- The next two Numbers that are added have few bits, where the terms of a sum have.
+use Rattle.std.proofs.Common.{◌≡◌, ℕ, suc, ◌<◌, ◌++◌, [], ◌∷◌, List, true, false, ap, ◌∙◌, subst, arith}
+use Rattle.calc_algebra.specs.Numbers.{is_number, value}
+use Rattle.calc_algebra.specs.Reduced.{part_of}
+use Rattle.calc_algebra.proofs.MeaningRewrites.{permuted_more}
+use Rattle.calc_bits.specs.Bounds.{HasFewBits}
+use Rattle.calc_terms.specs.Trees.{Tree, Trees, more, count}
+use Rattle.coefficients.specs.Coefficients.{coefficient_of, factors_of}
+use Rattle.like_children.specs.Neighbours.{IsPairAt}
+use Rattle.like_children.specs.Numbers.{IsNextNumber}
+use Rattle.number_forms.specs.Sums.{removed}
+use Rattle.sum_reduce.specs.Bits.{HaveFewBits}
+use Rattle.sum_reduce.specs.Joining.{IsJoining}
+use Rattle.sum_reduce.specs.Terms.{is_loose, is_partner}
+use Rattle.sum_reduce.proofs.Addends.{term_addends}
+use Rattle.sum_reduce.proofs.Held.{held_behind, held_equal, held_permuted, few_after, few_of_both}
+use Rattle.sum_reduce.proofs.Joins.{partners, tight_other}
+use Rattle.sum_reduce.proofs.Places.{count_removed, nth_behind_removed, taken_permuted}
+use Rattle.sum_reduce.proofs.Stages.{formed_permuted, none_permuted}
+use Rattle.tree_bits.specs.Children.{addends_of_each}
+use Rattle.tree_bits.specs.HeldTrees.{Addend, addend, addends}
+use Rattle.tree_bits.proofs.Numbers.{alone}
+use Rattle.tree_handles.specs.Expressions.{nth}
+
+pub next_number_few : (d : Tree) (us : Trees) (at : ℕ) → is_number d ≡ true → IsNextNumber 0 at us → HaveFewBits (addends_of_each (more d us)) → HasFewBits (value d ++ value (nth at us))
+next_number_few d us at n h b =
+    let first : HaveFewBits (addends_of_each (more d (more (nth at us) (removed at us)))) = few_after (held_permuted (permuted_more {t = d} (taken_permuted at us h.within))) b in
+    few_of_both (few_after (held_equal (λ i. alone d n i ++ (alone (nth at us) h.number i ++ addends_of_each (removed at us)))) first)
+
+pub next_partner_few : (ts : Trees) (c : Tree) (us : Trees) (at less : ℕ) → IsJoining ts c (nth at us) (removed at us) less → IsPairAt is_partner at us → HaveFewBits (addends_of_each ts) → HasFewBits (value c ++ value (coefficient_of (nth (suc at) us)))
+next_partner_few ts c us at less j h b =
+    let next : nth at (removed at us) ≡ nth (suc at) us = nth_behind_removed at at us (omega arith) in
+    let w = h.within in
+    let few : at < count (removed at us) = omega (arith, count_removed at us (omega (arith, w)), w) in
+    let perm = taken_permuted at (removed at us) few in
+    let u = nth at (removed at us) in
+    let n : is_number u ≡ false = ap is_number next ∙ (partners (nth at us) (nth (suc at) us) h.pair).second in
+    let s : is_loose u ≡ false = (none_permuted is_loose perm j.no_sum).0 in
+    let own : addends u ≡ addend (value (coefficient_of u)) (factors_of (part_of u)) ∷ [] = term_addends u (formed_permuted perm j.formed).0 n (tight_other u s n) in
+    let x : Addend = addend (value c) (factors_of (nth at us)) in
+    let all : HaveFewBits (x ∷ addends_of_each (more u (removed at (removed at us)))) = few_after (held_behind (x ∷ []) (held_permuted perm)) (few_after j.held b) in
+    subst (λ (t : Tree). HasFewBits (value c ++ value (coefficient_of t))) next
+    (few_of_both (few_after (held_equal (ap (λ (y : List Addend). x ∷ (y ++ addends_of_each (removed at (removed at us)))) own)) all))

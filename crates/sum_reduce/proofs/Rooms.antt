@@ -1,0 +1,208 @@
+-- How many bytes the terms of a sum have while they are collected, and for how few at hand that is refused.
+use Rattle.std.proofs.Common.{◌≡◌, ℕ, suc, ◌+◌, ◌*◌, ◌^◌, ◌<◌, ◌≤◌, List, length, Bool, true, false, if◌then◌else◌, refl, ap, ◌∙◌, subst, arith}
+use Rattle.std.proofs.lemmas.Bool.{and_from}
+use Rattle.std.proofs.lemmas.Nat.{pow_pos}
+use Rattle.calc_algebra.specs.Numbers.{is_number}
+use Rattle.calc_algebra.specs.Reduced.{NoneIs, are_reduced, num_one}
+use Rattle.calc_algebra.proofs.MeaningRewrites.{Permuted, permuted_none, permuted_more, permuted_swap, permuted_trans}
+use Rattle.calc_algebra.proofs.NumberLaws.{number_words}
+use Rattle.calc_room.specs.Counts.{counted, counted_among}
+use Rattle.calc_room.specs.Needs.{sum_need}
+use Rattle.calc_room.specs.Spans.{SpansRoot, SpansTree, SpansTrees}
+use Rattle.calc_room.proofs.NumberBytes.{num_bytes}
+use Rattle.calc_terms.specs.Fractions.{one_fraction}
+use Rattle.calc_terms.specs.Trees.{Tree, add, mult, Trees, none, more, append, count, size}
+use Rattle.coefficients.specs.Bytes.{bytes_of_coefficient, bytes_of_taking, IsShort}
+use Rattle.coefficients.specs.Coefficients.{with_coefficient}
+use Rattle.coefficients.specs.Rooms.{put_room}
+use Rattle.coefficients.proofs.Forms.{parts_reduced}
+use Rattle.like_children.specs.Neighbours.{IsPairAt}
+use Rattle.node_pool.specs.State.{State, free_of}
+use Rattle.node_pool.specs.declared.full.Full.{Full}
+use Rattle.number_forms.specs.Sums.{removed}
+use Rattle.number_forms.proofs.Rooms.{number_size}
+use Rattle.sum_reduce.specs.Arranging.{IsArranged, IsLead}
+use Rattle.sum_reduce.specs.Collected.{AreLike, Collects}
+use Rattle.sum_reduce.specs.Joining.{IsJoining}
+use Rattle.sum_reduce.specs.Rooms.{terms_room}
+use Rattle.sum_reduce.specs.Terms.{AreFormed, is_partner}
+use Rattle.sum_reduce.proofs.CollectedCounts.{counted_in, collected_counts, put_counted}
+use Rattle.sum_reduce.proofs.CollectedParts.{first_parts, last_parts, part_parts, permuted_parts}
+use Rattle.sum_reduce.proofs.CollectedSpans.{total_spans}
+use Rattle.sum_reduce.proofs.Places.{count_removed, inserted_permuted, nth_behind_removed, taken_permuted}
+use Rattle.sum_reduce.proofs.Rearranged.{of_lists}
+use Rattle.sum_reduce.proofs.SumBytes.{sizes_taken}
+use Rattle.tree_handles.specs.Expressions.{nth, inserted}
+use Rattle.tree_room.specs.Handed.{counted_in_all, sum_count}
+use Rattle.tree_room.specs.Needs.{tree_bytes, sum_room}
+use Rattle.tree_room.proofs.Coefficients.{part_counts}
+use Rattle.tree_room.proofs.Counts.{all_appended, counts_one, number_counts_one, numbers_and_others}
+use Rattle.tree_room.proofs.Handed.{sum_bytes}
+use Rattle.tree_room.proofs.Multiples.{scaled}
+
+all_reduced : (ts : Trees) → AreFormed ts → are_reduced ts ≡ true
+all_reduced none h = refl
+all_reduced (more t ts) h = and_from _ _ (parts_reduced t h.0) (all_reduced ts h.1)
+
+-- ---- counts
+
+permuted_counts : {ts us : Trees} → Permuted ts us → counted_in_all us ≡ counted_in_all ts
+permuted_counts permuted_none = refl
+permuted_counts (permuted_more {t} k) = ap (λ (n : ℕ). counted t + n) (permuted_counts k)
+permuted_counts (permuted_swap {t} {u} {ts}) = omega arith
+permuted_counts (permuted_trans k l) = permuted_counts l ∙ permuted_counts k
+
+like_counts : (us : Trees) (p : Tree) → 1 ≤ count us → AreLike p us → counted p ≤ counted_in_all us
+like_counts none p l a = absurd (omega arith)
+like_counts (more t us) p l a = omega (arith, part_counts t, ap counted a.1)
+
+joining_counts : (ts : Trees) (c p : Tree) (rest : Trees) (less : ℕ) → IsJoining ts c p rest less → counted p + counted_in_all rest ≤ counted_in_all ts
+joining_counts ts c p rest less j =
+    let a = j.added in
+    omega (arith, like_counts a.like p a.some a.are, all_appended a.like rest, permuted_counts (of_lists ts (append a.like rest) a.moved))
+
+-- a coefficient is free
+put_counts : (c p : Tree) (rest : Trees) (ts : Trees) (less : ℕ) → IsJoining ts c p rest less → counted (with_coefficient c p) ≤ counted p
+put_counts c p rest ts less j = by (is_number (with_coefficient c p)) refl
+  where
+    by : (b : Bool) → is_number (with_coefficient c p) ≡ b → counted (with_coefficient c p) ≤ counted p
+    by true e = omega (arith, number_counts_one (with_coefficient c p) e, counts_one p)
+    by false e =
+        let same : counted_in (with_coefficient c p) ≡ counted (with_coefficient c p) = ap (λ (b : Bool). if b then 0 else counted (with_coefficient c p)) e in
+        omega (arith, same, put_counted c p (number_words c j.number) j.monic)
+
+pub joined_counts : (ts : Trees) (c p : Tree) (rest vs : Trees) (less at : ℕ) → IsJoining ts c p rest less → vs ≡ inserted at (more (with_coefficient c p) none) rest → counted_in_all vs ≤ counted_in_all ts
+joined_counts ts c p rest vs less at j e =
+    omega (arith, ap counted_in_all e, permuted_counts (inserted_permuted at (with_coefficient c p) rest), put_counts c p rest ts less j, joining_counts ts c p rest less j)
+
+-- the terms are in order: a Number counts 1 more
+lead_counts : (ts : Trees) → IsLead ts → counted_in_all ts ≤ 1
+lead_counts none h = omega arith
+lead_counts (more t none) h = omega (arith, number_counts_one t h)
+lead_counts (more t (more u ts)) h = absurd h
+
+other_counts : (ts : Trees) → NoneIs is_number ts → counted_in_all ts ≤ counted_among ts
+other_counts none h = omega arith
+other_counts (more t ts) h =
+    let same : (if is_number t then 0 else counted t) ≡ counted t = ap (λ (b : Bool). if b then 0 else counted t) h.0 in
+    omega (arith, same, other_counts ts h.1)
+
+pub arranged_counts : {ts us : Trees} → Collects ts us → AreFormed ts → IsArranged us → sum_count us ≤ 1 + sum_count ts
+arranged_counts {ts = ts} {us = us} k f a =
+    omega (
+      arith,
+      collected_counts k f,
+      numbers_and_others ts,
+      ap counted_in_all a.split,
+      ap counted_among a.split,
+      all_appended a.lead a.others,
+      among_appended a.lead a.others,
+      lead_counts a.lead a.one,
+      other_counts a.others a.no_number,
+    )
+  where
+    among_appended : (ts us : Trees) → counted_among us ≤ counted_among (append ts us)
+    among_appended none us = omega arith
+    among_appended (more t ts) us = omega (arith, among_appended ts us)
+
+-- ---- what is spanned
+
+like_spans : (gs : List ℕ) (us : Trees) (p : Tree) → 1 ≤ count us → AreLike p us → SpansTrees gs us → SpansTree gs p
+like_spans gs none p l a h = absurd (omega arith)
+like_spans gs (more t us) p l a h = subst (SpansTree gs) a.1 (part_parts (SpansRoot gs) (λ q. tt) (λ vs. tt) (λ vs. tt) t h.0)
+
+pub record AreSpanned (gs : List ℕ) (c p : Tree) (rest : Trees) : Type 0 where
+  pub coefficient : SpansTree gs c
+  pub part : SpansTree gs p
+  pub others : SpansTrees gs rest
+
+pub joining_spans : (gs : List ℕ) (ts : Trees) (c p : Tree) (rest : Trees) (less : ℕ) → IsJoining ts c p rest less → SpansTrees gs ts → AreSpanned gs c p rest
+joining_spans gs ts c p rest less j s =
+    let a = j.added in
+    let all : SpansTrees gs (append a.like rest) = permuted_parts (SpansRoot gs) (of_lists ts (append a.like rest) a.moved) s in
+    let like : SpansTrees gs a.like = first_parts (SpansRoot gs) a.like rest all in
+    record {
+      coefficient = total_spans gs a.like c like (record { number = j.number; worth = a.worth });
+      part = like_spans gs a.like p a.some a.are like;
+      others = last_parts (SpansRoot gs) a.like rest all;
+    }
+
+-- and the partner behind the part
+pub spans_next : (gs : List ℕ) {c : Tree} (us : Trees) (at : ℕ) → AreSpanned gs c (nth at us) (removed at us) → IsPairAt is_partner at us → SpansTree gs (nth (suc at) us)
+spans_next gs us at w h =
+    let next : nth at (removed at us) ≡ nth (suc at) us = nth_behind_removed at at us (omega arith) in
+    let l = h.within in
+    let few : at < count (removed at us) = omega (arith, count_removed at us (omega (arith, l)), l) in
+    subst (SpansTree gs) next (permuted_parts (SpansRoot gs) (taken_permuted at (removed at us) few) w.others).0
+
+-- ---- bytes
+
+terms_bytes : (gs : List ℕ) (ts : Trees) (h : ℕ) → AreFormed ts → SpansTrees gs ts → sum_count ts ≤ h → size (add ts) ≤ tree_bytes h (2 ^ length gs)
+terms_bytes gs ts h f s l =
+    let a : size (add ts) ≤ 204 * sum_count ts * 2 ^ length gs = sum_bytes gs ts (all_reduced ts f) s in
+    let b : 204 * sum_count ts * 2 ^ length gs ≤ 204 * h * 2 ^ length gs = scaled (204 * sum_count ts) (204 * h) (2 ^ length gs) (omega (arith, l)) in
+    omega (arith, a, b)
+
+joining_bytes : (gs : List ℕ) (ts : Trees) (c p : Tree) (rest : Trees) (less : ℕ) → IsJoining ts c p rest less → SpansTrees gs ts → size (add (more p rest)) ≤ tree_bytes (sum_count ts) (2 ^ length gs)
+joining_bytes gs ts c p rest less j s =
+    let w = joining_spans gs ts c p rest less j s in
+    let a : size (add (more p rest)) ≤ 204 * sum_count (more p rest) * 2 ^ length gs = sum_bytes gs (more p rest) (and_from _ _ j.monic.reduced (all_reduced rest j.formed)) (w.part, w.others) in
+    let b : 204 * sum_count (more p rest) * 2 ^ length gs ≤ 204 * sum_count ts * 2 ^ length gs =
+    scaled (204 * sum_count (more p rest)) (204 * sum_count ts) (2 ^ length gs) (omega (arith, joining_counts ts c p rest less j)) in
+    omega (arith, a, b)
+
+taking_most : (t : Tree) → bytes_of_taking t ≤ 40
+taking_most (mult ts) = product ts
+  where
+    product : (ts : Trees) → bytes_of_coefficient ts ≤ 40
+    product ts = by _ _
+      where
+        by : (a b : Bool) → (if a then size num_one else (if b then 0 else 8)) ≤ 40
+        by true b = num_bytes one_fraction
+        by false true = omega arith
+        by false false = omega arith
+taking_most t = num_bytes one_fraction
+
+-- ---- refusals
+
+-- so few bytes are free beside terms
+pub terms_lack : (gs : List ℕ) (ts : Trees) (free h : ℕ) → AreFormed ts → SpansTrees gs ts → sum_count ts ≤ h → free < sum_need * 2 ^ length gs → free + size (add ts) < terms_room h (2 ^ length gs)
+terms_lack gs ts free h f s l k = omega (arith, terms_bytes gs ts h f s l, k)
+
+pub taking_lacks : {s now : State} {full : Full} (t : Tree) → IsShort (bytes_of_taking t) s now full → free_of s < 40
+taking_lacks {s = s} t r =
+    let short : free_of s < bytes_of_taking t = subst (λ (f : Full). f.free < f.needed) r.told r.lacks.lacking in
+    omega (arith, short, taking_most t)
+
+pub few_lack : (gs : List ℕ) (free : ℕ) → free < 40 → free < sum_need * 2 ^ length gs
+few_lack gs free l = let p : 0 < 2 ^ length gs = pow_pos (length gs) in omega (arith, l, p)
+
+-- and beside a Number
+pub number_lacks : (gs : List ℕ) (c : Tree) (free : ℕ) → is_number c ≡ true → SpansTree gs c → free < 40 → free + size c < sum_need * 2 ^ length gs
+number_lacks gs c free n s l = omega (arith, number_size gs c n s, l)
+
+-- beside a part whose coefficient stands by itself
+pub partner_lacks : (gs : List ℕ) (ts : Trees) (c : Tree) (us : Trees) (at less free : ℕ) → IsJoining ts c (nth at us) (removed at us) less → at < count us → SpansTrees gs ts → free + size c < sum_need * 2 ^ length gs
+    → free + size (add us) + size c < terms_room (sum_count ts) (2 ^ length gs)
+partner_lacks gs ts c us at less free j l s k = omega (arith, joining_bytes gs ts c (nth at us) (removed at us) less j s, sizes_taken at us l, k)
+
+-- where it is put back
+pub part_lacks : (gs : List ℕ) (ts : Trees) (c : Tree) (us : Trees) (at less free : ℕ) → IsJoining ts c (nth at us) (removed at us) less → at < count us → SpansTrees gs ts
+    → free + size c + size (nth at us) < put_room (counted (nth at us)) (2 ^ length gs) → free + size (add us) + size c < terms_room (sum_count ts) (2 ^ length gs)
+part_lacks gs ts c us at less free j l s k =
+    let p = nth at us in
+    let rest = removed at us in
+    let w = joining_spans gs ts c p rest less j s in
+    let a : size (add rest) ≤ 204 * sum_count rest * 2 ^ length gs = sum_bytes gs rest (all_reduced rest j.formed) w.others in
+    let b : 204 * (counted p + sum_count rest) * 2 ^ length gs ≤ 204 * sum_count ts * 2 ^ length gs =
+    scaled (204 * (counted p + sum_count rest)) (204 * sum_count ts) (2 ^ length gs) (omega (arith, joining_counts ts c p rest less j)) in
+    omega (arith, a, b, sizes_taken at us l, k)
+
+pub fewer_lack : (gs : List ℕ) (bytes h k : ℕ) → h ≤ k → bytes < terms_room h (2 ^ length gs) → bytes < terms_room k (2 ^ length gs)
+fewer_lack gs bytes h k l b =
+    let a : 204 * h * 2 ^ length gs ≤ 204 * k * 2 ^ length gs = scaled (204 * h) (204 * k) (2 ^ length gs) (omega (arith, l)) in
+    omega (arith, a, b)
+
+-- the terms with one more that counts stand within the room of the sum
+pub sum_lacks : (ts : Trees) (bytes m : ℕ) → bytes < terms_room (1 + sum_count ts) m → bytes < sum_room (sum_count ts) m
+sum_lacks ts bytes m l = omega (arith, l)
