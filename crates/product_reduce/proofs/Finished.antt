@@ -37,7 +37,7 @@ use Rattle.tree_handles.proofs.UndefChildren.{undef_inside}
 
 -- ---- reduced factors
 
-formed_unless_undef : (t : Tree) → is_reduced t ≡ true → is_undef t ≡ false → IsFormed t
+pub formed_unless_undef : (t : Tree) → is_reduced t ≡ true → is_undef t ≡ false → IsFormed t
 unfolding is_reduced
 formed_unless_undef t h d = formed t (ap (λ (k : Bool). k || all_parts has_form t) (sym d) ∙ h)
 

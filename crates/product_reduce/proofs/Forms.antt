@@ -32,7 +32,7 @@ split_of_rational q none h = refl
 split_of_rational q (more (root (num r)) ts) h = ap (λ (k : Bool). if k then split (mult (more (num q) (more (root (num r)) none))) ts else split (num q) (more (root (num r)) ts)) h.0
 split_of_rational q (more t ts) h = refl
 
-split_of_number : (c : Tree) (ts : Trees) → is_number c ≡ true → NoneIs is_number ts → split_product (append (factors_of c) ts) ≡ split c ts
+pub split_of_number : (c : Tree) (ts : Trees) → is_number c ≡ true → NoneIs is_number ts → split_product (append (factors_of c) ts) ≡ split c ts
 unfolding is_number
 split_of_number (num q) ts h k = split_of_rational q ts k
 split_of_number (root (num r)) ts h k = ap (λ (b : Bool). if b then split (root (num r)) ts else split num_one (more (root (num r)) ts)) h

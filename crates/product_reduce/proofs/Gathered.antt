@@ -1,6 +1,5 @@
 -- From a coefficient beside ordered factors to the gathered product.
-use Rattle.std.proofs.Common.{ℕ, ◌≤◌, ◌≡◌, Result, Ok, Err, Bool, true, false, ◌&&◌, eqb, refl, sym, ap, ◌∙◌, subst, arith}
-use Rattle.std.specs.Prelude.{IfErr, IsPermutation}
+use Rattle.std.proofs.Common.{ℕ, ◌≡◌, Result, Ok, Err, true, false, ◌&&◌, refl, sym, ap, ◌∙◌, subst, arith}
 use Rattle.std.proofs.lemmas.Bool.{and_parts, and_from}
 use Rattle.std.proofs.lemmas.List.Sorted.{IsPermutation-trans}
 use Rattle.calc_algebra.specs.Numbers.{is_number}
@@ -11,7 +10,7 @@ use Rattle.calc_algebra.proofs.Names.{within_same, within_beside, names_permuted
 use Rattle.calc_algebra.proofs.Rewritings.{keeps, reduces_after}
 use Rattle.calc_measures.specs.Loads.{nest_of, load_of_factors}
 use Rattle.calc_measures.proofs.Nests.{nest_permuted}
-use Rattle.calc_terms.specs.Trees.{Tree, mult, Trees, none, more, append, is_mult, is_undef, has_undef, names, names_of}
+use Rattle.calc_terms.specs.Trees.{Tree, mult, Trees, none, more, is_mult, is_undef, has_undef, names, names_of}
 use Rattle.node_order.specs.Sorting.{IsSorting, list_of}
 use Rattle.node_pool.specs.State.{State}
 use Rattle.tree_handles.specs.declared.fault.NumberFault.{NumberFault}

@@ -1,9 +1,8 @@
 -- A coefficient that stands first as it is written, and factors put in order behind it.
 use Rattle.std.specs.Prelude.{take, Option, None, Some, MatchOption, is_some}
-use Rattle.std.proofs.Common.{ℕ, zero, suc, ◌+◌, ◌<◌, ◌≤◌, ◌≡◌, ◌≢◌, inl, inr, not, Bool, true, false, if◌then◌else◌, refl, sym, ap, ◌∙◌, subst, arith}
+use Rattle.std.proofs.Common.{ℕ, zero, suc, ◌+◌, ◌≤◌, ◌≡◌, ◌≢◌, inl, inr, not, Bool, true, false, if◌then◌else◌, refl, sym, ap, ◌∙◌, subst, arith}
 use Rattle.calc_algebra.specs.Numbers.{is_number, value, IsTerm}
 use Rattle.calc_algebra.specs.Reduced.{base_of, is_num_one, is_one_add, num_one, product_tree, NoneIs, HasForm, are_reduced}
-use Rattle.calc_algebra.specs.SquareClasses.{Same}
 use Rattle.calc_algebra.proofs.MeaningLaws.{Same-sym}
 use Rattle.calc_algebra.proofs.MeaningRewrites.{Permuted, permuted_more, Permuted-sym}
 use Rattle.calc_algebra.proofs.SquareClassLaws.{Same-trans}
@@ -11,7 +10,7 @@ use Rattle.calc_algebra.proofs.SurdLaws.{Agree-Same, surd_times-one}
 use Rattle.calc_algebra.proofs.TermLaws.{Same-eq}
 use Rattle.calc_terms.specs.Fractions.{Fraction, one_fraction, zero_fraction, is_one_fraction, lowest}
 use Rattle.calc_terms.specs.Gcd.{gcd}
-use Rattle.calc_terms.specs.Trees.{Tree, num, symbol, undef, add, mult, power, root, neg, sub, div, Trees, none, more, append, count, is_add, is_mult}
+use Rattle.calc_terms.specs.Trees.{Tree, num, add, mult, root, Trees, none, more, append, count, is_add, is_mult}
 use Rattle.coefficients.specs.Coefficients.{factors_of, rational_before, spliced, with_coefficient}
 use Rattle.coefficients.proofs.Factors.{two_count}
 use Rattle.like_children.specs.Numbers.{IsNextNumber, NoNumberBetween}
@@ -20,6 +19,7 @@ use Rattle.number_forms.specs.Readers.{is_zero}
 use Rattle.number_forms.specs.Sums.{removed}
 use Rattle.tree_handles.specs.Expressions.{nth}
 use Rattle.product_reduce.specs.Answers.{AreOthers, IsStop, at_end, IsEnding}
+use Rattle.product_reduce.specs.Bits.{AreFactorsHeld}
 use Rattle.product_reduce.specs.Factors.{opened, numbers_in, others_in, product_of_values, coefficient_times}
 use Rattle.product_reduce.specs.Gathering.{IsLead, IsOrdered}
 use Rattle.product_reduce.specs.Joining.{have_partners}
@@ -27,6 +27,7 @@ use Rattle.product_reduce.specs.Neighbours.{IsPairAt, IsNextPair, NoPairBetween}
 use Rattle.product_reduce.proofs.Forms.{AllFormed}
 use Rattle.product_reduce.proofs.Fronts.{one_in_front, other_in_front, single_factor}
 use Rattle.product_reduce.proofs.Gathered.{others_permuted, reduced_permuted}
+use Rattle.product_reduce.proofs.HeldNumbers.{alone_held, no_factors_held}
 use Rattle.product_reduce.proofs.JointPlaces.{count-append}
 use Rattle.product_reduce.proofs.LastSteps.{ending, permuted_none_is, times_written}
 use Rattle.product_reduce.proofs.Misfits.{permuted_one_is}
@@ -67,7 +68,7 @@ no_sum (more t none) h = by t h
     by t h = refl
 no_sum (more t (more u us)) h = refl
 
-factors_again : (us : Trees) → NoneIs is_mult us → 1 ≤ count us → factors_of (product_tree us) ≡ us
+pub factors_again : (us : Trees) → NoneIs is_mult us → 1 ≤ count us → factors_of (product_tree us) ≡ us
 factors_again none n l = absurd (omega arith)
 factors_again (more t none) n l = single_factor t n.0
 factors_again (more t (more u us)) n l = refl
@@ -124,7 +125,7 @@ lead_none ts n l =
       lead = none;
       split = sym all;
       long = refl;
-      coefficient = record { number = refl; same = Same-eq (one_value ∙ sym (ap product_of_values (numbers_none ts n))) };
+      coefficient = record { number = refl; same = Same-eq (one_value ∙ sym (ap product_of_values (numbers_none ts n))); held = λ h l a. no_factors_held (value num_one) h l one_value };
       not_zero = one_not_zero;
       some = subst (λ (x : Trees). 1 ≤ count x) (sym all) l;
       before = λ us. one_in_front num_one us one_is_one;
@@ -142,7 +143,11 @@ lead_one (more c os) h n m z o l d =
       lead = more c none;
       split = ap (more c) (sym alone);
       long = refl;
-      coefficient = record { number = h.number; same = Same-trans (Same-sym (Agree-Same (surd_times-one (value c)))) (Same-eq (sym (ap product_of_values numbers))) };
+      coefficient = record {
+        number = h.number;
+        same = Same-trans (Same-sym (Agree-Same (surd_times-one (value c)))) (Same-eq (sym (ap product_of_values numbers)));
+        held = λ i j a. alone_held c h.number (subst (λ (ns : Trees). AreFactorsHeld ns i j) numbers a);
+      };
       not_zero = z;
       some = subst (λ (x : Trees). 1 ≤ count x) (sym alone) some;
       before = λ us. other_in_front c us o ∙ ap (λ (x : Trees). append x us) (single_factor c m.0);

@@ -27,3 +27,13 @@ pub mod Misfits
 pub mod Neighbours
 pub mod Gathered
 pub mod Leads
+pub mod HeldNumbers
+pub mod HeldFactors
+pub mod HeldPairs
+mod GatheredParts
+mod SpreadFits
+mod HeldProducts
+mod HeldMultiples
+mod Underway
+mod FreeBytes
+mod GatheredCounts

@@ -1,20 +1,17 @@
 -- Neighbours among sorted factors, and what their bases tell of all factors.
-use Rattle.std.specs.declared.cmp.Ordering.{Ordering}
-use Rattle.std.specs.declared.cmp.Ordering.TheVariants.{Less, Equal, Greater}
 use Rattle.std.specs.Ordering.{is_eq, is_lt}
 use Rattle.std.specs.Prelude.{IsSortedByKey, IsPermutation}
-use Rattle.std.proofs.lemmas.Bool.{ltb-true, ltb-false, and_parts, and_from}
-use Rattle.std.proofs.Common.{◌⊎◌, inl, inr, nat_lt, ℕ, zero, suc, ◌<◌, ◌≤◌, ◌+◌, ◌≡◌, Bool, true, false, not, ◌&&◌, if◌then◌else◌, refl, sym, ap, ◌∙◌, subst, arith, add-one}
+use Rattle.std.proofs.lemmas.Bool.{and_parts}
+use Rattle.std.proofs.Common.{ℕ, zero, suc, ◌<◌, ◌≤◌, ◌+◌, ◌≡◌, Bool, true, false, not, ◌&&◌, if◌then◌else◌, refl, sym, ap, ◌∙◌, arith, add-one}
 use Rattle.calc_algebra.specs.Numbers.{is_number}
-use Rattle.calc_algebra.specs.Reduced.{base_of, NoneIs, RisesBy, is_reduced, are_reduced}
+use Rattle.calc_algebra.specs.Reduced.{base_of, NoneIs, RisesBy, are_reduced}
 use Rattle.calc_algebra.specs.TreeOrder.{tree_cmp}
-use Rattle.calc_algebra.proofs.MeaningRewrites.{Permuted, permuted_none, permuted_more, permuted_swap, permuted_trans, Permuted-sym}
+use Rattle.calc_algebra.proofs.MeaningRewrites.{Permuted, Permuted-sym}
 use Rattle.calc_algebra.proofs.TreeOrderLaws.{tree_cmp_total}
-use Rattle.calc_terms.specs.Trees.{Tree, Trees, none, more, append, count, is_mult}
+use Rattle.calc_terms.specs.Trees.{Tree, Trees, none, more, count, is_mult}
 use Rattle.node_order.specs.Sorting.{list_of}
 use Rattle.number_forms.specs.Sums.{removed}
-use Rattle.tree_handles.specs.Expressions.{nth, inserted}
-use Rattle.tree_handles.proofs.Outcomes.{by_test}
+use Rattle.tree_handles.specs.Expressions.{nth}
 use Rattle.product_reduce.specs.Factors.{coefficient_before}
 use Rattle.product_reduce.specs.Joining.{is_partner, has_partner, have_partners, joint, IsJointAt}
 use Rattle.product_reduce.specs.Neighbours.{is_single, is_pair, IsPairAt, NoPairBetween, joined_pair}

@@ -1,15 +1,16 @@
 -- The Numbers among the factors are multiplied one after the other.
 use Rattle.std.specs.Prelude.{Err}
 use Rattle.number_forms.specs.Sums.{removed}
-use Rattle.calc_terms.specs.Trees.{are_rationals, Tree, num, mult, Trees, none, more, append, count, is_num}
+use Rattle.calc_terms.specs.Trees.{are_rationals, Tree, num, mult, Trees, none, more, append, count}
 use Rattle.calc_algebra.specs.Reduced.{are_reduced, num_one, is_reduced}
-use Rattle.std.proofs.Common.{◌⊎◌, inl, inr, nat_lt, ℕ, zero, suc, ◌<◌, ◌≤◌, ◌+◌, ◌≡◌, List, ◌∷◌, Bool, true, false, if◌then◌else◌, refl, sym, ap, ◌∙◌, subst, arith}
-use Rattle.std.proofs.lemmas.Bool.{and_parts, and_from, ltb-true, ltb-false}
-use Rattle.calc_terms.specs.Fits.{mul_op, operation_fits, result_of}
+use Rattle.std.proofs.Common.{ℕ, zero, suc, ◌<◌, ◌≤◌, ◌+◌, ◌*◌, ◌≡◌, Bool, true, false, if◌then◌else◌, refl, sym, ap, ◌∙◌, subst, arith}
+use Rattle.std.proofs.lemmas.Bool.{and_parts, and_from}
+use Rattle.calc_terms.specs.Fits.{mul_op}
 use Rattle.calc_terms.specs.Fractions.{Fraction, one_fraction, lowest}
 use Rattle.calc_terms.specs.Gcd.{gcd}
-use Rattle.calc_algebra.specs.Numbers.{is_number, value}
-use Rattle.calc_measures.specs.PlainValues.{PlainValue, exactly, overflow, calculated, fold_values, gather, values, plain_of_children, plain_value, are_plain}
+use Rattle.calc_algebra.specs.Numbers.{is_number, are_numbers, value}
+use Rattle.calc_bits.specs.Bounds.{HasFewBits, IsNoLarger}
+use Rattle.calc_measures.specs.PlainValues.{PlainValue, calculated, fold_values, plain_value}
 use Rattle.calc_algebra.specs.SquareClasses.{Same}
 use Rattle.calc_algebra.specs.Surds.{Surd, surd_one, surd_times}
 use Rattle.calc_algebra.proofs.MeaningLaws.{Same-sym}
@@ -21,15 +22,16 @@ use Rattle.number_forms.specs.Answers.{AnswersRationals}
 use Rattle.tree_handles.specs.declared.fault.NumberFault.{NumberFault}
 use Rattle.tree_handles.specs.declared.fault.NumberFault.TheVariants as fault
 use Rattle.rational128.specs.declared.overflow.Overflow.{Overflow}
-use Rattle.calc_measures.specs.PlainTrees.{IsPlainAnswer, IsPlainOverflow}
+use Rattle.calc_measures.specs.PlainTrees.{IsPlainAnswer}
 use Rattle.tree_handles.specs.Expressions.{nth}
-use Rattle.tree_handles.proofs.Outcomes.{by_test}
 use Rattle.product_reduce.specs.Factors.{numbers_in, others_in, product_of_values, IsCoefficient}
 use Rattle.product_reduce.specs.Misfits.{NamesProduct, MultiplyingOverflows}
 use Rattle.like_children.specs.Folds.{rational_of, rationals_of}
 use Rattle.like_children.specs.Numbers.{IsNextNumber, NoNumberBetween}
 use Rattle.like_children.proofs.Folds.{first_of, product_begun, fold_more, fold_overflowed, fold_full, fold_done, no_numbers, some_number}
+use Rattle.product_reduce.specs.Bits.{AreFactorsHeld}
 use Rattle.product_reduce.specs.Multiplying.{AreMultiplied, IsProgress}
+use Rattle.product_reduce.proofs.HeldNumbers.{alone_held, front_held, front_numbers, next_held, no_factors_held, numbers_are}
 
 -- ---- the first Number from the left goes
 
@@ -61,7 +63,12 @@ pub started : (n : ℕ) (ts : Trees) → are_reduced ts ≡ true → IsNextNumbe
 started n ts r h = record {
   number = h.number;
   worth = Same-eq (ap product_of_values (numbers_removed n ts h));
-  multiplied = record { first = more (nth n ts) none; is = numbers_removed n ts h; worth = Same-sym (Agree-Same (surd_times-one (value (nth n ts)))) };
+  multiplied = record {
+    first = more (nth n ts) none;
+    is = numbers_removed n ts h;
+    worth = Same-sym (Agree-Same (surd_times-one (value (nth n ts))));
+    held = λ k l a. alone_held (nth n ts) h.number a;
+  };
   others = others_removed n ts h.within h.number;
   reduced = reduced_removed n ts h.within r;
   fewer = λ m. omega (arith, ap count (numbers_removed n ts h));
@@ -93,7 +100,7 @@ unfolding is_number
 started_at_one ts r b = record {
   number = refl;
   worth = by (numbers_in ts) (numbers_none ts b);
-  multiplied = record { first = none; is = refl; worth = Same-eq one_value };
+  multiplied = record { first = none; is = refl; worth = Same-eq one_value; held = λ h l a. no_factors_held (value num_one) h l one_value };
   others = refl;
   reduced = r;
   fewer = λ m. absurd (omega (arith, ap count (numbers_none ts b)));
@@ -114,16 +121,25 @@ product_append none x = Same-trans (Same-eq (surd_times-surd_one (value x))) (Sa
 product_append (more t ts) x =
     Same-trans (Same-eq (surd_times_assoc (value t) (product_of_values ts) (value x))) (Same-surd_times (Same-refl (value t)) (product_append ts x))
 
-one_more : (ns ms rest : Trees) (d e x : Tree) → ms ≡ more x rest → Same (value e) (surd_times (value d) (value x)) → AreMultiplied ns ms d → AreMultiplied ns rest e
-one_more ns ms rest d e x s w m = record {
-  first = append m.first (more x none);
-  is = m.is ∙ ap (append m.first) s ∙ append_one m.first x rest;
-  worth = Same-trans w (Same-trans (Same-surd_times m.worth (Same-refl (value x))) (product_append m.first x));
-}
+-- the first Numbers and the next one
+next_numbers : (first : Trees) (x : Tree) (rest : Trees) → are_numbers (append first (more x rest)) ≡ true → are_numbers (append first (more x none)) ≡ true
+next_numbers first x rest n = front_numbers (append first (more x none)) rest (ap are_numbers (sym (append_one first x rest)) ∙ n)
+
+one_more : (ns ms rest : Trees) (d e x : Tree) → are_numbers ns ≡ true → ms ≡ more x rest → is_number d ≡ true → Same (value e) (surd_times (value d) (value x)) → IsNoLarger (surd_times (value d) (value x)) (value e) → AreMultiplied ns ms d
+    → AreMultiplied ns rest e
+one_more ns ms rest d e x n s k w i m =
+    let whole : ns ≡ append m.first (more x rest) = m.is ∙ ap (append m.first) s in
+    record {
+      first = append m.first (more x none);
+      is = whole ∙ append_one m.first x rest;
+      worth = Same-trans w (Same-trans (Same-surd_times m.worth (Same-refl (value x))) (product_append m.first x));
+      held = λ h l a. i.held h l (next_held m.first x d h l (next_numbers m.first x rest (ap are_numbers (sym whole) ∙ n)) k m.worth m.held a);
+    }
 
 pub multiplied : (n : ℕ) (ts us : Trees) (d e : Tree) → IsNextNumber 0 n us → IsProgress ts us d
-    → is_number e ≡ true → Same (value e) (surd_times (value d) (value (nth n us))) → ((p q : Fraction) → d ≡ num p → nth n us ≡ num q → IsPlainAnswer (calculated mul_op p q) e) → IsProgress ts (removed n us) e
-multiplied n ts us d e h g k w a =
+    → is_number e ≡ true → Same (value e) (surd_times (value d) (value (nth n us))) → IsNoLarger (surd_times (value d) (value (nth n us))) (value e)
+    → ((p q : Fraction) → d ≡ num p → nth n us ≡ num q → IsPlainAnswer (calculated mul_op p q) e) → IsProgress ts (removed n us) e
+multiplied n ts us d e h g k w i a =
     let x = nth n us in
     let rest = product_of_values (numbers_in (removed n us)) in
     record {
@@ -131,7 +147,7 @@ multiplied n ts us d e h g k w a =
       worth =
           Same-trans g.worth (Same-trans (Same-eq (ap (λ (ns : Trees). surd_times (value d) (product_of_values ns)) (numbers_removed n us h) ∙ sym (surd_times_assoc (value d) (value x) rest)))
           (Same-surd_times (Same-sym w) (Same-refl rest)));
-      multiplied = one_more (numbers_in ts) (numbers_in us) (numbers_in (removed n us)) d e x (numbers_removed n us h) w g.multiplied;
+      multiplied = one_more (numbers_in ts) (numbers_in us) (numbers_in (removed n us)) d e x (numbers_are ts) (numbers_removed n us h) g.number w i g.multiplied;
       others = others_removed n us h.within h.number ∙ g.others;
       reduced = reduced_removed n us h.within g.reduced;
       fewer = λ m. let c : count (numbers_in us) ≡ suc (count (numbers_in (removed n us))) = ap count (numbers_removed n us h) in let f : count (numbers_in us) < count (numbers_in ts) = g.fewer (omega arith) in omega arith;
@@ -150,6 +166,7 @@ completed ts us d b g = record {
   coefficient = record {
     number = g.number;
     same = Same-sym (Same-trans g.worth (Same-trans (Same-eq (ap (λ (ns : Trees). surd_times (value d) (product_of_values ns)) (numbers_none us b))) (Agree-Same (surd_times-one (value d)))));
+    held = λ h l a. g.multiplied.held h l (front_held g.multiplied.first (numbers_in us) (ap are_numbers (sym g.multiplied.is) ∙ numbers_are ts) (subst (λ (ns : Trees). AreFactorsHeld ns h l) g.multiplied.is a));
   };
   others = sym (others_all us b) ∙ g.others;
   plain = λ q m.
@@ -185,4 +202,20 @@ next_misfit n ts us d o h g k =
       so_far = d;
       product = record { number = g.number; worth = m.worth };
       named = k;
+    }
+
+-- where what holds them is little, the next product is held within the bits that calculations have
+pub next_fits : (n : ℕ) (ts us : Trees) (d : Tree) (h l : ℕ) → IsNextNumber 0 n us → IsProgress ts us d → AreFactorsHeld (numbers_in ts) h l → 2 * h + 4 * l ≤ 124 → HasFewBits (surd_times (value d) (value (nth n us)))
+next_fits n ts us d h l w g a f =
+    let x = nth n us in
+    let rest = numbers_in (removed n us) in
+    let m = g.multiplied in
+    let whole : numbers_in ts ≡ append (append m.first (more x none)) rest = m.is ∙ ap (append m.first) (numbers_removed n us w) ∙ append_one m.first x rest in
+    let numbers : are_numbers (append (append m.first (more x none)) rest) ≡ true = ap are_numbers (sym whole) ∙ numbers_are ts in
+    record {
+      high = h;
+      low = l;
+      held = next_held m.first x d h l (front_numbers (append m.first (more x none)) rest numbers) g.number m.worth m.held
+          (front_held (append m.first (more x none)) rest numbers (subst (λ (ns : Trees). AreFactorsHeld ns h l) whole a));
+      few = f;
     }

@@ -19,7 +19,7 @@ use Rattle.tree_handles.proofs.Fronts.{behind_first, front_after_one, front_afte
 use Rattle.tree_handles.proofs.Given.{gives_as}
 use Rattle.product_reduce.specs.declared.steps.Joining.{Joining}
 use Rattle.product_reduce.specs.declared.steps.Joining.TheVariants as joining
-use Rattle.product_reduce.specs.Answers.{AreOthers, IsStop, IsRejoined, IsFinished, IsJoined, IfFinished, IfJoined, IsAnswered, AnswersRationalFactors}
+use Rattle.product_reduce.specs.Answers.{AreOthers, IsStop, IsRejoined, IsFinished, IsJoined, IfFinished, IfJoined, IfGathered, IsAnswered, AnswersRationalFactors}
 use Rattle.product_reduce.specs.Factors.{opened, others_in, IsCoefficient}
 use Rattle.product_reduce.specs.Products.{IsProduct, Becomes, IsTakenOut, factors_in}
 use Rattle.product_reduce.proofs.Beside.{beside_product, beside_apart, behind_beside}
@@ -92,6 +92,16 @@ pub joined_map : {P Q : ℕ → ℕ → Type 0} (r : Result Joining NumberFault)
 joined_map (Ok (joining.Done h)) p f = tt
 joined_map (Ok (joining.Joined h at)) p f = f h at p
 joined_map (Err e) p f = tt
+
+-- and so of both
+pub both_as : {P : ℕ → Type 0} {Q : ℕ → ℕ → Type 0} {R : ℕ → Type 0} (s : Joining) → IfFinished s P → IfJoined s Q → ((h : ℕ) → P h → R h) → ((h at : ℕ) → Q h at → R h) → IfGathered s R
+both_as (joining.Done h) p q f g = f h p
+both_as (joining.Joined h at) p q f g = g h at q
+
+pub both_map : {P : ℕ → Type 0} {Q : ℕ → ℕ → Type 0} {R : ℕ → Type 0} (r : Result Joining NumberFault) → IfOk r (λ s. IfFinished s P) → IfOk r (λ s. IfJoined s Q) → ((h : ℕ) → P h → R h) → ((h at : ℕ) → Q h at → R h)
+    → IfOk r (λ s. IfGathered s R)
+both_map (Ok s) p q f g = both_as s p q f g
+both_map (Err e) p q f g = tt
 
 pub stop_given : (i h g : ℕ) (ts : Trees) (old now new : Forest) → has_undef ts ≡ false → (p : AreParted i h ts old now) → IsCoefficient (plain (root_tree h now)) (opened ts)
     → Gives (without_root i (without_root h now)) new g (IsStop (plain (root_tree h now)) (factors_in i now)) → Gives (without_root i old) new g (IsFinished ts)

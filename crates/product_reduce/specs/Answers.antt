@@ -66,6 +66,11 @@ abbrev pub IfJoined : Joining → (ℕ → ℕ → Type 0) → Type 0
 IfJoined (joining.Done h) P = ⊤
 IfJoined (joining.Joined product at) P = P product at
 
+-- a fact of both
+abbrev pub IfGathered : Joining → (ℕ → Type 0) → Type 0
+IfGathered (joining.Done h) P = P h
+IfGathered (joining.Joined product at) P = P product
+
 -- rationals: their product where it fits, its overflow where it does not, and bytes are lacking only for a number in the long form
 abbrev pub AnswersRationalFactors : PlainValue → State → Result Joining NumberFault → Type 0
 AnswersRationalFactors v new (Ok (joining.Done h)) = IsPlainAnswer v (tree_of h new)

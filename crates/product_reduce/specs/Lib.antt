@@ -7,3 +7,4 @@ pub mod Answers
 pub mod Misfits
 pub mod Neighbours
 pub mod Gathering
+pub mod Bits

@@ -5,20 +5,23 @@ use Rattle.calc_algebra.specs.Numbers.{is_number, value}
 use Rattle.calc_measures.specs.PlainValues.{plain_value}
 use Rattle.calc_algebra.specs.SquareClasses.{Same}
 use Rattle.calc_algebra.specs.Surds.{surd_times}
+use Rattle.calc_bits.specs.Masses.{IsHeld}
 use Rattle.calc_terms.specs.Trees.{Tree, mult, Trees, append, count, are_rationals}
 use Rattle.like_children.specs.Folds.{AreFolded}
 use Rattle.tree_handles.specs.Expressions.{plain}
 use Rattle.tree_handles.specs.Forest.{Forest}
 use Rattle.tree_handles.specs.Roots.{root_tree}
+use Rattle.product_reduce.specs.Bits.{AreFactorsHeld}
 use Rattle.product_reduce.specs.Factors.{numbers_in, others_in, product_of_values}
 use Rattle.calc_algebra.specs.Reduced.{are_reduced}
 use Rattle.product_reduce.specs.Products.{IsTakenOut}
 
--- these Numbers are the first ones, whose product is d, and then the others
+-- these Numbers are the first ones, whose product is d, which is held by what holds them one by one, and then the others
 pub record AreMultiplied (ns others : Trees) (d : Tree) : Type 0 where
   pub first : Trees
   pub is : ns ≡ append first others
   pub worth : Same (value d) (product_of_values first)
+  pub held : (h l : ℕ) → AreFactorsHeld first h l → IsHeld (value d) h l
 
 -- the Numbers of ts multiplied are d times those that are still among us; the other factors are the same
 pub record IsProgress (ts us : Trees) (d : Tree) : Type 0 where

@@ -1,7 +1,11 @@
 //! The last part of a step: a product with a pair joined, or a reduced tree.
-ghost use Rattle.std.specs.Prelude.{◌≡◌, ◌==◌, true, false, IfOk, IfErr, IsSortedByKey, OnOk, [], ◌∷◌};
+ghost use Rattle.std.specs.Prelude.{ℕ, List, ◌≡◌, ◌==◌, ◌<◌, ◌+◌, true, false, IfOk, IfErr, IsSortedByKey, OnOk, [], ◌∷◌};
 ghost use Rattle.calc_algebra.specs.Numbers.{is_number};
-ghost use Rattle.calc_terms.specs.Trees.{mult, none};
+ghost use Rattle.calc_room.specs.Counts.{counted};
+ghost use Rattle.calc_room.specs.Spans.{SpansTree, SpansTrees};
+ghost use Rattle.calc_terms.specs.Trees.{mult, none, size};
+ghost use Rattle.coefficients.specs.Rooms.{LacksRoom};
+ghost use Rattle.node_pool.specs.State.{free_of};
 ghost use Rattle.number_forms.specs.Readers.{is_zero};
 ghost use Rattle.product_reduce.specs.Answers.{AreOthers, IsEnding, IsAlone};
 ghost use Rattle.product_reduce.specs.Factors.{coefficient_before};
@@ -49,6 +53,7 @@ pub fn joined(
     ensures kept { OnOk result (KeepsRefusals pool.old pool.new) }
     ensures full { IfErr result (Refuses pool.old pool.new) }
     ensures caused { IfErr result (LacksBytes pool.new) }
+    ensures room { IfErr result (λ full. free_of pool.old < 96) }
     ensures stands { Stands pool.new }
 {
     join_pair(pool, &product, first, second)?;
@@ -77,6 +82,9 @@ pub fn sorted(pool: &mut Pool, product: Handle, coefficient: Handle) -> Result<H
     ensures kept { OnOk result (KeepsRefusals pool.old pool.new) }
     ensures faults { IfErr result (Faults pool.old pool.new) }
     ensures caused { IfErr result (IsCaused pool.new) }
+    ensures room { let ts = factors_in product (forest pool.old) in
+        (gs : List ℕ) → SpansTree gs (tree_of coefficient pool.old) → SpansTrees gs ts
+        → IfErr result (LacksRoom (counted (mult ts)) (free_of pool.old + size (tree_of coefficient pool.old) + size (mult ts)) gs) }
     ensures stands { Stands pool.new }
 {
     sort_factors(pool, &product, 0);
@@ -106,6 +114,9 @@ pub fn finished(
     ensures kept { OnOk result (KeepsRefusals pool.old pool.new) }
     ensures faults { IfErr result (Faults pool.old pool.new) }
     ensures caused { IfErr result (IsCaused pool.new) }
+    ensures room { let ts = factors_in product (forest pool.old) in
+        (gs : List ℕ) → SpansTree gs (tree_of coefficient pool.old) → SpansTrees gs ts
+        → IfErr result (LacksRoom (counted (mult ts)) (free_of pool.old + size (tree_of coefficient pool.old) + size (mult ts)) gs) }
     ensures stands { Stands pool.new }
 {
     if factor_count(pool, &product) == 0 {

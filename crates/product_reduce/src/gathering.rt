@@ -1,10 +1,17 @@
 //! Numbers of a product gathered, its other factors put in order, and neighbours of one base joined.
-ghost use Rattle.std.specs.Prelude.{◌≡◌, ◌==◌, ◌≤◌, ◌<◌, ◌+◌, ◌^◌, true, false, IfOk, IfErr, IfSome, MatchOption, OnOk, [], ◌∷◌};
+ghost use Rattle.std.specs.Prelude.{ℕ, List, length, ◌≡◌, ◌==◌, ◌≤◌, ◌<◌, ◌+◌, ◌*◌, ◌^◌, true, false, IfOk, IfErr, IfSome, MatchOption, OnOk, [], ◌∷◌};
 ghost use Rattle.calc_algebra.specs.Numbers.{is_number};
 ghost use Rattle.calc_algebra.specs.Reduced.{are_reduced};
 ghost use Rattle.calc_measures.specs.PlainValues.{plain_value};
-ghost use Rattle.calc_terms.specs.Trees.{Tree, count, is_mult, mult, none, are_rationals};
-ghost use Rattle.product_reduce.specs.Answers.{AreOthers, IfFinished, IfJoined, IsFinished, IsStop, IsAnswered, AnswersRationalFactors};
+ghost use Rattle.calc_room.specs.Counts.{counted, counted_among};
+ghost use Rattle.calc_room.specs.Powers.{HasPowersOf};
+ghost use Rattle.calc_room.specs.Spans.{SpansTree, SpansTrees};
+ghost use Rattle.calc_terms.specs.Trees.{Tree, count, is_mult, mult, none, are_rationals, has_undef, size};
+ghost use Rattle.coefficients.specs.Rooms.{LacksRoom};
+ghost use Rattle.node_pool.specs.State.{free_of};
+ghost use Rattle.number_forms.specs.Lacks.{LacksBelow};
+ghost use Rattle.product_reduce.specs.Answers.{AreOthers, IfFinished, IfJoined, IfGathered, IsFinished, IsStop, IsAnswered, AnswersRationalFactors};
+ghost use Rattle.product_reduce.specs.Bits.{AreFactorsHeld, IsFactorHeld};
 ghost use Rattle.product_reduce.specs.Factors.{others_in, coefficient_before};
 ghost use Rattle.product_reduce.specs.Gathering.{IsGathered, IsLead, IsOrdered};
 ghost use Rattle.product_reduce.specs.Misfits.{IsFactorMisfit, SpreadingOverflows};
@@ -16,6 +23,8 @@ ghost use Rattle.tree_handles.specs.Faults.{OfOverflow, Faults};
 ghost use Rattle.tree_handles.specs.Handed.{tree_of, IsHanded, Gives, KeepsFront};
 ghost use Rattle.tree_handles.specs.Roots.{without_root};
 ghost use Rattle.tree_handles.specs.Standing.{LacksBytes, Stands, forest, KeepsRefusals, Refuses};
+ghost use Rattle.tree_room.specs.Handed.{numbers_among, product_count};
+ghost use Rattle.tree_room.specs.Needs.{product_step_room};
 
 use crate::endings::finished;
 use crate::factors::{factor_count, has_undef_factor, open_products};
@@ -47,10 +56,36 @@ pub fn gather_factors(pool: &mut Pool, product: Handle) -> Result<Joining, Numbe
     ensures rationals { are_rationals (children_of (tree_of product pool.old)) ≡ true
         → AnswersRationalFactors (plain_value (tree_of product pool.old)) pool.new result }
     ensures overflow { IfErr result (OfOverflow (IsFactorMisfit (children_of (tree_of product pool.old)))) }
+    ensures defined { IfErr result (OfOverflow (λ o. has_undef (children_of (tree_of product pool.old)) ≡ false)) }
     ensures front { KeepsFront (product ∷ []) (forest pool.old) (forest pool.new) }
     ensures kept { OnOk result (KeepsRefusals pool.old pool.new) }
     ensures faults { IfErr result (Faults pool.old pool.new) }
     ensures caused { IfErr result (IsCaused pool.new) }
+
+    // Bytes are lacking only where fewer are free or in the product than the step needs, for each choice of radicands.
+    ensures room { let t = tree_of product pool.old in (gs : List ℕ) → SpansTree gs t
+        → IfErr result (LacksBelow (product_step_room (product_count (children_of t)) (2 ^ length gs)) (free_of pool.old + size t)) }
+
+    // A reduced tree counts no more than the product, and factors in order no more than the handed ones. Two of these at most are
+    // Numbers: a rational, and the root that it stands before.
+    ensures counted { IfOk result (λ s. IfFinished s (λ h. counted (tree_of h pool.new) ≤ counted (tree_of product pool.old))) }
+    ensures counted_among { IfOk result (λ s. IfJoined s (λ h _.
+        counted_among (children_of (tree_of h pool.new)) ≤ counted_among (children_of (tree_of product pool.old)))) }
+    ensures few_numbers { IfOk result (λ s. IfJoined s (λ h _. numbers_among (children_of (tree_of h pool.new)) ≤ 2)) }
+
+    // No power is new, and what spans the product spans what it becomes.
+    ensures powers { IfOk result (λ s. IfGathered s (λ h. HasPowersOf (children_of (tree_of product pool.old)) (tree_of h pool.new))) }
+    ensures spanned { (gs : List ℕ) → SpansTree gs (tree_of product pool.old) → IfOk result (λ s. IfGathered s (λ h. SpansTree gs (tree_of h pool.new))) }
+
+    // What holds the factors one by one holds a reduced tree, as a factor, or the factors in order. Nothing overflows where these bits
+    // are few.
+    ensures held { (h l : ℕ) → has_undef (children_of (tree_of product pool.old)) ≡ false → AreFactorsHeld (children_of (tree_of product pool.old)) h l
+        → IfOk result (λ s. IfFinished s (λ r. IsFactorHeld (tree_of r pool.new) h l)) }
+    ensures factors_held { (h l : ℕ) → has_undef (children_of (tree_of product pool.old)) ≡ false → AreFactorsHeld (children_of (tree_of product pool.old)) h l
+        → IfOk result (λ s. IfJoined s (λ r _. AreFactorsHeld (children_of (tree_of r pool.new)) h l)) }
+    ensures bits { (h l : ℕ) → AreFactorsHeld (children_of (tree_of product pool.old)) h l → 2 * h + 4 * l ≤ 124
+        → IfErr result (OfOverflow (λ o. ⊥)) }
+
     ensures stands { Stands pool.new }
 {
     if has_undef_factor(pool, &product) {
@@ -115,6 +150,9 @@ fn order_or_end(
     ensures kept { OnOk result (KeepsRefusals pool.old pool.new) }
     ensures faults { IfErr result (Faults pool.old pool.new) }
     ensures caused { IfErr result (IsCaused pool.new) }
+    ensures room { let ts = factors_in product (forest pool.old) in
+        (gs : List ℕ) → SpansTree gs (tree_of coefficient pool.old) → SpansTrees gs ts
+        → IfErr result (LacksRoom (counted (mult ts)) (free_of pool.old + size (tree_of coefficient pool.old) + size (mult ts)) gs) }
     ensures stands { Stands pool.new }
 {
     if is_zero(pool, coefficient.id()) {
@@ -168,6 +206,10 @@ pub fn join_neighbours(pool: &mut Pool, product: Handle, at: u16) -> Result<Hand
     ensures kept { OnOk result (KeepsRefusals pool.old pool.new) }
     ensures full { IfErr result (Refuses pool.old pool.new) }
     ensures caused { IfErr result (LacksBytes pool.new) }
+
+    // Two exponents 1, a sum and a power are placed at most.
+    ensures room { IfErr result (λ full. free_of pool.old < 96) }
+
     ensures stands { Stands pool.new }
 {
     join_pair(pool, &product, at, at + 1)?;

@@ -1,11 +1,12 @@
 //! Two factors with identical bases become one power.
-ghost use Rattle.std.specs.Prelude.{◌≡◌, ◌==◌, ◌<◌, true, false, IfOk, IfErr, OnOk, [], ◌∷◌};
+ghost use Rattle.std.specs.Prelude.{◌≡◌, ◌==◌, ◌<◌, ◌≤◌, ◌+◌, true, false, IfOk, IfErr, OnOk, [], ◌∷◌};
 ghost use Rattle.number_forms.specs.Sums.{removed};
 ghost use Rattle.calc_algebra.specs.Reduced.{are_reduced, is_reduced, base_of};
 ghost use Rattle.calc_terms.specs.Trees.{add, power, count, none, more};
 ghost use Rattle.product_reduce.specs.Joining.{exponent_of};
 ghost use Rattle.product_reduce.specs.Neighbours.{joined_pair};
 ghost use Rattle.product_reduce.specs.Products.{IsProduct, IsTakenOut, IsSplit, Becomes, factors_in};
+ghost use Rattle.node_pool.specs.State.{free_of};
 ghost use Rattle.tree_handles.specs.Standing.{LacksBytes, Stands, forest, KeepsRefusals, Refuses};
 ghost use Rattle.tree_handles.specs.Handed.{tree_of, IsHanded, Gives, KeepsFront};
 ghost use Rattle.tree_handles.specs.Expressions.{nth};
@@ -27,6 +28,8 @@ fn split_factor(pool: &mut Pool, factor: Handle) -> Result<(Handle, Handle), Ful
     ensures kept { OnOk result (KeepsRefusals pool.old pool.new) }
     ensures full { IfErr result (Refuses pool.old pool.new) }
     ensures caused { IfErr result (LacksBytes pool.new) }
+    ensures room { IfErr result (λ full. free_of pool.old < 40) }
+    ensures placed { OnOk result (free_of pool.old ≤ free_of pool.new + 40) }
     ensures stands { Stands pool.new }
 {
     if is_transparent_power(pool, factor.id()) {
@@ -52,6 +55,8 @@ fn take_exponent(pool: &mut Pool, product: &Handle, at: u16) -> Result<Handle, F
     ensures kept { OnOk result (KeepsRefusals pool.old pool.new) }
     ensures full { IfErr result (Refuses pool.old pool.new) }
     ensures caused { IfErr result (LacksBytes pool.new) }
+    ensures room { IfErr result (λ full. free_of pool.old < 40) }
+    ensures placed { OnOk result (free_of pool.old ≤ free_of pool.new + 40) }
     ensures stands { Stands pool.new }
 {
     let factor = take_child(pool, product, at);
@@ -73,6 +78,7 @@ fn raise(pool: &mut Pool, factor: Handle, exponent: Handle) -> Result<Handle, Fu
     ensures kept { OnOk result (KeepsRefusals pool.old pool.new) }
     ensures full { IfErr result (Refuses pool.old pool.new) }
     ensures caused { IfErr result (LacksBytes pool.new) }
+    ensures room { IfErr result (λ full. free_of pool.old < 56) }
     ensures stands { Stands pool.new }
 {
     let (base, own) = split_factor(pool, factor)?;
@@ -93,6 +99,7 @@ pub fn join_pair(pool: &mut Pool, product: &Handle, first: u16, second: u16) -> 
     ensures kept { OnOk result (KeepsRefusals pool.old pool.new) }
     ensures full { IfErr result (Refuses pool.old pool.new) }
     ensures caused { IfErr result (LacksBytes pool.new) }
+    ensures room { IfErr result (λ full. free_of pool.old < 96) }
     ensures stands { Stands pool.new }
 {
     let exponent = take_exponent(pool, product, second)?;

@@ -1,13 +1,18 @@
 //! Laws of products finished and of two factors joined, each the contract of a function without a body.
-ghost use Rattle.std.specs.Prelude.{ℕ, ◌≡◌, ◌≤◌, ◌<◌, ◌+◌, true, false};
+ghost use Rattle.std.specs.Prelude.{ℕ, suc, List, ◌≡◌, ◌≤◌, ◌<◌, ◌+◌, true, false};
+ghost use Rattle.calc_measures.specs.Measures.{HighLow};
 ghost use Rattle.calc_measures.specs.Loads.{nest, nest_of, load, load_of_factors, weight};
 ghost use Rattle.calc_algebra.specs.Reduced.{is_reduced, base_of, are_reduced};
-ghost use Rattle.calc_terms.specs.Trees.{Tree, add, mult, Trees, none, more, count};
+ghost use Rattle.calc_terms.specs.Trees.{Tree, add, mult, Trees, none, more, append, count};
 ghost use Rattle.number_forms.specs.Sums.{removed};
 ghost use Rattle.product_reduce.specs.Answers.{IsJoined, IsWritten};
+ghost use Rattle.product_reduce.specs.Bits.{AreFactorsHeld, IsFactorHeld};
+ghost use Rattle.product_reduce.specs.Neighbours.{IsPairAt};
+ghost use Rattle.tree_bits.specs.Children.{AreTreesHeld, ArePositive, high_sum, low_sum};
+ghost use Rattle.tree_bits.specs.HeldTrees.{IsPartHeld};
 ghost use Rattle.product_reduce.specs.Joining.{exponent_of, have_partners, joint};
 ghost use Rattle.calc_algebra.specs.Numbers.{are_numbers};
-ghost use Rattle.tree_handles.specs.Expressions.{nth, children_of};
+ghost use Rattle.tree_handles.specs.Expressions.{nth, inserted, children_of};
 
 /// The base and the exponents of a joint are reduced.
 pub fn parts_of_joints_are_reduced()
@@ -37,4 +42,18 @@ pub fn joints_lower_the_load()
 /// A coefficient times factors, no two of which have identical bases, is written as one tree only.
 pub fn products_are_written_once()
     ensures { (c t u : Tree) (ts : Trees) → have_partners ts ≡ false → IsWritten c ts t → IsWritten c ts u → t ≡ u }
+{}
+
+/// What holds factors one by one: trees that are held by bits of their own, each high at least 1; the factors of a product that is
+/// held as one factor; by more bits; and behind one another. Two neighbours of one base are held together by some of the bits, and what
+/// is held so may take their place.
+pub fn what_holds_factors()
+    ensures trees { (ts : Trees) (bs : List HighLow) → AreTreesHeld ts bs → ArePositive bs → AreFactorsHeld ts (high_sum bs) (low_sum bs) }
+    ensures of_a_product { (ts : Trees) (h l : ℕ) → is_reduced (mult ts) ≡ true → IsFactorHeld (mult ts) h l → AreFactorsHeld ts h l }
+    ensures by_more { (ts : Trees) (h l k n : ℕ) → h ≤ k → l ≤ n → AreFactorsHeld ts h l → AreFactorsHeld ts k n }
+    ensures appended { (ts us : Trees) (h l k n : ℕ) → AreFactorsHeld ts h l → AreFactorsHeld us k n
+        → AreFactorsHeld (append ts us) (h + k) (l + n) }
+    ensures neighbours { (at : ℕ) (ts : Trees) (h l : ℕ) → IsPairAt at ts → are_reduced ts ≡ true → AreFactorsHeld ts h l
+        → (p q : ℕ) × (p ≤ h) × (q ≤ l) × IsPartHeld (more (nth at ts) (more (nth (suc at) ts) none)) p q
+        × ((v : Tree) → IsFactorHeld v p q → AreFactorsHeld (inserted at (more v none) (removed at (removed (suc at) ts))) h l) }
 {}

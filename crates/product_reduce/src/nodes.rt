@@ -1,6 +1,7 @@
 //! The rational 1, with the cause of a refusal.
-ghost use Rattle.std.specs.Prelude.{◌≡◌, IfOk, IfErr, OnOk, []};
+ghost use Rattle.std.specs.Prelude.{◌≡◌, ◌<◌, IfOk, IfErr, OnOk, []};
 ghost use Rattle.calc_algebra.specs.Reduced.{num_one};
+ghost use Rattle.node_pool.specs.State.{free_of};
 ghost use Rattle.tree_handles.specs.Standing.{LacksBytes, Stands, forest, KeepsRefusals, Refuses};
 ghost use Rattle.tree_handles.specs.Handed.{Gives, KeepsFront};
 
@@ -16,6 +17,7 @@ pub fn one(pool: &mut Pool) -> Result<Handle, Full>
     ensures kept { OnOk result (KeepsRefusals pool.old pool.new) }
     ensures full { IfErr result (Refuses pool.old pool.new) }
     ensures caused { IfErr result (LacksBytes pool.new) }
+    ensures room { IfErr result (λ full. free_of pool.old < 40) }
     ensures stands { Stands pool.new }
 {
     let one = number(pool, Rat::whole(1))?;

@@ -1,13 +1,19 @@
 //! The Numbers among the factors, multiplied from left to right.
-ghost use Rattle.std.specs.Prelude.{◌≡◌, ◌==◌, ◌<◌, ◌≤◌, true, false, IfOk, IfErr, OnOk, [], ◌∷◌};
+ghost use Rattle.std.specs.Prelude.{ℕ, List, length, ◌≡◌, ◌==◌, ◌<◌, ◌≤◌, ◌+◌, ◌*◌, ◌^◌, true, false, IfOk, IfErr, OnOk, [], ◌∷◌};
 ghost use Rattle.number_forms.specs.Sums.{removed};
 ghost use Rattle.calc_algebra.specs.Reduced.{are_reduced};
-ghost use Rattle.calc_terms.specs.Trees.{are_rationals, num, mult, count};
+ghost use Rattle.calc_terms.specs.Trees.{are_rationals, num, mult, count, size};
 ghost use Rattle.calc_terms.specs.Fits.{mul_op};
 ghost use Rattle.calc_terms.specs.Fractions.{Fraction};
 ghost use Rattle.calc_algebra.specs.Numbers.{is_number, value};
 ghost use Rattle.calc_measures.specs.PlainValues.{calculated, plain_value};
 ghost use Rattle.calc_algebra.specs.Surds.{surd_times};
+ghost use Rattle.calc_bits.specs.Bounds.{HasFewBits, IsNoLarger};
+ghost use Rattle.calc_room.specs.Needs.{product_need};
+ghost use Rattle.calc_room.specs.Spans.{SpansTree, SpansTrees};
+ghost use Rattle.node_pool.specs.State.{free_of};
+ghost use Rattle.number_forms.specs.Lacks.{LacksBelow};
+ghost use Rattle.product_reduce.specs.Bits.{AreFactorsHeld};
 ghost use Rattle.like_children.specs.Numbers.{NoNumberBetween};
 ghost use Rattle.product_reduce.specs.Factors.{numbers_in, others_in, IsCoefficient};
 ghost use Rattle.product_reduce.specs.Multiplying.{IsUnderway};
@@ -37,6 +43,7 @@ fn take_first_number(pool: &mut Pool, product: &Handle) -> Result<Handle, Full>
     ensures kept { OnOk result (KeepsRefusals pool.old pool.new) }
     ensures full { IfErr result (Refuses pool.old pool.new) }
     ensures caused { IfErr result (LacksBytes pool.new) }
+    ensures room { IfErr result (λ full. free_of pool.old < 40) }
     ensures some { let ts = factors_in product.now (forest pool.old) in IfErr result (λ _. NoNumberBetween 0 (count ts) ts) }
     ensures stands { Stands pool.new }
 {
@@ -67,6 +74,13 @@ fn multiply_in(
     ensures rationals { let ts = factors_in product.now (forest pool.old) in
         (p q : Fraction) → tree_of so_far pool.old ≡ num p → nth at ts ≡ num q → AnswersRationals (calculated mul_op p q) pool.new result }
     ensures overflow { IfErr result (OfOverflow (NamesProduct (tree_of so_far pool.old) (nth at (factors_in product.now (forest pool.old))))) }
+    ensures measured { let ts = factors_in product.now (forest pool.old) in
+        IfOk result (λ h. IsNoLarger (surd_times (value (tree_of so_far pool.old)) (value (nth at ts))) (value (tree_of h pool.new))) }
+    ensures bits { let ts = factors_in product.now (forest pool.old) in
+        HasFewBits (surd_times (value (tree_of so_far pool.old)) (value (nth at ts))) → IfErr result (OfOverflow (λ o. ⊥)) }
+    ensures room { let t = nth at (factors_in product.now (forest pool.old)) in
+        (gs : List ℕ) → SpansTree gs (tree_of so_far pool.old) → SpansTree gs t
+        → IfErr result (LacksBelow (product_need * 2 ^ length gs) (free_of pool.old + size (tree_of so_far pool.old) + size t)) }
     ensures front { KeepsFront (product.now ∷ so_far ∷ []) (forest pool.old) (forest pool.new) }
     ensures kept { OnOk result (KeepsRefusals pool.old pool.new) }
     ensures faults { IfErr result (Faults pool.old pool.new) }
@@ -88,6 +102,10 @@ pub fn take_coefficient(pool: &mut Pool, product: &Handle) -> Result<Handle, Num
     ensures rationals { let ts = factors_in product.now (forest pool.old) in
         are_rationals ts ≡ true → 1 ≤ count ts → AnswersRationals (plain_value (mult ts)) pool.new result }
     ensures overflow { IfErr result (OfOverflow (MultiplyingOverflows (numbers_in (factors_in product.now (forest pool.old))))) }
+    ensures bits { (h l : ℕ) → AreFactorsHeld (numbers_in (factors_in product.now (forest pool.old))) h l → 2 * h + 4 * l ≤ 124
+        → IfErr result (OfOverflow (λ o. ⊥)) }
+    ensures room { (gs : List ℕ) → SpansTrees gs (factors_in product.now (forest pool.old))
+        → IfErr result (LacksBelow (product_need * 2 ^ length gs) (free_of pool.old)) }
     ensures front { KeepsFront (product.now ∷ []) (forest pool.old) (forest pool.new) }
     ensures kept { OnOk result (KeepsRefusals pool.old pool.new) }
     ensures faults { IfErr result (Faults pool.old pool.new) }

@@ -1,9 +1,16 @@
 //! One step on a product of reduced factors.
-ghost use Rattle.std.specs.Prelude.{◌≡◌, ◌==◌, ◌≤◌, true, false, IfOk, IfErr, OnOk, [], ◌∷◌};
+ghost use Rattle.std.specs.Prelude.{ℕ, List, length, ◌≡◌, ◌==◌, ◌≤◌, ◌+◌, ◌*◌, ◌^◌, true, false, IfOk, IfErr, OnOk, [], ◌∷◌};
 ghost use Rattle.calc_algebra.specs.Numbers.{is_number};
 ghost use Rattle.calc_measures.specs.PlainValues.{plain_value};
-ghost use Rattle.calc_terms.specs.Trees.{count, is_mult, none, are_rationals};
-ghost use Rattle.product_reduce.specs.Answers.{AreOthers, IfFinished, IfJoined, IsFinished, IsJoined, IsStop, IsRejoined, IsAnswered, AnswersRationalFactors};
+ghost use Rattle.calc_room.specs.Counts.{counted};
+ghost use Rattle.calc_room.specs.Powers.{HasPowersOf};
+ghost use Rattle.calc_room.specs.Spans.{SpansTree, SpansTrees};
+ghost use Rattle.calc_terms.specs.Trees.{count, is_mult, mult, none, are_rationals, has_undef, size};
+ghost use Rattle.coefficients.specs.Rooms.{put_room};
+ghost use Rattle.node_pool.specs.State.{free_of};
+ghost use Rattle.number_forms.specs.Lacks.{LacksBelow};
+ghost use Rattle.product_reduce.specs.Answers.{AreOthers, IfFinished, IfJoined, IfGathered, IsFinished, IsJoined, IsStop, IsRejoined, IsAnswered, AnswersRationalFactors};
+ghost use Rattle.product_reduce.specs.Bits.{AreFactorsHeld, IsFactorHeld};
 ghost use Rattle.product_reduce.specs.Factors.{opened, others_in};
 ghost use Rattle.product_reduce.specs.Joining.{IsFirstJoint, IsJointAt};
 ghost use Rattle.product_reduce.specs.Products.{IsProduct, factors_in};
@@ -14,6 +21,8 @@ ghost use Rattle.calc_algebra.specs.Reduced.{are_reduced};
 ghost use Rattle.tree_handles.specs.Handed.{tree_of, IsHanded, Gives, KeepsFront};
 ghost use Rattle.reduce_port.specs.Steps.{IfDone, IfAgain, AnswersRationalStep};
 ghost use Rattle.tree_handles.specs.Expressions.{children_of};
+ghost use Rattle.tree_room.specs.Handed.{product_count};
+ghost use Rattle.tree_room.specs.Needs.{product_step_room};
 ghost use Rattle.tree_handles.specs.Roots.{without_root};
 ghost use Rattle.tree_handles.specs.Standing.{Stands, forest, KeepsRefusals};
 
@@ -51,10 +60,28 @@ pub fn product_step(pool: &mut Pool, product: Handle) -> Result<Step, NumberFaul
     ensures rationals { are_rationals (children_of (tree_of product pool.old)) ≡ true
         → AnswersRationalStep (plain_value (tree_of product pool.old)) pool.new result }
     ensures overflow { IfErr result (OfOverflow (IsFactorMisfit (children_of (tree_of product pool.old)))) }
+    ensures defined { IfErr result (OfOverflow (λ o. has_undef (children_of (tree_of product pool.old)) ≡ false)) }
     ensures front { KeepsFront (product ∷ []) (forest pool.old) (forest pool.new) }
     ensures kept { OnOk result (KeepsRefusals pool.old pool.new) }
     ensures faults { IfErr result (Faults pool.old pool.new) }
     ensures caused { IfErr result (IsCaused pool.new) }
+
+    // Bytes are lacking only where fewer are free or in the product than the step needs, for each choice of radicands.
+    ensures room { let t = tree_of product pool.old in (gs : List ℕ) → SpansTree gs t
+        → IfErr result (LacksBelow (product_step_room (product_count (children_of t)) (2 ^ length gs)) (free_of pool.old + size t)) }
+
+    // A reduced tree counts no more than the product, and has no new powers. What spans the product spans what it becomes.
+    ensures counted { IfOk result (λ s. IfDone s (λ h. counted (tree_of h pool.new) ≤ counted (tree_of product pool.old))) }
+    ensures powers { IfOk result (λ s. IfDone s (λ h. HasPowersOf (children_of (tree_of product pool.old)) (tree_of h pool.new))) }
+    ensures spanned { (gs : List ℕ) → SpansTree gs (tree_of product pool.old) → IfOk result (λ s. IfDone s (λ h. SpansTree gs (tree_of h pool.new))) }
+    ensures again_spanned { (gs : List ℕ) → SpansTree gs (tree_of product pool.old) → IfOk result (λ s. IfAgain s (λ h. SpansTree gs (tree_of h pool.new))) }
+
+    // What holds the factors one by one holds a reduced tree, as a factor. Nothing overflows where these bits are few.
+    ensures held { (h l : ℕ) → has_undef (children_of (tree_of product pool.old)) ≡ false → AreFactorsHeld (children_of (tree_of product pool.old)) h l
+        → IfOk result (λ s. IfDone s (λ r. IsFactorHeld (tree_of r pool.new) h l)) }
+    ensures bits { (h l : ℕ) → AreFactorsHeld (children_of (tree_of product pool.old)) h l → 2 * h + 4 * l ≤ 124
+        → IfErr result (OfOverflow (λ o. ⊥)) }
+
     ensures stands { Stands pool.new }
 {
     match joining_step(pool, product)? {
@@ -80,10 +107,27 @@ pub fn joining_step(pool: &mut Pool, product: Handle) -> Result<Joining, NumberF
     ensures rationals { are_rationals (children_of (tree_of product pool.old)) ≡ true
         → AnswersRationalFactors (plain_value (tree_of product pool.old)) pool.new result }
     ensures overflow { IfErr result (OfOverflow (IsFactorMisfit (children_of (tree_of product pool.old)))) }
+    ensures defined { IfErr result (OfOverflow (λ o. has_undef (children_of (tree_of product pool.old)) ≡ false)) }
     ensures front { KeepsFront (product ∷ []) (forest pool.old) (forest pool.new) }
     ensures kept { OnOk result (KeepsRefusals pool.old pool.new) }
     ensures faults { IfErr result (Faults pool.old pool.new) }
     ensures caused { IfErr result (IsCaused pool.new) }
+
+    // Bytes are lacking only where fewer are free or in the product than the step needs, for each choice of radicands.
+    ensures room { let t = tree_of product pool.old in (gs : List ℕ) → SpansTree gs t
+        → IfErr result (LacksBelow (product_step_room (product_count (children_of t)) (2 ^ length gs)) (free_of pool.old + size t)) }
+
+    // A reduced tree counts no more than the product, and has no new powers. What spans the product spans what it becomes.
+    ensures counted { IfOk result (λ s. IfFinished s (λ h. counted (tree_of h pool.new) ≤ counted (tree_of product pool.old))) }
+    ensures powers { IfOk result (λ s. IfFinished s (λ h. HasPowersOf (children_of (tree_of product pool.old)) (tree_of h pool.new))) }
+    ensures spanned { (gs : List ℕ) → SpansTree gs (tree_of product pool.old) → IfOk result (λ s. IfGathered s (λ h. SpansTree gs (tree_of h pool.new))) }
+
+    // What holds the factors one by one holds a reduced tree, as a factor. Nothing overflows where these bits are few.
+    ensures held { (h l : ℕ) → has_undef (children_of (tree_of product pool.old)) ≡ false → AreFactorsHeld (children_of (tree_of product pool.old)) h l
+        → IfOk result (λ s. IfFinished s (λ r. IsFactorHeld (tree_of r pool.new) h l)) }
+    ensures bits { (h l : ℕ) → AreFactorsHeld (children_of (tree_of product pool.old)) h l → 2 * h + 4 * l ≤ 124
+        → IfErr result (OfOverflow (λ o. ⊥)) }
+
     ensures stands { Stands pool.new }
 {
     if has_undef_factor(pool, &product) {
@@ -118,6 +162,10 @@ fn join_or_end(
     ensures kept { OnOk result (KeepsRefusals pool.old pool.new) }
     ensures faults { IfErr result (Faults pool.old pool.new) }
     ensures caused { IfErr result (IsCaused pool.new) }
+    ensures room { let ts = factors_in product (forest pool.old) in
+        (gs : List ℕ) → SpansTree gs (tree_of coefficient pool.old) → SpansTrees gs ts
+        → IfErr result (LacksBelow (put_room (counted (mult ts)) (2 ^ length gs) + 56)
+        (free_of pool.old + size (tree_of coefficient pool.old) + size (mult ts))) }
     ensures stands { Stands pool.new }
 {
     if is_zero(pool, coefficient.id()) {

@@ -1,12 +1,22 @@
-use Rattle.std.proofs.Common.{◌≡◌, ◌≤◌, ◌∙◌, ap, sym, refl, inl, arith}
-use Rattle.calc_algebra.specs.Reduced.{is_reduced}
-use Rattle.calc_terms.specs.Trees.{count}
+use Rattle.std.proofs.Common.{ℕ, ◌≡◌, ◌≤◌, ◌^◌, length, ◌∙◌, ap, sym, subst, inl, arith}
+use Rattle.calc_algebra.specs.Numbers.{is_number}
+use Rattle.calc_algebra.specs.Reduced.{is_reduced, product_tree}
+use Rattle.calc_room.specs.Counts.{counted}
+use Rattle.calc_room.specs.Spans.{SpansTree}
+use Rattle.calc_terms.specs.Trees.{Tree, mult, count, size}
+use Rattle.coefficients.specs.Rooms.{put_room}
+use Rattle.coefficients.proofs.Lacks.{result_lacks}
+use Rattle.number_forms.proofs.FreeBytes.{replaced_free}
+use Rattle.tree_handles.specs.Handed.{tree_of}
+use Rattle.tree_handles.proofs.Roots.{tree-without}
+use Rattle.tree_room.proofs.Coefficients.{product_counts}
+use Rattle.product_reduce.proofs.GatheredParts.{spans_product}
 use Rattle.coefficients.proofs.Steps.{if_map}
 use Rattle.tree_handles.specs.Expressions.{plain}
 use Rattle.tree_handles.specs.Roots.{has_root, root_tree, without_root}
 use Rattle.tree_handles.proofs.Fronts.{behind_first, behind_later, behind_new, front_same, front_at, front_end, front_after_one, front_after_two, front_without}
 use Rattle.tree_handles.specs.Standing.{forest}
-use Rattle.tree_handles.proofs.Given.{given_apart, given_handed, given_other, given_told, owned}
+use Rattle.tree_handles.proofs.Given.{given_apart, given_handed, given_other, given_same, given_told, owned}
 use Rattle.tree_handles.proofs.Lasts.{ends_as, last_tree}
 use Rattle.tree_handles.proofs.Outcomes.{eqb-sym}
 use Rattle.product_reduce.specs.Products.{factors_in}
@@ -87,3 +97,18 @@ returns-clause-overflow c =
     let r = readied_here c.args.product c.args.coefficient c.requires.product c.requires.coefficient c.requires.differ c.requires.order in
     put_named c.put_coefficient.result c.put_coefficient.ensures.named
     (λ o h. put_misfit c.args.product c.args.coefficient c.unwrapped-part.result _ _ _ c.requires.apart r (part_given c.args.product c.args.coefficient c.unwrapped-part.result _ _ _ r c.unwrapped-part.ensures.tree) o h)
+
+pub returns-clause-room : goal.returns-clause-room
+returns-clause-room c gs s k =
+    let ts = factors_in c.args.product (forest c.args.pool.now) in
+    let r = readied_here c.args.product c.args.coefficient c.requires.product c.requires.coefficient c.requires.differ c.requires.order in
+    let g = c.unwrapped-part.ensures.tree in
+    let same : tree_of c.args.coefficient c.unwrapped-part.new.pool ≡ tree_of c.args.coefficient c.args.pool.now =
+    ap plain (given_same c.args.coefficient g (alone_handed c.args.product c.args.coefficient _ _ c.requires.apart r).root ∙ tree-without c.args.product c.args.coefficient (forest c.args.pool.now) (eqb-sym c.args.coefficient c.args.product c.requires.apart)) in
+    let part : tree_of c.unwrapped-part.result c.unwrapped-part.new.pool ≡ product_tree ts = given_told g in
+    let free = replaced_free c.requires.stands c.unwrapped-part.ensures.stands c.unwrapped-part.ensures.kept c.requires.product.handed g in
+    let room : put_room (counted (tree_of c.unwrapped-part.result c.unwrapped-part.new.pool)) (2 ^ length gs) ≡ put_room (counted (mult ts)) (2 ^ length gs) =
+    ap (λ (t : Tree). put_room (counted t) (2 ^ length gs)) part ∙ ap (λ (n : ℕ). put_room n (2 ^ length gs)) (product_counts ts) in
+    result_lacks c.put_coefficient.result _ _
+    (c.put_coefficient.ensures.room gs (ap is_number same ∙ c.requires.number) (subst (SpansTree gs) (sym same) s) (subst (SpansTree gs) (sym part) (spans_product gs ts k)))
+    (λ x l. omega (arith, free, ap size same, ap size c.requires.product.tree, room, l))

@@ -1,10 +1,14 @@
-use Rattle.std.proofs.Common.{◌≡◌, ◌∙◌, ap, sym, refl, subst, false}
+use Rattle.std.proofs.Common.{ℕ, ◌≡◌, ◌^◌, length, ◌∙◌, ap, sym, refl, subst, arith}
 use Rattle.std.specs.Prelude.{IsSortedByKey}
 use Rattle.calc_algebra.proofs.MeaningRewrites.{Permuted-sym}
 use Rattle.calc_algebra.specs.Numbers.{is_number}
 use Rattle.calc_algebra.specs.Reduced.{base_of}
 use Rattle.calc_algebra.specs.TreeOrder.{tree_cmp}
-use Rattle.calc_terms.specs.Trees.{Tree, Trees}
+use Rattle.calc_room.specs.Counts.{counted}
+use Rattle.calc_room.specs.Spans.{SpansTree, SpansTrees}
+use Rattle.calc_terms.specs.Trees.{Tree, Trees, mult, size}
+use Rattle.coefficients.specs.Rooms.{put_room}
+use Rattle.coefficients.proofs.Lacks.{result_lacks}
 use Rattle.coefficients.proofs.Steps.{if_map}
 use Rattle.node_order.specs.Sorting.{list_of}
 use Rattle.number_forms.specs.Readers.{is_zero}
@@ -21,6 +25,9 @@ use Rattle.product_reduce.specs.Joining.{have_partners}
 use Rattle.product_reduce.specs.Misfits.{SpreadingOverflows}
 use Rattle.product_reduce.specs.Products.{factors_in}
 use Rattle.product_reduce.proofs.Beside.{beside_becomes, tree_becomes}
+use Rattle.product_reduce.proofs.FreeBytes.{becomes_free}
+use Rattle.product_reduce.proofs.GatheredCounts.{sorted_counted}
+use Rattle.product_reduce.proofs.GatheredParts.{spans_sorted}
 use Rattle.product_reduce.proofs.Gathered.{others_permuted, ending_before, spreading_before, alone_as}
 use Rattle.product_reduce.proofs.LastSteps.{permuted_none_is}
 use Rattle.product_reduce.proofs.Misfits.{put_named}
@@ -97,3 +104,15 @@ returns-clause-overflow c =
 
 pub returns-clause-front : goal.returns-clause-front
 returns-clause-front c = front_after_two behind_first (behind_later behind_first) (front_after_one behind_first front_same c.sort_factors.ensures.sorts.becomes.front) c.finished.ensures.front
+
+pub returns-clause-room : goal.returns-clause-room
+returns-clause-room c gs x k =
+    let ts = factors_in c.args.product (forest c.args.pool.now) in
+    let same : tree_of c.args.coefficient c.sort_factors.new.pool ≡ tree_of c.args.coefficient c.args.pool.now = ap plain (tree_becomes c.args.coefficient c.requires.stands c.sort_factors.ensures.stands c.requires.product c.sort_factors.ensures.sorts.becomes c.requires.coefficient c.requires.apart) in
+    let s = c.sort_factors.ensures.sorts in
+    let own = factors_are s.becomes.product in
+    let free = becomes_free c.requires.stands c.sort_factors.ensures.stands c.sort_factors.ensures.kept c.requires.product s.becomes in
+    let room : put_room (counted (mult (factors_in c.args.product (forest c.sort_factors.new.pool)))) (2 ^ length gs) ≡ put_room (counted (mult ts)) (2 ^ length gs) =
+    ap (λ (us : Trees). put_room (counted (mult us)) (2 ^ length gs)) own ∙ ap (λ (n : ℕ). put_room n (2 ^ length gs)) (sorted_counted ts s.us s.sorted) in
+    result_lacks c.finished.result _ _ (c.finished.ensures.room gs (subst (SpansTree gs) (sym same) x) (subst (SpansTrees gs) (sym own) (spans_sorted gs ts s.us s.sorted k)))
+    (λ g l. omega (arith, free, ap size same, ap (λ (us : Trees). size (mult us)) own, room, l))

@@ -1,5 +1,5 @@
-use Rattle.std.proofs.Common.{◌∙◌, refl, sym, ap, arith, add-one}
-use Rattle.tree_handles.proofs.Fronts.{behind_first, front_same, front_after_one, front_end, front_without}
+use Rattle.std.proofs.Common.{refl, arith}
+use Rattle.tree_handles.proofs.Fronts.{behind_first, front_end, front_without}
 use Rattle.tree_handles.proofs.Given.{gives, represents_handed}
 use Rattle.tree_handles.proofs.Lasts.{ends_as}
 use Rattle.product_reduce.proofs.Stepped.{handed_product}

@@ -1,4 +1,4 @@
-use Rattle.std.proofs.Common.{◌≤◌, ◌≡◌, ◌+◌, ◌∙◌, ap, sym, refl, subst, arith}
+use Rattle.std.proofs.Common.{◌∙◌, ap, sym, refl, subst, arith}
 use Rattle.calc_algebra.specs.Reduced.{product_tree, are_reduced}
 use Rattle.calc_terms.specs.Trees.{Trees, count}
 use Rattle.tree_handles.specs.Expressions.{plain, children_of}

@@ -1,15 +1,21 @@
-use Rattle.std.proofs.Common.{◌≡◌, ◌≤◌, ◌∙◌, ap, sym, refl, inl, subst, arith, false}
+use Rattle.std.proofs.Common.{ℕ, ◌≡◌, ◌^◌, length, ◌∙◌, ap, sym, refl, inl, subst, arith, false}
+use Rattle.calc_room.specs.Counts.{counted}
+use Rattle.calc_room.specs.Spans.{SpansTree, SpansTrees}
+use Rattle.coefficients.specs.Rooms.{put_room}
+use Rattle.coefficients.proofs.Lacks.{passed_lacks}
+use Rattle.product_reduce.proofs.FreeBytes.{becomes_free}
+use Rattle.product_reduce.proofs.GatheredCounts.{sorted_counted}
+use Rattle.product_reduce.proofs.GatheredParts.{spans_sorted}
 use Rattle.calc_algebra.specs.Numbers.{is_number}
 use Rattle.std.specs.Prelude.{IsSortedByKey}
 use Rattle.calc_algebra.specs.Reduced.{base_of}
 use Rattle.calc_algebra.specs.TreeOrder.{tree_cmp}
-use Rattle.calc_terms.specs.Trees.{Tree, Trees, mult, count}
+use Rattle.calc_terms.specs.Trees.{Tree, Trees, mult, count, size}
 use Rattle.node_order.specs.Sorting.{list_of}
 use Rattle.product_reduce.specs.Factors.{coefficient_before}
 use Rattle.product_reduce.specs.Joining.{have_partners}
 use Rattle.product_reduce.specs.Misfits.{SpreadingOverflows}
 use Rattle.product_reduce.specs.Neighbours.{IsPairAt}
-use Rattle.coefficients.proofs.Steps.{if_map}
 use Rattle.tree_handles.specs.Handed.{tree_of}
 use Rattle.number_forms.specs.Readers.{is_zero}
 use Rattle.tree_handles.specs.Expressions.{plain}
@@ -190,3 +196,16 @@ returns-in_err-finished-in-None-clause-overflow c =
     let own = factors_are s.becomes.product in
     put_named _ (passed_on c.from_residual.result c.in_err-finished-in-None.field-0.0 _ c.from_residual.ensures.0 c.from_residual.ensures.1 c.in_err-finished-in-None.ensures.overflow)
     (λ x h. spreading_before (tree_of c.args.coefficient c.args.pool.now) _ (factors_in c.args.product (forest c.args.pool.now)) s.us x same s.sorted (subst (λ (ts : Trees). SpreadingOverflows (tree_of c.args.coefficient c.sort_factors.new.pool) ts x) own h))
+
+pub returns-in_err-finished-in-None-clause-room : goal.returns-in_err-finished-in-None-clause-room
+returns-in_err-finished-in-None-clause-room c gs x k =
+    let ts = factors_in c.args.product (forest c.args.pool.now) in
+    let same : tree_of c.args.coefficient c.sort_factors.new.pool ≡ tree_of c.args.coefficient c.args.pool.now = ap plain (tree_becomes c.args.coefficient c.requires.stands c.sort_factors.ensures.stands c.requires.product c.sort_factors.ensures.sorts.becomes c.requires.coefficient c.requires.apart) in
+    let s = c.sort_factors.ensures.sorts in
+    let own = factors_are s.becomes.product in
+    let free = becomes_free c.requires.stands c.sort_factors.ensures.stands c.sort_factors.ensures.kept c.requires.product s.becomes in
+    let room : put_room (counted (mult (factors_in c.args.product (forest c.sort_factors.new.pool)))) (2 ^ length gs) ≡ put_room (counted (mult ts)) (2 ^ length gs) =
+    ap (λ (us : Trees). put_room (counted (mult us)) (2 ^ length gs)) own ∙ ap (λ (n : ℕ). put_room n (2 ^ length gs)) (sorted_counted ts s.us s.sorted) in
+    passed_lacks c.from_residual.result c.in_err-finished-in-None.field-0.0 _ _ c.from_residual.ensures.1
+    (c.in_err-finished-in-None.ensures.room gs (subst (SpansTree gs) (sym same) x) (subst (SpansTrees gs) (sym own) (spans_sorted gs ts s.us s.sorted k)))
+    (λ g l. omega (arith, free, ap size same, ap (λ (us : Trees). size (mult us)) own, room, l))

@@ -1,4 +1,4 @@
-use Rattle.std.proofs.Common.{◌≡◌, ◌+◌, ◌∙◌, ap, sym, refl, arith}
+use Rattle.std.proofs.Common.{◌≡◌, ◌+◌, ◌∙◌, ap, refl, arith}
 use Rattle.number_forms.specs.Sums.{removed}
 use Rattle.calc_algebra.specs.Reduced.{is_reduced}
 use Rattle.calc_terms.specs.Trees.{count}
@@ -16,6 +16,7 @@ use Rattle.product_reduce.specs.Joining.{joint}
 use Rattle.product_reduce.specs.Products.{factors_in}
 use Rattle.product_reduce.proofs.Beside.{beside_product, beside_other, beside_apart, beside_below, beside_given, behind_beside, behind_clear, beside_tree_below}
 use Rattle.product_reduce.proofs.Finished.{reduced_nth}
+use Rattle.product_reduce.proofs.FreeBytes.{child_free, refusal_told}
 use Rattle.product_reduce.proofs.Joins.{both_out, put_back, nth_removed, count_removed}
 use Rattle.product_reduce.proofs.Products.{product_within, product_arity}
 use Rattle.product_reduce.proofs.joining.join_pair.Goals as goal
@@ -118,3 +119,11 @@ returns-clause-front c =
     let told = gives_as given refl (λ t q. q ∙ rw (z.first.tree, beside_tree_below z.first z.second, nth_removed c.args.first c.args.second (factors_in c.args.product.now (forest c.args.pool.now)) c.requires.order) refl) in
     let back = put_back c.args.product.now c.args.first c.in_ok-power.power _ _ _ _ _ (joint (nth c.args.first (factors_in c.args.product.now (forest c.args.pool.now))) (nth c.args.second (factors_in c.args.product.now (forest c.args.pool.now)))) z.becomes told (omega (arith, less, few, c.requires.order, c.requires.within)) (c.add_child.ensures.root (given_other given z.becomes.product.handed).root) in
     back.front
+
+pub returns-in_err-power-clause-room : goal.returns-in_err-power-clause-room
+returns-in_err-power-clause-room c =
+    let y = c.in_ok-exponent.ensures.ok in
+    let few : count (removed c.args.second (factors_in c.args.product.now (forest c.args.pool.now))) + 1 ≡ count (factors_in c.args.product.now (forest c.args.pool.now)) = count_removed c.args.second (factors_in c.args.product.now (forest c.args.pool.now)) c.requires.within in
+    let p = beside_product y.beside y.becomes.product in
+    let free = child_free c.args.first c.take_exponent.ensures.stands c.take_child-factor.ensures.stands c.take_child-factor.ensures.kept p (omega (arith, few, c.requires.order, c.requires.within)) (c.take_child-factor.ensures.last p.handed.root) in
+    refusal_told c.from_residual-in_err-power.result (omega (arith, free, c.in_ok-exponent.ensures.placed, c.in_err-power.ensures.room))

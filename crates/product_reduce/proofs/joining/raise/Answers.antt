@@ -1,4 +1,7 @@
-use Rattle.std.proofs.Common.{◌∙◌, ap, refl}
+use Rattle.std.proofs.Common.{◌∙◌, ap, refl, arith}
+use Rattle.calc_terms.specs.Trees.{size}
+use Rattle.number_forms.proofs.FreeBytes.{both_replaced_free, refused_below}
+use Rattle.product_reduce.proofs.FreeBytes.{refusal_told}
 use Rattle.tree_handles.specs.Expressions.{plain}
 use Rattle.tree_handles.proofs.Given.{gives_as, given_handed, given_other, given_apart, given_told, given_same, given_without, handed_beside}
 use Rattle.tree_handles.proofs.Fronts.{behind_first, behind_later, behind_new, front_same, front_without, front_after_one, front_after_two}
@@ -65,3 +68,13 @@ returns-clause-front c =
     let base = behind_clear (beside_below s.base s.exponent) (front_without behind_first front_same) in
     let sum = behind_new c.in_ok-sum.ensures.ok.ends (front_without (behind_later behind_first) (front_without own start)) in
     front_after_two base sum two c.node_over_two-2.ensures.front
+
+pub returns-in_err-power-clause-room : goal.returns-in_err-power-clause-room
+returns-in_err-power-clause-room c =
+    let s = c.in_ok-base.ensures.ok in
+    let a = beside_other s.base s.exponent.handed in
+    let b = beside_other s.base (beside_other s.exponent (handed_beside c.args.factor c.requires.apart c.requires.second)) in
+    let d = beside_apart c.args.exponent s.exponent (handed_beside c.args.factor c.requires.apart c.requires.second).root in
+    let g = c.in_ok-sum.ensures.ok in
+    let free = both_replaced_free c.split_factor.ensures.stands c.node_over_two.ensures.stands c.in_ok-sum.ensures.kept d a b g in
+    refusal_told c.from_residual-in_err-power.result (omega (arith, free, ap size (given_told g), c.in_ok-base.ensures.placed, refused_below c.in_err-power.ensures.full))

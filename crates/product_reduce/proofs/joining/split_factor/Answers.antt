@@ -3,7 +3,9 @@ use Rattle.tree_handles.specs.Inside.{kids_of}
 use Rattle.calc_algebra.specs.Reduced.{is_reduced, is_transparent_power}
 use Rattle.tree_handles.specs.Forest.{arity}
 use Rattle.tree_handles.specs.Standing.{forest}
+use Rattle.tree_handles.proofs.Forests.{keeps_after}
 use Rattle.tree_handles.proofs.Fronts.{front_at}
+use Rattle.product_reduce.proofs.FreeBytes.{split_free}
 use Rattle.tree_handles.proofs.Lasts.{expression_root, plain_root, kids_of_root}
 use Rattle.product_reduce.proofs.Beside.{beside_gives, beside_handed, beside_other}
 use Rattle.product_reduce.proofs.Splits.{two_children, halved, emptied, split_at, unsplit}
@@ -59,3 +61,11 @@ returns-in_ok-exponent-clause-ok c =
     let t = ap is_transparent_power (sym (plain_root c.args.factor c.requires.stands c.requires.handed.root)) ∙ sym seen ∙ c.if-is_transparent_power.false in
     let one = beside_gives c.in_ok-exponent.ensures.ok in
     unsplit c.args.factor _ _ _ c.requires.handed t one (beside_handed c.args.factor c.one.ensures.stands (beside_other one c.requires.handed))
+
+pub returns-then-is_transparent_power-clause-placed : goal.returns-then-is_transparent_power-clause-placed
+returns-then-is_transparent_power-clause-placed c =
+    split_free c.requires.stands c.release.ensures.stands (keeps_after _ _ _ c.take_child-exponent.ensures.kept (keeps_after _ _ _ c.take_child-base.ensures.kept c.release.ensures.kept)) c.requires.handed
+    (returns-then-is_transparent_power-clause-ok c)
+
+pub returns-in_ok-exponent-clause-placed : goal.returns-in_ok-exponent-clause-placed
+returns-in_ok-exponent-clause-placed c = split_free c.requires.stands c.one.ensures.stands c.in_ok-exponent.ensures.kept c.requires.handed (returns-in_ok-exponent-clause-ok c)

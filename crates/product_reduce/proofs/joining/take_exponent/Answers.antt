@@ -1,4 +1,6 @@
-use Rattle.std.proofs.Common.{◌∙◌, ap, refl}
+use Rattle.std.proofs.Common.{◌∙◌, ap, refl, arith}
+use Rattle.tree_handles.proofs.Forests.{keeps_after}
+use Rattle.product_reduce.proofs.FreeBytes.{child_free, exponent_free, refusal_told}
 use Rattle.calc_algebra.specs.Reduced.{is_reduced}
 use Rattle.product_reduce.specs.Joining.{exponent_of}
 use Rattle.tree_handles.specs.Standing.{forest}
@@ -47,3 +49,14 @@ returns-clause-front c =
     front_at (front_without (behind_clear (beside_below s.base (beside_as s.exponent refl x.rest refl)) left.front)
     (front_after_one (behind_beside x left.front) (front_end e left.front) c.split_factor.ensures.front))
     (c.release.ensures.owned (owned s.base.handed))
+
+pub returns-in_err-base-clause-room : goal.returns-in_err-base-clause-room
+returns-in_err-base-clause-room c =
+    let e = c.take_child-factor.ensures.last c.requires.product.handed.root in
+    let free = child_free c.args.at c.requires.stands c.take_child-factor.ensures.stands c.take_child-factor.ensures.kept c.requires.product c.requires.within e in
+    refusal_told c.from_residual.result (omega (arith, free, c.in_err-base.ensures.room))
+
+pub returns-clause-placed : goal.returns-clause-placed
+returns-clause-placed c =
+    exponent_free c.args.at c.requires.stands c.release.ensures.stands (keeps_after _ _ _ c.take_child-factor.ensures.kept (keeps_after _ _ _ c.in_ok-base.ensures.kept c.release.ensures.kept)) c.requires.product c.requires.within
+    (returns-clause-ok c)

@@ -1,4 +1,4 @@
-use Rattle.std.proofs.Common.{◌≡◌, ◌≤◌, ◌<◌, false, ◌∙◌, ap, sym, arith}
+use Rattle.std.proofs.Common.{◌≡◌, false, ◌∙◌, ap, sym, arith}
 use Rattle.std.specs.Prelude.{is_some}
 use Rattle.calc_algebra.specs.Reduced.{is_num_one}
 use Rattle.number_forms.specs.Readers.{is_zero}

@@ -1,4 +1,8 @@
-use Rattle.std.proofs.Common.{◌∙◌, ap}
+use Rattle.std.proofs.Common.{◌∙◌, ap, sym, subst, arith}
+use Rattle.calc_room.specs.Spans.{SpansTree}
+use Rattle.calc_terms.specs.Trees.{size}
+use Rattle.coefficients.proofs.Lacks.{result_lacks}
+use Rattle.product_reduce.proofs.FreeBytes.{child_free}
 use Rattle.calc_algebra.specs.Numbers.{is_number}
 use Rattle.tree_handles.specs.Forest.{kids, without_nth}
 use Rattle.tree_handles.specs.Roots.{root_tree}
@@ -91,3 +95,32 @@ returns-clause-overflow c =
     let a = handed_by_put c.args.product.now n (eqb-sym c.args.so_far c.args.product.now c.requires.apart) c.requires.handed in
     refused_as c.multiply_numbers.result (product_named _ _ c.multiply_numbers.new.pool c.multiply_numbers.result c.multiply_numbers.ensures.rationals c.multiply_numbers.ensures.overflow)
     (λ o h. product_as o (so_far_tree c.args.product.now c.args.so_far n (forest c.args.pool.now) x c.requires.apart a.root) x.tree h)
+
+-- ---- what it measures, and its bytes
+
+pub returns-clause-measured : goal.returns-clause-measured
+returns-clause-measured c =
+    let e = c.take_child-number.ensures.last c.requires.product.handed.root in
+    let x = taken_factor c.args.at c.requires.product c.requires.within e in
+    let n = (without_nth c.args.at (kids (root_tree c.args.product.now (forest c.args.pool.now)))) in
+    let a = handed_by_put c.args.product.now n (eqb-sym c.args.so_far c.args.product.now c.requires.apart) c.requires.handed in
+    if_ok_map c.multiply_numbers.result c.multiply_numbers.ensures.measured (λ m k. rw (so_far_tree c.args.product.now c.args.so_far n (forest c.args.pool.now) x c.requires.apart a.root, x.tree) at k)
+
+pub returns-clause-bits : goal.returns-clause-bits
+returns-clause-bits c few =
+    let e = c.take_child-number.ensures.last c.requires.product.handed.root in
+    let x = taken_factor c.args.at c.requires.product c.requires.within e in
+    let n = (without_nth c.args.at (kids (root_tree c.args.product.now (forest c.args.pool.now)))) in
+    let a = handed_by_put c.args.product.now n (eqb-sym c.args.so_far c.args.product.now c.requires.apart) c.requires.handed in
+    c.multiply_numbers.ensures.bits (rw (so_far_tree c.args.product.now c.args.so_far n (forest c.args.pool.now) x c.requires.apart a.root, x.tree) few)
+
+pub returns-clause-room : goal.returns-clause-room
+returns-clause-room c gs s k =
+    let e = c.take_child-number.ensures.last c.requires.product.handed.root in
+    let x = taken_factor c.args.at c.requires.product c.requires.within e in
+    let n = (without_nth c.args.at (kids (root_tree c.args.product.now (forest c.args.pool.now)))) in
+    let a = handed_by_put c.args.product.now n (eqb-sym c.args.so_far c.args.product.now c.requires.apart) c.requires.handed in
+    let p = so_far_tree c.args.product.now c.args.so_far n (forest c.args.pool.now) x c.requires.apart a.root in
+    let free = child_free c.args.at c.requires.stands c.take_child-number.ensures.stands c.take_child-number.ensures.kept c.requires.product c.requires.within e in
+    result_lacks c.multiply_numbers.result _ _ (c.multiply_numbers.ensures.room gs (subst (SpansTree gs) (sym p) s) (subst (SpansTree gs) (sym x.tree) k))
+    (λ g l. omega (arith, free, ap size p, ap size x.tree, l))

@@ -14,7 +14,10 @@ use Rattle.product_reduce.proofs.Finished.{reduced_nth}
 use Rattle.product_reduce.proofs.Joins.{count_removed}
 use Rattle.product_reduce.proofs.Multiplied.{seen, underway_more}
 use Rattle.product_reduce.proofs.Products.{becomes_as, factors_are}
-use Rattle.product_reduce.proofs.Progress.{multiplied, faulted, completed, next_misfit}
+use Rattle.product_reduce.proofs.Progress.{multiplied, faulted, completed, next_fits, next_misfit}
+use Rattle.product_reduce.proofs.FreeBytes.{taken_out_free}
+use Rattle.product_reduce.proofs.Underway.{next_spans, progress_sizes}
+use Rattle.number_forms.proofs.Rooms.{full_as}
 use Rattle.product_reduce.proofs.numbers.take_coefficient.Goals as goal
 
 pub returns-in_err-coefficient-clause-rationals : goal.returns-in_err-coefficient-clause-rationals
@@ -49,7 +52,7 @@ loop-at-preserved c =
     let number = c.in-Ok.ensures.number in
     record {
       underway = underway_more c.args.product.now c.loop-at.coefficient c.in-Ok.product (factors_in c.args.product.now (forest c.args.pool.now)) (factors_in c.args.product.now (forest c.loop-at.pool)) (removed c.in-Some.at (factors_in c.args.product.now (forest c.loop-at.pool))) w.left _ _ _ w.beside w.becomes c.in-Ok.ensures.ok
-          (multiplied c.in-Some.at (factors_in c.args.product.now (forest c.args.pool.now)) (factors_in c.args.product.now (forest c.loop-at.pool)) (tree_of c.loop-at.coefficient c.loop-at.pool) (tree_of c.in-Ok.product c.multiply_in.new.pool) c.in-Some.ensures w.progress number.number number.worth c.in-Ok.ensures.rationals);
+          (multiplied c.in-Some.at (factors_in c.args.product.now (forest c.args.pool.now)) (factors_in c.args.product.now (forest c.loop-at.pool)) (tree_of c.loop-at.coefficient c.loop-at.pool) (tree_of c.in-Ok.product c.multiply_in.new.pool) c.in-Some.ensures w.progress number.number number.worth c.in-Ok.ensures.measured c.in-Ok.ensures.rationals);
       front = front_after_two behind_first (behind_beside w.beside w.becomes.front) c.loop-at.invariant.front c.multiply_in.ensures.front;
       kept = keeps_after _ _ _ c.loop-at.invariant.kept c.in-Ok.ensures.kept;
       stands = c.multiply_in.ensures.stands;
@@ -91,3 +94,20 @@ returns-clause-rationals c =
 
 pub returns-in_err-coefficient-clause-overflow : goal.returns-in_err-coefficient-clause-overflow
 returns-in_err-coefficient-clause-overflow c = none_named c.from_residual.result c.in_err-coefficient.field-0.0 _ c.from_residual.ensures.1
+
+-- ---- few bits, and few bytes
+
+pub returns-in-Err-clause-bits : goal.returns-in-Err-clause-bits
+returns-in-Err-clause-bits c h l a few =
+    let w = seen c.args.product.now c.loop-at.coefficient (factors_in c.args.product.now (forest c.args.pool.now)) (forest c.args.pool.now) (forest c.loop-at.pool) c.loop-at.invariant.underway in
+    c.in-Err.ensures.bits (next_fits c.in-Some.at (factors_in c.args.product.now (forest c.args.pool.now)) (factors_in c.args.product.now (forest c.loop-at.pool)) (tree_of c.loop-at.coefficient c.loop-at.pool) h l c.in-Some.ensures w.progress a few)
+
+pub returns-in-Err-clause-room : goal.returns-in-Err-clause-room
+returns-in-Err-clause-room c gs s =
+    let ts = factors_in c.args.product.now (forest c.args.pool.now) in
+    let us = factors_in c.args.product.now (forest c.loop-at.pool) in
+    let d = tree_of c.loop-at.coefficient c.loop-at.pool in
+    let w = seen c.args.product.now c.loop-at.coefficient ts (forest c.args.pool.now) (forest c.loop-at.pool) c.loop-at.invariant.underway in
+    let n = next_spans gs c.in-Some.at ts us d c.in-Some.ensures w.progress s in
+    let free = taken_out_free c.requires.stands c.loop-at.invariant.stands c.loop-at.invariant.kept c.requires.product (record { left = w.left; beside = w.beside; becomes = w.becomes }) in
+    full_as c.in-Err.fault (c.in-Err.ensures.room gs n.0 n.1) (λ g l. omega (arith, free, progress_sizes ts us d w.progress, l))

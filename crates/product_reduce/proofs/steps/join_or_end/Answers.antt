@@ -1,4 +1,8 @@
-use Rattle.std.proofs.Common.{◌∙◌, ap, sym, refl, inl}
+use Rattle.std.proofs.Common.{◌∙◌, ap, sym, refl, inl, arith}
+use Rattle.coefficients.proofs.Lacks.{passed_lacks, refusal_lacks}
+use Rattle.node_pool.specs.State.{free_of}
+use Rattle.tree_handles.specs.Handed.{tree_of}
+use Rattle.product_reduce.proofs.FreeBytes.{pair_lacks}
 use Rattle.number_forms.specs.Readers.{is_zero}
 use Rattle.tree_handles.specs.Expressions.{plain}
 use Rattle.product_reduce.specs.Products.{factors_in}
@@ -71,3 +75,12 @@ returns-in_err-product-in-Some-clause-overflow c = none_named c.from_residual.re
 pub returns-in_err-sorted-in-None-clause-overflow : goal.returns-in_err-sorted-in-None-clause-overflow
 returns-in_err-sorted-in-None-clause-overflow c =
     passed_on c.from_residual-in_err-sorted-in-None.result c.in_err-sorted-in-None.field-0.0 _ c.from_residual-in_err-sorted-in-None.ensures.0 c.from_residual-in_err-sorted-in-None.ensures.1 c.in_err-sorted-in-None.ensures.overflow
+
+pub returns-in_err-product-in-Some-clause-room : goal.returns-in_err-product-in-Some-clause-room
+returns-in_err-product-in-Some-clause-room c gs x k =
+    refusal_lacks c.from_residual.result c.in_err-product-in-Some.field-0.0 _ c.from_residual.ensures.1
+    (pair_lacks gs (tree_of c.args.coefficient c.args.pool.now) (factors_in c.args.product (forest c.args.pool.now)) (free_of c.args.pool.now) c.requires.number x c.requires.others k c.in_err-product-in-Some.ensures.room)
+
+pub returns-in_err-sorted-in-None-clause-room : goal.returns-in_err-sorted-in-None-clause-room
+returns-in_err-sorted-in-None-clause-room c gs x k =
+    passed_lacks c.from_residual-in_err-sorted-in-None.result c.in_err-sorted-in-None.field-0.0 _ _ c.from_residual-in_err-sorted-in-None.ensures.1 (c.in_err-sorted-in-None.ensures.room gs x k) (λ g l. omega (arith, l))

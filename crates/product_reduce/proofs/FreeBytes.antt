@@ -1,0 +1,138 @@
+-- Free bytes and those of a product, from one pool to the next.
+use Rattle.std.proofs.Common.{◌≡◌, ℕ, zero, suc, ◌+◌, ◌*◌, ◌<◌, ◌≤◌, ◌^◌, List, length, Bool, true, false, not, if◌then◌else◌, refl, Result, Ok, Err, ap, arith}
+use Rattle.std.specs.Prelude.{IfErr}
+use Rattle.std.proofs.lemmas.Bool.{and_from}
+use Rattle.calc_algebra.specs.Numbers.{is_number}
+use Rattle.calc_algebra.specs.Reduced.{base_of, is_opaque_exponent, none_is, NoneIs, num_one}
+use Rattle.calc_room.specs.Counts.{counted, counted_among}
+use Rattle.calc_room.specs.Spans.{SpansTree, SpansTrees}
+use Rattle.number_forms.proofs.Rooms.{number_size}
+use Rattle.tree_room.proofs.Handed.{factors_bytes}
+use Rattle.product_reduce.specs.Answers.{AreOthers}
+use Rattle.calc_terms.specs.Fractions.{one_fraction}
+use Rattle.calc_terms.specs.Trees.{Tree, mult, power, Trees, none, more, count, size, sizes}
+use Rattle.calc_terms.proofs.Sizes.{num_most}
+use Rattle.calc_room.specs.Needs.{product_need}
+use Rattle.coefficients.specs.Coefficients.{factors_of}
+use Rattle.coefficients.specs.Rooms.{put_room}
+use Rattle.coefficients.proofs.Rooms.{sizes_append}
+use Rattle.std.proofs.lemmas.Nat.{mul-le}
+use Rattle.tree_room.specs.Needs.{product_step_room}
+use Rattle.product_reduce.specs.Factors.{opened}
+use Rattle.node_pool.specs.Nodes.{used}
+use Rattle.node_pool.specs.State.{State, free_of}
+use Rattle.number_forms.proofs.RationalCalls.{bytes_without}
+use Rattle.number_forms.specs.Sums.{removed}
+use Rattle.tree_handles.specs.Expressions.{nth, plain}
+use Rattle.tree_handles.specs.Forest.{Forest, bytes_in, kids, tree_nth, without_nth}
+use Rattle.tree_handles.specs.Handed.{tree_of, IsHanded, Ends}
+use Rattle.tree_handles.specs.Roots.{root_tree, without_root, put}
+use Rattle.tree_handles.specs.Standing.{Stands, forest, KeepsRefusals}
+use Rattle.tree_handles.proofs.Places.{used_forest}
+use Rattle.tree_handles.proofs.Plains.{size-plain}
+use Rattle.tree_handles.proofs.Roots.{root_arity}
+use Rattle.product_reduce.specs.Joining.{exponent_of}
+use Rattle.product_reduce.specs.Products.{IsProduct, Becomes, IsBeside, IsTakenOut, IsSplit}
+use Rattle.product_reduce.proofs.Beside.{taken_factor, without_factor}
+
+pub all_bytes : (s : State) → Stands s → free_of s + bytes_in (forest s) ≡ s.size
+all_bytes s st = let fits : used s.nodes ≤ s.size = st.pool.fits in omega (arith, fits, used_forest s st)
+
+pub handed_bytes : (i : ℕ) (f : Forest) → IsHanded i f → bytes_in f ≡ bytes_in (without_root i f) + size (plain (root_tree i f))
+handed_bytes i f h = omega (arith, bytes_without i f h.root, size-plain (root_tree i f) (root_arity i f h.root) h.whole)
+
+pub product_bytes : {i : ℕ} {f : Forest} {ts : Trees} → IsProduct i f ts → bytes_in f ≡ bytes_in (without_root i f) + size (mult ts)
+product_bytes {i = i} {f = f} p = omega (arith, handed_bytes i f p.handed, ap size p.tree)
+
+pub beside_bytes : {h : ℕ} {u : Tree} {others f : Forest} → IsBeside h u others f → bytes_in f ≡ bytes_in others + size u
+beside_bytes {h = h} {f = f} b = omega (arith, handed_bytes h f b.handed, ap size b.tree, ap bytes_in b.rest)
+
+-- what the trees gain, free bytes lose
+pub free_as : {s t : State} (a b : ℕ) → Stands s → Stands t → KeepsRefusals s t → bytes_in (forest t) + a ≡ bytes_in (forest s) + b → free_of t + b ≡ free_of s + a
+free_as {s = s} {t = t} a b st su k e = omega (arith, all_bytes s st, all_bytes t su, k.size, e)
+
+-- other factors in place of those of a product
+pub becomes_free : {s t : State} {i : ℕ} {ts us : Trees} → Stands s → Stands t → KeepsRefusals s t → IsProduct i (forest s) ts → Becomes i (forest s) (forest t) us → free_of t + size (mult us) ≡ free_of s + size (mult ts)
+becomes_free {ts = ts} {us = us} st su k p b =
+    free_as (size (mult ts)) (size (mult us)) st su k (omega (arith, product_bytes p, product_bytes b.product, ap bytes_in b.others))
+
+-- a tree beside them
+pub taken_out_free : {s t : State} {i h : ℕ} {u : Tree} {ts us : Trees} → Stands s → Stands t → KeepsRefusals s t → IsProduct i (forest s) ts → IsTakenOut i us (forest s) (forest t) h u → free_of t + size (mult us) + size u ≡ free_of s + size (mult ts)
+taken_out_free {s = s} {t = t} {u = u} {ts = ts} {us = us} st su k p x =
+    omega (
+      arith,
+      free_as (size (mult ts)) (size (mult us) + size u) st su k (omega (arith, product_bytes p, product_bytes x.becomes.product, ap bytes_in x.becomes.others, beside_bytes x.beside)),
+    )
+
+-- a factor as its base and its exponent, which together have 40 bytes more at most
+split_bytes : (t : Tree) → size (base_of t) + size (exponent_of t) ≤ size t + 40
+split_bytes (power b e) = by (is_opaque_exponent e)
+  where
+    by : (k : Bool) → size (if k then power b e else b) + size (if k then num_one else e) ≤ size (power b e) + 40
+    by true = omega (arith, num_most one_fraction)
+    by false = omega arith
+split_bytes t = omega (arith, num_most one_fraction)
+
+pub split_free : {s t : State} {i b e : ℕ} → Stands s → Stands t → KeepsRefusals s t → IsHanded i (forest s) → IsSplit i (forest s) (forest t) b e → free_of s ≤ free_of t + 40
+split_free {s = s} {t = t} {i = i} st su k h x =
+    let u : Tree = tree_of i s in
+    let e : free_of t + (size (base_of u) + size (exponent_of u)) ≡ free_of s + size u =
+    free_as (size u) (size (base_of u) + size (exponent_of u)) st su k (omega (arith, handed_bytes i (forest s) h, beside_bytes x.exponent, beside_bytes x.base)) in
+    omega (arith, e, split_bytes u)
+
+-- ---- a factor less
+
+pub removed_sizes : (n : ℕ) (ts : Trees) → n < count ts → sizes (removed n ts) + size (nth n ts) ≡ sizes ts
+removed_sizes n none l = absurd (omega arith)
+removed_sizes zero (more t ts) l = omega arith
+removed_sizes (suc n) (more t ts) l = omega (arith, removed_sizes n ts (omega arith))
+
+pub child_free : {s t : State} {i h : ℕ} {ts : Trees} (at : ℕ) → Stands s → Stands t → KeepsRefusals s t → IsProduct i (forest s) ts → at < count ts
+    → Ends h (tree_nth at (kids (root_tree i (forest s)))) (put i (without_nth at (kids (root_tree i (forest s)))) (forest s)) (forest t) → free_of t ≡ free_of s
+child_free {ts = ts} at st su k p l e =
+    omega (arith, taken_out_free st su k p (record { left = _; beside = taken_factor at p l e; becomes = without_factor at p }), removed_sizes at ts l)
+
+-- only its exponent is left of it
+pub exponent_free : {s t : State} {i h : ℕ} {ts : Trees} (at : ℕ) → Stands s → Stands t → KeepsRefusals s t → IsProduct i (forest s) ts → at < count ts
+    → IsTakenOut i (removed at ts) (forest s) (forest t) h (exponent_of (nth at ts)) → free_of s ≤ free_of t + 40
+exponent_free {ts = ts} at st su k p l x = omega (arith, taken_out_free st su k p x, removed_sizes at ts l, split_bytes (nth at ts))
+
+-- ---- refusals
+
+pub refusal_told : {A E P : Type 0} (r : Result A E) → P → IfErr r (λ e. P)
+refusal_told (Ok x) p = tt
+refusal_told (Err e) p = p
+
+-- ---- the need of a step
+
+factors_size : (t : Tree) → sizes (factors_of t) ≤ size t
+factors_size (mult ts) = omega arith
+factors_size t = omega arith
+
+pub opened_size : (ts : Trees) → size (mult (opened ts)) ≤ size (mult ts)
+opened_size none = omega arith
+opened_size (more t ts) = omega (arith, sizes_append (factors_of t) (opened ts), factors_size t, opened_size ts)
+
+-- beside the factors there is room for a call on Numbers, and for a coefficient before the others
+pub step_lacks_numbers : (h m size bytes : ℕ) → size ≤ 204 * h * m → bytes < product_need * m + size → bytes < product_step_room h m
+step_lacks_numbers h m size bytes s l = omega arith
+
+pub step_lacks_coefficient : (c h m bytes : ℕ) → c ≤ h → bytes < put_room c m → bytes < product_step_room h m
+step_lacks_coefficient c h m bytes s l = let g : c * m ≤ h * m = mul-le c m h m s (omega arith) in omega arith
+
+-- beside a coefficient and the others a pair is joined
+pub pair_lacks : (gs : List ℕ) (c : Tree) (ts : Trees) (free : ℕ) → is_number c ≡ true → SpansTree gs c → AreOthers ts → SpansTrees gs ts → free < 96
+    → free + size c + size (mult ts) < put_room (counted (mult ts)) (2 ^ length gs) + 56
+pair_lacks gs c ts free n s o k l =
+    let m : ℕ = 2 ^ length gs in
+    let a : size c + 48 ≤ 96 * m = number_size gs c n s in
+    let b : sizes ts ≤ 204 * counted_among ts * m = factors_bytes gs ts o.reduced k (none_as is_number ts o.no_number) in
+    let d : counted_among ts * m ≤ counted (mult ts) * m = mul-le (counted_among ts) m (counted (mult ts)) m (omega arith) (omega arith) in
+    omega (arith, a, b, d, l)
+  where
+    none_as : (p : Tree → Bool) (ts : Trees) → NoneIs p ts → none_is p ts ≡ true
+    none_as p none h = refl
+    none_as p (more t ts) h = and_from (not (p t)) (none_is p ts) (ap not h.0) (none_as p ts h.1)
+
+pub step_lacks_pair : (c h m bytes : ℕ) → 1 ≤ m → c ≤ h → bytes < put_room c m + 56 → bytes < product_step_room h m
+step_lacks_pair c h m bytes p s l = let g : c * m ≤ h * m = mul-le c m h m s (omega arith) in omega arith

@@ -1,0 +1,200 @@
+-- A rational times a reduced sum, as addends: each coefficient is multiplied, and the factors are the same.
+use Rattle.std.proofs.Common.{◌≡◌, ◌≢◌, ◌≤◌, ◌*◌, ℕ, ◌⊎◌, inl, inr, [], ◌∷◌, Bool, true, false, if◌then◌else◌, refl, sym, ap, ◌∙◌, subst, arith}
+use Rattle.calc_terms.specs.Fractions.{Fraction, times, zero_fraction, one_fraction, is_one_fraction}
+use Rattle.calc_terms.proofs.FractionFacts.{one_is, zero_test}
+use Rattle.calc_terms.specs.Trees.{Tree, num, add, mult, root, Trees, none, more, append, count, is_add, is_mult, AllParts, AllPartsOf}
+use Rattle.calc_measures.specs.Loads.{has_coefficient}
+use Rattle.calc_algebra.specs.Numbers.{is_number, is_term, natural_of, value, terms_of, IsNumber, IsTerm}
+use Rattle.calc_algebra.specs.Reduced.{HasForm, NoneIs, IsProductForm, IsSumForm, Split, split, split_product, product_tree, part_of, num_one, number_terms, other_terms}
+use Rattle.calc_algebra.specs.Surds.{Surd, term, surd_of, surd_one, surd_scale, surd_times}
+use Rattle.calc_algebra.proofs.InverseLaws.{product_not_zero}
+use Rattle.calc_algebra.proofs.NumberLaws.{number_test}
+use Rattle.coefficients.specs.Coefficients.{coefficient_of, factors_of}
+use Rattle.coefficients.specs.Multiples.{mapped, rational_times_number, rational_times_term}
+use Rattle.coefficients.proofs.Coefficients.{leading_factors, product_form_of}
+use Rattle.coefficients.proofs.Factors.{AreFactors, no_split, num_split, none_leads, two_count}
+use Rattle.coefficients.proofs.Forms.{no_term, term_test}
+use Rattle.coefficients.proofs.NumberMultiples.{IsFactor, number_scaled, terms-scaled, times_one}
+use Rattle.coefficients.proofs.Splits.{Leads, in_front}
+use Rattle.coefficients.proofs.SumMultiples.{EachTerm, each_term, number_term}
+use Rattle.coefficients.proofs.TermMultiples.{multiple}
+use Rattle.tree_bits.specs.Factors.{distributed}
+use Rattle.tree_bits.specs.HeldTrees.{Addend, addend, addend_of, addends, addends_of}
+use Rattle.product_reduce.proofs.Leads.{factors_again}
+use Rattle.product_reduce.proofs.Progress.{one_value}
+
+clash : true ≡ false → ⊥
+clash e = cc
+
+-- ---- surds
+
+once : (r : ℕ) → 1 * r ≡ r
+once r = omega arith
+
+scaled_times : (q : Fraction) (v : Surd) → surd_times (surd_of q) v ≡ surd_scale q v
+scaled_times q [] = refl
+scaled_times q (t ∷ v) = (λ i. term (times q t.coefficient) (once t.radicand i) ∷ scaled_times q v i)
+
+pub rational_value : (c : Fraction) → c ≢ zero_fraction → value (num c) ≡ surd_of c
+rational_value c n = ap (λ (b : Bool). if b then [] else surd_of c) (zero_test c n)
+
+-- ---- a term as a coefficient and factors
+
+addend_parts : (t : Tree) → AllParts HasForm t → is_number t ≡ false → addend_of t ≡ addend (value (coefficient_of t)) (factors_of (part_of t))
+addend_parts (mult us) h n = by (product_form_of us h n)
+  where
+    split_flat : IsProductForm us → (has_coefficient us ≡ false) ⊎ Leads us → NoneIs is_mult (split_product us).factors × (1 ≤ count (split_product us).factors)
+    split_flat f (inl k) =
+        let e : split_product us ≡ split num_one us = no_split us k in
+        subst (λ (s : Split). NoneIs is_mult s.factors × (1 ≤ count s.factors)) (sym e) (f.no_product, omega (arith, two_count us f.two))
+    split_flat f (inr l) =
+        let a : AreFactors l.factors = leading_factors us l h n f in
+        subst (λ (s : Split). NoneIs is_mult s.factors × (1 ≤ count s.factors)) (sym l.is) (a.no_product, a.some)
+
+    by : IsProductForm us → addend_of (mult us) ≡ addend (value (coefficient_of (mult us))) (factors_of (part_of (mult us)))
+    by f = let x = split_flat f (in_front us f.no_product f.front) in ap (addend (value (split_product us).coefficient)) (sym (factors_again (split_product us).factors x.0 x.1))
+addend_parts t h n = ap (λ (v : Surd). addend v (more t none)) (sym one_value)
+
+-- ---- the terms behind the Number are some of the terms
+
+pub others_formed : (ts : Trees) → AllPartsOf HasForm ts → AllPartsOf HasForm (other_terms ts)
+others_formed none h = tt
+others_formed (more t ts) h = by (is_term t) (others_formed ts h.1)
+  where
+    by : (b : Bool) → AllPartsOf HasForm (other_terms ts) → AllPartsOf HasForm (if b then other_terms ts else more t ts)
+    by true go = go
+    by false go = h
+
+others_no_sum : (ts : Trees) → NoneIs is_add ts → NoneIs is_add (other_terms ts)
+others_no_sum none h = tt
+others_no_sum (more t ts) h = by (is_term t) (others_no_sum ts h.1)
+  where
+    by : (b : Bool) → NoneIs is_add (other_terms ts) → NoneIs is_add (if b then other_terms ts else more t ts)
+    by true go = go
+    by false go = h
+
+-- ---- the coefficient of a multiple
+
+module _ (q : Fraction) (f : IsFactor q) where
+  -- before factors with no Number in front it is q
+  before : (us : Trees) → has_coefficient us ≡ false → value (coefficient_of (mult (more (num q) us))) ≡ surd_times (surd_of q) (value num_one)
+  before us k =
+      ap (λ (s : Split). value s.coefficient) (num_split q us k) ∙ rational_value q f.not_zero ∙ (λ i. term (sym (times_one q) i) 1 ∷ []) ∙ ap (surd_times (surd_of q)) (sym one_value)
+
+  -- the coefficient goes
+  gone : (fs : Trees) → NoneIs is_mult fs → has_coefficient fs ≡ false → value (coefficient_of (product_tree fs)) ≡ surd_one
+  gone none m k = one_value
+  gone (more t none) m k = by t m.0
+    where
+      by : (t : Tree) → is_mult t ≡ false → value (coefficient_of t) ≡ surd_one
+      by (mult us) e = absurd (clash e)
+      by t e = one_value
+  gone (more t (more u fs)) m k = ap (λ (s : Split). value s.coefficient) (no_split (more t (more u fs)) k) ∙ one_value
+
+  product_some : (c : Fraction) → c ≢ zero_fraction → times q c ≢ zero_fraction
+  product_some c z = product_not_zero q c f.not_zero z
+
+  led : (c : Tree) (fs : Trees) → IsNumber c → c ≢ num zero_fraction → NoneIs is_mult fs → has_coefficient fs ≡ false → 1 ≤ count fs
+      → value (coefficient_of (rational_times_term q (mult (append (factors_of c) fs)))) ≡ surd_times (surd_of q) (value c)
+  unfolding is_number
+  led (num a) fs n z m k l = by (is_one_fraction (times q a)) refl
+    where
+      some : a ≢ zero_fraction
+      some e = z (ap num e)
+
+      right : surd_times (surd_of q) (value (num a)) ≡ surd_of (times q a)
+      right = ap (surd_times (surd_of q)) (rational_value a some)
+
+      by : (b : Bool) → is_one_fraction (times q a) ≡ b → value (coefficient_of (if b then product_tree fs else mult (more (num (times q a)) fs))) ≡ surd_times (surd_of q) (value (num a))
+      by true e = gone fs m k ∙ ap surd_of (sym (one_is (times q a) e)) ∙ sym right
+      by false e = ap (λ (s : Split). value s.coefficient) (num_split (times q a) fs k) ∙ rational_value (times q a) (product_some a some) ∙ sym right
+  led (root (num r)) fs n z m k l = root_led r fs n
+    where
+      root_led : (r : Fraction) (fs : Trees) → IsNumber (root (num r)) → value (split_product (more (num q) (more (root (num r)) fs))).coefficient ≡ surd_times (surd_of q) (value (root (num r)))
+      root_led r fs n =
+          ap (λ (b : Bool). value (if b then split (mult (more (num q) (more (root (num r)) none))) fs else split (num q) (more (root (num r)) fs)).coefficient) (number_test (root (num r)) n)
+          ∙ (λ i. term (sym (times_one q) i) (sym (once (natural_of r.num)) i) ∷ [])
+  led (mult (more (num a) (more (root (num r)) none))) fs n z m k l = by (is_one_fraction (times q a)) refl
+    where
+      right : surd_times (surd_of q) (term a (natural_of r.num) ∷ []) ≡ term (times q a) (natural_of r.num) ∷ []
+      right = λ i. term (times q a) (once (natural_of r.num) i) ∷ []
+
+      root_alone : (r : Fraction) (fs : Trees) → IsNumber (root (num r)) → 1 ≤ count fs → value (coefficient_of (product_tree (more (root (num r)) fs))) ≡ term one_fraction (natural_of r.num) ∷ []
+      root_alone r none n l = absurd (omega arith)
+      root_alone r (more u fs) n l =
+          ap (λ (b : Bool). value (if b then split (root (num r)) (more u fs) else split num_one (more (root (num r)) (more u fs))).coefficient) (number_test (root (num r)) n)
+
+      root_behind : (c r : Fraction) (fs : Trees) → IsNumber (root (num r)) → value (split_product (more (num c) (more (root (num r)) fs))).coefficient ≡ term c (natural_of r.num) ∷ []
+      root_behind c r fs n =
+          ap (λ (b : Bool). value (if b then split (mult (more (num c) (more (root (num r)) none))) fs else split (num c) (more (root (num r)) fs)).coefficient) (number_test (root (num r)) n)
+
+      by : (b : Bool) → is_one_fraction (times q a) ≡ b
+          → value (coefficient_of (if b then product_tree (more (root (num r)) fs) else mult (more (num (times q a)) (more (root (num r)) fs)))) ≡ surd_times (surd_of q) (term a (natural_of r.num) ∷ [])
+      by true e = root_alone r fs n.2 l ∙ (λ i. term (sym (one_is (times q a) e) i) (natural_of r.num) ∷ []) ∙ sym right
+      by false e = root_behind (times q a) r fs n.2 ∙ sym right
+  led (add vs) fs n z m k l =
+      ap (λ (b : Bool). value (coefficient_of (if b then mult (more (rational_times_number q vs) fs) else mult (more (num q) (more (add vs) fs))))) (number_test (add vs) n)
+      ∙ ap (λ (b : Bool). value (if b then split (rational_times_number q vs) fs else split num_one (more (rational_times_number q vs) fs)).coefficient) (number_test (rational_times_number q vs) (number_scaled q vs f n))
+      ∙ terms-scaled q vs f n.1 ∙ sym (scaled_times q (terms_of vs))
+  led c fs n z m k l = absurd n
+
+  unled : (ts : Trees) → has_coefficient ts ≡ false → rational_times_term q (mult ts) ≡ mult (more (num q) ts)
+  unfolding is_number
+  unled (more (num c) ts) h = absurd (clash h)
+  unled (more (add us) ts) h = ap (λ (b : Bool). if b then mult (more (rational_times_number q us) ts) else mult (more (num q) (more (add us) ts))) h
+  unled ts h = refl
+
+  product_coefficient : (us : Trees) → AllParts HasForm (mult us) → is_number (mult us) ≡ false → IsProductForm us → (has_coefficient us ≡ false) ⊎ Leads us
+      → value (coefficient_of (rational_times_term q (mult us))) ≡ surd_times (surd_of q) (value (coefficient_of (mult us)))
+  product_coefficient us h n g (inl k) = ap (λ (t : Tree). value (coefficient_of t)) (unled us k) ∙ before us k ∙ ap (λ (s : Split). surd_times (surd_of q) (value s.coefficient)) (sym (no_split us k))
+  product_coefficient us h n g (inr l) =
+      let a : AreFactors l.factors = leading_factors us l h n g in
+      ap (λ (x : Trees). value (coefficient_of (rational_times_term q (mult x)))) l.whole ∙ led l.c l.factors l.coefficient.number l.coefficient.not_zero a.no_product (none_leads l.factors a.no_number) a.some
+      ∙ ap (λ (s : Split). surd_times (surd_of q) (value s.coefficient)) (sym l.is)
+
+  multiple_coefficient : (t : Tree) → AllParts HasForm t → is_number t ≡ false → is_add t ≡ false → value (coefficient_of (rational_times_term q t)) ≡ surd_times (surd_of q) (value (coefficient_of t))
+  unfolding is_number
+  multiple_coefficient (num c) h n s = absurd (clash n)
+  multiple_coefficient (add ts) h n s = absurd (clash s)
+  multiple_coefficient (mult us) h n s = let g = product_form_of us h n in product_coefficient us h n g (in_front us g.no_product g.front)
+  multiple_coefficient t h n s = before (more t none) n
+
+  multiple_addend : (t : Tree) → AllParts HasForm t → is_number t ≡ false → is_add t ≡ false → addend_of (rational_times_term q t) ≡ addend (surd_times (surd_of q) (addend_of t).coefficient) (addend_of t).factors
+  multiple_addend t h n s =
+      let m = multiple q f t h n s in
+      let own = addend_parts t h n in
+      addend_parts (rational_times_term q t) m.formed m.no_number ∙ (λ i. addend (multiple_coefficient t h n s i) (factors_of (m.part i)))
+      ∙ ap (λ (x : Addend). addend (surd_times (surd_of q) x.coefficient) x.factors) (sym own)
+
+  -- ---- all terms
+
+  others_multiple : (ts : Trees) → AllPartsOf HasForm ts → NoneIs is_number ts → NoneIs is_add ts → addends_of (mapped (rational_times_term q) ts) ≡ distributed (surd_of q) (addends_of ts)
+  others_multiple none h n s = refl
+  others_multiple (more t ts) h n s = (λ i. multiple_addend t h.0 n.0 s.0 i ∷ others_multiple ts h.1 n.1 s.1 i)
+
+  terms_multiple : (ts : Trees) → AllPartsOf HasForm ts → NoneIs is_add ts → EachTerm ts → terms_of (number_terms (mapped (rational_times_term q) ts)) ≡ surd_scale q (terms_of (number_terms ts))
+  terms_multiple none h s k = refl
+  terms_multiple (more t ts) h s k = first (terms_multiple ts h.1 s.1 k.1) k.0
+    where
+      first : terms_of (number_terms (mapped (rational_times_term q) ts)) ≡ surd_scale q (terms_of (number_terms ts)) → IsTerm t ⊎ (is_number t ≡ false)
+          → terms_of (number_terms (more (rational_times_term q t) (mapped (rational_times_term q) ts))) ≡ surd_scale q (terms_of (number_terms (more t ts)))
+      first tail (inl i) = let u = number_term q t f i in rw (term_test t i, term_test (rational_times_term q t) u.one) (λ j. u.term_is j ∷ tail j)
+      first tail (inr n) = rw (no_term t n, no_term (rational_times_term q t) (multiple q f t h.0 n s.0).no_number) refl
+
+  others_mapped : (ts : Trees) → AllPartsOf HasForm ts → NoneIs is_add ts → EachTerm ts → other_terms (mapped (rational_times_term q) ts) ≡ mapped (rational_times_term q) (other_terms ts)
+  others_mapped none h s k = refl
+  others_mapped (more t ts) h s k = first (others_mapped ts h.1 s.1 k.1) k.0
+    where
+      first : other_terms (mapped (rational_times_term q) ts) ≡ mapped (rational_times_term q) (other_terms ts) → IsTerm t ⊎ (is_number t ≡ false)
+          → other_terms (more (rational_times_term q t) (mapped (rational_times_term q) ts)) ≡ mapped (rational_times_term q) (other_terms (more t ts))
+      first tail (inl i) = rw (term_test t i, term_test (rational_times_term q t) (number_term q t f i).one) tail
+      first tail (inr n) = rw (no_term t n, no_term (rational_times_term q t) (multiple q f t h.0 n s.0).no_number) refl
+
+  pub sum_multiple : (ts : Trees) → AllPartsOf HasForm ts → IsSumForm ts → addends (add (mapped (rational_times_term q) ts)) ≡ distributed (surd_of q) (addends (add ts))
+  sum_multiple ts h s =
+      let k = each_term ts s.no_number in
+      let os = other_terms ts in
+      let head : terms_of (number_terms (mapped (rational_times_term q) ts)) ≡ surd_times (surd_of q) (terms_of (number_terms ts)) = terms_multiple ts h s.no_sum k ∙ sym (scaled_times q (terms_of (number_terms ts))) in
+      let tail : addends_of (other_terms (mapped (rational_times_term q) ts)) ≡ distributed (surd_of q) (addends_of os) =
+      ap addends_of (others_mapped ts h s.no_sum k) ∙ others_multiple os (others_formed ts h) s.no_number (others_no_sum ts s.no_sum) in
+      λ i. addend (head i) none ∷ tail i
