@@ -16,13 +16,13 @@ use Rattle.tree_handles.proofs.Given.{given_rest, given_told, gives_as}
 use Rattle.tree_handles.proofs.Lasts.{last_tree}
 use Rattle.tree_walks.specs.Replacing.{replaced}
 use Rattle.name_table.specs.Filling.{FaultsFilling, LacksNames, NamedTree, filled, filling, filling_one, fills, refused_filling, value_in, values}
-use Rattle.name_table.specs.Held.{AreRoots, IsHeld}
+use Rattle.name_table.specs.Held.{AreRoots, HasEntries}
 use Rattle.name_table.specs.Slots.{AreUsed, entry_of, root_in}
 use Rattle.name_table.specs.Tables.{Entry, Table, entries, table_names}
 use Rattle.name_table.specs.declared.table.Slot.{Slot}
 use Rattle.name_table.specs.declared.fault.FillFault.{FillFault}
 use Rattle.name_table.specs.declared.fault.FillFault.TheVariants as fault
-use Rattle.name_table.proofs.FilledNames.{filled_lacks}
+use Rattle.name_table.proofs.FilledNames.{entries_lack}
 use Rattle.name_table.proofs.Slots.{used_at}
 
 -- the last tree is filled but for the rest of the entries
@@ -36,7 +36,7 @@ pub record IsFilled (t : Table) (i0 : ℕ) (s0 : State) (rest : List Entry) (i :
   pub kept : KeepsRefusals s0 s
   pub front : KeepsFront (i0 ∷ []) (forest s0) (forest s)
 
-pub filled_start : {t : Table} {i0 : ℕ} {s0 : State} → Stands s0 → IsHeld t (without_root i0 (forest s0)) → Gives (without_root i0 (forest s0)) (forest s0) i0 (λ u. ⊤) → IsFilled t i0 s0 (entries t) i0 s0
+pub filled_start : {t : Table} {i0 : ℕ} {s0 : State} → Stands s0 → HasEntries t (without_root i0 (forest s0)) → Gives (without_root i0 (forest s0)) (forest s0) i0 (λ u. ⊤) → IsFilled t i0 s0 (entries t) i0 s0
 filled_start {i0 = i0} {s0 = s0} st held g = record {
   stands = st;
   tree = tree_of i0 s0;
@@ -119,8 +119,8 @@ filled_given f = gives_as f.given refl (λ w e. e ∙ sym f.filled_is)
 pub filled_room : {t : Table} {i0 i : ℕ} {s0 s : State} → IsFilled t i0 s0 [] i s → filling (free_of s0) (values t (without_root i0 (forest s0))) (tree_of i0 s0) ≡ fills (free_of s) (tree_of i s)
 filled_room {s = s} f = f.room ∙ ap (fills (free_of s)) (sym (next_tree f))
 
-pub filled_clear : {t : Table} {i0 i : ℕ} {s0 s : State} → IsHeld t (without_root i0 (forest s0)) → IsFilled t i0 s0 [] i s → LacksNames (table_names t) (tree_of i s)
-filled_clear {t = t} {i0 = i0} {s0 = s0} held f = subst (LacksNames (table_names t)) (sym (given_told (filled_given f))) (filled_lacks t (without_root i0 (forest s0)) (tree_of i0 s0) held)
+pub filled_clear : {t : Table} {i0 i : ℕ} {s0 s : State} → HasEntries t (without_root i0 (forest s0)) → IsFilled t i0 s0 [] i s → LacksNames (table_names t) (tree_of i s)
+filled_clear {t = t} {i0 = i0} {s0 = s0} held f = subst (LacksNames (table_names t)) (sym (given_told (filled_given f))) (entries_lack t (without_root i0 (forest s0)) (tree_of i0 s0) held)
 
 -- ---- the entries as the slots of the code tell them
 
@@ -130,7 +130,7 @@ first_entry t x i a items now p q e n =
     ∙ ap (λ (ss : List Slot). record { name = x; tree = i } ∷ map entry_of ss) (sym n)
 
 pub filled_first : {t : Table} {i0 : ℕ} {s0 : State} (x : List ℕ) (i a : ℕ) (items now : List Slot) → x ≡ codes "ans" → i ≡ a → record { ans = a; stored = map entry_of items } ≡ t → now ≡ items
-    → Stands s0 → IsHeld t (without_root i0 (forest s0)) → Gives (without_root i0 (forest s0)) (forest s0) i0 (λ u. ⊤) → IsFilled t i0 s0 (record { name = x; tree = i } ∷ map entry_of now) i0 s0
+    → Stands s0 → HasEntries t (without_root i0 (forest s0)) → Gives (without_root i0 (forest s0)) (forest s0) i0 (λ u. ⊤) → IsFilled t i0 s0 (record { name = x; tree = i } ∷ map entry_of now) i0 s0
 filled_first {t = t} {i0 = i0} {s0 = s0} x i a items now p q e n st held g = subst (λ (es : List Entry). IsFilled t i0 s0 es i0 s0) (first_entry t x i a items now p q e n) (filled_start st held g)
 
 pub next_entry : (now : List Slot) (k : ℕ) (s : Slot) (r : ℕ) → k < length now → s ≡ get_or now k s → r ≡ root_in s.tree → map entry_of (drop k now) ≡ record { name = name_of s.name; tree = r } ∷ map entry_of (drop (k + 1) now)

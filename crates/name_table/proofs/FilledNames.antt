@@ -7,7 +7,7 @@ use Rattle.tree_handles.specs.Forest.{Forest}
 use Rattle.tree_walks.specs.Replacing.{occurrences, replaced, replacing}
 use Rattle.tree_walks.proofs.Composing.{names_of_replaced}
 use Rattle.name_table.specs.Filling.{Filling, LacksNames, NamedTree, fills, filled, filling, filling_one, lacks, too_deep, value_in, values}
-use Rattle.name_table.specs.Held.{HoldLaterNames, IsHeld}
+use Rattle.name_table.specs.Held.{HasEntries, HoldLaterNames, IsHeld}
 use Rattle.name_table.specs.Tables.{Entry, Table, entries, table_names}
 use Rattle.name_table.proofs.Later.{behind, in_front, names_of_entries, none_in, where_in}
 
@@ -34,9 +34,12 @@ names-values : (f : Forest) (es : List Entry) → map (λ v. v.name) (map (value
 names-values f [] = refl
 names-values f (e ∷ es) = ap (λ (xs : List (List ℕ)). e.name ∷ xs) (names-values f es)
 
-pub filled_lacks : (t : Table) (f : Forest) (u : Tree) → IsHeld t f → LacksNames (table_names t) (filled (values t f) u)
-filled_lacks t f u held =
+pub entries_lack : (t : Table) (f : Forest) (u : Tree) → HasEntries t f → LacksNames (table_names t) (filled (values t f) u)
+entries_lack t f u held =
     filled_later (table_names t) [] (values t f) u held.later (λ x c. absurd (none_in x c)) (λ y c. inr (subst (λ (xs : List (List ℕ)). Contains xs y) (sym (names-values f (entries t))) c))
+
+pub filled_lacks : (t : Table) (f : Forest) (u : Tree) → IsHeld t f → LacksNames (table_names t) (filled (values t f) u)
+filled_lacks t f u held = entries_lack t f u (record { roots = held.roots; whole = held.whole; later = held.later })
 
 -- ---- the tree that fills is the filled one
 

@@ -6,5 +6,6 @@ pub mod Ready
 pub mod Steps
 pub mod Fillings
 pub mod FilledNames
+pub mod Entries
 pub mod Filled
 pub mod Tested

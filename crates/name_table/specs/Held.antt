@@ -51,3 +51,9 @@ pub record IsHeld (t : Table) (f : Forest) : Type 0 where
   pub writable : AreWritable (plains f)
   pub later : HoldLaterNames [] (values t f)
   pub answer : LacksNames (table_names t) (plain (root_tree t.ans f))
+
+-- Each entry's tree is a root among these trees of the language, and holds only such names of the table as stand later in it. Other trees may stand among them.
+pub record HasEntries (t : Table) (f : Forest) : Type 0 where
+  pub roots : AreRoots (entries t) f
+  pub whole : AllExpressions f
+  pub later : HoldLaterNames [] (values t f)

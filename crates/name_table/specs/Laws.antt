@@ -1,10 +1,11 @@
 -- What tables keep, and what filling gives.
 use Rattle.std.specs.Prelude.{◌≡◌, ℕ, List, None}
 use Rattle.calc_terms.specs.Trees.{Tree}
-use Rattle.tree_handles.specs.Forest.{Forest, empty}
+use Rattle.tree_handles.specs.Expressions.{AllExpressions}
+use Rattle.tree_handles.specs.Forest.{Forest, empty, join}
 use Rattle.tree_handles.specs.Handed.{Gives}
 use Rattle.name_table.specs.Filling.{LacksNames, NamedTree, filled, filling, fills, values}
-use Rattle.name_table.specs.Held.{IsHeld, held_by}
+use Rattle.name_table.specs.Held.{HasEntries, IsHeld, held_by}
 use Rattle.name_table.specs.Storing.{IsKeepable}
 use Rattle.name_table.specs.Tables.{Table, first_table, table_names}
 
@@ -27,3 +28,11 @@ FillsWithFilled = (free left : ℕ) (vs : List NamedTree) (t u : Tree) → filli
 -- no name of the table is left
 abbrev pub FilledLacksNames : Type 0
 FilledLacksNames = (t : Table) (f : Forest) (u : Tree) → IsHeld t f → LacksNames (table_names t) (filled (values t f) u)
+
+-- exactly the trees of a table have its entries among them
+abbrev pub HasHeldEntries : Type 0
+HasHeldEntries = (t : Table) (f : Forest) → IsHeld t f → HasEntries t f
+
+-- trees behind others change no entry
+abbrev pub KeepsEntries : Type 0
+KeepsEntries = (t : Table) (f g : Forest) → HasEntries t f → AllExpressions g → HasEntries t (join f g) × (values t (join f g) ≡ values t f)

@@ -1,5 +1,5 @@
 //! Laws of tables. Each is the contract of a function that does nothing.
-ghost use Rattle.name_table.specs.Laws.{BeginsHeld, HoldsNoMore, KeepsValues, FillsWithFilled, FilledLacksNames};
+ghost use Rattle.name_table.specs.Laws.{BeginsHeld, HasHeldEntries, HoldsNoMore, KeepsEntries, KeepsValues, FillsWithFilled, FilledLacksNames};
 
 /// A tree alone is held by the table of which it is the first answer.
 pub fn a_first_answer_is_held()
@@ -24,4 +24,14 @@ pub fn filling_gives_the_filled_tree()
 /// A filled tree holds neither a stored name nor that of the last answer.
 pub fn filled_trees_lack_names()
     ensures { FilledLacksNames }
+{}
+
+/// Exactly the trees of a table have its entries among them.
+pub fn held_trees_have_the_entries()
+    ensures { HasHeldEntries }
+{}
+
+/// The entries stand among the trees, and for the same trees, where others stand behind these.
+pub fn entries_stay()
+    ensures { KeepsEntries }
 {}

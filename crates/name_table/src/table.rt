@@ -60,7 +60,7 @@ impl Model for NameTable {
 
 impl NameTable {
     ghost use Rattle.name_table.specs.Tables.{Entry, first_table, has_room_for, is_stored, name_limit, table_names, tree_under, with_answer, without_name};
-    ghost use Rattle.name_table.specs.Held.{IsHeld, held_by};
+    ghost use Rattle.name_table.specs.Held.{HasEntries, IsHeld, held_by};
     ghost use Rattle.name_table.specs.Slots.{released_under};
     ghost use Rattle.name_table.specs.Filling.{LacksNames, filled, filling, values};
     ghost use Rattle.name_table.specs.Storing.{IsKeepable, IsStorable, name_in};
@@ -112,7 +112,7 @@ impl NameTable {
     pub fn fill(&self, pool: &mut Pool, tree: Handle) -> Result<Handle, FillFault>
         requires stands { Stands pool.old }
         requires last { Gives (without_root tree (forest pool.old)) (forest pool.old) tree (λ t. ⊤) }
-        requires held { IsHeld self.now (without_root tree (forest pool.old)) }
+        requires entries { HasEntries self.now (without_root tree (forest pool.old)) }
         ensures ok { let others = without_root tree (forest pool.old) in
             IfOk result (λ h. Gives others (forest pool.new) h (λ t. t ≡ filled (values self.now others) (tree_of tree pool.old))) }
         ensures clear { IfOk result (λ h. LacksNames (table_names self.now) (tree_of h pool.new)) }

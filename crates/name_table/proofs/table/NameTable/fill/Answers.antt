@@ -10,13 +10,13 @@ pub returns-in_err-filled-clause-refused : goal.returns-in_err-filled-clause-ref
 returns-in_err-filled-clause-refused c =
     let p = err_from_is_err_and c.from_residual.result c.from_residual.ensures.1 in
     rw (p.1, p.2) (filled_refused (record { name = name_of c.ans.result; tree = c.id.result }) c.in_err-filled.field-0.0
-    (filled_first (name_of c.ans.result) c.id.result c.self.inside.ans c.self.inside.stored.items c.self.inside.stored.items c.ans.ensures c.id.ensures c.self.view_is refl c.requires.stands c.requires.held c.requires.last)
+    (filled_first (name_of c.ans.result) c.id.result c.self.inside.ans c.self.inside.stored.items c.self.inside.stored.items c.ans.ensures c.id.ensures c.self.view_is refl c.requires.stands c.requires.entries c.requires.last)
     c.in_err-filled.ensures.refused)
 
 pub loop-slot-init : goal.loop-slot-init
 loop-slot-init c =
     filled_more (record { name = name_of c.ans.result; tree = c.id.result })
-    (filled_first (name_of c.ans.result) c.id.result c.self.inside.ans c.self.inside.stored.items c.as_slice-slot-items.result.now c.ans.ensures c.id.ensures c.self.view_is c.as_slice-slot-items.ensures.value c.requires.stands c.requires.held c.requires.last)
+    (filled_first (name_of c.ans.result) c.id.result c.self.inside.ans c.self.inside.stored.items c.as_slice-slot-items.result.now c.ans.ensures c.id.ensures c.self.view_is c.as_slice-slot-items.ensures.value c.requires.stands c.requires.entries c.requires.last)
     c.fill_name.ensures.stands c.in_ok-filled.ensures.ok c.in_ok-filled.ensures.ok_room c.in_ok-filled.ensures.kept c.fill_name.ensures.front
 
 pub root-requires : goal.root-requires
@@ -31,7 +31,7 @@ fill_name-requires-in-loop-slot-clause-root c =
     (filled_next c.as_slice-slot-items.result.now c.loop-slot.slot-index c.slot-item.result c.root.result c.loop-slot-test.true c.slot-item.is c.root.ensures c.loop-slot.invariant)
 
 pub fill_name-requires-in-loop-slot-clause-whole : goal.fill_name-requires-in-loop-slot-clause-whole
-fill_name-requires-in-loop-slot-clause-whole c = subst AllExpressions (sym (next_rest c.loop-slot.invariant)) c.requires.held.whole
+fill_name-requires-in-loop-slot-clause-whole c = subst AllExpressions (sym (next_rest c.loop-slot.invariant)) c.requires.entries.whole
 
 pub returns-in_err-filled-2-clause-refused : goal.returns-in_err-filled-2-clause-refused
 returns-in_err-filled-2-clause-refused c =
@@ -58,7 +58,7 @@ pub returns-clause-ok : goal.returns-clause-ok
 returns-clause-ok c = filled_given (filled_end c.as_slice-slot-items.result.now c.loop-slot.slot-index c.loop-slot-test.false c.loop-slot.invariant)
 
 pub returns-clause-clear : goal.returns-clause-clear
-returns-clause-clear c = filled_clear c.requires.held (filled_end c.as_slice-slot-items.result.now c.loop-slot.slot-index c.loop-slot-test.false c.loop-slot.invariant)
+returns-clause-clear c = filled_clear c.requires.entries (filled_end c.as_slice-slot-items.result.now c.loop-slot.slot-index c.loop-slot-test.false c.loop-slot.invariant)
 
 pub returns-clause-ok_room : goal.returns-clause-ok_room
 returns-clause-ok_room c = filled_room (filled_end c.as_slice-slot-items.result.now c.loop-slot.slot-index c.loop-slot-test.false c.loop-slot.invariant)

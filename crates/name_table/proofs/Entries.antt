@@ -1,0 +1,28 @@
+-- Entries among trees.
+use Rattle.std.proofs.Common.{◌≡◌, List, [], ◌∷◌, sym, subst}
+use Rattle.tree_handles.specs.Expressions.{AllExpressions, IsWhole}
+use Rattle.tree_handles.specs.Forest.{Forest, join}
+use Rattle.tree_handles.proofs.Forests.{all-join}
+use Rattle.tree_handles.proofs.Roots.{root-left}
+use Rattle.name_table.specs.Filling.{NamedTree, values}
+use Rattle.name_table.specs.Held.{AreRoots, HasEntries, HoldLaterNames, IsHeld}
+use Rattle.name_table.specs.Tables.{Entry, Table, entries}
+use Rattle.name_table.proofs.Later.{values-left}
+
+pub held_entries : (t : Table) (f : Forest) → IsHeld t f → HasEntries t f
+held_entries t f h = record { roots = h.roots; whole = h.whole; later = h.later }
+
+roots-left : (es : List Entry) (f g : Forest) → AreRoots es f → AreRoots es (join f g)
+roots-left [] f g r = tt
+roots-left (e ∷ es) f g r = (root-left e.tree f g r.0, roots-left es f g r.1)
+
+pub entries-left : (t : Table) (f g : Forest) → HasEntries t f → AllExpressions g → HasEntries t (join f g) × (values t (join f g) ≡ values t f)
+entries-left t f g h w =
+    let same : values t (join f g) ≡ values t f = values-left (entries t) f g h.roots in (
+      record {
+        roots = roots-left (entries t) f g h.roots;
+        whole = all-join IsWhole f g h.whole w;
+        later = subst (λ (vs : List NamedTree). HoldLaterNames [] vs) (sym same) h.later;
+      },
+      same,
+    )
