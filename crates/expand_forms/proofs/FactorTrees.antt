@@ -115,7 +115,7 @@ monomial_parts (f ∷ g ∷ m) h = (
 -- ---- terms
 
 -- a fact of the term of a monomial that is not 1, by its form
-on_term : (P : Tree → Type 0) (s : Summand) (f : Factor) (m : Monomial) → s.monomial ≡ f ∷ m
+pub on_term : (P : Tree → Type 0) (s : Summand) (f : Factor) (m : Monomial) → s.monomial ≡ f ∷ m
     → P (monomial_tree (f ∷ m)) → (s.coefficient ≢ one_fraction → P (mult (more (num s.coefficient) (factor_trees (f ∷ m))))) → P (term_tree s)
 on_term P s f m is h k = subst (λ x. P (if is_one_fraction s.coefficient then monomial_tree x else product_tree (more (num s.coefficient) (factor_trees x)))) (sym is) (by (is_one_fraction s.coefficient) refl)
   where
@@ -123,7 +123,7 @@ on_term P s f m is h k = subst (λ x. P (if is_one_fraction s.coefficient then m
     by true e = h
     by false e = k (no_one s.coefficient (not_from_false _ e))
 
-on_monomial : (P : Tree → Type 0) (f : Factor) (m : Monomial) → P (factor_tree f) → ((g : Factor) (n : Monomial) → P (mult (factor_trees (f ∷ g ∷ n)))) → P (monomial_tree (f ∷ m))
+pub on_monomial : (P : Tree → Type 0) (f : Factor) (m : Monomial) → P (factor_tree f) → ((g : Factor) (n : Monomial) → P (mult (factor_trees (f ∷ g ∷ n)))) → P (monomial_tree (f ∷ m))
 on_monomial P f [] h k = h
 on_monomial P f (g ∷ n) h k = k g n
 

@@ -70,7 +70,7 @@ abbrev pub AreRising : Polynomial → Type 0
 AreRising [] = Unit {0}
 AreRising (s ∷ v) = IsBeforeAll s.monomial v × AreRising v
 
-before_more : (k m : Monomial) (v : Polynomial) → monomial_cmp k m ≡ Less → IsBeforeAll m v → IsBeforeAll k v
+pub before_more : (k m : Monomial) (v : Polynomial) → monomial_cmp k m ≡ Less → IsBeforeAll m v → IsBeforeAll k v
 before_more k m [] l h = tt
 before_more k m (t ∷ v) l h = (chained k m t.monomial l h.0, before_more k m v l h.1)
 
@@ -117,7 +117,7 @@ normal_is v = without_normal (joined v) (joined_rising v)
 
 -- ---- the only one
 
-absent : (m : Monomial) (v : Polynomial) → IsBeforeAll m v → coefficient_at m v ≡ zero_fraction
+pub absent : (m : Monomial) (v : Polynomial) → IsBeforeAll m v → coefficient_at m v ≡ zero_fraction
 absent m [] h = refl
 absent m (s ∷ v) h = at_other s m v (λ e. less_apart m s.monomial h.0 (sym e)) ∙ absent m v h.1
 

@@ -11,14 +11,14 @@ use Rattle.expand_forms.specs.PolynomialTrees.{divisor_of, exponent_of, polynomi
 use Rattle.expand_forms.proofs.AllMonomials.{AllHave, IsClosed, append_all, product_all, raised_all, scaled_all}
 use Rattle.expand_forms.proofs.ValueLaws.{names_equal}
 
-names_turned : (x y : List ℕ) → slice_cmp nat_cmp x y ≡ Greater → slice_cmp nat_cmp y x ≡ Less
+pub names_turned : (x y : List ℕ) → slice_cmp nat_cmp x y ≡ Greater → slice_cmp nat_cmp y x ≡ Less
 names_turned x y g = nat_list_cmp_total.antisymm y x ∙ ap ordering_reverse g
 
-below_more : (x y : List ℕ) (m : Monomial) → slice_cmp nat_cmp x y ≡ Less → IsBelowAll y m → IsBelowAll x m
+pub below_more : (x y : List ℕ) (m : Monomial) → slice_cmp nat_cmp x y ≡ Less → IsBelowAll y m → IsBelowAll x m
 below_more x y [] l h = tt
 below_more x y (f ∷ m) l h = (nat_list_cmp_total.trans x y f.name l h.0, below_more x y m l h.1)
 
-below_with : (x : List ℕ) (g : Factor) (m : Monomial) → slice_cmp nat_cmp x g.name ≡ Less → IsBelowAll x m → IsBelowAll x (with_factor g m)
+pub below_with : (x : List ℕ) (g : Factor) (m : Monomial) → slice_cmp nat_cmp x g.name ≡ Less → IsBelowAll x m → IsBelowAll x (with_factor g m)
 below_with x g [] l h = (l, tt)
 below_with x g (f ∷ m) l h = by (slice_cmp nat_cmp g.name f.name) (below_with x g m l h.1)
   where
@@ -39,11 +39,11 @@ with_factor_monomial g (f ∷ m) l h = by (slice_cmp nat_cmp g.name f.name) refl
     by Equal e go = (sum, subst (λ x. IsBelowAll x m) (sym (names_equal g.name f.name e)) h.1, h.2)
     by Greater e go = (h.0, below_with f.name g m (names_turned g.name f.name e) h.1, go)
 
-monomial_times_monomial : (m n : Monomial) → IsMonomial m → IsMonomial n → IsMonomial (monomial_times m n)
+pub monomial_times_monomial : (m n : Monomial) → IsMonomial m → IsMonomial n → IsMonomial (monomial_times m n)
 monomial_times_monomial [] n h k = k
 monomial_times_monomial (g ∷ m) n h k = with_factor_monomial g (monomial_times m n) h.0 (monomial_times_monomial m n h.2 k)
 
-monomial_closed : IsClosed IsMonomial
+pub monomial_closed : IsClosed IsMonomial
 monomial_closed = record { one = tt; times = monomial_times_monomial }
 
 mutual

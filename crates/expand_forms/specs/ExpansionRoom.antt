@@ -1,17 +1,18 @@
 -- A bound on the bytes that an expansion takes.
-use Rattle.std.specs.Prelude.{ℕ, suc, ◌+◌, ◌*◌, ◌^◌, max, Bool, false, ◌||◌, List, [], ◌∷◌, if◌then◌else◌}
+use Rattle.std.specs.Prelude.{ℕ, suc, ◌+◌, ◌*◌, ◌^◌, ◌≤◌, ⊤, max, Bool, false, ◌||◌, List, [], ◌∷◌, length, Contains, if◌then◌else◌}
 use Rattle.std.specs.Str.{bytes_eq}
 use Rattle.calc_terms.specs.Trees.{Tree, num, symbol, add, mult, power, root, neg, sub, div, Trees, none, more, names, nodes}
+use Rattle.expand_forms.specs.Polynomials.{Monomial, Polynomial}
 use Rattle.expand_forms.specs.PolynomialTrees.{exponent_of}
 
 -- ---- terms
 
--- how many terms the polynomial of a tree has, before any are joined
+-- how many terms the polynomial of a tree has, before any are joined; a sum of none is 0, which is one term
 abbrev mutual
   pub terms : Tree → ℕ
   terms (num q) = 1
   terms (symbol x) = 1
-  terms (add ts) = sum_of_terms ts
+  terms (add ts) = max 1 (sum_of_terms ts)
   terms (mult ts) = product_of_terms ts
   terms (power b e) = terms b ^ exponent_of e
   terms (neg a) = terms a
@@ -59,3 +60,45 @@ count_distinct (x ∷ xs) = if is_among x xs then count_distinct xs else suc (co
 -- the bytes within which the tree is expanded
 abbrev pub expansion_room : Tree → ℕ
 expansion_room t = 512 * suc (count_distinct (names t)) * most_terms t * nodes t
+
+-- ---- polynomials with few terms
+
+-- each name of the monomial is one of these
+abbrev pub IsNamed : List (List ℕ) → Monomial → Type 0
+IsNamed ns [] = ⊤
+IsNamed ns (f ∷ m) = Contains ns f.name × IsNamed ns m
+
+-- of each monomial
+abbrev pub AreNamed : List (List ℕ) → Polynomial → Type 0
+AreNamed ns [] = ⊤
+AreNamed ns (s ∷ v) = IsNamed ns s.monomial × AreNamed ns v
+
+-- it has at most n summands, with no other names than these
+pub record HasFewTerms (ns : List (List ℕ)) (n : ℕ) (v : Polynomial) : Type 0 where
+  pub named : AreNamed ns v
+  pub few : length v ≤ n
+
+-- ---- how many bytes are placed at most
+
+abbrev pub number_bytes : ℕ
+number_bytes = 40
+
+-- a name, or its power
+abbrev pub factor_bytes : ℕ
+factor_bytes = 64
+
+-- a term of n factors
+abbrev pub term_bytes : ℕ → ℕ
+term_bytes n = 48 + factor_bytes * n
+
+-- n terms with these names
+abbrev pub terms_bytes : List (List ℕ) → ℕ → ℕ
+terms_bytes ns n = 64 * suc (count_distinct ns) * n
+
+-- a sum of them
+abbrev pub sum_bytes : List (List ℕ) → ℕ → ℕ
+sum_bytes ns n = 8 + terms_bytes ns n
+
+-- what is placed for a node whose polynomial has n terms
+abbrev pub node_bytes : List (List ℕ) → ℕ → ℕ
+node_bytes ns n = 96 + 2 * terms_bytes ns n

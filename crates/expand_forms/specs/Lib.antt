@@ -3,3 +3,8 @@ pub mod Values
 pub mod PolynomialTrees
 pub mod ExpandedTrees
 pub mod ExpansionRoom
+pub mod ExpansionBits
+pub mod Terms
+pub mod Sums
+pub mod Merging
+pub mod Walks

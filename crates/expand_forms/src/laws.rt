@@ -1,11 +1,11 @@
 //! Laws of polynomials, each the contract of a function without a body.
-ghost use Rattle.std.specs.Prelude.{◌≡◌, true};
+ghost use Rattle.std.specs.Prelude.{◌≡◌, true, false};
 ghost use Rattle.calc_algebra.specs.Meanings.{Assignment, IsAssignment, Means};
 ghost use Rattle.calc_algebra.specs.Reduced.{is_reduced};
-ghost use Rattle.calc_algebra.specs.Rewritings.{KeepsMeanings};
+ghost use Rattle.calc_algebra.specs.Rewritings.{HasNoNewName, KeepsMeanings};
 ghost use Rattle.calc_algebra.specs.SquareClasses.{Same};
 ghost use Rattle.calc_algebra.specs.Surds.{Surd, surd_of};
-ghost use Rattle.calc_terms.specs.Trees.{Tree};
+ghost use Rattle.calc_terms.specs.Trees.{Tree, is_undef};
 ghost use Rattle.expand_forms.specs.ExpandedTrees.{IsNormal, expanded, normal};
 ghost use Rattle.expand_forms.specs.Polynomials.{AreMonomials, Monomial, Polynomial, coefficient_at};
 ghost use Rattle.expand_forms.specs.PolynomialTrees.{is_polynomial, polynomial_of};
@@ -43,4 +43,14 @@ pub fn expanded_keeps_meanings()
 /// The expanded tree of a tree is reduced.
 pub fn expanded_is_reduced()
     ensures { (t : Tree) → is_reduced (expanded (polynomial_of t)) ≡ true }
+{}
+
+/// An expanded tree is not Undef.
+pub fn expanded_is_defined()
+    ensures { (v : Polynomial) → is_undef (expanded v) ≡ false }
+{}
+
+/// Each name of the expanded tree of a tree is one of the tree.
+pub fn expanded_has_no_new_name()
+    ensures { (t : Tree) → HasNoNewName t (expanded (polynomial_of t)) }
 {}

@@ -1,8 +1,6 @@
 //! Which trees are polynomials.
 ghost use Rattle.std.specs.Prelude.{◌≡◌, ◌<◌, ◌^◌, Some, nat_abs};
 ghost use Rattle.calc_measures.specs.Literals.{whole_literal, whole_value};
-ghost use Rattle.calc_terms.specs.Fractions.{is_zero_fraction};
-ghost use Rattle.calc_terms.specs.Integers.{int_is_zero};
 ghost use Rattle.calc_terms.specs.Rat.{value_of};
 ghost use Rattle.calc_terms.specs.Trees.{neg as neg_of};
 ghost use Rattle.expand_forms.specs.PolynomialTrees.{has_polynomial_root, is_divisor, is_exponent, is_nonzero, is_polynomial, is_small};
@@ -10,6 +8,7 @@ ghost use Rattle.tree_handles.specs.Expressions.{IsExpression, plain};
 ghost use Rattle.tree_handles.specs.Inside.{tree_at};
 ghost use Rattle.tree_handles.specs.Standing.{Stands, forest};
 
+use crate::rationals::is_zero;
 use calc_terms::{Kind, Rat};
 use node_pool::{Id, Pool};
 use rational128::neg;
@@ -115,17 +114,4 @@ fn is_nonzero(pool: &Pool, tree: Id) -> bool
         Kind::Num => !is_zero(rational(pool, tree)),
         _ => false,
     }
-}
-
-fn is_zero(value: Rat) -> bool
-    ensures { result ≡ is_zero_fraction (value_of value) }
-{
-    is_zero_number(value.num())
-}
-
-fn is_zero_number(number: i128) -> bool
-    requires { nat_abs number < 2 ^ 127 }
-    ensures { result ≡ int_is_zero number }
-{
-    number == 0
 }

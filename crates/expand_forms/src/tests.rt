@@ -5,10 +5,14 @@ ghost use Rattle.tree_handles.specs.Expressions.{IsExpression, takes_kind};
 ghost use Rattle.tree_handles.specs.Handed.{Gives, IsHanded};
 ghost use Rattle.tree_handles.specs.Standing.{Stands, forest};
 
-use crate::is_polynomial;
+use crate::{expand, is_polynomial};
+use breakers::{Breaker, CountBreaker, Watch};
 use calc_terms::{Kind, Name, Rat};
+use node_order::compare;
 use node_pool::{Full, Id, Pool};
+use reduce_port::ReduceFault;
 use std::alloc::{AllocError, Global};
+use std::cmp::Ordering;
 use std::test::Fail;
 use tree_handles::{Handle, node, node_over, node_over_two, number, symbol};
 
@@ -135,7 +139,8 @@ fn undefined(pool: &mut Pool) -> Result<Handle, Full>
 fn root_of(_pool: &Pool, tree: &Handle) -> Id
     requires stands { Stands _pool.now }
     requires handed { IsHanded tree.now (forest _pool.now) }
-    ensures { IsExpression result (forest _pool.now) }
+    ensures id { result ≡ tree.now }
+    ensures expression { IsExpression result (forest _pool.now) }
 {
     tree.id()
 }
@@ -205,6 +210,128 @@ fn polynomials(rt: HostRuntime) -> Result<(), Fail> {
 fn other_trees(rt: HostRuntime) -> Result<(), Fail> {
     for (at, shape) in OTHERS.iter().enumerate() {
         assert!(rt; !answer(rt.alloc(), shape)?, "other tree {at}");
+    }
+    Ok(())
+}
+
+/// A watch over one breaker, which trips after so many polls.
+fn armed(alloc: Global, polls: u64) -> Result<Watch<CountBreaker>, AllocError> {
+    let mut breaker = CountBreaker::new();
+    breaker.arm(polls);
+    let mut breakers = Vec::new(alloc);
+    breakers.push(breaker)?;
+    Ok(Watch::new(breakers))
+}
+
+/// Whether the expanded tree of one shape is the tree of another.
+fn expands_to(
+    pool: &mut Pool,
+    shape: &Shape,
+    expected: &Shape,
+    watch: &mut Watch<CountBreaker>,
+) -> Result<bool, ReduceFault>
+    requires { Stands pool.old }
+{
+    let expected = grow(pool, expected)?;
+    let tree = grow(pool, shape)?;
+    if !is_polynomial(pool, root_of(pool, &tree)) {
+        return Ok(false);
+    }
+    let answer = expand(pool, tree, watch)?;
+    Ok(matches!(compare(pool, expected.id(), answer.id()), Ordering::Equal))
+}
+
+const ONE: Shape<'static> = Shape::Number(1);
+
+const DIFFERENCE: Shape<'static> = Shape::Two(Pair::Difference, &X, &Y);
+
+const X_SQUARED: Shape<'static> = Shape::Two(Pair::Power, &X, &TWO);
+
+const Y_SQUARED: Shape<'static> = Shape::Two(Pair::Power, &Y, &TWO);
+
+const NEXT: Shape<'static> = Shape::Two(Pair::Sum, &X, &ONE);
+
+const EXPANDED: [(Shape<'static>, Shape<'static>); 8] = [
+    (X, X),
+    (TWO, TWO),
+    (MINUS_TWO, Shape::Number(-2)),
+    (NEXT, Shape::Two(Pair::Sum, &ONE, &X)),
+    (Shape::Two(Pair::Difference, &NEXT, &NEXT), Shape::Number(0)),
+    (
+        Shape::Two(Pair::Product, &SUM, &DIFFERENCE),
+        Shape::Two(
+            Pair::Sum,
+            &X_SQUARED,
+            &Shape::Two(Pair::Product, &Shape::Number(-1), &Y_SQUARED),
+        ),
+    ),
+    (
+        Shape::Two(Pair::Product, &X, &X),
+        Shape::Two(Pair::Power, &X, &TWO),
+    ),
+    (
+        Shape::Two(Pair::Quotient, &Shape::Two(Pair::Product, &SUM, &TWO), &TWO),
+        SUM,
+    ),
+];
+
+#[test]
+fn polynomials_are_expanded(rt: HostRuntime) -> Result<(), Fail> {
+    for (at, (shape, expected)) in EXPANDED.iter().enumerate() {
+        let mut pool = opened(rt.alloc(), 4096)?;
+        let mut watch = armed(rt.alloc(), 1_000)?;
+        let found = expands_to(&mut pool, shape, expected, &mut watch);
+        assert!(rt; matches!(found, Ok(true)), "polynomial {at}");
+    }
+    Ok(())
+}
+
+/// The sums on both sides are one polynomial, written otherwise.
+const ALIKE: [(Shape<'static>, Shape<'static>); 3] = [
+    (
+        Shape::Two(Pair::Power, &NEXT, &TWO),
+        Shape::Two(
+            Pair::Sum,
+            &Shape::Two(Pair::Sum, &X_SQUARED, &Shape::Two(Pair::Product, &X, &TWO)),
+            &ONE,
+        ),
+    ),
+    (
+        Shape::Two(Pair::Power, &SUM, &Shape::Number(5)),
+        Shape::Two(
+            Pair::Product,
+            &Shape::Two(Pair::Power, &SUM, &TWO),
+            &Shape::Two(Pair::Power, &SUM, &Shape::Number(3)),
+        ),
+    ),
+    (
+        Shape::Two(
+            Pair::Product,
+            &SUM,
+            &Shape::Two(Pair::Product, &NEXT, &DIFFERENCE),
+        ),
+        Shape::Two(
+            Pair::Product,
+            &Shape::Two(Pair::Product, &DIFFERENCE, &SUM),
+            &NEXT,
+        ),
+    ),
+];
+
+/// Whether the difference of two shapes expands to 0.
+fn vanishes(alloc: Global, left: &Shape, right: &Shape) -> Result<bool, Fail> {
+    let mut pool = opened(alloc, 65_536)?;
+    let mut watch = armed(alloc, 1_000)?;
+    let difference = Shape::Two(Pair::Difference, left, right);
+    let found = expands_to(&mut pool, &difference, &Shape::Number(0), &mut watch);
+    Ok(matches!(found, Ok(true)))
+}
+
+#[test]
+fn equal_polynomials_cancel(rt: HostRuntime) -> Result<(), Fail> {
+    for (at, (left, right)) in ALIKE.iter().enumerate() {
+        assert!(rt; vanishes(rt.alloc(), left, right)?, "pair {at}");
+        assert!(rt; !vanishes(rt.alloc(), left, &X)?, "other {at}");
     }
     Ok(())
 }

@@ -4,5 +4,5 @@ use Rattle.tree_handles.specs.Expressions.{IsExpression}
 use Rattle.tree_handles.specs.Standing.{forest}
 use Rattle.expand_forms.proofs.tests.root_of.Goals as goal
 
-pub returns : goal.returns
-returns c = subst (λ (j : ℕ). IsExpression j (forest c.args._pool.now)) (sym c.id.ensures) (expression_root c.requires.stands c.requires.handed)
+pub returns-clause-expression : goal.returns-clause-expression
+returns-clause-expression c = subst (λ (j : ℕ). IsExpression j (forest c.args._pool.now)) (sym c.id.ensures) (expression_root c.requires.stands c.requires.handed)

@@ -4,7 +4,7 @@ use Rattle.std.specs.Int.{w128}
 use Rattle.std.proofs.lemmas.Int.{to_z-of_z}
 use Rattle.calc_terms.specs.Integers.{int_is_zero}
 use Rattle.rational128.proofs.LowestTerms.{ratio_parts}
-use Rattle.expand_forms.proofs.polynomial.is_zero.Goals as goal
+use Rattle.expand_forms.proofs.rationals.is_zero.Goals as goal
 
 pub returns : goal.returns
 returns c =

@@ -1,0 +1,411 @@
+-- The walk over a node's children.
+use Rattle.std.proofs.Common.{◌≡◌, ℕ, zero, suc, ◌+◌, ◌-◌, ◌≤◌, ◌<◌, List, [], ◌∷◌, ◌++◌, length, eqb, cond, Bool, true, false, refl, sym, ap, ◌∙◌, subst, arith}
+use Rattle.std.proofs.lemmas.Bool.{eq-eqb}
+use Rattle.std.proofs.lemmas.List.{length-append}
+use Rattle.breakers.proofs.Runs.{CalmChecks-append}
+use Rattle.breakers.specs.Breakers.{CalmChecks}
+use Rattle.breakers.specs.State.{State as BreakerState}
+use Rattle.calc_terms.specs.Trees.{Tree, num, symbol, undef, add, mult, power, root, neg, sub, div, Trees, none, more, append, count, nodes, nodes_of}
+use Rattle.coefficients.proofs.Places.{cut, cut_rest, represents_count}
+use Rattle.coefficients.proofs.Steps.{expression, seen}
+use Rattle.std.proofs.lemmas.Bool.{and_parts}
+use Rattle.expand_forms.specs.PolynomialTrees.{are_polynomials, has_polynomial_root, is_polynomial}
+use Rattle.expand_forms.proofs.Nodes.{by_children, by_root}
+use Rattle.expand_forms.specs.Walks.{is_leaf, BeginWithLeaves, AreExpandedFrom, IsExpandedFrom}
+use Rattle.expand_forms.proofs.Expansions.{constant_expanded, name_expanded}
+use Rattle.expand_forms.proofs.WalkParents.{IsParent, held_at, parent_handed}
+use Rattle.node_pool.specs.State.{State}
+use Rattle.tree_handles.specs.Handed.{AllOnce, tree_of, IsHanded, Represents, Ends, Gives, KeepsFront}
+use Rattle.tree_handles.proofs.Adopting.{behind_there, adopted_all}
+use Rattle.tree_handles.proofs.Forests.{join-empty, join_assoc, arity-join, first-rest, first_trees-join, rest_trees-join}
+use Rattle.tree_handles.proofs.Fronts.{starts_same, starts_join, starts_without, behind_new, front_end, front_after_one}
+use Rattle.tree_handles.proofs.Given.{append-none, gives, gives_as, given_told, given_rest, represents_as, represents_join}
+use Rattle.tree_handles.proofs.Lasts.{ends_as, kids_of_root, last_root, last_tree, last_rest}
+use Rattle.tree_handles.proofs.Parts.{at as node_place}
+use Rattle.tree_handles.proofs.Plains.{alone}
+use Rattle.tree_handles.proofs.Releases.{arity_le, few_nodes}
+use Rattle.tree_handles.proofs.Roots.{top, root-right, tree-right, put-right}
+use Rattle.tree_handles.specs.Expressions.{AllExpressions, IsExpression, nth, plain, children_of}
+use Rattle.tree_handles.specs.Forest.{Label, Forest, empty, tree, join, arity, flatten, kids, node_of, root_payload, root_count, first_trees, rest_trees, tree_nth, without_nth}
+use Rattle.tree_handles.specs.Inside.{holds, tree_at, kids_of}
+use Rattle.tree_handles.specs.Roots.{has_root, root_tree, without_root, put, behind_root, adopted}
+use Rattle.tree_handles.specs.Standing.{Stands, forest}
+
+-- ---- lists
+
+append_assoc : (ts us vs : Trees) → append (append ts us) vs ≡ append ts (append us vs)
+append_assoc none us vs = refl
+append_assoc (more t ts) us vs = ap (more t) (append_assoc ts us vs)
+
+count_append : (ts us : Trees) → count (append ts us) ≡ count ts + count us
+count_append none us = omega arith
+count_append (more t ts) us = omega (arith, count_append ts us)
+
+pub nodes_append : (ts us : Trees) → nodes_of (append ts us) ≡ nodes_of ts + nodes_of us
+nodes_append none us = omega arith
+nodes_append (more t ts) us = omega (arith, nodes_append ts us)
+
+-- a tree has one node more than its children
+pub nodes_by_children : (t : Tree) → nodes t ≡ nodes_of (children_of t) + 1
+nodes_by_children (num q) = omega arith
+nodes_by_children (symbol x) = omega arith
+nodes_by_children undef = omega arith
+nodes_by_children (add ts) = omega arith
+nodes_by_children (mult ts) = omega arith
+nodes_by_children (power b e) = omega arith
+nodes_by_children (root a) = omega arith
+nodes_by_children (neg a) = omega arith
+nodes_by_children (sub a b) = omega arith
+nodes_by_children (div a b) = omega arith
+
+reduced_append : (ts us : Trees) (t u : Tree) → AreExpandedFrom ts us → IsExpandedFrom t u → AreExpandedFrom (append ts (more t none)) (append us (more u none))
+reduced_append none none t u h k = (k, tt)
+reduced_append none (more v vs) t u h k = absurd h
+reduced_append (more s ss) none t u h k = absurd h
+reduced_append (more s ss) (more v vs) t u h k = (h.0, reduced_append ss vs t u h.1 k)
+
+pub reduced_count : (ts us : Trees) → AreExpandedFrom ts us → count ts ≡ count us
+reduced_count none none h = refl
+reduced_count none (more v vs) h = absurd h
+reduced_count (more s ss) none h = absurd h
+reduced_count (more s ss) (more v vs) h = ap suc (reduced_count ss vs h.1)
+
+-- ---- leaves
+
+pub leaf_reduced : (t : Tree) → is_leaf t ≡ true → IsExpandedFrom t t
+leaf_reduced (num q) h = λ p. sym (constant_expanded q)
+leaf_reduced (symbol x) h = λ p. sym (name_expanded x)
+leaf_reduced undef h = λ p. cc
+leaf_reduced t h = cc
+
+pub leaf_nodes : (t : Tree) → is_leaf t ≡ true → nodes t ≡ 1
+leaf_nodes (num q) h = refl
+leaf_nodes (symbol x) h = refl
+leaf_nodes undef h = refl
+leaf_nodes t h = cc
+
+-- the leaves in front, and the other trees
+pub record AreSplit (n : ℕ) (ts : Trees) : Type 0 where
+  pub leaves : Trees
+  pub rest : Trees
+  pub split : ts ≡ append leaves rest
+  pub count-is : n ≡ count leaves
+  pub reduced : AreExpandedFrom leaves leaves
+  pub nodes-are : nodes_of leaves ≡ n
+
+pub leaves_split : (n : ℕ) (ts : Trees) → BeginWithLeaves n ts → AreSplit n ts
+leaves_split zero ts h = record { leaves = none; rest = ts; split = refl; count-is = refl; reduced = tt; nodes-are = refl }
+leaves_split (suc n) none h = absurd h
+leaves_split (suc n) (more t ts) h =
+    let s = leaves_split n ts h.1 in
+    record {
+      leaves = more t s.leaves;
+      rest = s.rest;
+      split = ap (more t) s.split;
+      count-is = ap suc s.count-is;
+      reduced = (leaf_reduced t h.0, s.reduced);
+      nodes-are = omega (arith, leaf_nodes t h.0, s.nodes-are);
+    }
+
+pub leaves_within : (n : ℕ) (ts : Trees) → BeginWithLeaves n ts → n ≤ count ts
+leaves_within n ts h = let s = leaves_split n ts h in omega (arith, ap count s.split, s.count-is, count_append s.leaves s.rest)
+
+-- one more
+pub leaves_more : (n : ℕ) (ts : Trees) → BeginWithLeaves n ts → n < count ts → is_leaf (nth n ts) ≡ true → BeginWithLeaves (suc n) ts
+leaves_more zero none h l e = absurd (omega arith)
+leaves_more zero (more t ts) h l e = (e, tt)
+leaves_more (suc n) none h l e = absurd h
+leaves_more (suc n) (more t ts) h l e = (h.0, leaves_more n ts h.1 (omega arith) e)
+
+-- a node has fewer children than a pool has nodes
+pub few_children : {s : State} (i : ℕ) → Stands s → holds i (forest s) ≡ true → arity (kids_of i (forest s)) < 65535
+few_children {s = s} i st h =
+    let p = node_place i (forest s) h in
+    let k = kids_of i (forest s) in
+    let size : length s.nodes ≡ length (p.before ++ (node_of p.label k ∷ (flatten k ++ p.after))) = ap length (st.flat ∙ p.flat) in
+    omega (arith, arity_le k, length-append (flatten k) p.after, length-append p.before (node_of p.label k ∷ (flatten k ++ p.after)), size, few_nodes s st.pool)
+
+-- ---- the loop
+
+-- the first children are reduced, each after one check for each of its nodes: the leaves in front stay in their parent, and
+-- the answers of the others stand behind it; nothing else is changed
+pub record IsWalked (i leaves at : ℕ) (old new : Forest) (before after : List BreakerState) : Type 0 where
+  pub done : Trees
+  pub answers : Trees
+  pub rest : Trees
+  pub split : children_of (plain (root_tree i old)) ≡ append done rest
+  pub count-is : at ≡ count done
+  pub reduced : AreExpandedFrom done answers
+  pub calm : CalmChecks (nodes_of done) before after
+  pub label : Label
+  pub id-is : label.id ≡ i
+  pub once : label.count ≡ 1
+  pub payload : label.payload ≡ held_at i old
+  pub clear : has_root i (without_root i old) ≡ false
+  pub front : Forest
+  pub back : Forest
+  pub behind : Forest
+  pub whole : new ≡ join (without_root i old) (tree label (join front back) behind)
+  pub leaves-are : leaves ≡ arity front
+  pub behind-are : at ≡ leaves + arity behind
+  pub answered : Represents (join front behind) answers
+  pub left : Represents back rest
+
+pub leaves_walked : {i n : ℕ} {old : Forest} {before after : List BreakerState} → IsHanded i old → Ends i (root_tree i old) (without_root i old) old → BeginWithLeaves n (children_of (plain (root_tree i old))) → CalmChecks n before after
+    → IsWalked i n n old old before after
+leaves_walked {i = i} {n = n} {old = old} {before = before} {after = after} h e b c =
+    let p = top i old h.root in
+    let k = p.kids-are in
+    let ts = children_of (plain (root_tree i old)) in
+    let s = leaves_split n ts b in
+    let all : Represents k (append s.leaves s.rest) = represents_as (parent_handed h).kids (ap kids p.tree-is) s.split in
+    let first : Represents (first_trees n k) s.leaves = subst (λ (m : ℕ). Represents (first_trees m k) s.leaves) (sym s.count-is) (cut s.leaves s.rest k all) in
+    let once : AllOnce (tree p.label k empty) = subst AllOnce p.tree-is h.once in
+    record {
+      done = s.leaves;
+      answers = s.leaves;
+      rest = s.rest;
+      split = s.split;
+      count-is = s.count-is;
+      reduced = s.reduced;
+      calm = subst (λ (m : ℕ). CalmChecks m before after) (sym s.nodes-are) c;
+      label = p.label;
+      id-is = p.id-is;
+      once = once.0;
+      payload = sym (ap root_payload p.tree-is);
+      clear = e.clear;
+      front = first_trees n k;
+      back = rest_trees n k;
+      behind = empty;
+      whole = e.whole ∙ ap (join (without_root i old)) (p.tree-is ∙ ap (λ (x : Forest). tree p.label x empty) (sym (first-rest n k)));
+      leaves-are = s.count-is ∙ sym (represents_count first);
+      behind-are = omega arith;
+      answered = represents_as first (sym (join-empty (first_trees n k))) refl;
+      left = subst (λ (m : ℕ). Represents (rest_trees m k) s.rest) (sym s.count-is) (cut_rest s.leaves s.rest k all);
+    }
+
+starts_behind : {i : ℕ} {old new : Forest} (g : Forest) → new ≡ join (without_root i old) g → KeepsFront (i ∷ []) old new
+starts_behind {i = i} {old = old} {new = new} g e = record { keeps = λ p s n. starts_same p (join (without_root i old) g) new e (starts_join p (without_root i old) g (starts_without i p old n.0 s)) }
+
+-- the next child, which is not among the leaves in front
+pub record IsNextChild {i leaves at : ℕ} {old new : Forest} {before after : List BreakerState} (w : IsWalked i leaves at old new before after) : Type 0 where
+  pub child : Tree
+  pub rest : Trees
+  pub split : children_of (plain (root_tree i old)) ≡ append w.done (more child rest)
+  pub label : Label
+  pub below : Forest
+  pub others : Forest
+  pub whole : new ≡ join (without_root i old) (tree w.label (join w.front (tree label below others)) w.behind)
+  pub one : Represents (tree label below empty) (more child none)
+  pub left : Represents others rest
+
+no_node : {t : Tree} {ts : Trees} → none ≡ more t ts → ⊥
+no_node e = cc
+
+pub next_child : {i leaves at : ℕ} {old new : Forest} {before after : List BreakerState} (w : IsWalked i leaves at old new before after) → at < count (children_of (plain (root_tree i old))) → IsNextChild w
+next_child {i = i} {at = at} {old = old} {new = new} w l = by w.rest w.back w.split w.whole w.left
+  where
+    by : (rest : Trees) (back : Forest) → children_of (plain (root_tree i old)) ≡ append w.done rest → new ≡ join (without_root i old) (tree w.label (join w.front back) w.behind) → Represents back rest → IsNextChild w
+    by none back s e r = absurd (omega (arith, ap count s, w.count-is, count_append w.done none, l))
+    by (more t rest) empty s e r = absurd (no_node r.plain_trees)
+    by (more t rest) (tree m b k) s e r = record {
+      child = t;
+      rest = rest;
+      split = s;
+      label = m;
+      below = b;
+      others = k;
+      whole = e;
+      one = cut (more t none) rest (tree m b k) r;
+      left = cut_rest (more t none) rest (tree m b k) r;
+    }
+
+-- it has fewer nodes than its parent
+pub fewer_nodes : {i leaves at : ℕ} {old new : Forest} {before after : List BreakerState} {w : IsWalked i leaves at old new before after} (n : IsNextChild w) → nodes_of w.done + nodes n.child < nodes (plain (root_tree i old))
+fewer_nodes {i = i} {old = old} {w = w} n = omega (arith, nodes_by_children (plain (root_tree i old)), ap nodes_of n.split, nodes_append w.done (more n.child n.rest))
+
+-- the parent, and its tree
+pub record IsThere (i : ℕ) (label : Label) (below others behind f : Forest) : Type 0 where
+  pub root : has_root i f ≡ true
+  pub tree-is : root_tree i f ≡ tree label below empty
+  pub put-is : (n : Forest) → put i n f ≡ join others (tree label n behind)
+
+there : {i : ℕ} {label : Label} {below others behind f : Forest} → has_root i others ≡ false → label.id ≡ i → f ≡ join others (tree label below behind) → IsThere i label below others behind f
+there {i = i} {label = l} {below = k} {others = o} {behind = r} {f = f} c q e =
+    let here : eqb l.id i ≡ true = eq-eqb l.id i q in
+    record {
+      root = ap (has_root i) e ∙ root-right i o (tree l k r) c ∙ ap (λ (t : Bool). cond t true (has_root i r)) here;
+      tree-is = ap (root_tree i) e ∙ tree-right i o (tree l k r) c ∙ ap (λ (t : Bool). cond t (tree l k empty) (root_tree i r)) here;
+      put-is = λ n. ap (put i n) e ∙ put-right i n o (tree l k r) c ∙ ap (λ (t : Bool). join o (cond t (tree l n r) (tree l k (put i n r)))) here;
+    }
+
+pub next_there : {i leaves at : ℕ} {old new : Forest} {before after : List BreakerState} {w : IsWalked i leaves at old new before after} (n : IsNextChild w)
+    → IsThere i w.label (join w.front (tree n.label n.below n.others)) (without_root i old) w.behind new
+next_there {w = w} n = there w.clear w.id-is n.whole
+
+-- it is among its children
+pub next_within : {i leaves at : ℕ} {s : State} {old : Forest} {before after : List BreakerState} {w : IsWalked i leaves at old (forest s) before after} (n : IsNextChild w) → Stands s → leaves < arity (kids_of i (forest s))
+next_within {i = i} {w = w} n st =
+    let p = next_there n in
+    omega (arith, ap arity (kids_of_root i st p.root), ap (λ (x : Forest). arity (kids x)) p.tree-is, arity-join w.front (tree n.label n.below n.others), w.leaves-are)
+
+-- it is taken out
+pub next_taken : {i leaves at h : ℕ} {old new g : Forest} {before after : List BreakerState} {w : IsWalked i leaves at old new before after} (n : IsNextChild w)
+    → Ends h (tree_nth leaves (kids (root_tree i new))) (put i (without_nth leaves (kids (root_tree i new))) new) g
+    → Gives (join (without_root i old) (tree w.label (join w.front n.others) w.behind)) g h (λ u. u ≡ n.child)
+next_taken {i = i} {leaves = leaves} {new = new} {w = w} n d =
+    let p = next_there n in
+    let c = tree n.label n.below n.others in
+    let k : kids (root_tree i new) ≡ join w.front c = ap kids p.tree-is in
+    let behind : rest_trees leaves (join w.front c) ≡ c = ap (λ (m : ℕ). rest_trees m (join w.front c)) w.leaves-are ∙ rest_trees-join w.front c in
+    let before : first_trees leaves (join w.front c) ≡ w.front = ap (λ (m : ℕ). first_trees m (join w.front c)) w.leaves-are ∙ first_trees-join w.front c in
+    let taken : tree_nth leaves (kids (root_tree i new)) ≡ tree n.label n.below empty = ap (tree_nth leaves) k ∙ ap (first_trees 1) behind in
+    let left : without_nth leaves (kids (root_tree i new)) ≡ join w.front n.others = ap (without_nth leaves) k ∙ ap (λ (x : Forest). join x (rest_trees 1 (rest_trees leaves (join w.front c)))) before ∙ ap (λ (x : Forest). join w.front (rest_trees 1 x)) behind in
+    gives (ends_as d taken (ap (λ (x : Forest). put i x new) left ∙ p.put-is (join w.front n.others))) n.one refl
+
+-- what a call gave stands last
+pub stands_last : {others f : Forest} {j : ℕ} {Told : Tree → Type 0} → Gives others f j Told → Ends j (root_tree j f) (without_root j f) f
+stands_last g = ends_as g.ends (sym (last_tree g.ends)) (sym (last_rest g.ends))
+
+-- and reduced
+pub next_walked : {i leaves at h j : ℕ} {old new g end : Forest} {before after last : List BreakerState} {w : IsWalked i leaves at old new before after} (n : IsNextChild w)
+    → Gives (join (without_root i old) (tree w.label (join w.front n.others) w.behind)) g h (λ u. u ≡ n.child)
+    → Gives (without_root h g) end j (IsExpandedFrom (plain (root_tree h g))) → CalmChecks (nodes (plain (root_tree h g))) after last → IsWalked i leaves (at + 1) old end before last
+next_walked {i = i} {leaves = leaves} {h = h} {old = old} {g = g} {end = end} {before = before} {after = after} {last = last} {w = w} n a r c =
+    let child : plain (root_tree h g) ≡ n.child = given_told a in
+    let x = gives_as r (given_rest a) (λ t k. k) in
+    let done = append w.done (more n.child none) in
+    let answer = plain x.tree in
+    let checks : CalmChecks (nodes n.child) after last = subst (λ (t : Tree). CalmChecks (nodes t) after last) child c in
+    let all : nodes_of w.done + nodes n.child ≡ nodes_of done = omega (arith, nodes_append w.done (more n.child none)) in
+    record {
+      done = done;
+      answers = append w.answers (more answer none);
+      rest = n.rest;
+      split = n.split ∙ sym (append_assoc w.done (more n.child none) n.rest);
+      count-is = omega (arith, w.count-is, count_append w.done (more n.child none));
+      reduced = reduced_append w.done w.answers n.child answer w.reduced (subst (λ (t : Tree). IsExpandedFrom t answer) child x.told);
+      calm = subst (λ (m : ℕ). CalmChecks m before last) all (CalmChecks-append (nodes_of w.done) (nodes n.child) before after last w.calm checks);
+      label = w.label;
+      id-is = w.id-is;
+      once = w.once;
+      payload = w.payload;
+      clear = w.clear;
+      front = w.front;
+      back = n.others;
+      behind = join w.behind x.tree;
+      whole = x.ends.whole ∙ join_assoc (without_root i old) (tree w.label (join w.front n.others) w.behind) x.tree;
+      leaves-are = w.leaves-are;
+      behind-are = omega (arith, w.behind-are, arity-join w.behind x.tree, x.ends.alone);
+      answered = represents_as (represents_join w.answered (record { once = x.once; whole = x.whole; plain_trees = alone x.tree x.ends.alone })) (join_assoc w.front w.behind x.tree) refl;
+      left = n.left;
+    }
+
+-- ---- all children
+
+pub record AllWalked (i : ℕ) (old new : Forest) (before after : List BreakerState) : Type 0 where
+  pub answers : Trees
+  pub reduced : AreExpandedFrom (children_of (plain (root_tree i old))) answers
+  pub calm : CalmChecks (nodes_of (children_of (plain (root_tree i old)))) before after
+  pub parent : IsParent (held_at i old) i answers new
+  pub last : Ends i (root_tree i new) (without_root i new) new
+  pub rest : without_root i new ≡ without_root i old
+  pub front : KeepsFront (i ∷ []) old new
+
+none_left : (first rest : Trees) → count (append first rest) ≤ count first → rest ≡ none
+none_left first none l = refl
+none_left first (more t rest) l = absurd (omega (arith, count_append first (more t rest)))
+
+no_trees : (f : Forest) → arity f ≡ 0 → f ≡ empty
+no_trees empty e = refl
+no_trees (tree l k r) e = absurd (omega arith)
+
+-- the parent is there, with the answers right behind it
+pub record IsLeft (i leaves at : ℕ) (f : Forest) : Type 0 where
+  pub root : has_root i f ≡ true
+  pub within : at - leaves ≤ arity (behind_root i f)
+
+pub to_adopt : {i leaves at count : ℕ} {old new : Forest} {before after : List BreakerState} (w : IsWalked i leaves at old new before after) → count ≤ at → IsLeft i leaves count new
+to_adopt {i = i} {leaves = leaves} {old = old} {new = new} w l =
+    let p = there w.clear w.id-is w.whole in
+    record {
+      root = p.root;
+      within = omega (arith, l, w.behind-are, ap arity (ap (behind_root i) w.whole ∙ behind_there i (without_root i old) w.behind (join w.front w.back) w.label w.clear w.id-is));
+    }
+
+pub all_walked : {i leaves at n : ℕ} {old new end : Forest} {before after : List BreakerState} (w : IsWalked i leaves at old new before after) → n ≡ count (children_of (plain (root_tree i old))) → n ≤ at
+    → end ≡ adopted i (n - leaves) new → AllWalked i old end before after
+all_walked {i = i} {leaves = leaves} {n = n} {old = old} {new = new} {end = end} {before = before} {after = after} w m l e =
+    let few : count (append w.done w.rest) ≤ count w.done = omega (arith, ap count w.split, w.count-is, m, l) in
+    let none_is : w.rest ≡ none = none_left w.done w.rest few in
+    let empty_is : w.back ≡ empty = no_trees w.back (represents_count w.left ∙ ap count none_is) in
+    let whole : children_of (plain (root_tree i old)) ≡ w.done = w.split ∙ ap (append w.done) none_is ∙ append-none w.done in
+    let many : n - leaves ≡ arity w.behind = omega (arith, w.behind-are, l, m, ap count w.split, count_append w.done w.rest, w.count-is) in
+    let now : end ≡ join (without_root i old) (tree w.label (join w.front w.behind) empty) =
+    e ∙ ap (adopted i (n - leaves)) w.whole ∙ adopted_all i (n - leaves) (without_root i old) w.behind (join w.front w.back) w.label w.clear w.id-is many
+    ∙ ap (λ (x : Forest). join (without_root i old) (tree w.label (join x w.behind) empty)) (ap (join w.front) empty_is ∙ join-empty w.front) in
+    let ends : Ends i (tree w.label (join w.front w.behind) empty) (without_root i old) end = record { whole = now; alone = refl; root = w.id-is; clear = w.clear } in
+    let is = last_tree ends in
+    record {
+      answers = w.answers;
+      reduced = subst (λ (ts : Trees). AreExpandedFrom ts w.answers) (sym whole) w.reduced;
+      calm = subst (λ (ts : Trees). CalmChecks (nodes_of ts) before after) (sym whole) w.calm;
+      parent = record {
+        root = last_root ends;
+        payload = ap root_payload is ∙ w.payload;
+        count = ap root_count is ∙ w.once;
+        kids = represents_as w.answered (sym (ap kids is)) refl;
+      };
+      last = ends_as ends (sym is) (sym (last_rest ends));
+      rest = last_rest ends;
+      front = starts_behind _ now;
+    }
+
+-- how many children a reader tells of a handed tree
+pub many_children : {s : State} {i j n : ℕ} → j ≡ i → Stands s → IsHanded i (forest s) → (IsExpression j (forest s) → n ≡ count (children_of (plain (tree_at j (forest s))))) → n ≡ count (children_of (tree_of i s))
+many_children e st h told = told (expression e st h) ∙ ap (λ (t : Tree). count (children_of t)) (seen e st h)
+
+-- what stood first before a child was taken still does
+pub child_front : {i h : ℕ} {old g end : Forest} {u : Tree} (f : Forest) → Gives (join (without_root i old) f) g h (λ t. t ≡ u) → KeepsFront (h ∷ []) g end → KeepsFront (i ∷ []) old end
+child_front {i = i} {old = old} f a k =
+    let front : KeepsFront (i ∷ []) old (join (without_root i old) f) = starts_behind f refl in
+    front_after_one (behind_new a.ends front) (front_end a.ends front) k
+
+-- ---- a tree that is brought to the end
+
+pub record IsMoved (i : ℕ) (old new : Forest) : Type 0 where
+  pub same : root_tree i new ≡ root_tree i old
+  pub rest : without_root i new ≡ without_root i old
+  pub handed : IsHanded i new
+  pub last : Ends i (root_tree i new) (without_root i new) new
+  pub front : KeepsFront (i ∷ []) old new
+
+pub moved : {i : ℕ} {old new : Forest} → IsHanded i old → Ends i (root_tree i old) (without_root i old) new → IsMoved i old new
+moved {i = i} h e =
+    let same = last_tree e in
+    record {
+      same = same;
+      rest = last_rest e;
+      handed = record { root = last_root e; once = subst AllOnce (sym same) h.once; whole = subst AllExpressions (sym same) h.whole };
+      last = ends_as e (sym same) (sym (last_rest e));
+      front = starts_behind _ e.whole;
+    }
+
+-- ---- a child of a polynomial is one
+
+pub all_polynomials : (t : Tree) → is_polynomial t ≡ true → are_polynomials (children_of t) ≡ true
+all_polynomials t h = by (has_polynomial_root t) refl
+  where
+    by : (b : Bool) → has_polynomial_root t ≡ b → are_polynomials (children_of t) ≡ true
+    by true k = by_children t k ∙ h
+    by false k = clash (sym h ∙ by_root t k)
+      where
+        clash : true ≡ false → are_polynomials (children_of t) ≡ true
+        clash z = cc
+
+pub child_polynomial : (ts us : Trees) {u v : Tree} (t : Tree) → children_of t ≡ append ts (more u us) → is_polynomial t ≡ true → v ≡ u → is_polynomial v ≡ true
+child_polynomial ts us {u} {v} t e p q = ap is_polynomial q ∙ among ts (subst (λ (x : Trees). are_polynomials x ≡ true) e (all_polynomials t p))
+  where
+    among : (xs : Trees) → are_polynomials (append xs (more u us)) ≡ true → is_polynomial u ≡ true
+    among none h = (and_parts (is_polynomial u) (are_polynomials us) h).0
+    among (more x xs) h = among xs (and_parts (is_polynomial x) (are_polynomials (append xs (more u us))) h).1

@@ -1,0 +1,134 @@
+-- Expanded trees as answers.
+use Rattle.std.proofs.Common.{◌≡◌, ◌≤◌, ℕ, suc, ◌+◌, List, [], ◌∷◌, ◌++◌, Bool, true, false, refl, sym, ap, ◌∙◌, arith, pos, append-nil}
+use Rattle.std.specs.Prelude.{not, if◌then◌else◌}
+use Rattle.calc_terms.proofs.FractionFacts.{no_one, one_is, zero_is, zero_test}
+use Rattle.calc_algebra.proofs.NumberClasses.{one_not_zero}
+use Rattle.calc_algebra.specs.Reduced.{product_tree}
+use Rattle.calc_terms.specs.declared.rat.Rat.{Rat}
+use Rattle.calc_terms.specs.Rat.{ratio_of, value_of}
+use Rattle.calc_terms.specs.Ratio.{Ratio, whole}
+use Rattle.calc_terms.specs.Fractions.{Fraction, is_one_fraction, is_zero_fraction, lowest, one_fraction, zero_fraction}
+use Rattle.calc_terms.specs.Trees.{Tree, Trees, num, symbol, add, none, more, count}
+use Rattle.expand_forms.specs.ExpandedTrees.{IsNormal, expanded, normal, sum_tree, term_trees}
+use Rattle.expand_forms.specs.Polynomials.{AreMonomials, IsMonomial, Polynomial, coefficient_at, constant, factor, product, raised, summand, variable}
+use Rattle.expand_forms.specs.PolynomialTrees.{polynomial_of}
+use Rattle.expand_forms.specs.Sums.{AreSame, IsExpanded, IsSum, IsSumOf}
+use Rattle.expand_forms.proofs.AllMonomials.{AllHave, normal_all, product_all, raised_all}
+use Rattle.expand_forms.proofs.Joins.{sum_polynomial_is}
+use Rattle.expand_forms.proofs.MonomialProducts.{raised_add}
+use Rattle.expand_forms.proofs.NormalForms.{normal_coefficient, normal_is, one_normal}
+use Rattle.expand_forms.proofs.SameCoefficients.{normal_same, product_both, product_right, same_sym, same_trans}
+use Rattle.expand_forms.proofs.TermPolynomials.{expanded_polynomial}
+use Rattle.expand_forms.proofs.TreeMonomials.{all_monomials, monomial_closed, tree_monomials}
+use Rattle.expand_forms.proofs.Sums.{sum_is}
+use Rattle.expand_forms.proofs.TermReadings.{sum_children}
+use Rattle.tree_handles.specs.Expressions.{children_of, nth}
+
+pub expanded_same : {v w : Polynomial} → AreSame v w → expanded v ≡ expanded w
+expanded_same h = ap (λ (u : Polynomial). sum_tree (term_trees u)) (normal_same h)
+
+-- a normal polynomial is its own normal form
+pub normal_itself : (v : Polynomial) → IsNormal v → normal v ≡ v
+normal_itself v h = one_normal (normal v) v (normal_is v) h (λ m. normal_coefficient m v)
+
+-- the tree of a sum's terms
+pub sum_expanded : {t : Tree} (s : IsSum t) → expanded (polynomial_of t) ≡ sum_tree (children_of t)
+sum_expanded s =
+    ap expanded (sum_polynomial_is s) ∙ ap (λ (u : Polynomial). sum_tree (term_trees u)) (normal_itself s.summands s.normal) ∙ ap sum_tree (sym (sum_children s))
+
+pub with_monomials : (v : Polynomial) → AllHave IsMonomial v → AreMonomials (normal v)
+with_monomials v h = all_monomials (normal v) (normal_all IsMonomial v h)
+
+-- the polynomial of an expanded tree
+pub same_polynomial : {t : Tree} {v : Polynomial} → AllHave IsMonomial v → t ≡ expanded v → AreSame (polynomial_of t) v
+same_polynomial {v = v} h e = same_trans (record { at = λ m. ap (λ (u : Tree). coefficient_at m (polynomial_of u)) e }) (expanded_polynomial v (with_monomials v h))
+
+pub is_expanded : {t : Tree} (v : Polynomial) → AllHave IsMonomial v → t ≡ expanded v → IsExpanded t
+is_expanded v h e = e ∙ expanded_same (same_sym (same_polynomial h e))
+
+pub product_monomials : (t u : Tree) → AllHave IsMonomial (product (polynomial_of t) (polynomial_of u))
+product_monomials t u = product_all IsMonomial monomial_closed (polynomial_of t) (polynomial_of u) (tree_monomials t) (tree_monomials u)
+
+pub raised_monomials : (t : Tree) (n : ℕ) → AllHave IsMonomial (raised (polynomial_of t) n)
+raised_monomials t n = raised_all IsMonomial monomial_closed (polynomial_of t) n (tree_monomials t)
+
+-- ---- rationals
+
+pub constant_expanded : (q : Fraction) → expanded (constant q) ≡ num q
+constant_expanded q = by (is_zero_fraction q) refl
+  where
+    one : (b : Bool) → is_one_fraction q ≡ b → (if b then num one_fraction else num q) ≡ num q
+    one true e = ap num (sym (one_is q e))
+    one false e = refl
+
+    by : (b : Bool) → is_zero_fraction q ≡ b → sum_tree (term_trees (if b then [] else summand q [] ∷ [])) ≡ num q
+    by true e = ap num (sym (zero_is q e))
+    by false e = one (is_one_fraction q) refl
+
+pub constant_is_expanded : (q : Fraction) → IsExpanded (num q)
+constant_is_expanded q = sym (constant_expanded q)
+
+-- ---- sums that are finished
+
+pub none_sum : {t : Tree} (s : IsSum t) → count (children_of t) ≡ 0 → expanded (polynomial_of t) ≡ num zero_fraction
+none_sum {t} s e = sum_expanded s ∙ by (children_of t) e
+  where
+    by : (ts : Trees) → count ts ≡ 0 → sum_tree ts ≡ num zero_fraction
+    by none e = refl
+    by (more u us) e = absurd (omega (arith, e))
+
+pub one_sum : {t : Tree} (s : IsSum t) → count (children_of t) ≡ 1 → nth 0 (children_of t) ≡ expanded (polynomial_of t)
+one_sum {t} s e = by (children_of t) e ∙ sym (sum_expanded s)
+  where
+    by : (ts : Trees) → count ts ≡ 1 → nth 0 ts ≡ sum_tree ts
+    by none e = absurd (omega (arith, e))
+    by (more u none) e = refl
+    by (more u (more v us)) e = absurd (omega (arith, e))
+
+pub more_sum : {t : Tree} (s : IsSum t) → 2 ≤ count (children_of t) → t ≡ expanded (polynomial_of t)
+more_sum {t} s l = sum_is s ∙ by (children_of t) l ∙ sym (sum_expanded s)
+  where
+    by : (ts : Trees) → 2 ≤ count ts → add ts ≡ sum_tree ts
+    by none l = absurd (omega (arith, l))
+    by (more u none) l = absurd (omega (arith, l))
+    by (more u (more v us)) l = refl
+
+-- a sum of these coefficients
+pub sum_same : {t : Tree} {v : Polynomial} → IsSumOf v t → expanded (polynomial_of t) ≡ expanded v
+sum_same h = ap expanded (sum_polynomial_is h.sum) ∙ expanded_same h.same
+
+-- ---- powers
+
+pub square_same : {t : Tree} (v : Polynomial) (n : ℕ) → AllHave IsMonomial (raised v n) → t ≡ expanded (raised v n) → expanded (product (polynomial_of t) (polynomial_of t)) ≡ expanded (raised v (n + n))
+square_same {t} v n h e =
+    let same = same_polynomial h e in
+    expanded_same (same_trans (product_both same same) (record { at = λ m. ap (coefficient_at m) (sym (raised_add v n n)) }))
+
+pub more_same : {t : Tree} (v : Polynomial) (n : ℕ) → AllHave IsMonomial (raised v n) → t ≡ expanded (raised v n) → expanded (product v (polynomial_of t)) ≡ expanded (raised v (suc n))
+more_same v n h e = expanded_same (product_right v (same_polynomial h e))
+
+pub zero_value : (r : Rat) → ratio_of r ≡ whole (pos 0) → value_of r ≡ zero_fraction
+unfolding zero_fraction
+zero_value r e = ap (λ (x : Ratio). lowest x.num x.den) e
+
+-- a new sum has no term
+pub empty_sum : {t : Tree} → t ≡ add none → IsSum t
+empty_sum e = record { summands = []; normal = tt; monomials = tt; tree = e }
+
+pub nothing_added : (v : Polynomial) {t : Tree} → t ≡ add none → v ++ polynomial_of t ≡ v
+nothing_added v e = ap (λ (u : Tree). v ++ polynomial_of u) e ∙ append-nil v
+
+one_nonzero : is_zero_fraction one_fraction ≡ false
+one_nonzero = zero_test one_fraction (λ e. one_not_zero e)
+
+pub name_expanded : (x : List ℕ) → expanded (variable x) ≡ symbol x
+name_expanded x =
+    ap (λ (b : Bool). sum_tree (term_trees (if b then [] else summand one_fraction (factor x 1 ∷ []) ∷ []))) one_nonzero
+    ∙ ap (λ (b : Bool). if b then symbol x else product_tree (more (num one_fraction) (more (symbol x) none))) one_itself
+  where
+    one_itself : is_one_fraction one_fraction ≡ true
+    one_itself = by (is_one_fraction one_fraction) refl
+      where
+        by : (b : Bool) → is_one_fraction one_fraction ≡ b → b ≡ true
+        by true e = refl
+        by false e = absurd (no_one one_fraction (ap not e) refl)

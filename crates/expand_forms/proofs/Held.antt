@@ -1,0 +1,132 @@
+-- Polynomials that are held by bits: their sums, products and powers, and their normal forms.
+use Rattle.std.proofs.Common.{◌≡◌, ℕ, zero, suc, ◌+◌, ◌*◌, ◌^◌, ◌≤◌, ◌<◌, pos, negsuc, [], ◌∷◌, sym, ◌∙◌, subst, arith}
+use Rattle.std.specs.Int.{◌∣◌}
+use Rattle.std.proofs.Math.Nat.{one-dvd, pow-le-pow_right}
+use Rattle.std.proofs.lemmas.Nat.{mul-le, pow-add}
+use Rattle.std.proofs.lemmas.Nat.Gcd.{dvd_trans}
+use Rattle.calc_bits.specs.Denominators.{magnitude_over}
+use Rattle.calc_bits.proofs.Held.{two_powers}
+use Rattle.calc_bits.proofs.Quotients.{den_divides, magnitude_lowest}
+use Rattle.calc_terms.specs.Fractions.{lowest, minus_one_fraction, mul_pos, one_fraction, zero_fraction}
+use Rattle.calc_terms.specs.Trees.{Tree}
+use Rattle.expand_forms.specs.ExpandedTrees.{IsNormal, expanded, normal, sum_tree, term_trees}
+use Rattle.expand_forms.specs.ExpansionBits.{IsHeld, mass}
+use Rattle.expand_forms.specs.Polynomials.{AreMonomials, IsMonomial, Polynomial, constant, product, raised, scaled}
+use Rattle.expand_forms.specs.PolynomialTrees.{polynomial_of}
+use Rattle.expand_forms.specs.Sums.{AreSame, IsSumOf}
+use Rattle.expand_forms.proofs.AllMonomials.{AllHave, normal_all}
+use Rattle.expand_forms.proofs.Joins.{sum_polynomial_is}
+use Rattle.expand_forms.proofs.Masses.{exponents_normal, mass_product, more_exponents, normal_mass, normal_whole, product_exponents, whole_product}
+use Rattle.expand_forms.proofs.NormalForms.{normal_coefficient, normal_is, one_normal}
+use Rattle.expand_forms.proofs.SameCoefficients.{constant_product}
+use Rattle.expand_forms.proofs.TermPolynomials.{terms_polynomial, term_polynomial}
+use Rattle.expand_forms.proofs.TreeMonomials.{all_monomials}
+
+-- ---- more bits
+
+pub held_more : {v : Polynomial} {h l g k : ℕ} → IsHeld v h l → h ≤ g → l ≤ k → IsHeld v g k
+held_more {v} {h} {l} {g} {k} x a b = record {
+  denominator = x.denominator;
+  positive = x.positive;
+  whole = x.whole;
+  low = omega (arith, x.low, pow-le-pow_right {n = 2} (omega arith) b);
+  high = omega (arith, x.high, mul-le x.denominator (2 ^ h) x.denominator (2 ^ g) (omega arith) (pow-le-pow_right {n = 2} (omega arith) a));
+  exponents = more_exponents h g v a x.exponents;
+}
+
+-- ---- normal forms
+
+pub held_normal : {v : Polynomial} {h l : ℕ} → IsHeld v h l → IsHeld (normal v) h l
+held_normal {v} {h} {l} x = record {
+  denominator = x.denominator;
+  positive = x.positive;
+  whole = normal_whole x.denominator v x.positive x.whole;
+  low = x.low;
+  high = omega (arith, x.high, normal_mass x.denominator v x.positive x.whole);
+  exponents = exponents_normal h v x.exponents;
+}
+
+pub held_same : {v w : Polynomial} {h l : ℕ} → IsNormal w → AreSame w v → IsHeld v h l → IsHeld w h l
+held_same {v} {w} {h} {l} n same x = subst (λ (u : Polynomial). IsHeld u h l) (sym (one_normal w (normal v) n (normal_is v) (λ m. same.at m ∙ sym (normal_coefficient m v)))) (held_normal x)
+
+pub held_sum : {v : Polynomial} {t : Tree} {h l : ℕ} → IsSumOf v t → IsHeld v h l → IsHeld (polynomial_of t) h l
+held_sum {v} {t} {h} {l} s x = subst (λ (u : Polynomial). IsHeld u h l) (sym (sum_polynomial_is s.sum)) (held_same s.sum.normal s.same x)
+
+zero_den : (d : ℕ) → 0 < d → zero_fraction.den ∣ d
+unfolding zero_fraction
+zero_den d h = dvd_trans (lowest (pos 0) 1).den (den_divides (pos 0) 1 (omega arith)) (one-dvd d)
+
+zero_magnitude : (d : ℕ) → 0 < d → magnitude_over d zero_fraction ≡ 0
+unfolding zero_fraction
+zero_magnitude d h = magnitude_lowest d (pos 0) 1 0 (omega arith) (zero_den d h) (omega arith)
+
+-- the polynomial of an expanded tree
+pub held_expanded : (v : Polynomial) {h l : ℕ} → AreMonomials (normal v) → IsHeld v h l → IsHeld (polynomial_of (expanded v)) h l
+held_expanded v {h} {l} m x = by (normal v) m (held_normal x)
+  where
+    by : (w : Polynomial) → AreMonomials w → IsHeld w h l → IsHeld (polynomial_of (sum_tree (term_trees w))) h l
+    by [] m y = record {
+      denominator = y.denominator;
+      positive = y.positive;
+      whole = (zero_den y.denominator y.positive, tt);
+      low = y.low;
+      high = omega (arith, zero_magnitude y.denominator y.positive);
+      exponents = (tt, tt);
+    }
+    by (s ∷ []) m y = subst (λ (u : Polynomial). IsHeld u h l) (sym (term_polynomial s m.0)) y
+    by (s ∷ t ∷ w) m y = subst (λ (u : Polynomial). IsHeld u h l) (sym (terms_polynomial (s ∷ t ∷ w) m)) y
+
+pub answer_held : {t : Tree} {v : Polynomial} {h l : ℕ} → AllHave IsMonomial v → t ≡ expanded v → IsHeld v h l → IsHeld (polynomial_of t) h l
+answer_held {t} {v} {h} {l} m e x = subst (λ (u : Tree). IsHeld (polynomial_of u) h l) (sym e) (held_expanded v (all_monomials (normal v) (normal_all IsMonomial v m)) x)
+
+-- ---- products
+
+pub held_product : {v w : Polynomial} {h l k n : ℕ} → AllHave IsMonomial v → IsHeld v h l → IsHeld w k n → IsHeld (product v w) (h + k) (l + n)
+held_product {v} {w} {h} {l} {k} {n} m x y =
+    let d = x.denominator in
+    let e = y.denominator in
+    record {
+      denominator = d * e;
+      positive = mul_pos d e x.positive y.positive;
+      whole = whole_product d e v w x.whole y.whole;
+      low = omega (arith, mul-le d e (2 ^ l) (2 ^ n) x.low y.low, pow-add 2 l n);
+      high = omega (arith, mass_product d e v w x.whole y.whole, two_powers (mass d v) (mass e w) d e h k x.high y.high);
+      exponents = product_exponents h k v w m x.exponents y.exponents;
+    }
+
+pub one_den : one_fraction.den ∣ 1
+unfolding one_fraction
+one_den = den_divides (pos 1) 1 (omega arith)
+
+pub one_magnitude : magnitude_over 1 one_fraction ≡ 1
+unfolding one_fraction
+one_magnitude = magnitude_lowest 1 (pos 1) 1 1 (omega arith) (den_divides (pos 1) 1 (omega arith)) (omega arith)
+
+pub one_held : IsHeld (constant one_fraction) 0 0
+one_held = record {
+  denominator = 1;
+  positive = omega arith;
+  whole = (one_den, tt);
+  low = omega arith;
+  high = omega (arith, one_magnitude);
+  exponents = (tt, tt);
+}
+
+pub held_raised : {v : Polynomial} {h l : ℕ} (n : ℕ) → AllHave IsMonomial v → IsHeld v h l → IsHeld (raised v n) (n * h) (n * l)
+held_raised zero m x = held_more one_held (omega arith) (omega arith)
+held_raised {v} {h} {l} (suc n) m x = held_more (held_product m x (held_raised n m x)) (omega arith) (omega arith)
+
+-- ---- opposites
+
+minus_held : IsHeld (constant minus_one_fraction) 0 0
+minus_held = record {
+  denominator = 1;
+  positive = omega arith;
+  whole = (den_divides (negsuc 0) 1 (omega arith), tt);
+  low = omega arith;
+  high = omega (arith, magnitude_lowest 1 (negsuc 0) 1 1 (omega arith) (den_divides (negsuc 0) 1 (omega arith)) (omega arith));
+  exponents = (tt, tt);
+}
+
+pub held_opposite : {v : Polynomial} {h l : ℕ} → IsHeld v h l → IsHeld (scaled minus_one_fraction v) h l
+held_opposite {v} {h} {l} x = subst (λ (u : Polynomial). IsHeld u h l) (constant_product minus_one_fraction v) (held_more (held_product (tt, tt) minus_held x) (omega arith) (omega arith))

@@ -1,0 +1,178 @@
+-- By what bits the step of a node over expanded children is held.
+use Rattle.std.proofs.Common.{◌≡◌, ◌<◌, ◌≤◌, ◌+◌, ◌*◌, ℕ, zero, suc, max, Result, Ok, Err, Bool, true, false, refl, sym, ap, subst, arith}
+use Rattle.std.specs.Prelude.{IfErr, nat_le, if◌then◌else◌}
+use Rattle.std.proofs.Math.Nat.{le-max_left, le-max_right}
+use Rattle.std.proofs.lemmas.Bool.{and_parts, leb-false, leb-true}
+use Rattle.calc_measures.specs.Measures.{all_simple, bits, bits_of, high, low, most_bits, most_bits_of}
+use Rattle.calc_terms.specs.declared.kind.Kind.{Kind}
+use Rattle.calc_terms.specs.declared.kind.Kind.TheVariants as kind
+use Rattle.calc_terms.specs.Fractions.{Fraction, inverse, minus_one_fraction}
+use Rattle.calc_terms.specs.Payload.{Payload, rational, named, bare}
+use Rattle.calc_terms.specs.Trees.{Tree, num, symbol, undef, add, mult, power, root, neg, sub, div, Trees, none, more, append, count, root_kind}
+use Rattle.expand_forms.specs.ExpansionBits.{AreHeldTogether, IsHeld, IsNoOverflow}
+use Rattle.expand_forms.specs.Polynomials.{scaled}
+use Rattle.expand_forms.specs.PolynomialTrees.{divisor_of, exponent_of, is_divisor, is_exponent, is_polynomial, polynomial_of, product_of}
+use Rattle.expand_forms.specs.Walks.{AreExpandedFrom}
+use Rattle.expand_forms.proofs.ChildExpansions.{divisor_same, exponent_same}
+use Rattle.expand_forms.proofs.Held.{held_more, held_opposite, held_product, one_held}
+use Rattle.expand_forms.proofs.Nodes.{from}
+use Rattle.expand_forms.proofs.TreeBits.{answers_held, difference_held, expanded_held, held_together, power_within, quotient_held, sum_held}
+use Rattle.expand_forms.proofs.TreeMonomials.{tree_monomials}
+use Rattle.number_forms.proofs.Overflows.{refused_as}
+use Rattle.tree_handles.specs.Expressions.{children_of, compound, grown, nth}
+use Rattle.tree_handles.specs.Faults.{OfOverflow}
+use Rattle.tree_handles.specs.declared.fault.NumberFault.{NumberFault}
+use Rattle.tree_handles.specs.declared.fault.NumberFault.TheVariants as fault
+
+-- ---- few bits, or more
+
+pub few_bits : (t : Tree) → bits_of t ≤ 124 → high t + low t < 127
+few_bits t l = omega (arith, l)
+
+of_overflow : {P : Type 0} (e : NumberFault) → P → OfOverflow (λ o. P) e
+of_overflow (fault.Full full) p = tt
+of_overflow (fault.Overflow o) p = p
+
+beyond : {A : Type 0} {P : Type 0} (r : Result A NumberFault) → P → IfErr r (OfOverflow (λ o. P))
+beyond (Ok x) p = tt
+beyond (Err e) p = of_overflow e p
+
+-- a call that makes no overflow of few bits
+pub within_bits : {A : Type 0} (r : Result A NumberFault) (t : Tree) → (bits_of t ≤ 124 → IfErr r IsNoOverflow) → IfErr r (OfOverflow (λ o. 124 < bits_of t))
+within_bits r t k = by (nat_le (bits_of t) 124) refl
+  where
+    by : (b : Bool) → nat_le (bits_of t) 124 ≡ b → IfErr r (OfOverflow (λ o. 124 < bits_of t))
+    by true e = refused_as r (k (leb-true (bits_of t) 124 e)) (λ o h. absurd h)
+    by false e = beyond r (leb-false (bits_of t) 124 e)
+
+-- ---- by the kind of the node
+
+pub sum_over : (w u : Tree) → kind.Add ≡ root_kind w → kind.Add ≡ root_kind u → is_polynomial w ≡ true → AreExpandedFrom (children_of w) (children_of u) → IsHeld (polynomial_of u) (high w) (low w)
+sum_over (add ts) u k l p e = by u l e
+  where
+    by : (v : Tree) → kind.Add ≡ root_kind v → AreExpandedFrom ts (children_of v) → IsHeld (polynomial_of v) (high (add ts)) (low (add ts))
+    by (add us) l e = sum_held ts us (answers_held ts us p e)
+    by v l e = cc
+sum_over w u k l p e = cc
+
+pub product_over : (w u : Tree) → kind.Mult ≡ root_kind w → is_polynomial w ≡ true → AreExpandedFrom (children_of w) (children_of u) → AreHeldTogether (children_of u) (high w) (low w)
+product_over (mult ts) u k p e = held_together ts (children_of u) (answers_held ts (children_of u) p e)
+product_over w u k p e = cc
+
+pub power_over : (w u : Tree) → kind.Pow ≡ root_kind w → kind.Pow ≡ root_kind u → is_polynomial w ≡ true → AreExpandedFrom (children_of w) (children_of u) → bits_of w ≤ 124
+    → (h : ℕ) × (l : ℕ) × IsHeld (polynomial_of (nth 0 (children_of u))) h l × (exponent_of (nth 1 (children_of u)) * (h + l) < 127)
+power_over (power b x) u k l p e few = by u l e
+  where
+    by : (v : Tree) → kind.Pow ≡ root_kind v → AreExpandedFrom (more b (more x none)) (children_of v) → (h : ℕ) × (l : ℕ) × IsHeld (polynomial_of (nth 0 (children_of v))) h l × (exponent_of (nth 1 (children_of v)) * (h + l) < 127)
+    by (power c y) l e =
+        let (a, d) = and_parts (is_polynomial b) (is_exponent x) p in
+        let (n, s, ex) = exponent_same x y d e.1.0 in
+        let (m, o) = power_within b x d in
+        (high b, low b, expanded_held b c a e.0, omega (arith, ap (λ (j : ℕ). j * (high b + low b)) n, m, o, few))
+    by v l e = cc
+power_over w u k l p e few = cc
+
+pub opposite_over : (w u : Tree) → kind.Neg ≡ root_kind w → kind.Neg ≡ root_kind u → is_polynomial w ≡ true → AreExpandedFrom (children_of w) (children_of u) → IsHeld (scaled minus_one_fraction (polynomial_of (nth 0 (children_of u)))) (high w) (low w)
+opposite_over (neg a) u k l p e = by u l e
+  where
+    by : (v : Tree) → kind.Neg ≡ root_kind v → AreExpandedFrom (more a none) (children_of v) → IsHeld (scaled minus_one_fraction (polynomial_of (nth 0 (children_of v)))) (high a) (low a)
+    by (neg b) l e = held_opposite (expanded_held a b p e.0)
+    by v l e = cc
+opposite_over w u k l p e = cc
+
+pub difference_over : (w u : Tree) → kind.Sub ≡ root_kind w → kind.Sub ≡ root_kind u → is_polynomial w ≡ true → AreExpandedFrom (children_of w) (children_of u)
+    → IsHeld (polynomial_of (sub (nth 0 (children_of u)) (nth 1 (children_of u)))) (high w) (low w)
+difference_over (sub a b) u k l p e = by u l e
+  where
+    by : (v : Tree) → kind.Sub ≡ root_kind v → AreExpandedFrom (more a (more b none)) (children_of v) → IsHeld (polynomial_of (sub (nth 0 (children_of v)) (nth 1 (children_of v)))) (high (sub a b)) (low (sub a b))
+    by (sub c d) l e = let (x, y) = and_parts (is_polynomial a) (is_polynomial b) p in difference_held (expanded_held a c x e.0) (expanded_held b d y e.1.0)
+    by v l e = cc
+difference_over w u k l p e = cc
+
+pub quotient_over : (w u : Tree) → kind.Div ≡ root_kind w → kind.Div ≡ root_kind u → is_polynomial w ≡ true → AreExpandedFrom (children_of w) (children_of u)
+    → IsHeld (scaled (inverse (divisor_of (nth 1 (children_of u)))) (polynomial_of (nth 0 (children_of u)))) (high w) (low w)
+quotient_over (div a c) u k l p e = by u l e
+  where
+    by : (v : Tree) → kind.Div ≡ root_kind v → AreExpandedFrom (more a (more c none)) (children_of v) → IsHeld (scaled (inverse (divisor_of (nth 1 (children_of v)))) (polynomial_of (nth 0 (children_of v)))) (high (div a c)) (low (div a c))
+    by (div b d) l e =
+        let (x, y) = and_parts (is_polynomial a) (is_divisor c) p in
+        let (n, s, ex) = divisor_same c d y e.1.0 in
+        subst (λ (q : Fraction). IsHeld (scaled (inverse q) (polynomial_of b)) (high (div a c)) (low (div a c))) (sym n) (quotient_held a c y (expanded_held a b x e.0))
+    by v l e = cc
+quotient_over w u k l p e = cc
+
+-- ---- products, from the last child on
+
+together_product : (ts : Trees) {h l : ℕ} → AreHeldTogether ts h l → IsHeld (product_of ts) h l
+together_product none e = held_more one_held (omega arith) (omega arith)
+together_product (more t ts) (a, b, c, d, x, y, m, n) = held_more (held_product (tree_monomials t) x (together_product ts y)) m n
+
+-- a child and the product of those behind it
+pub together_next : (n : ℕ) (ts : Trees) {h l : ℕ} → n < count ts → AreHeldTogether ts h l
+    → (a : ℕ) × (b : ℕ) × (c : ℕ) × (d : ℕ) × IsHeld (polynomial_of (nth n ts)) a b × IsHeld (product_of (from (n + 1) ts)) c d × (a + c ≤ h) × (b + d ≤ l)
+together_next n none few e = absurd (omega (arith, few))
+together_next zero (more t ts) few (a, b, c, d, x, y, m, n) = (a, b, c, d, x, together_product ts y, m, n)
+together_next (suc k) (more t ts) {h} {l} few (a, b, c, d, x, y, m, n) =
+    let (i, j, p, q, z, w, o, r) = together_next k ts (omega (arith, few)) y in
+    let same : suc (k + 1) ≡ suc k + 1 = omega arith in
+    (i, j, p, q, z, subst (λ (x : ℕ). IsHeld (product_of (from x (more t ts))) p q) same w, omega (arith, m, o), omega (arith, n, r))
+
+-- ---- nodes that hold the same
+
+pub same_root : (x : Payload) (ts us : Trees) → root_kind (grown x us) ≡ root_kind (grown x ts)
+same_root (rational r) ts us = refl
+same_root (named x) ts us = refl
+same_root (bare k) ts us = by k
+  where
+    by : (k : Kind) → root_kind (compound k us) ≡ root_kind (compound k ts)
+    by kind.Add = refl
+    by kind.Mult = refl
+    by kind.Pow = refl
+    by kind.Root = refl
+    by kind.Neg = refl
+    by kind.Sub = refl
+    by kind.Div = refl
+    by k = refl
+
+-- ---- parts have no more bits
+
+pub own_bits : (t : Tree) → bits_of t ≤ most_bits t
+own_bits (num q) = omega arith
+own_bits (symbol x) = omega arith
+own_bits undef = omega arith
+own_bits (add ts) = le-max_left (bits_of (add ts)) (most_bits_of ts)
+own_bits (mult ts) = le-max_left (bits_of (mult ts)) (most_bits_of ts)
+own_bits (power b e) = le-max_left (bits_of (power b e)) (max (most_bits b) (most_bits e))
+own_bits (root a) = le-max_left (bits_of (root a)) (most_bits a)
+own_bits (neg a) = le-max_left (bits_of (neg a)) (most_bits a)
+own_bits (sub a b) = le-max_left (bits_of (sub a b)) (max (most_bits a) (most_bits b))
+own_bits (div a b) = le-max_left (bits_of (div a b)) (max (most_bits a) (most_bits b))
+
+one_child : (a : Tree) → most_bits_of (more a none) ≤ most_bits a
+one_child a = omega arith
+
+children_bits : (t : Tree) → most_bits_of (children_of t) ≤ most_bits t
+children_bits (num q) = omega arith
+children_bits (symbol x) = omega arith
+children_bits undef = omega arith
+children_bits (add ts) = le-max_right (bits_of (add ts)) (most_bits_of ts)
+children_bits (mult ts) = le-max_right (bits_of (mult ts)) (most_bits_of ts)
+children_bits (power b e) = omega arith
+children_bits (root a) = omega arith
+children_bits (neg a) = omega arith
+children_bits (sub a b) = omega arith
+children_bits (div a b) = omega arith
+
+one_bits : (ts : Trees) (t : Tree) (us : Trees) → most_bits t ≤ most_bits_of (append ts (more t us))
+one_bits none t us = le-max_left (most_bits t) (most_bits_of us)
+one_bits (more x ts) t us = omega (arith, one_bits ts t us, le-max_right (most_bits x) (most_bits_of (append ts (more t us))))
+
+pub child_bits : (t : Tree) (ts : Trees) (c : Tree) (us : Trees) → children_of t ≡ append ts (more c us) → 124 < most_bits c → 124 < most_bits t
+child_bits t ts c us e l = omega (arith, l, one_bits ts c us, ap most_bits_of e, children_bits t)
+
+pub beyond_bits : (t : Tree) → 124 < most_bits t → 124 < bits t
+beyond_bits t l = by (all_simple t)
+  where
+    by : (b : Bool) → 124 < (if b then most_bits t else 125)
+    by true = l
+    by false = omega arith

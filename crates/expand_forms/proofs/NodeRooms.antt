@@ -1,0 +1,98 @@
+-- For how few bytes a node over expanded children is refused.
+use Rattle.std.proofs.Common.{◌≡◌, ℕ, zero, suc, ◌+◌, ◌-◌, ◌≤◌, List, [], ◌∷◌, ◌++◌, length, true, refl, sym, ap, subst, arith}
+use Rattle.std.proofs.lemmas.List.{length-append}
+use Rattle.std.proofs.lemmas.Nat.{mul-le}
+use Rattle.calc_algebra.proofs.Names.{Within, no_new_name, within_left, within_none, within_of, within_right, within_same, within_trans}
+use Rattle.calc_algebra.specs.Rewritings.{HasNoNewName}
+use Rattle.calc_terms.proofs.Sizes.{num_most}
+use Rattle.calc_terms.specs.declared.kind.Kind.TheVariants as kind
+use Rattle.calc_terms.specs.Trees.{Tree, num, symbol, undef, add, mult, power, root, neg, sub, div, Trees, none, more, names, names_of, root_kind, size}
+use Rattle.expand_forms.specs.ExpansionRoom.{AreNamed, HasFewTerms}
+use Rattle.expand_forms.specs.Polynomials.{Polynomial}
+use Rattle.expand_forms.specs.PolynomialTrees.{has_polynomial_root, polynomial_of, product_of, sum_of}
+use Rattle.expand_forms.specs.Sums.{AreExpanded}
+use Rattle.expand_forms.proofs.ChildRooms.{child_names}
+use Rattle.expand_forms.proofs.FewTerms.{few_names, some_expanded}
+use Rattle.expand_forms.proofs.Names.{are_named, product_named}
+use Rattle.expand_forms.proofs.Nodes.{from}
+use Rattle.expand_forms.proofs.TermCounts.{product_length}
+use Rattle.expand_forms.proofs.TermPolynomials.{tree_normal}
+use Rattle.tree_handles.specs.Expressions.{children_of, nth}
+
+-- ---- parts of a sum
+
+named_right : (ns : List (List ℕ)) (v w : Polynomial) → AreNamed ns (v ++ w) → AreNamed ns w
+named_right ns [] w h = h
+named_right ns (s ∷ v) w h = named_right ns v w h.1
+
+named_left : (ns : List (List ℕ)) (v w : Polynomial) → AreNamed ns (v ++ w) → AreNamed ns v
+named_left ns [] w h = tt
+named_left ns (s ∷ v) w h = (h.0, named_left ns v w h.1)
+
+pub few_from : {ns : List (List ℕ)} {n : ℕ} (at : ℕ) (ts : Trees) → HasFewTerms ns n (sum_of ts) → HasFewTerms ns n (sum_of (from at ts))
+few_from zero ts h = h
+few_from (suc at) none h = h
+few_from {ns} {n} (suc at) (more t ts) h = few_from at ts (record { named = named_right ns (polynomial_of t) (sum_of ts) h.named; few = omega (arith, h.few, length-append (polynomial_of t) (sum_of ts)) })
+
+-- the next of them
+pub few_next : {ns : List (List ℕ)} {n : ℕ} {u : Polynomial} (v w : Polynomial) → u ≡ v ++ w → HasFewTerms ns n u → HasFewTerms ns (length v) v
+few_next {ns} {n} {u} v w e h = record { named = named_left ns v w (subst (AreNamed ns) e h.named); few = omega arith }
+
+pub next_length : (k n : ℕ) {u : Polynomial} (v w : Polynomial) → u ≡ v ++ w → length u ≤ n → length v + (k + (n - length u)) ≤ k + (n - length w)
+next_length k n {u} v w e l = omega (arith, ap (λ (x : Polynomial). length x) e, length-append v w, l)
+
+-- ---- names of children
+
+names_from : (n : ℕ) (ts : Trees) → Within (names_of ts) (names_of (from n ts))
+names_from zero ts = within_same (names_of ts)
+names_from (suc n) none = within_none []
+names_from (suc n) (more t ts) = within_trans (within_right (names t) (names_of ts)) (names_from n ts)
+
+nth_names : (n : ℕ) (ts : Trees) → Within (names_of ts) (names (nth n ts))
+nth_names n none = within_none []
+nth_names zero (more t ts) = within_left (names t) (names_of ts)
+nth_names (suc n) (more t ts) = within_trans (within_right (names t) (names_of ts)) (nth_names n ts)
+
+pub child_no_new_name : {whole t u : Tree} (n : ℕ) → HasNoNewName whole t → u ≡ nth n (children_of t) → HasNoNewName whole u
+child_no_new_name {whole} {t} {u} n h e = subst (HasNoNewName whole) (sym e) (no_new_name (within_trans (within_of h) (within_trans (child_names t) (nth_names n (children_of t)))))
+
+-- a child, with as many terms as it has
+pub few_child : {whole t u : Tree} (n : ℕ) → HasNoNewName whole t → u ≡ nth n (children_of t) → HasFewTerms (names whole) (length (polynomial_of u)) (polynomial_of u)
+few_child {whole} {t} {u} n h e = few_names whole u (length (polynomial_of u)) (child_no_new_name n h e) (omega arith)
+
+-- ---- parts of a product
+
+pub expanded_from : (n : ℕ) (ts : Trees) → AreExpanded ts → AreExpanded (from n ts)
+expanded_from zero ts h = h
+expanded_from (suc n) none h = h
+expanded_from (suc n) (more t ts) h = expanded_from n ts h.1
+
+pub some_product : (ts : Trees) → AreExpanded ts → 1 ≤ length (product_of ts)
+some_product none h = omega arith
+some_product (more t ts) h = omega (arith, product_length (polynomial_of t) (product_of ts), mul-le 1 1 (length (polynomial_of t)) (length (product_of ts)) (some_expanded t (tree_normal t) h.0) (some_product ts h.1))
+
+pub rest_product : (n : ℕ) (ts : Trees) → AreExpanded ts → length (product_of (from n ts)) ≤ length (product_of ts)
+rest_product zero ts h = omega arith
+rest_product (suc n) none h = omega arith
+rest_product (suc n) (more t ts) h =
+    let all = mul-le 1 (length (product_of ts)) (length (polynomial_of t)) (length (product_of ts)) (some_expanded t (tree_normal t) h.0) (omega arith) in
+    omega (arith, rest_product n ts h.1, product_length (polynomial_of t) (product_of ts), all)
+
+pub few_rest : {whole t : Tree} (n : ℕ) → HasNoNewName whole t → HasFewTerms (names whole) (length (product_of (from n (children_of t)))) (product_of (from n (children_of t)))
+few_rest {whole} {t} n h =
+    let ts = from n (children_of t) in
+    record { named = are_named (names whole) (product_of ts) (product_named (names whole) ts (within_trans (within_of h) (within_trans (child_names t) (names_from n (children_of t))))); few = omega arith }
+
+-- ---- leaves
+
+pub leaf_size : (t : Tree) → has_polynomial_root t ≡ true → (root_kind t ≡ kind.Add → ⊥) → (root_kind t ≡ kind.Mult → ⊥) → (root_kind t ≡ kind.Pow → ⊥) → (root_kind t ≡ kind.Neg → ⊥) → (root_kind t ≡ kind.Sub → ⊥) → (root_kind t ≡ kind.Div → ⊥) → size t ≤ 40
+leaf_size (num q) h a b c d e f = num_most q
+leaf_size (symbol x) h a b c d e f = omega arith
+leaf_size undef h a b c d e f = omega arith
+leaf_size (add ts) h a b c d e f = absurd (a refl)
+leaf_size (mult ts) h a b c d e f = absurd (b refl)
+leaf_size (power x y) h a b c d e f = absurd (c refl)
+leaf_size (root x) h a b c d e f = cc
+leaf_size (neg x) h a b c d e f = absurd (d refl)
+leaf_size (sub x y) h a b c d e f = absurd (e refl)
+leaf_size (div x y) h a b c d e f = absurd (f refl)

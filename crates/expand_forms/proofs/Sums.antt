@@ -1,0 +1,67 @@
+-- A sum that stands last, with other terms.
+use Rattle.std.proofs.Common.{◌≡◌, ℕ, zero, suc, ◌+◌, ◌<◌, ◌≤◌, refl, sym, ap, ◌∙◌, subst, true, arith}
+use Rattle.std.specs.declared.cmp.Ordering.{Ordering}
+use Rattle.std.specs.declared.cmp.Ordering.TheVariants.{Less, Equal, Greater}
+use Rattle.std.specs.Ordering.{is_lt}
+use Rattle.expand_forms.specs.Terms.{term_cmp}
+use Rattle.expand_forms.proofs.SumPlaces.{below_up_to}
+use Rattle.expand_forms.proofs.TermReadings.{sum_children}
+use Rattle.calc_terms.specs.Trees.{Tree, Trees, none, more, add, count}
+use Rattle.expand_forms.specs.Sums.{IsSum}
+use Rattle.number_forms.specs.Sums.{removed}
+use Rattle.number_forms.proofs.LastSums.{gives_at, kids_represented, represents_without, resum}
+use Rattle.tree_handles.specs.Expressions.{children_of, inserted, nth, plain}
+use Rattle.tree_handles.specs.Forest.{Forest, kids, tree_nth, with_nth, without_nth}
+use Rattle.tree_handles.specs.Handed.{Ends, Gives, Represents}
+use Rattle.tree_handles.specs.Roots.{put, root_tree, without_root}
+use Rattle.tree_handles.proofs.Given.{given_handed, given_rest, given_root, given_same, given_told, represents_handed, represents_with}
+use Rattle.tree_handles.proofs.Lasts.{last_rest, last_tree}
+
+pub sum_is : {t : Tree} → IsSum t → t ≡ add (children_of t)
+sum_is s = s.tree ∙ sym (ap (λ (u : Tree). add (children_of u)) s.tree)
+
+-- a child is taken out and released
+pub add_removed : {i h : ℕ} {g f f1 f2 : Forest} {P : Tree → Type 0} (at : ℕ) (e : Gives g f i P) → plain (root_tree i f) ≡ add (children_of (plain (root_tree i f)))
+    → Ends h (tree_nth at (kids (root_tree i f))) (put i (without_nth at (kids (root_tree i f))) f) f1 → f2 ≡ without_root h f1 → Gives g f2 i (λ t. t ≡ add (removed at (children_of (plain (root_tree i f)))))
+add_removed {i} {h} {g} {f} at e s x q =
+    let tree = root_tree i f in
+    let ts = children_of (plain tree) in
+    let handed = given_handed e in
+    gives_at (resum e (without_nth at (kids tree)) (removed at ts) ts (ap plain (sym (last_tree e.ends)) ∙ s) (represents_without at (kids_represented tree handed.once handed.whole)) refl)
+    (q ∙ last_rest x)
+
+pub sum_of_removed : {i h : ℕ} {g f f1 f2 : Forest} (at : ℕ) (e : Gives g f i IsSum) → Ends h (tree_nth at (kids (root_tree i f))) (put i (without_nth at (kids (root_tree i f))) f) f1
+    → f2 ≡ without_root h f1 → Gives g f2 i (λ t. t ≡ add (removed at (children_of (plain (root_tree i f)))))
+sum_of_removed at e x q = add_removed at e (sum_is (given_told e)) x q
+
+-- a new tree is put in
+pub add_inserted : {i h : ℕ} {g f f1 f2 : Forest} {P Q : Tree → Type 0} (at : ℕ) (e : Gives g f i P) → plain (root_tree i f) ≡ add (children_of (plain (root_tree i f))) → (p : Gives f f1 h Q)
+    → f2 ≡ put i (with_nth at (root_tree h f1) (kids (root_tree i f1))) (without_root h f1) → Gives g f2 i (λ t. t ≡ add (inserted at (more (plain (root_tree h f1)) none) (children_of (plain (root_tree i f)))))
+add_inserted {i} {h} {g} {f} {f1} at e s p q =
+    let tree = root_tree i f in
+    let ts = children_of (plain tree) in
+    let handed = given_handed e in
+    let kids-are : Represents (kids tree) ts = kids_represented tree handed.once handed.whole in
+    let all : Represents (with_nth at (root_tree h f1) (kids tree)) (inserted at (more (plain (root_tree h f1)) none) ts) = represents_with at (represents_handed (given_handed p)) kids-are in
+    let same = given_same i p (given_root e) in
+    let rest = given_rest p in
+    gives_at (resum e (with_nth at (root_tree h f1) (kids tree)) (inserted at (more (plain (root_tree h f1)) none) ts) ts (ap plain (sym (last_tree e.ends)) ∙ s) all refl)
+    (q ∙ (λ j. put i (with_nth at (root_tree h f1) (kids (same j))) (rest j)))
+
+-- ---- its order
+
+pub sum_below : {t : Tree} (s : IsSum t) (j n : ℕ) (u : Tree) → j ≤ n → n < count (children_of t) → term_cmp (nth n (children_of t)) u ≡ Less → term_cmp (nth j (children_of t)) u ≡ Less
+sum_below {t} s j n u i l e =
+    let c = sum_children s in
+    subst (λ (ts : Trees). term_cmp (nth j ts) u ≡ Less) (sym c)
+    (below_up_to s.summands j n u s.normal i (subst (λ (ts : Trees). n < count ts) c l) (subst (λ (ts : Trees). term_cmp (nth n ts) u ≡ Less) c e))
+
+pub lt_less : (o : Ordering) → is_lt o ≡ true → o ≡ Less
+lt_less Less h = refl
+lt_less Equal h = cc
+lt_less Greater h = cc
+
+pub count_removed : (n : ℕ) (ts : Trees) → n < count ts → count (removed n ts) + 1 ≡ count ts
+count_removed n none l = absurd (omega arith)
+count_removed zero (more t ts) l = omega arith
+count_removed (suc n) (more t ts) l = omega (arith, count_removed n ts (omega arith))

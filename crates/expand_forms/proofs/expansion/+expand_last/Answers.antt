@@ -1,0 +1,158 @@
+use Rattle.std.proofs.Common.{◌<◌, refl, sym, ap, ◌∙◌, arith, subst}
+use Rattle.breakers.specs.Watch.{states}
+use Rattle.calc_terms.specs.Trees.{Tree, nodes}
+use Rattle.reduce_port.specs.Faults.{fault_of}
+use Rattle.tree_handles.specs.Handed.{tree_of}
+use Rattle.reduce_port.specs.declared.fault.ReduceFault.TheVariants as fault
+use Rattle.tree_handles.specs.Expressions.{children_of}
+use Rattle.tree_handles.proofs.Forests.{keeps_none, keeps_after}
+use Rattle.tree_handles.proofs.Fronts.{behind_first, front_same, front_after_one}
+use Rattle.tree_handles.proofs.Given.{gives, gives_as, given_handed, given_told, represents_handed}
+use Rattle.coefficients.proofs.Steps.{live, expression, seen}
+use Rattle.expand_forms.specs.Walks.{is_leaf, BeginWithLeaves}
+use Rattle.reduce_port.specs.Checks.{TripsWithin}
+use Rattle.expand_forms.proofs.WalkReady.{walked_ready, ready_gives, all_checks, last_trips, node_stops}
+use Rattle.expand_forms.specs.ExpansionRoom.{most_terms}
+use Rattle.number_forms.proofs.Rooms.{full_as}
+use Rattle.expand_forms.proofs.WalkRooms.{child_room, node_room, over_answers}
+use Rattle.expand_forms.proofs.WalkStops.{child_stops, handed_on, leaf_calm, leaf_trips}
+use Rattle.expand_forms.proofs.ChildWalks.{child_polynomial, leaf_reduced, leaves_walked, leaves_within, next_child, next_there, next_within, fewer_nodes, next_taken, stands_last, next_walked, to_adopt, all_walked, many_children, child_front}
+use Rattle.expand_forms.proofs.expansion.+expand_last.Goals as goal
+
+pub is_leaf-requires-clause-expression : goal.is_leaf-requires-clause-expression
+is_leaf-requires-clause-expression g t c = expression c.id.ensures c.requires.stands c.requires.handed
+
+pub returns-in-Ok-clause-ok : goal.returns-in-Ok-clause-ok
+returns-in-Ok-clause-ok g t c =
+    let leaf = ap is_leaf (sym (seen c.id.ensures c.requires.stands c.requires.handed)) ∙ sym c.is_leaf.ensures ∙ c.if-is_leaf.true in
+    gives c.requires.last (represents_handed c.requires.handed) (leaf_reduced (tree_of c.args.tree c.args.pool.now) leaf c.requires.polynomial)
+
+pub returns-in-Ok-clause-checks : goal.returns-in-Ok-clause-checks
+returns-in-Ok-clause-checks g t c =
+    let leaf = ap is_leaf (sym (seen c.id.ensures c.requires.stands c.requires.handed)) ∙ sym c.is_leaf.ensures ∙ c.if-is_leaf.true in
+    leaf_calm _ _ (tree_of c.args.tree c.args.pool.now) leaf c.in-Ok.ensures.calm
+
+pub returns-in-Ok-clause-front : goal.returns-in-Ok-clause-front
+returns-in-Ok-clause-front g t c = front_same
+
+pub returns-in-Err-clause-stops : goal.returns-in-Err-clause-stops
+returns-in-Err-clause-stops g t c = (keeps_none c.args.pool.now, leaf_trips (tree_of c.args.tree c.args.pool.now) c.in-Err.ensures.interrupted)
+
+pub returns-in-Err-clause-front : goal.returns-in-Err-clause-front
+returns-in-Err-clause-front g t c = front_same
+
+pub check_leaves-requires-clause-expression : goal.check_leaves-requires-clause-expression
+check_leaves-requires-clause-expression g t c = expression c.id-2.ensures c.requires.stands c.requires.handed
+
+pub returns-in_err-leaves-clause-stops : goal.returns-in_err-leaves-clause-stops
+returns-in_err-leaves-clause-stops g t c =
+    handed_on c.from_residual.result (fault.Interrupted c.in_err-leaves.field-0.0) _ c.from_residual.ensures.0 c.from_residual.ensures.1
+    (keeps_none c.args.pool.now, subst (λ (u : Tree). TripsWithin (nodes u) (states g.B.Breaker.state c.args.watch.now) (states g.B.Breaker.state c.check_leaves.new.watch) c.in_err-leaves.field-0.0.by) (seen c.id-2.ensures c.requires.stands c.requires.handed) c.in_err-leaves.ensures.trips)
+
+pub returns-in_err-leaves-clause-front : goal.returns-in_err-leaves-clause-front
+returns-in_err-leaves-clause-front g t c = front_same
+
+pub children-count-requires-clause-live : goal.children-count-requires-clause-live
+children-count-requires-clause-live g t c = live c.args.pool.now c.id-3.ensures c.requires.handed.root
+
+pub loop-at-init : goal.loop-at-init
+loop-at-init g t c = record { many = many_children c.id-3.ensures c.requires.stands c.requires.handed c.children-count.ensures.plain; stands = c.requires.stands; kept = keeps_none c.args.pool.now; walked = leaves_walked c.requires.handed c.requires.last (subst (λ (u : Tree). BeginWithLeaves c.in_ok-leaves.leaves (children_of u)) (seen c.id-2.ensures c.requires.stands c.requires.handed) c.in_ok-leaves.ensures.leaves) c.in_ok-leaves.ensures.checks }
+
+pub take_child-child-requires-clause-within : goal.take_child-child-requires-clause-within
+take_child-child-requires-clause-within g t c =
+    let n = next_child c.loop-at.invariant.walked (omega (arith, c.loop-at.invariant.many, c.loop-at-test.true)) in
+    next_within n c.loop-at.invariant.stands
+
+pub expand_last-requires : goal.expand_last-requires
+expand_last-requires g t c =
+    let n = next_child c.loop-at.invariant.walked (omega (arith, c.loop-at.invariant.many, c.loop-at-test.true)) in
+    let a = next_taken n (c.take_child-child.ensures.last (next_there n).root) in
+    let smaller : nodes (tree_of c.take_child-child.result c.take_child-child.new.pool) < t = omega (arith, ap nodes (given_told a), fewer_nodes n, c.decreases) in
+    λ κs l. (smaller, (l, (c.take_child-child.ensures.stands, (given_handed a, (stands_last a, child_polynomial c.loop-at.invariant.walked.done n.rest (tree_of c.args.tree c.args.pool.now) n.split c.requires.polynomial (given_told a))))))
+
+pub returns-in_err-_answer-clause-stops : goal.returns-in_err-_answer-clause-stops
+returns-in_err-_answer-clause-stops g t c =
+    let n = next_child c.loop-at.invariant.walked (omega (arith, c.loop-at.invariant.many, c.loop-at-test.true)) in
+    let a = next_taken n (c.take_child-child.ensures.last (next_there n).root) in
+    let kept = keeps_after _ _ _ c.loop-at.invariant.kept c.take_child-child.ensures.kept in
+    handed_on c.from_residual-in_err-_answer.result c.in_err-_answer.field-0.0 _ c.from_residual-in_err-_answer.ensures.0 c.from_residual-in_err-_answer.ensures.1
+    (child_stops _ _ n _ c.in_err-_answer.field-0.0 (given_told a) kept (child_room n c.requires.stands c.take_child-child.ensures.stands kept c.requires.handed c.requires.polynomial a (tree_of c.take_child-child.result c.take_child-child.new.pool) (given_told a)) c.in_err-_answer.ensures.stops)
+
+pub returns-in_err-_answer-clause-front : goal.returns-in_err-_answer-clause-front
+returns-in_err-_answer-clause-front g t c =
+    let n = next_child c.loop-at.invariant.walked (omega (arith, c.loop-at.invariant.many, c.loop-at-test.true)) in
+    let a = next_taken n (c.take_child-child.ensures.last (next_there n).root) in
+    child_front _ a c.expand_last.ensures.front
+
+pub loop-at-preserved : goal.loop-at-preserved
+loop-at-preserved g t c =
+    let n = next_child c.loop-at.invariant.walked (omega (arith, c.loop-at.invariant.many, c.loop-at-test.true)) in
+    let a = next_taken n (c.take_child-child.ensures.last (next_there n).root) in
+    record {
+      many = c.loop-at.invariant.many;
+      stands = c.in_ok-_answer.ensures.stands;
+      kept = keeps_after _ _ _ c.loop-at.invariant.kept (keeps_after _ _ _ c.take_child-child.ensures.kept c.in_ok-_answer.ensures.kept);
+      walked = next_walked n a (gives_as c.in_ok-_answer.ensures.ok refl (λ u q p. q)) c.in_ok-_answer.ensures.checks;
+    }
+
+pub overflow_sub-count : goal.overflow_sub-count
+overflow_sub-count g t c =
+    let leaves = subst (λ (u : Tree). BeginWithLeaves c.in_ok-leaves.leaves (children_of u)) (seen c.id-2.ensures c.requires.stands c.requires.handed) c.in_ok-leaves.ensures.leaves in
+    omega (arith, c.loop-at.invariant.many, leaves_within _ _ leaves)
+
+pub adopt-requires : goal.adopt-requires
+adopt-requires g t c =
+    let a = to_adopt c.loop-at.invariant.walked (omega (arith, c.loop-at-test.false)) in
+    record { stands = c.loop-at.invariant.stands; root = a.root; within = a.within }
+
+pub returns-in_err-check-clause-stops : goal.returns-in_err-check-clause-stops
+returns-in_err-check-clause-stops g t c =
+    let w = all_walked c.loop-at.invariant.walked c.loop-at.invariant.many (omega (arith, c.loop-at-test.false)) c.adopt.ensures.forest in
+    handed_on c.from_residual-in_err-check.result (fault.Interrupted c.in_err-check.field-0.0) _ c.from_residual-in_err-check.ensures.0 c.from_residual-in_err-check.ensures.1
+    (keeps_after _ _ _ c.loop-at.invariant.kept c.adopt.ensures.kept, last_trips _ c.in_err-check.field-0.0.by w c.in_err-check.ensures.interrupted)
+
+pub returns-in_err-check-clause-front : goal.returns-in_err-check-clause-front
+returns-in_err-check-clause-front g t c =
+    (all_walked c.loop-at.invariant.walked c.loop-at.invariant.many (omega (arith, c.loop-at-test.false)) c.adopt.ensures.forest).front
+
+pub expand_node-requires : goal.expand_node-requires
+expand_node-requires g t c =
+    let w = all_walked c.loop-at.invariant.walked c.loop-at.invariant.many (omega (arith, c.loop-at-test.false)) c.adopt.ensures.forest in
+    let r = walked_ready c.requires.handed c.requires.polynomial w in
+    record { stands = c.adopt.ensures.stands; handed = r.handed; polynomial = r.root; children = r.children }
+
+pub returns-in_err-answer-clause-stops : goal.returns-in_err-answer-clause-stops
+returns-in_err-answer-clause-stops g t c =
+    let w = all_walked c.loop-at.invariant.walked c.loop-at.invariant.many (omega (arith, c.loop-at-test.false)) c.adopt.ensures.forest in
+    let r = walked_ready c.requires.handed c.requires.polynomial w in
+    let e = c.in_err-answer.field-0.0 in
+    let t = tree_of c.args.tree c.args.pool.now in
+    let kept = keeps_after _ _ _ c.loop-at.invariant.kept c.adopt.ensures.kept in
+    let over = over_answers w c.requires.handed c.requires.polynomial in
+    let lacks = full_as e (c.in_err-answer.ensures.room t (most_terms t) over.names-are over.few) (λ full few. node_room w c.requires.stands c.adopt.ensures.stands kept c.requires.handed r.handed c.requires.polynomial few) in
+    let bits = c.in_err-answer.ensures.fits t r.over c.requires.polynomial in
+    handed_on c.from_residual-in_err-answer.result (fault_of e) _ c.from_residual-in_err-answer.ensures.0 c.from_residual-in_err-answer.ensures.1
+    (node_stops _ _ _ t e (all_checks _ w c.in_ok-check.ensures.calm) kept c.in_err-answer.ensures.faults c.in_err-answer.ensures.caused lacks bits)
+
+pub returns-in_err-answer-clause-front : goal.returns-in_err-answer-clause-front
+returns-in_err-answer-clause-front g t c =
+    let w = all_walked c.loop-at.invariant.walked c.loop-at.invariant.many (omega (arith, c.loop-at-test.false)) c.adopt.ensures.forest in
+    front_after_one behind_first w.front c.expand_node.ensures.front
+
+pub returns-clause-ok : goal.returns-clause-ok
+returns-clause-ok g t c =
+    let w = all_walked c.loop-at.invariant.walked c.loop-at.invariant.many (omega (arith, c.loop-at-test.false)) c.adopt.ensures.forest in
+    ready_gives (walked_ready c.requires.handed c.requires.polynomial w) c.in_ok-answer.ensures.ok
+
+pub returns-clause-checks : goal.returns-clause-checks
+returns-clause-checks g t c =
+    let w = all_walked c.loop-at.invariant.walked c.loop-at.invariant.many (omega (arith, c.loop-at-test.false)) c.adopt.ensures.forest in
+    all_checks _ w c.in_ok-check.ensures.calm
+
+pub returns-clause-kept : goal.returns-clause-kept
+returns-clause-kept g t c = keeps_after _ _ _ c.loop-at.invariant.kept (keeps_after _ _ _ c.adopt.ensures.kept c.in_ok-answer.ensures.kept)
+
+pub returns-clause-front : goal.returns-clause-front
+returns-clause-front g t c =
+    let w = all_walked c.loop-at.invariant.walked c.loop-at.invariant.many (omega (arith, c.loop-at-test.false)) c.adopt.ensures.forest in
+    front_after_one behind_first w.front c.expand_node.ensures.front

@@ -1,0 +1,19 @@
+use Rattle.breakers.specs.Watch.{states}
+use Rattle.calc_terms.specs.Trees.{count, nodes}
+use Rattle.std.proofs.Common.{◌≡◌}
+use Rattle.tree_handles.specs.Expressions.{children_of}
+use Rattle.tree_handles.specs.Handed.{tree_of}
+use Rattle.tree_handles.specs.Standing.{Stands, forest, KeepsRefusals}
+use Rattle.expand_forms.proofs.ChildWalks.{IsWalked}
+use Rattle.expand_forms.proofs.expansion.+expand_last.Given as goal
+
+abbrev pub decreases-expand_last : goal.decreases-expand_last
+decreases-expand_last g l = nodes (tree_of l.tree l.pool.now)
+
+abbrev pub invariant-loop-at : goal.invariant-loop-at
+invariant-loop-at g l = record {
+  many : l.count ≡ count (children_of (tree_of l.fn.tree l.fn.pool));
+  stands : Stands l.pool;
+  kept : KeepsRefusals l.fn.pool l.pool;
+  walked : IsWalked l.tree l.leaves l._at (forest l.fn.pool) (forest l.pool) (states g.B.Breaker.state l.fn.watch) (states g.B.Breaker.state l.watch);
+}

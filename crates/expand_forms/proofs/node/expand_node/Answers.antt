@@ -1,0 +1,58 @@
+use Rattle.std.proofs.Common.{◌∙◌, inl, ap, refl, sym, subst, ◌<◌, ◌≤◌, length}
+use Rattle.calc_terms.specs.Trees.{Tree, names}
+use Rattle.coefficients.proofs.Steps.{expression, seen}
+use Rattle.expand_forms.specs.ExpandedTrees.{expanded}
+use Rattle.expand_forms.specs.PolynomialTrees.{has_polynomial_root, polynomial_of}
+use Rattle.expand_forms.specs.Sums.{AreExpanded}
+use Rattle.number_forms.proofs.Loops.{gives_without}
+use Rattle.tree_handles.specs.Expressions.{children_of}
+use Rattle.tree_handles.proofs.Fronts.{behind_first, front_after, front_at, front_same, front_without}
+use Rattle.tree_handles.proofs.Given.{given_other, gives_as, owned}
+use Rattle.calc_algebra.specs.Rewritings.{HasNoNewName}
+use Rattle.expand_forms.specs.ExpansionRoom.{node_bytes}
+use Rattle.node_pool.specs.State.{free_of}
+use Rattle.number_forms.specs.Lacks.{OfFull}
+use Rattle.number_forms.proofs.Overflows.{passed_on}
+use Rattle.calc_measures.specs.Measures.{bits_of}
+use Rattle.tree_handles.specs.Faults.{OfOverflow}
+use Rattle.expand_forms.specs.Walks.{IsOver}
+use Rattle.expand_forms.proofs.node.expand_node.Goals as goal
+
+pub place_expansion-requires : goal.place_expansion-requires
+place_expansion-requires c =
+    let s = seen c.id.ensures c.requires.stands c.requires.handed in
+    record {
+      stands = c.requires.stands;
+      expression = expression c.id.ensures c.requires.stands c.requires.handed;
+      polynomial = ap has_polynomial_root s ∙ c.requires.polynomial;
+      children = subst (λ (t : Tree). AreExpanded (children_of t)) (sym s) c.requires.children;
+    }
+
+pub release-requires-clause-releasable : goal.release-requires-clause-releasable
+release-requires-clause-releasable c = inl (given_other c.in_ok-answer.ensures.ok c.requires.handed).root
+
+pub returns-in_err-answer-clause-front : goal.returns-in_err-answer-clause-front
+returns-in_err-answer-clause-front c = front_after front_same c.place_expansion.ensures.front
+
+pub returns-clause-ok : goal.returns-clause-ok
+returns-clause-ok c =
+    let given = c.in_ok-answer.ensures.ok in
+    gives_as (gives_without c.args.tree given c.requires.handed.root (c.release.ensures.owned (owned (given_other given c.requires.handed)))) refl
+    (λ t e. e ∙ ap (λ (u : Tree). expanded (polynomial_of u)) (seen c.id.ensures c.requires.stands c.requires.handed))
+
+pub returns-clause-front : goal.returns-clause-front
+returns-clause-front c = front_at (front_without behind_first (front_after front_same c.place_expansion.ensures.front)) (c.release.ensures.owned (owned (given_other c.in_ok-answer.ensures.ok c.requires.handed)))
+
+pub returns-in_err-answer-clause-room : goal.returns-in_err-answer-clause-room
+returns-in_err-answer-clause-room c = λ whole n h l.
+    let s = sym (seen c.id.ensures c.requires.stands c.requires.handed) in
+    passed_on c.from_residual.result c.in_err-answer.field-0.0 (OfFull (λ full. free_of c.args.pool.now < node_bytes (names whole) n)) c.from_residual.ensures.0 c.from_residual.ensures.1
+    (c.in_err-answer.ensures.room whole n (subst (HasNoNewName whole) s h) (subst (λ (t : Tree). length (polynomial_of t) ≤ n) s l))
+
+-- ---- what fits
+
+pub returns-in_err-answer-clause-fits : goal.returns-in_err-answer-clause-fits
+returns-in_err-answer-clause-fits c = λ whole o p.
+    let s = sym (seen c.id.ensures c.requires.stands c.requires.handed) in
+    passed_on c.from_residual.result c.in_err-answer.field-0.0 (OfOverflow (λ x. 124 < bits_of whole)) c.from_residual.ensures.0 c.from_residual.ensures.1
+    (c.in_err-answer.ensures.fits whole (subst (IsOver whole) s o) p)

@@ -1,0 +1,22 @@
+use Rattle.std.proofs.Common.{ℕ, List, ◌+◌, ◌-◌, ◌++◌, length}
+use Rattle.expand_forms.specs.ExpansionBits.{IsHeld}
+use Rattle.expand_forms.specs.ExpansionRoom.{HasFewTerms}
+use Rattle.expand_forms.specs.PolynomialTrees.{polynomial_of, sum_of}
+use Rattle.expand_forms.proofs.Joins.{IsJoined}
+use Rattle.expand_forms.proofs.Nodes.{from}
+use Rattle.tree_handles.specs.Expressions.{children_of, plain}
+use Rattle.tree_handles.specs.Handed.{tree_of}
+use Rattle.tree_handles.specs.Inside.{tree_at}
+use Rattle.tree_handles.specs.Roots.{without_root}
+use Rattle.tree_handles.specs.Standing.{forest}
+use Rattle.expand_forms.proofs.node.join_children.Given as goal
+
+abbrev pub invariant-loop-at : goal.invariant-loop-at
+invariant-loop-at l = record {
+  joined : IsJoined l.sum (sum_of (from l.at (children_of (plain (tree_at l.id (without_root l.sum (forest l.fn.pool)))))))
+      (sum_of (children_of (plain (tree_at l.id (without_root l.sum (forest l.fn.pool))))) ++ polynomial_of (tree_of l.sum l.fn.pool)) l.fn.pool l.pool;
+  few : (ns : List (List ℕ)) (k n : ℕ) → HasFewTerms ns k (polynomial_of (tree_of l.sum l.fn.pool)) → HasFewTerms ns n (sum_of (children_of (plain (tree_at l.id (without_root l.sum (forest l.fn.pool))))))
+      → HasFewTerms ns (k + (n - length (sum_of (from l.at (children_of (plain (tree_at l.id (without_root l.sum (forest l.fn.pool))))))))) (polynomial_of (tree_of l.sum l.pool));
+  held : (h low : ℕ) → IsHeld (sum_of (children_of (plain (tree_at l.id (without_root l.sum (forest l.fn.pool))))) ++ polynomial_of (tree_of l.sum l.fn.pool)) h low
+      → IsHeld (sum_of (from l.at (children_of (plain (tree_at l.id (without_root l.sum (forest l.fn.pool)))))) ++ polynomial_of (tree_of l.sum l.pool)) h low;
+}

@@ -1,0 +1,163 @@
+use Rattle.std.proofs.Common.{◌≡◌, ◌<◌, ◌+◌, ◌-◌, ◌∙◌, ℕ, ap, refl, sym, subst, arith, ◌≤◌, ◌*◌, length}
+use Rattle.calc_terms.specs.Trees.{Tree, count, mult, names}
+use Rattle.coefficients.proofs.Steps.{one_value}
+use Rattle.expand_forms.specs.ExpandedTrees.{expanded}
+use Rattle.expand_forms.specs.PolynomialTrees.{product_of, polynomial_of}
+use Rattle.expand_forms.specs.Sums.{IsExpanded}
+use Rattle.expand_forms.proofs.NodeAnswers.{empty_product, next_product, product_expanded, product_polynomial_of, product_from}
+use Rattle.expand_forms.proofs.NodeChildren.{expanded_nth}
+use Rattle.expand_forms.proofs.Nodes.{from}
+use Rattle.expand_forms.proofs.TermReadings.{beside}
+use Rattle.expand_forms.proofs.Within.{IsWithin, inside_child, within}
+use Rattle.number_forms.proofs.ByKind.{children_number}
+use Rattle.number_forms.proofs.Loops.{gives_rest, kept_after}
+use Rattle.tree_handles.specs.Expressions.{IsExpression, children_of, nth, plain}
+use Rattle.tree_handles.specs.Forest.{Forest, arity}
+use Rattle.tree_handles.specs.Inside.{kids_of, tree_at}
+use Rattle.tree_handles.specs.Roots.{without_root}
+use Rattle.tree_handles.specs.Standing.{forest}
+use Rattle.tree_handles.proofs.Fronts.{behind_new, front_after_one, front_same}
+use Rattle.tree_handles.proofs.Given.{given_handed, given_rest, given_told, gives_as}
+use Rattle.expand_forms.specs.ExpansionRoom.{node_bytes, sum_bytes}
+use Rattle.node_pool.specs.State.{free_of}
+use Rattle.number_forms.specs.Lacks.{OfFull}
+use Rattle.number_forms.proofs.Overflows.{passed_on}
+use Rattle.number_forms.proofs.Rooms.{full_as}
+use Rattle.expand_forms.specs.Polynomials.{Polynomial}
+use Rattle.expand_forms.proofs.FewTerms.{answer_few, answer_size}
+use Rattle.expand_forms.proofs.Lacks.{number_refused}
+use Rattle.expand_forms.proofs.NodeRooms.{expanded_from, few_child, few_rest, rest_product, some_product}
+use Rattle.expand_forms.proofs.TermBytes.{terms_rise}
+use Rattle.expand_forms.proofs.TermCounts.{product_length}
+use Rattle.expand_forms.proofs.TreeMonomials.{tree_monomials}
+use Rattle.tree_handles.proofs.Room.{given_free}
+use Rattle.tree_handles.specs.declared.fault.NumberFault.TheVariants as fault
+use Rattle.expand_forms.specs.ExpansionBits.{IsHeld}
+use Rattle.expand_forms.proofs.Held.{answer_held, held_product}
+use Rattle.expand_forms.proofs.NodeBits.{together_next}
+use Rattle.expand_forms.proofs.node.place_products.Goals as goal
+use Rattle.expand_forms.proofs.node.place_products.Goals.{After-child_id}
+
+pub children-left-requires-clause-live : goal.children-left-requires-clause-live
+children-left-requires-clause-live c = (beside c.in_ok-product.ensures.given c.requires.expression).expression.live
+
+pub loop-left-init : goal.loop-left-init
+loop-left-init c =
+    let k = c.in_ok-product.ensures.given in
+    let x = beside k c.requires.expression in
+    let ts = children_of (plain (tree_at c.args.id (forest c.args.pool.now))) in
+    let many : c.children-left.result ≡ count ts = c.children-left.ensures.plain x.expression ∙ ap (λ (t : Tree). count (children_of t)) x.same in
+    record {
+      given = gives_as k refl (λ t e. empty_product c.whole.result c.children-left.result ts (one_value c.whole.result c.whole.ensures) many e);
+      within = omega (arith, many);
+      front = c.in_ok-product.ensures.front;
+      kept = c.in_ok-product.ensures.kept;
+      stands = c.in_ok-product.ensures.stands;
+    }
+
+pub child_id-requires-clause-within : goal.child_id-requires-clause-within
+child_id-requires-clause-within c =
+    let j = c.loop-left.invariant in
+    let now = beside j.given c.requires.expression in
+    omega (arith, ap (λ (t : Tree). count (children_of t)) now.same, children_number c.args.id (forest c.loop-left.pool) now.expression, j.within, c.loop-left-test.true)
+
+-- the child stands below the node, beside the product
+child_within : (c : After-child_id) → IsWithin c.child_id.result (forest c.args.pool.now) (forest c.loop-left.pool)
+child_within c =
+    let j = c.loop-left.invariant in
+    let now = beside j.given c.requires.expression in
+    let few : c.loop-left.left - 1 < arity (kids_of c.args.id (forest c.loop-left.pool)) = omega (arith, ap (λ (t : Tree). count (children_of t)) now.same, children_number c.args.id (forest c.loop-left.pool) now.expression, j.within, c.loop-left-test.true) in
+    within j.given c.requires.expression (inside_child (c.loop-left.left - 1) c.args.id c.child_id.result (forest c.loop-left.pool) now.expression.live few c.child_id.ensures.value) (c.child_id.ensures.expression now.expression)
+
+child_is : (c : After-child_id) → plain (tree_at c.child_id.result (forest c.args.pool.now)) ≡ nth (c.loop-left.left - 1) (children_of (plain (tree_at c.args.id (forest c.args.pool.now))))
+child_is c =
+    let now = beside c.loop-left.invariant.given c.requires.expression in
+    sym (child_within c).same ∙ c.child_id.ensures.plain now.expression ∙ ap (λ (t : Tree). nth (c.loop-left.left - 1) (children_of t)) now.same
+
+pub times-requires-clause-second : goal.times-requires-clause-second
+times-requires-clause-second c = given_handed c.loop-left.invariant.given
+
+pub times-requires-clause-first : goal.times-requires-clause-first
+times-requires-clause-first c = subst (IsExpression c.child_id.result) (sym (given_rest c.loop-left.invariant.given)) (child_within (goal.at.times-requires-clause-first c).After-child_id).expression
+
+pub times-requires-clause-first_expanded : goal.times-requires-clause-first_expanded
+times-requires-clause-first_expanded c =
+    let j = c.loop-left.invariant in
+    let ts = children_of (plain (tree_at c.args.id (forest c.args.pool.now))) in
+    subst (λ (f : Forest). IsExpanded (plain (tree_at c.child_id.result f))) (sym (given_rest j.given)) (subst IsExpanded (sym (child_is (goal.at.times-requires-clause-first_expanded c).After-child_id)) (expanded_nth (c.loop-left.left - 1) ts c.requires.children (omega (arith, j.within, c.loop-left-test.true))))
+
+pub times-requires-clause-last : goal.times-requires-clause-last
+times-requires-clause-last c =
+    let ts = children_of (plain (tree_at c.args.id (forest c.args.pool.now))) in
+    gives_rest c.loop-left.invariant.given (λ t e. product_expanded (from c.loop-left.left ts) e)
+
+pub loop-left-preserved : goal.loop-left-preserved
+loop-left-preserved c =
+    let j = c.loop-left.invariant in
+    let ts = children_of (plain (tree_at c.args.id (forest c.args.pool.now))) in
+    let n = c.loop-left.left - 1 in
+    let r = given_rest j.given in
+    let next : c.loop-left.left ≡ n + 1 = omega (arith, c.loop-left-test.true) in
+    let told = given_told j.given ∙ ap (λ (k : ℕ). expanded (product_of (from k ts))) next in
+    record {
+      given = gives_as c.in-Ok.ensures.ok r (λ t e. next_product n ts (omega (arith, j.within, c.loop-left-test.true)) ((λ i. plain (tree_at c.child_id.result (r i))) ∙ child_is (goal.at.loop-left-preserved c).After-child_id) told e);
+      within = omega (arith, j.within);
+      front = front_after_one (behind_new j.given.ends front_same) j.front c.times.ensures.front;
+      kept = kept_after j.kept c.in-Ok.ensures.kept;
+      stands = c.in-Ok.ensures.stands;
+    }
+
+pub returns-in-Err-clause-front : goal.returns-in-Err-clause-front
+returns-in-Err-clause-front c =
+    let j = c.loop-left.invariant in
+    front_after_one (behind_new j.given.ends front_same) j.front c.times.ensures.front
+
+pub returns-clause-ok : goal.returns-clause-ok
+returns-clause-ok c =
+    let t = plain (tree_at c.args.id (forest c.args.pool.now)) in
+    let none : c.loop-left.left ≡ 0 = omega (arith, c.loop-left-test.false) in
+    gives_as c.loop-left.invariant.given refl (λ u e. e ∙ ap (λ (k : ℕ). expanded (product_of (from k (children_of t)))) none ∙ ap expanded (product_polynomial_of t c.requires.product))
+
+-- ---- few bytes
+
+pub returns-in_err-product-clause-room : goal.returns-in_err-product-clause-room
+returns-in_err-product-clause-room c = λ whole n h l.
+    passed_on c.from_residual.result (fault.Full c.in_err-product.field-0.0) (OfFull (λ full. free_of c.args.pool.now < node_bytes (names whole) n)) c.from_residual.ensures.0 c.from_residual.ensures.1 (omega (arith, number_refused c.whole.result c.in_err-product.ensures.full))
+
+pub returns-in-Err-clause-room : goal.returns-in-Err-clause-room
+returns-in-Err-clause-room c = λ whole n h l.
+    let ns = names whole in
+    let j = c.loop-left.invariant in
+    let t = plain (tree_at c.args.id (forest c.args.pool.now)) in
+    let ts = children_of t in
+    let at = c.loop-left.left - 1 in
+    let next : c.loop-left.left ≡ at + 1 = omega (arith, c.loop-left-test.true) in
+    let v = product_of (from c.loop-left.left ts) in
+    let child = (λ i. plain (tree_at c.child_id.result (given_rest j.given i))) ∙ child_is (goal.at.returns-in-Err-clause-room c).After-child_id in
+    let some = some_product (from c.loop-left.left ts) (expanded_from c.loop-left.left ts c.requires.children) in
+    let one = few_child at h child in
+    let rest = few_rest c.loop-left.left h in
+    let monomials = tree_monomials (mult (from c.loop-left.left ts)) in
+    let lacks = c.in-Err.ensures.room ns (length (polynomial_of (plain (tree_at c.child_id.result (without_root c.loop-left.product (forest c.loop-left.pool)))))) (length v) one (answer_few monomials (given_told j.given) rest some) in
+    let most = answer_size monomials (given_told j.given) rest some in
+    let all : length (product_of ts) ≤ n = omega (arith, l, ap (λ (x : Polynomial). length x) (product_polynomial_of t c.requires.product)) in
+    let whole_product : length (polynomial_of (plain (tree_at c.child_id.result (without_root c.loop-left.product (forest c.loop-left.pool))))) * length v ≡ length (product_of (from at ts)) =
+    ap (λ (u : Tree). length (polynomial_of u) * length v) child ∙ ap (λ (k : ℕ). length (polynomial_of (nth at ts)) * length (product_of (from k ts))) next
+    ∙ sym (product_length (polynomial_of (nth at ts)) (product_of (from (at + 1) ts))) ∙ sym (ap (λ (x : Polynomial). length x) (product_from at ts (omega (arith, j.within, c.loop-left-test.true)))) in
+    let free = given_free c.requires.stands j.stands j.kept j.given in
+    full_as c.in-Err.fault lacks
+    (λ full few. omega (arith, free, most, terms_rise ns (length v) n (omega (arith, rest_product c.loop-left.left ts c.requires.children, all)), terms_rise ns (length (product_of (from at ts))) n (omega (arith, rest_product at ts c.requires.children, all)), ap (λ (k : ℕ). sum_bytes ns k) whole_product, few))
+
+-- ---- what fits
+
+pub returns-in-Err-clause-fits : goal.returns-in-Err-clause-fits
+returns-in-Err-clause-fits c = λ h l x k.
+    let inv = c.loop-left.invariant in
+    let ts = children_of (plain (tree_at c.args.id (forest c.args.pool.now))) in
+    let at = c.loop-left.left - 1 in
+    let next : c.loop-left.left ≡ at + 1 = omega (arith, c.loop-left-test.true) in
+    let (i, j, p, q, y, z, m, n) = together_next at ts (omega (arith, inv.within, c.loop-left-test.true)) x in
+    let child = (λ i. plain (tree_at c.child_id.result (given_rest inv.given i))) ∙ child_is (goal.at.returns-in-Err-clause-fits c).After-child_id in
+    let one = subst (λ (t : Tree). IsHeld (polynomial_of t) i j) (sym child) y in
+    let rest = answer_held (tree_monomials (mult (from c.loop-left.left ts))) (given_told inv.given) (subst (λ (k : ℕ). IsHeld (product_of (from k ts)) p q) (sym next) z) in
+    c.in-Err.ensures.fits (i + p) (j + q) (held_product (tree_monomials (plain (tree_at c.child_id.result (without_root c.loop-left.product (forest c.loop-left.pool))))) one rest) (omega (arith, m, n, k))

@@ -1,0 +1,138 @@
+use Rattle.std.proofs.Common.{◌∙◌, inl, ap, refl, sym, subst, ◌<◌, arith, ◌≡◌}
+use Rattle.calc_terms.specs.Trees.{Tree, num, size}
+use Rattle.coefficients.proofs.Steps.{expression, one_value, seen}
+use Rattle.expand_forms.specs.ExpandedTrees.{expanded}
+use Rattle.expand_forms.specs.PolynomialTrees.{sum_of, polynomial_of}
+use Rattle.expand_forms.specs.Sums.{AreExpanded}
+use Rattle.expand_forms.proofs.Expansions.{empty_sum, nothing_added, sum_same}
+use Rattle.expand_forms.proofs.NodeChildren.{sum_polynomial_of}
+use Rattle.expand_forms.proofs.TermReadings.{beside}
+use Rattle.number_forms.proofs.Loops.{gives_rest, gives_without, kept_after}
+use Rattle.tree_handles.specs.Expressions.{IsExpression, children_of, plain}
+use Rattle.tree_handles.specs.Forest.{Forest}
+use Rattle.tree_handles.specs.Inside.{tree_at}
+use Rattle.tree_handles.specs.Roots.{without_root}
+use Rattle.tree_handles.specs.Standing.{forest}
+use Rattle.tree_handles.proofs.Fronts.{behind_new, front_after, front_after_one, front_at, front_same, front_without}
+use Rattle.tree_handles.proofs.Given.{given_handed, given_other, given_rest, given_told, gives_as, handed_at, owned}
+use Rattle.expand_forms.specs.ExpansionRoom.{HasFewTerms, node_bytes}
+use Rattle.node_pool.specs.State.{free_of}
+use Rattle.number_forms.specs.Lacks.{OfFull}
+use Rattle.number_forms.proofs.Overflows.{passed_on}
+use Rattle.number_forms.proofs.Rooms.{full_as}
+use Rattle.expand_forms.proofs.FewTerms.{few_none}
+use Rattle.expand_forms.proofs.Lacks.{number_refused}
+use Rattle.calc_terms.proofs.Sizes.{num_most}
+use Rattle.number_forms.proofs.FreeBytes.{refused_below}
+use Rattle.tree_handles.proofs.Room.{given_free}
+use Rattle.tree_handles.specs.declared.fault.NumberFault.TheVariants as fault
+use Rattle.calc_terms.specs.Rat.{value_of}
+use Rattle.expand_forms.specs.ExpansionBits.{IsHeld, IsNoOverflow}
+use Rattle.expand_forms.specs.Polynomials.{Polynomial}
+use Rattle.expand_forms.proofs.node.place_sum.Goals as goal
+
+pub join_children-requires : goal.join_children-requires
+join_children-requires c =
+    let k = c.in_ok-one.ensures.given in
+    let new = c.in_ok-sum.ensures.given refl in
+    let r = given_rest new in
+    let st = c.in_ok-one.ensures.stands in
+    let x = beside k c.requires.expression in
+    record {
+      stands = c.in_ok-sum.ensures.stands;
+      sum = gives_rest new (λ t e. empty_sum e);
+      one = subst (IsExpression c.id.result) (sym r) (expression c.id.ensures st (given_handed k));
+      is_one = ap (λ (f : Forest). plain (tree_at c.id.result f)) r ∙ seen c.id.ensures st (given_handed k) ∙ given_told k ∙ ap num (one_value c.whole.result c.whole.ensures);
+      expression = subst (IsExpression c.args.id) (sym r) x.expression;
+      children = subst (λ (f : Forest). AreExpanded (children_of (plain (tree_at c.args.id f)))) (sym r) (subst (λ (t : Tree). AreExpanded (children_of t)) (sym x.same) c.requires.children);
+    }
+
+pub returns-in_err-join_children-clause-front : goal.returns-in_err-join_children-clause-front
+returns-in_err-join_children-clause-front c =
+    let sum = behind_new (c.in_ok-sum.ensures.given refl).ends c.number.ensures.front in
+    front_after_one sum (front_after c.number.ensures.front c.node.ensures.front) c.join_children.ensures.front
+
+pub finished-requires-clause-sum : goal.finished-requires-clause-sum
+finished-requires-clause-sum c = gives_rest c.in_ok-join_children.ensures.ok (λ t h. h.sum)
+
+pub returns-in_err-answer-clause-front : goal.returns-in_err-answer-clause-front
+returns-in_err-answer-clause-front c =
+    let sum = behind_new (c.in_ok-sum.ensures.given refl).ends c.number.ensures.front in
+    front_after_one sum (front_after_one sum (front_after c.number.ensures.front c.node.ensures.front) c.join_children.ensures.front) c.finished.ensures.front
+
+pub release-requires-clause-releasable : goal.release-requires-clause-releasable
+release-requires-clause-releasable c =
+    let k = c.in_ok-one.ensures.given in
+    let back = given_rest c.in_ok-join_children.ensures.ok ∙ given_rest (c.in_ok-sum.ensures.given refl) in
+    inl (given_other c.in_ok-answer.ensures.ok (handed_at (given_handed k) back)).root
+
+pub returns-clause-ok : goal.returns-clause-ok
+returns-clause-ok c =
+    let k = c.in_ok-one.ensures.given in
+    let new = c.in_ok-sum.ensures.given refl in
+    let joined = c.in_ok-join_children.ensures.ok in
+    let back = given_rest joined ∙ given_rest new in
+    let answer = gives_as c.in_ok-answer.ensures.ok back (λ t e. e) in
+    let one = given_handed k in
+    let r = given_rest new in
+    let x = beside k c.requires.expression in
+    gives_as (gives_without c.in_ok-one.one answer one.root (c.release.ensures.owned (owned (given_other answer one)))) (given_rest k)
+    (λ t e. e ∙ sum_same (given_told joined) ∙ ap expanded (nothing_added (sum_of (children_of (plain (tree_at c.args.id (without_root c.in_ok-sum.sum (forest c.node.new.pool)))))) (given_told new)) ∙ (λ i. expanded (sum_of (children_of (plain (tree_at c.args.id (r i)))))) ∙ ap (λ (u : Tree). expanded (sum_of (children_of u))) x.same
+    ∙ ap expanded (sum_polynomial_of (plain (tree_at c.args.id (forest c.args.pool.now))) c.requires.sum))
+
+pub returns-clause-front : goal.returns-clause-front
+returns-clause-front c =
+    let k = c.in_ok-one.ensures.given in
+    let sum = behind_new (c.in_ok-sum.ensures.given refl).ends c.number.ensures.front in
+    let back = given_rest c.in_ok-join_children.ensures.ok ∙ given_rest (c.in_ok-sum.ensures.given refl) in
+    front_at (front_without (behind_new k.ends front_same) (front_after_one sum (front_after_one sum (front_after c.number.ensures.front c.node.ensures.front) c.join_children.ensures.front) c.finished.ensures.front))
+    (c.release.ensures.owned (owned (given_other c.in_ok-answer.ensures.ok (handed_at (given_handed k) back))))
+
+-- ---- few bytes
+
+pub returns-in_err-one-clause-room : goal.returns-in_err-one-clause-room
+returns-in_err-one-clause-room c = λ ns n h.
+    passed_on c.from_residual.result (fault.Full c.in_err-one.field-0.0) (OfFull (λ full. free_of c.args.pool.now < node_bytes ns n)) c.from_residual.ensures.0 c.from_residual.ensures.1 (omega (arith, number_refused c.whole.result c.in_err-one.ensures.full))
+
+pub returns-in_err-sum-clause-room : goal.returns-in_err-sum-clause-room
+returns-in_err-sum-clause-room c = λ ns n h.
+    let k = c.in_ok-one.ensures.given in
+    let free = given_free c.requires.stands c.in_ok-one.ensures.stands c.in_ok-one.ensures.kept k in
+    let few : free_of c.number.new.pool < 8 = refused_below c.in_err-sum.ensures.full in
+    passed_on c.from_residual-in_err-sum.result (fault.Full c.in_err-sum.field-0.0) (OfFull (λ full. free_of c.args.pool.now < node_bytes ns n)) c.from_residual-in_err-sum.ensures.0 c.from_residual-in_err-sum.ensures.1 (omega (arith, free, ap size (given_told k), num_most (value_of c.whole.result), few))
+
+pub returns-in_err-join_children-clause-room : goal.returns-in_err-join_children-clause-room
+returns-in_err-join_children-clause-room c = λ ns n h.
+    let k = c.in_ok-one.ensures.given in
+    let new = c.in_ok-sum.ensures.given refl in
+    let r = given_rest new in
+    let st = c.in_ok-one.ensures.stands in
+    let x = beside k c.requires.expression in
+    let free = given_free c.requires.stands st c.in_ok-one.ensures.kept k in
+    let left = given_free st c.in_ok-sum.ensures.stands c.in_ok-sum.ensures.kept new in
+    let children : sum_of (children_of (plain (tree_at c.args.id (without_root c.in_ok-sum.sum (forest c.node.new.pool))))) ≡ polynomial_of (plain (tree_at c.args.id (forest c.args.pool.now))) =
+    ap (λ (f : Forest). sum_of (children_of (plain (tree_at c.args.id f)))) r ∙ ap (λ (u : Tree). sum_of (children_of u)) x.same ∙ sum_polynomial_of (plain (tree_at c.args.id (forest c.args.pool.now))) c.requires.sum in
+    let lacks = c.in_err-join_children.ensures.room ns 0 n (few_none ns (given_told new)) (subst (HasFewTerms ns n) (sym children) h) in
+    passed_on c.from_residual-in_err-join_children.result c.in_err-join_children.field-0.0 (OfFull (λ full. free_of c.args.pool.now < node_bytes ns n)) c.from_residual-in_err-join_children.ensures.0 c.from_residual-in_err-join_children.ensures.1
+    (full_as c.in_err-join_children.field-0.0 lacks (λ full few. omega (arith, free, left, ap size (given_told k), num_most (value_of c.whole.result), few)))
+
+pub returns-in_err-answer-clause-room : goal.returns-in_err-answer-clause-room
+returns-in_err-answer-clause-room c = λ ns n h.
+    let k = c.in_ok-one.ensures.given in
+    let st = c.in_ok-one.ensures.stands in
+    let sum = gives_as c.in_ok-join_children.ensures.ok (given_rest (c.in_ok-sum.ensures.given refl)) (λ t e. e) in
+    let free = given_free c.requires.stands st c.in_ok-one.ensures.kept k in
+    let left = given_free st c.in_ok-join_children.ensures.stands (kept_after c.in_ok-sum.ensures.kept c.in_ok-join_children.ensures.kept) sum in
+    passed_on c.from_residual-in_err-answer.result (fault.Full c.in_err-answer.field-0.0) (OfFull (λ full. free_of c.args.pool.now < node_bytes ns n)) c.from_residual-in_err-answer.ensures.0 c.from_residual-in_err-answer.ensures.1 (omega (arith, free, left, ap size (given_told k), num_most (value_of c.whole.result), c.in_err-answer.ensures.room))
+
+-- ---- what fits
+
+pub returns-in_err-join_children-clause-fits : goal.returns-in_err-join_children-clause-fits
+returns-in_err-join_children-clause-fits c = λ h l x k.
+    let new = c.in_ok-sum.ensures.given refl in
+    let r = given_rest new in
+    let t = plain (tree_at c.args.id (forest c.args.pool.now)) in
+    let v = sum_of (children_of (plain (tree_at c.args.id (without_root c.in_ok-sum.sum (forest c.node.new.pool))))) in
+    let children : v ≡ polynomial_of t = ap (λ (f : Forest). sum_of (children_of (plain (tree_at c.args.id f)))) r ∙ ap (λ (u : Tree). sum_of (children_of u)) (beside c.in_ok-one.ensures.given c.requires.expression).same ∙ sum_polynomial_of t c.requires.sum in
+    passed_on c.from_residual-in_err-join_children.result c.in_err-join_children.field-0.0 IsNoOverflow c.from_residual-in_err-join_children.ensures.0 c.from_residual-in_err-join_children.ensures.1
+    (c.in_err-join_children.ensures.fits h l (subst (λ (u : Polynomial). IsHeld u h l) (sym (nothing_added v (given_told new) ∙ children)) x) k)

@@ -1,0 +1,19 @@
+use Rattle.std.proofs.Common.{◌≡◌, ℕ, ◌<◌, ◌≤◌, ◌-◌}
+use Rattle.std.specs.declared.cmp.Ordering.TheVariants.{Less}
+use Rattle.calc_terms.specs.Trees.{count}
+use Rattle.expand_forms.specs.Terms.{term_cmp}
+use Rattle.tree_handles.specs.Expressions.{nth, plain, children_of}
+use Rattle.tree_handles.specs.Inside.{tree_at}
+use Rattle.tree_handles.specs.Standing.{forest}
+use Rattle.expand_forms.proofs.ordering.place_of.Given as goal
+
+abbrev pub invariant-loop-low : goal.invariant-loop-low
+invariant-loop-low l = record {
+  order : l.low ≤ l.high;
+  within : l.high ≤ count (children_of (plain (tree_at l.sum (forest l.pool))));
+  below : (k : ℕ) → k < l.low → term_cmp (nth k (children_of (plain (tree_at l.sum (forest l.pool))))) (plain (tree_at l.term (forest l.pool))) ≡ Less;
+  above : l.high < count (children_of (plain (tree_at l.sum (forest l.pool)))) → term_cmp (nth l.high (children_of (plain (tree_at l.sum (forest l.pool))))) (plain (tree_at l.term (forest l.pool))) ≡ Less → ⊥;
+}
+
+abbrev pub decreases-loop-low : goal.decreases-loop-low
+decreases-loop-low l = l.high - l.low

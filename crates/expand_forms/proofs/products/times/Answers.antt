@@ -1,0 +1,63 @@
+use Rattle.std.proofs.Common.{◌∙◌, inl, refl, sym, subst, ◌<◌, ◌*◌}
+use Rattle.coefficients.proofs.Steps.{expression, seen}
+use Rattle.expand_forms.specs.ExpandedTrees.{expanded}
+use Rattle.expand_forms.specs.Polynomials.{product}
+use Rattle.expand_forms.specs.PolynomialTrees.{polynomial_of}
+use Rattle.expand_forms.specs.Sums.{IsExpanded}
+use Rattle.expand_forms.proofs.TermReadings.{beside}
+use Rattle.number_forms.proofs.Loops.{gives_without}
+use Rattle.tree_handles.proofs.Fronts.{behind_first, front_after, front_at, front_same, front_without}
+use Rattle.tree_handles.proofs.Given.{given_other, given_told, gives_as, owned}
+use Rattle.calc_terms.specs.Trees.{Tree}
+use Rattle.expand_forms.specs.ExpansionRoom.{HasFewTerms, sum_bytes}
+use Rattle.node_pool.specs.State.{free_of}
+use Rattle.number_forms.specs.Lacks.{OfFull}
+use Rattle.number_forms.proofs.Overflows.{passed_on}
+use Rattle.expand_forms.specs.ExpansionBits.{IsHeld, IsNoOverflow}
+use Rattle.tree_handles.specs.Expressions.{plain}
+use Rattle.tree_handles.specs.Inside.{tree_at}
+use Rattle.tree_handles.specs.Handed.{tree_of}
+use Rattle.tree_handles.specs.Standing.{forest}
+use Rattle.expand_forms.proofs.products.times.Goals as goal
+
+pub place_product-requires : goal.place_product-requires
+place_product-requires c =
+    let a = beside c.requires.last c.requires.first in
+    record {
+      stands = c.requires.stands;
+      first = a.expression;
+      second = expression c.id.ensures c.requires.stands c.requires.second;
+      first_expanded = subst IsExpanded (sym a.same) c.requires.first_expanded;
+      second_expanded = subst IsExpanded (sym (seen c.id.ensures c.requires.stands c.requires.second)) (given_told c.requires.last);
+    }
+
+pub release-requires-clause-releasable : goal.release-requires-clause-releasable
+release-requires-clause-releasable c = inl (given_other c.in_ok-product.ensures.ok c.requires.second).root
+
+pub returns-clause-ok : goal.returns-clause-ok
+returns-clause-ok c =
+    let product-given = c.in_ok-product.ensures.ok in
+    let a = beside c.requires.last c.requires.first in
+    let b = seen c.id.ensures c.requires.stands c.requires.second in
+    gives_as (gives_without c.args.b product-given c.requires.second.root (c.release.ensures.owned (owned (given_other product-given c.requires.second)))) refl
+    (λ t e. e ∙ (λ i. expanded (product (polynomial_of (a.same i)) (polynomial_of (b i)))))
+
+pub returns-clause-front : goal.returns-clause-front
+returns-clause-front c =
+    front_at (front_without behind_first (front_after front_same c.place_product.ensures.front)) (c.release.ensures.owned (owned (given_other c.in_ok-product.ensures.ok c.requires.second)))
+
+pub returns-in_err-product-clause-room : goal.returns-in_err-product-clause-room
+returns-in_err-product-clause-room c = λ ns m n ha hb.
+    let a = beside c.requires.last c.requires.first in
+    let b = seen c.id.ensures c.requires.stands c.requires.second in
+    passed_on c.from_residual.result c.in_err-product.field-0.0 (OfFull (λ full. free_of c.args.pool.now < sum_bytes ns (m * n))) c.from_residual.ensures.0 c.from_residual.ensures.1
+    (c.in_err-product.ensures.room ns m n (subst (λ (t : Tree). HasFewTerms ns m (polynomial_of t)) (sym a.same) ha) (subst (λ (t : Tree). HasFewTerms ns n (polynomial_of t)) (sym b) hb))
+
+-- ---- what fits
+
+pub returns-in_err-product-clause-fits : goal.returns-in_err-product-clause-fits
+returns-in_err-product-clause-fits c = λ h l x k.
+    let a = beside c.requires.last c.requires.first in
+    let b = seen c.id.ensures c.requires.stands c.requires.second in
+    passed_on c.from_residual.result c.in_err-product.field-0.0 IsNoOverflow c.from_residual.ensures.0 c.from_residual.ensures.1
+    (c.in_err-product.ensures.fits h l (subst (λ (t : Tree). IsHeld (product (polynomial_of (plain (tree_at c.args.a (forest c.args.pool.now)))) (polynomial_of t)) h l) (sym b) (subst (λ (t : Tree). IsHeld (product (polynomial_of t) (polynomial_of (tree_of c.args.b c.args.pool.now))) h l) (sym a.same) x)) k)

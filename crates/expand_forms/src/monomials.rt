@@ -1,0 +1,109 @@
+//! New terms: a coefficient times the monomials of two terms.
+ghost use Rattle.expand_forms.specs.ExpansionBits.{HasExponents, IsNoOverflow};
+ghost use Rattle.std.specs.Prelude.{◌≡◌, ◌<◌, [], ◌∷◌, IfOk, IfErr, OnOk, if◌then◌else◌, length, true, ℕ, ◌^◌};
+ghost use Rattle.calc_terms.specs.Rat.{value_of};
+ghost use Rattle.calc_terms.specs.Trees.{is_mult, more, mult, num};
+ghost use Rattle.expand_forms.specs.ExpandedTrees.{factor_trees, term_tree};
+ghost use Rattle.expand_forms.specs.ExpansionRoom.{number_bytes, term_bytes};
+ghost use Rattle.expand_forms.specs.Polynomials.{Monomial, monomial_times, summand};
+ghost use Rattle.expand_forms.specs.Terms.{HasMonomial, led_by};
+ghost use Rattle.node_pool.specs.State.{free_of};
+ghost use Rattle.number_forms.specs.Lacks.{OfFull};
+ghost use Rattle.tree_handles.specs.Causes.{IsCaused};
+ghost use Rattle.tree_handles.specs.Expressions.{IsExpression, children_of, plain};
+ghost use Rattle.tree_handles.specs.Faults.{Faults};
+ghost use Rattle.tree_handles.specs.Handed.{Gives, IsHanded, KeepsFront, tree_of};
+ghost use Rattle.tree_handles.specs.Inside.{tree_at};
+ghost use Rattle.tree_handles.specs.Roots.{without_root};
+ghost use Rattle.tree_handles.specs.Standing.{KeepsRefusals, LacksBytes, Refuses, Stands, forest};
+
+use crate::merging::push_factors;
+use crate::rationals::is_one;
+use calc_terms::{Kind, Rat};
+use coefficients::unwrapped;
+use node_pool::{Full, Id, Pool};
+use tree_handles::{Handle, NumberFault, add_child, children, move_last, node, number};
+
+/// A new last tree: a coefficient times the monomials of two terms.
+pub(crate) fn place_multiple(
+    pool: &mut Pool,
+    coefficient: Rat,
+    s: Id,
+    t: Id,
+) -> Result<Handle, NumberFault>
+    requires stands { Stands pool.old }
+    requires first { IsExpression s (forest pool.old) }
+    requires second { IsExpression t (forest pool.old) }
+    requires monomials { (m : Monomial) × (n : Monomial) × HasMonomial m (plain (tree_at s (forest pool.old))) × HasMonomial n (plain (tree_at t (forest pool.old))) }
+    ensures ok { (m n : Monomial) → HasMonomial m (plain (tree_at s (forest pool.old))) → HasMonomial n (plain (tree_at t (forest pool.old)))
+        → IfOk result (λ h. Gives (forest pool.old) (forest pool.new) h (λ u. u ≡ term_tree (summand (value_of coefficient) (monomial_times m n)))) }
+    ensures front { KeepsFront [] (forest pool.old) (forest pool.new) }
+    ensures kept { OnOk result (KeepsRefusals pool.old pool.new) }
+    ensures faults { IfErr result (Faults pool.old pool.new) }
+    ensures caused { IfErr result (IsCaused pool.new) }
+    ensures fits { (m n : Monomial) (k : ℕ) → HasMonomial m (plain (tree_at s (forest pool.old))) → HasMonomial n (plain (tree_at t (forest pool.old)))
+        → HasExponents k (monomial_times m n) → k < 2 ^ 127 → IfErr result IsNoOverflow }
+    ensures room { (m n : Monomial) → HasMonomial m (plain (tree_at s (forest pool.old))) → HasMonomial n (plain (tree_at t (forest pool.old)))
+        → IfErr result (OfFull (λ full. free_of pool.old < term_bytes (length (monomial_times m n)))) }
+    ensures stands { Stands pool.new }
+{
+    let product = node(pool, Kind::Mult)?;
+    push_factors(pool, &product, s, t)?;
+    let term = completed(pool, product, coefficient)?;
+    Ok(term)
+}
+
+/// A coefficient and the factors of a product, as one term.
+fn completed(pool: &mut Pool, product: Handle, coefficient: Rat) -> Result<Handle, Full>
+    requires stands { Stands pool.old }
+    requires handed { IsHanded product (forest pool.old) }
+    requires product { is_mult (tree_of product pool.old) ≡ true }
+    ensures ok { (m : Monomial) → tree_of product pool.old ≡ mult (factor_trees m)
+        → IfOk result (λ h. Gives (without_root product (forest pool.old)) (forest pool.new) h (λ t. t ≡ term_tree (summand (value_of coefficient) m))) }
+    ensures front { KeepsFront (product ∷ []) (forest pool.old) (forest pool.new) }
+    ensures kept { OnOk result (KeepsRefusals pool.old pool.new) }
+    ensures full { IfErr result (Refuses pool.old pool.new) }
+    ensures caused { IfErr result (LacksBytes pool.new) }
+    ensures room { IfErr result (λ full. free_of pool.old < number_bytes) }
+    ensures stands { Stands pool.new }
+{
+    let led = led_by(pool, product, coefficient)?;
+    Ok(unwrapped(pool, led))
+}
+
+/// A coefficient before the factors of a product, where it is not 1 or there is no factor.
+fn led_by(pool: &mut Pool, product: Handle, coefficient: Rat) -> Result<Handle, Full>
+    requires stands { Stands pool.old }
+    requires handed { IsHanded product (forest pool.old) }
+    requires product { is_mult (tree_of product pool.old) ≡ true }
+    ensures ok { IfOk result (λ h. Gives (without_root product (forest pool.old)) (forest pool.new) h
+        (λ t. t ≡ mult (led_by (value_of coefficient) (children_of (tree_of product pool.old))))) }
+    ensures front { KeepsFront (product ∷ []) (forest pool.old) (forest pool.new) }
+    ensures kept { OnOk result (KeepsRefusals pool.old pool.new) }
+    ensures full { IfErr result (Refuses pool.old pool.new) }
+    ensures caused { IfErr result (LacksBytes pool.new) }
+    ensures room { IfErr result (λ full. free_of pool.old < number_bytes) }
+    ensures stands { Stands pool.new }
+{
+    if !is_written(pool, product.id(), coefficient) {
+        move_last(pool, &product);
+        return Ok(product);
+    }
+    let first = number(pool, coefficient)?;
+    add_child(pool, &product, 0, first);
+    move_last(pool, &product);
+    Ok(product)
+}
+
+/// Whether a coefficient is written before the factors of a product.
+fn is_written(pool: &Pool, product: Id, coefficient: Rat) -> bool
+    requires stands { Stands pool.now }
+    requires expression { IsExpression product (forest pool.now) }
+    ensures { let ts = children_of (plain (tree_at product (forest pool.now))) in
+        led_by (value_of coefficient) ts ≡ (if result then more (num (value_of coefficient)) ts else ts) }
+{
+    if is_one(coefficient) {
+        return children(pool, product) == 0;
+    }
+    true
+}

@@ -1,0 +1,219 @@
+//! One node over expanded children.
+ghost use Rattle.calc_measures.specs.Measures.{bits_of};
+ghost use Rattle.expand_forms.specs.ExpansionBits.{AreHeldTogether, IsHeld, IsNoOverflow};
+ghost use Rattle.expand_forms.specs.Walks.{IsOver};
+ghost use Rattle.std.specs.Prelude.{ℕ, List, ◌≡◌, ◌≤◌, ◌<◌, ◌+◌, [], ◌∷◌, ◌++◌, IfOk, IfErr, OnOk, length, true};
+ghost use Rattle.calc_algebra.specs.Rewritings.{HasNoNewName};
+ghost use Rattle.calc_terms.specs.Fractions.{inverse, one_fraction};
+ghost use Rattle.calc_terms.specs.Rat.{value_of};
+ghost use Rattle.calc_terms.specs.Trees.{Tree, is_add, is_mult, names, num, size, sub};
+ghost use Rattle.expand_forms.specs.ExpandedTrees.{expanded};
+ghost use Rattle.expand_forms.specs.ExpansionRoom.{HasFewTerms, node_bytes, sum_bytes};
+ghost use Rattle.expand_forms.specs.PolynomialTrees.{divisor_of, exponent_of as natural_exponent, has_polynomial_root, is_divisor, is_exponent, polynomial_of, sum_of, is_polynomial};
+ghost use Rattle.expand_forms.specs.Sums.{AreExpanded, IsExpanded, IsSum, IsSumOf};
+ghost use Rattle.node_pool.specs.State.{free_of};
+ghost use Rattle.number_forms.specs.Lacks.{OfFull};
+ghost use Rattle.tree_handles.specs.Causes.{IsCaused};
+ghost use Rattle.tree_handles.specs.Expressions.{IsExpression, children_of, plain};
+ghost use Rattle.tree_handles.specs.Faults.{Faults, OfOverflow};
+ghost use Rattle.tree_handles.specs.Handed.{Gives, IsHanded, KeepsFront, tree_of};
+ghost use Rattle.tree_handles.specs.Inside.{tree_at};
+ghost use Rattle.tree_handles.specs.Roots.{without_root};
+ghost use Rattle.tree_handles.specs.Standing.{KeepsRefusals, Stands, forest};
+
+use crate::joining::join_products;
+use crate::products::{finished, place_power, place_scaled, times};
+use calc_terms::{Kind, Rat};
+use node_pool::{Id, Pool};
+use rational128::invert;
+use tree_handles::{
+    Handle, NumberFault, child_id, children, copy_tree, kind, node, number, rational, release,
+};
+
+/// The expanded tree of a node over expanded children, which is consumed.
+pub(crate) fn expand_node(pool: &mut Pool, tree: Handle) -> Result<Handle, NumberFault>
+    requires stands { Stands pool.old }
+    requires handed { IsHanded tree (forest pool.old) }
+    requires polynomial { has_polynomial_root (tree_of tree pool.old) ≡ true }
+    requires children { AreExpanded (children_of (tree_of tree pool.old)) }
+    ensures ok { IfOk result (λ h. Gives (without_root tree (forest pool.old)) (forest pool.new) h (λ t. t ≡ expanded (polynomial_of (tree_of tree pool.old)))) }
+    ensures front { KeepsFront (tree ∷ []) (forest pool.old) (forest pool.new) }
+    ensures kept { OnOk result (KeepsRefusals pool.old pool.new) }
+    ensures faults { IfErr result (Faults pool.old pool.new) }
+    ensures caused { IfErr result (IsCaused pool.new) }
+    ensures fits { (whole : Tree) → IsOver whole (tree_of tree pool.old) → is_polynomial whole ≡ true → IfErr result (OfOverflow (λ o. 124 < bits_of whole)) }
+    ensures room { (whole : Tree) (n : ℕ) → HasNoNewName whole (tree_of tree pool.old) → length (polynomial_of (tree_of tree pool.old)) ≤ n
+        → IfErr result (OfFull (λ full. free_of pool.old < node_bytes (names whole) n)) }
+    ensures stands { Stands pool.new }
+{
+    let answer = place_expansion(pool, tree.id())?;
+    release(pool, tree);
+    Ok(answer)
+}
+
+/// A new last tree: the expanded tree of a node over expanded children, which stays.
+fn place_expansion(pool: &mut Pool, id: Id) -> Result<Handle, NumberFault>
+    requires stands { Stands pool.old }
+    requires expression { IsExpression id (forest pool.old) }
+    requires polynomial { has_polynomial_root (plain (tree_at id (forest pool.old))) ≡ true }
+    requires children { AreExpanded (children_of (plain (tree_at id (forest pool.old)))) }
+    ensures ok { let old = forest pool.old in IfOk result (λ h. Gives old (forest pool.new) h (λ t. t ≡ expanded (polynomial_of (plain (tree_at id old))))) }
+    ensures front { KeepsFront [] (forest pool.old) (forest pool.new) }
+    ensures kept { OnOk result (KeepsRefusals pool.old pool.new) }
+    ensures faults { IfErr result (Faults pool.old pool.new) }
+    ensures caused { IfErr result (IsCaused pool.new) }
+    ensures fits { (whole : Tree) → IsOver whole (plain (tree_at id (forest pool.old))) → is_polynomial whole ≡ true → IfErr result (OfOverflow (λ o. 124 < bits_of whole)) }
+    ensures room { let t = plain (tree_at id (forest pool.old)) in
+        (whole : Tree) (n : ℕ) → HasNoNewName whole t → length (polynomial_of t) ≤ n → IfErr result (OfFull (λ full. free_of pool.old < node_bytes (names whole) n)) }
+    ensures stands { Stands pool.new }
+{
+    match kind(pool, id) {
+        Kind::Add => place_sum(pool, id),
+        Kind::Mult => place_products(pool, id),
+        Kind::Pow => {
+            let exponent = exponent_of(pool, child_id(pool, id, 1));
+            place_power(pool, child_id(pool, id, 0), exponent)
+        }
+        Kind::Neg => place_scaled(pool, Rat::whole(-1), child_id(pool, id, 0)),
+        Kind::Sub => place_difference(pool, child_id(pool, id, 0), child_id(pool, id, 1)),
+        Kind::Div => {
+            let factor = inverse_divisor(pool, child_id(pool, id, 1));
+            place_scaled(pool, factor, child_id(pool, id, 0))
+        }
+        _ => Ok(copy_tree(pool, id)?),
+    }
+}
+
+/// The exponent of a power of an expanded tree.
+fn exponent_of(pool: &Pool, exponent: Id) -> u8
+    requires stands { Stands pool.now }
+    requires expression { IsExpression exponent (forest pool.now) }
+    requires expanded { IsExpanded (plain (tree_at exponent (forest pool.now))) }
+    requires small { is_exponent (plain (tree_at exponent (forest pool.now))) ≡ true }
+    ensures { result ≡ natural_exponent (plain (tree_at exponent (forest pool.now))) }
+{
+    let number = rational(pool, exponent).num();
+    number as u8
+}
+
+/// By what a quotient of an expanded tree and a divisor multiplies it.
+fn inverse_divisor(pool: &Pool, divisor: Id) -> Rat
+    requires stands { Stands pool.now }
+    requires expression { IsExpression divisor (forest pool.now) }
+    requires expanded { IsExpanded (plain (tree_at divisor (forest pool.now))) }
+    requires divisor { is_divisor (plain (tree_at divisor (forest pool.now))) ≡ true }
+    ensures { value_of result ≡ inverse (divisor_of (plain (tree_at divisor (forest pool.now)))) }
+{
+    invert(rational(pool, divisor))
+}
+
+/// The sum of a node's expanded children.
+fn place_sum(pool: &mut Pool, id: Id) -> Result<Handle, NumberFault>
+    requires stands { Stands pool.old }
+    requires expression { IsExpression id (forest pool.old) }
+    requires sum { is_add (plain (tree_at id (forest pool.old))) ≡ true }
+    requires children { AreExpanded (children_of (plain (tree_at id (forest pool.old)))) }
+    ensures ok { let old = forest pool.old in IfOk result (λ h. Gives old (forest pool.new) h (λ t. t ≡ expanded (polynomial_of (plain (tree_at id old))))) }
+    ensures front { KeepsFront [] (forest pool.old) (forest pool.new) }
+    ensures kept { OnOk result (KeepsRefusals pool.old pool.new) }
+    ensures faults { IfErr result (Faults pool.old pool.new) }
+    ensures caused { IfErr result (IsCaused pool.new) }
+    ensures fits { (h l : ℕ) → IsHeld (polynomial_of (plain (tree_at id (forest pool.old)))) h l → h + l < 127 → IfErr result IsNoOverflow }
+    ensures room { (ns : List (List ℕ)) (n : ℕ) → HasFewTerms ns n (polynomial_of (plain (tree_at id (forest pool.old))))
+        → IfErr result (OfFull (λ full. free_of pool.old < node_bytes ns n)) }
+    ensures stands { Stands pool.new }
+{
+    let one = number(pool, Rat::whole(1))?;
+    let sum = node(pool, Kind::Add)?;
+    join_children(pool, &sum, one.id(), id)?;
+    let answer = finished(pool, sum)?;
+    release(pool, one);
+    Ok(answer)
+}
+
+/// Joins the terms of a node's expanded children to a sum, each of them times 1.
+fn join_children(pool: &mut Pool, sum: &Handle, one: Id, id: Id) -> Result<(), NumberFault>
+    requires stands { Stands pool.old }
+    requires sum { Gives (without_root sum.now (forest pool.old)) (forest pool.old) sum.now IsSum }
+    requires one { IsExpression one (without_root sum.now (forest pool.old)) }
+    requires is_one { plain (tree_at one (without_root sum.now (forest pool.old))) ≡ num one_fraction }
+    requires expression { IsExpression id (without_root sum.now (forest pool.old)) }
+    requires children { AreExpanded (children_of (plain (tree_at id (without_root sum.now (forest pool.old))))) }
+    ensures ok { let others = without_root sum.now (forest pool.old) in
+        OnOk result (Gives others (forest pool.new) sum.now (IsSumOf (sum_of (children_of (plain (tree_at id others))) ++ polynomial_of (tree_of sum.now pool.old)))) }
+    ensures front { KeepsFront (sum.now ∷ []) (forest pool.old) (forest pool.new) }
+    ensures kept { OnOk result (KeepsRefusals pool.old pool.new) }
+    ensures faults { IfErr result (Faults pool.old pool.new) }
+    ensures caused { IfErr result (IsCaused pool.new) }
+    ensures fits { let others = without_root sum.now (forest pool.old) in
+        (h l : ℕ) → IsHeld (sum_of (children_of (plain (tree_at id others))) ++ polynomial_of (tree_of sum.now pool.old)) h l → h + l < 127 → IfErr result IsNoOverflow }
+    ensures room { let others = without_root sum.now (forest pool.old) in
+        (ns : List (List ℕ)) (k n : ℕ) → HasFewTerms ns k (polynomial_of (tree_of sum.now pool.old)) → HasFewTerms ns n (sum_of (children_of (plain (tree_at id others))))
+        → IfErr result (OfFull (λ full. free_of pool.old + size (tree_of sum.now pool.old) < sum_bytes ns (k + n))) }
+    ensures stands { Stands pool.new }
+{
+    for at in 0..children(pool, id) {
+        let child = child_id(pool, id, at);
+        join_products(pool, sum, one, child)?;
+    }
+    Ok(())
+}
+
+/// A new last tree: the difference of two expanded trees, which stay.
+fn place_difference(pool: &mut Pool, a: Id, b: Id) -> Result<Handle, NumberFault>
+    requires stands { Stands pool.old }
+    requires first { IsExpression a (forest pool.old) }
+    requires second { IsExpression b (forest pool.old) }
+    requires first_expanded { IsExpanded (plain (tree_at a (forest pool.old))) }
+    requires second_expanded { IsExpanded (plain (tree_at b (forest pool.old))) }
+    ensures ok { let old = forest pool.old in
+        IfOk result (λ h. Gives old (forest pool.new) h (λ t. t ≡ expanded (polynomial_of (sub (plain (tree_at a old)) (plain (tree_at b old)))))) }
+    ensures front { KeepsFront [] (forest pool.old) (forest pool.new) }
+    ensures kept { OnOk result (KeepsRefusals pool.old pool.new) }
+    ensures faults { IfErr result (Faults pool.old pool.new) }
+    ensures caused { IfErr result (IsCaused pool.new) }
+    ensures fits { let old = forest pool.old in
+        (h l : ℕ) → IsHeld (polynomial_of (sub (plain (tree_at a old)) (plain (tree_at b old)))) h l → h + l < 127 → IfErr result IsNoOverflow }
+    ensures room { let old = forest pool.old in
+        (ns : List (List ℕ)) (m n : ℕ) → HasFewTerms ns m (polynomial_of (plain (tree_at a old))) → HasFewTerms ns n (polynomial_of (plain (tree_at b old)))
+        → IfErr result (OfFull (λ full. free_of pool.old < node_bytes ns (m + n))) }
+    ensures stands { Stands pool.new }
+{
+    let one = number(pool, Rat::whole(1))?;
+    let opposite = place_scaled(pool, Rat::whole(-1), b)?;
+    let sum = node(pool, Kind::Add)?;
+    join_products(pool, &sum, one.id(), opposite.id())?;
+    join_products(pool, &sum, one.id(), a)?;
+    let answer = finished(pool, sum)?;
+    release(pool, opposite);
+    release(pool, one);
+    Ok(answer)
+}
+
+/// A new last tree: the product of a node's expanded children, multiplied from the last one on.
+fn place_products(pool: &mut Pool, id: Id) -> Result<Handle, NumberFault>
+    requires stands { Stands pool.old }
+    requires expression { IsExpression id (forest pool.old) }
+    requires product { is_mult (plain (tree_at id (forest pool.old))) ≡ true }
+    requires children { AreExpanded (children_of (plain (tree_at id (forest pool.old)))) }
+    ensures ok { let old = forest pool.old in IfOk result (λ h. Gives old (forest pool.new) h (λ t. t ≡ expanded (polynomial_of (plain (tree_at id old))))) }
+    ensures front { KeepsFront [] (forest pool.old) (forest pool.new) }
+    ensures kept { OnOk result (KeepsRefusals pool.old pool.new) }
+    ensures faults { IfErr result (Faults pool.old pool.new) }
+    ensures caused { IfErr result (IsCaused pool.new) }
+    ensures fits { (h l : ℕ) → AreHeldTogether (children_of (plain (tree_at id (forest pool.old)))) h l → h + l < 127 → IfErr result IsNoOverflow }
+    ensures room { let t = plain (tree_at id (forest pool.old)) in
+        (whole : Tree) (n : ℕ) → HasNoNewName whole t → length (polynomial_of t) ≤ n → IfErr result (OfFull (λ full. free_of pool.old < node_bytes (names whole) n)) }
+    ensures stands { Stands pool.new }
+{
+    let mut product = number(pool, Rat::whole(1))?;
+    let mut left = children(pool, id);
+    while left > 0 {
+        left -= 1;
+        match times(pool, child_id(pool, id, left), product) {
+            Ok(next) => product = next,
+            Err(fault) => return Err(fault),
+        }
+    }
+    Ok(product)
+}
