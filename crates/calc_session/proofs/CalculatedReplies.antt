@@ -1,14 +1,16 @@
 -- A calculation is answered by a report or a refusal.
-use Rattle.std.proofs.Common.{◌≡◌, ◌∙◌, ℕ, List, Bool, true, false, Option, Some, None, refl, sym, ap}
+use Rattle.std.proofs.Common.{◌≡◌, ℕ, List, Bool, true, false, Option, refl, ap}
 use Rattle.breakers.specs.State.{State as Breaker}
 use Rattle.calc_terms.specs.Trees.{Tree}
-use Rattle.name_table.specs.Filling.{Filling, lacks, too_deep, fills}
+use Rattle.name_table.specs.Filling.{Filling, NamedTree, lacks, too_deep, fills}
 use Rattle.calc_session.specs.Arguments.{IsMisread, meets_no_token, meets_a_wide_number, forms_no_line, forms_a_deep_line, IsNoExpression, is_misread, forms_a_store}
 use Rattle.calc_session.specs.Calculating.{IsReplyToExpression, is_no_expression, is_read, IsReplyToCalculation, derives, solves}
 use Rattle.calc_session.specs.Deriving.{IsReplyToDerivative, has_none, lacks_bytes, is_reduced}
 use Rattle.calc_session.specs.Evaluations.{Unmade, IsReplyToMade, is_not_made, is_made}
 use Rattle.calc_session.specs.Replies.{Reply, shown, stored, undefined, reported}
-use Rattle.calc_session.specs.Solving.{IsReplyToEquations, is_not_solved}
+use Rattle.linear_solve.specs.Equations.{Equation}
+use Rattle.calc_session.specs.Equations.{Pieces}
+use Rattle.calc_session.specs.Solving.{AreUnmade, IsNoEquation, IsReplyToEquations, are_not_written, are_too_many, are_not_read, are_read, IsReplyToRead, are_not_made, are_made, IsReplyToSolve, have_too_many_names, are_not_linear, are_linear, IsSolution, is_interrupted, does_not_fit, lacks_bytes as lacks_form_bytes, is_told}
 use Rattle.calc_session.specs.States.{State}
 
 -- a tree is displayed, or the line is undefined
@@ -39,6 +41,40 @@ unmade_value (lacks refusal) reply e = ap is_value e
 unmade_value too_deep reply e = ap is_value e
 unmade_value (fills left t) reply e = absurd e
 
+-- ---- equations
+
+unread_value : {ps : List Pieces} {reply : Reply} → IsNoEquation ps reply → is_value reply ≡ false
+unread_value (IsNoEquation.at_left h) = no_value h
+unread_value (IsNoEquation.at_right r h) = no_value h
+unread_value (IsNoEquation.later r h) = unread_value h
+
+unbuilt_value : {values : List NamedTree} {free : ℕ} {es : List Equation} {reply : Reply} → AreUnmade values free es reply → is_value reply ≡ false
+unbuilt_value {reply = reply} (AreUnmade.at_left u) = unmade_value _ reply u
+unbuilt_value {reply = reply} (AreUnmade.at_right m u) = unmade_value _ reply u
+unbuilt_value (AreUnmade.later m n h) = unbuilt_value h
+
+module _ (before after : List Breaker) where
+  solution_value : {free : ℕ} {xs : List (List ℕ)} {es : List Equation} {reply : Reply} → IsSolution free xs es before after reply → is_value reply ≡ false
+  solution_value (is_interrupted t) = refl
+  solution_value (does_not_fit e c) = refl
+  solution_value (lacks_form_bytes e c l s) = refl
+  solution_value (is_told e c) = refl
+
+  built_value : {free : ℕ} {es : List Equation} {reply : Reply} → IsReplyToSolve free es before after reply → is_value reply ≡ false
+  built_value (have_too_many_names h same) = refl
+  built_value (are_not_linear n l f same) = refl
+  built_value (are_linear n l f h) = solution_value h
+
+  read_value : {values : List NamedTree} {free : ℕ} {es : List Equation} {reply : Reply} → IsReplyToRead values free es before after reply → is_value reply ≡ false
+  read_value (are_not_made u same) = unbuilt_value u
+  read_value (are_made b h) = built_value h
+
+  solved_value : {old : State} {line text : List ℕ} {reply : Reply} → IsReplyToEquations old before after line text reply → is_value reply ≡ false
+  solved_value (are_not_written n same) = refl
+  solved_value (are_too_many s l same) = refl
+  solved_value (are_not_read s l h same) = unread_value h
+  solved_value (are_read s l r h) = read_value h
+
 module _ (room bits : Option (Tree → ℕ)) (before after : List Breaker) where
   derived_value : {free left : ℕ} {x : List ℕ} {t : Tree} {reply : Reply} → IsReplyToDerivative room bits free before after x left t reply → is_value reply ≡ false
   derived_value (has_none h same) = refl
@@ -53,9 +89,6 @@ module _ (room bits : Option (Tree → ℕ)) (before after : List Breaker) where
   expressed_value by (is_no_expression h same) = no_value h
   expressed_value by (is_read reads h) = made_value by h
 
-  solved_value : {old : State} {line text : List ℕ} {reply : Reply} → IsReplyToEquations old before after line text reply → is_value reply ≡ false
-  solved_value (is_not_solved same) = refl
-
   pub calculated_value : {old : State} {line : List ℕ} {reply : Reply} → IsReplyToCalculation room bits old before after line reply → is_value reply ≡ false
   calculated_value (derives asked h) = expressed_value (λ left t r d. derived_value d) h
-  calculated_value (solves asked h) = solved_value h
+  calculated_value (solves asked h) = solved_value before after h

@@ -1,7 +1,7 @@
 -- Lemmas on command lines that calculate.
-use Rattle.std.proofs.Common.{◌≡◌, ◌∙◌, ℕ, ◌≤◌, ◌+◌, ◌-◌, List, [], ◌∷◌, ◌++◌, length, length-append, codes, Bool, true, false, Option, Some, None, inl, inr, refl, sym, ap, subst, arith}
+use Rattle.std.proofs.Common.{◌≡◌, ◌∙◌, ℕ, ◌≤◌, List, [], ◌∷◌, ◌++◌, length, length-append, codes, true, Option, Some, None, inl, inr, refl, sym, ap, subst, arith}
 use Rattle.breakers.specs.State.{State as Breaker}
-use Rattle.calc_commands.specs.Commands.{Asked, IsCommandLine, asks_diff, HasText, diff, solve, is_command}
+use Rattle.calc_commands.specs.Commands.{IsCommandLine, asks_diff, asks_solve, diff, solve, is_command}
 use Rattle.calc_terms.specs.Trees.{Tree}
 use Rattle.calc_tokens.specs.Placed.{Placed}
 use Rattle.name_table.specs.Filling.{values}
@@ -12,16 +12,14 @@ use Rattle.tree_handles.specs.Standing.{forest}
 use Rattle.calc_session.specs.declared.answers.LineAnswer.{LineAnswer}
 use Rattle.calc_session.specs.declared.answers.LineAnswer.TheVariants as answer
 use Rattle.calc_session.specs.declared.answers.Refusal.{Refusal}
-use Rattle.calc_session.specs.declared.answers.Refusal.TheVariants as refusal
 use Rattle.calc_session.specs.Answers.{AnswersUntold, CountsRefusal, TellsReply, reply_of}
 use Rattle.calc_session.specs.Arguments.{IsNoExpression, ReadsText, bytes_before}
-use Rattle.calc_session.specs.Calculating.{IsReplyToCalculation, IsReplyToExpression, is_no_expression, is_read, derives, solves}
+use Rattle.calc_session.specs.Calculating.{is_no_expression, is_read, derives, solves}
 use Rattle.calc_session.specs.Counting.{AsksForTooMuch, IsCountedBut, LacksDerivativeOf}
 use Rattle.calc_session.specs.Deriving.{IsReplyToDerivative}
 use Rattle.calc_session.specs.Evaluations.{IsReplyToMade, made}
-use Rattle.calc_session.specs.Replies.{Reply, command}
 use Rattle.calc_session.specs.Seen.{Seen, Counts, pool_of}
-use Rattle.calc_session.specs.Solving.{is_not_solved}
+use Rattle.calc_session.specs.Solving.{IsReplyToEquations}
 use Rattle.calc_session.specs.States.{State, state_of}
 use Rattle.calc_session.specs.Steps.{is_calculated, Leaves}
 use Rattle.calc_session.proofs.SessionLemmas.{counts_refusal, refused_leaves, same_counts}
@@ -65,14 +63,22 @@ module _ (room bits : Option (Tree → ℕ)) (p : PoolState) (table : Table) (be
   counts_derivative new tokens t r reads (inl c) = inl c
   counts_derivative new tokens t r reads (inr (lack, e, l, c)) = inr (lack, e, record { name = x; text = text; asks = asked; tokens = tokens; tree = t; reads = reads; lacks = l }, c)
 
--- equations are not solved yet
-pub answers_unsolved : (room bits : Option (Tree → ℕ)) (s : State) (before : List Breaker) (line text written : List ℕ) → length line ≤ 1024 → is_command line ≡ true → IsCommandLine line (solve text) → written ≡ []
-    → AnswersUntold room bits s before line (answer.Refused refusal.Command) written s before
-answers_unsolved room bits s before line text written short is asked empty = record {
-  reply = command;
-  step = record { reply_is = is_calculated short is (solves asked (is_not_solved refl)); state_is = refl };
-  answer_is = refl;
-  text_is = empty;
+pub equations_within : {line text : List ℕ} → IsCommandLine line (solve text) → length text ≤ length line
+equations_within {line} (asks_solve {text = text} h) =
+    let whole = ap length h.whole in
+    let a = length-append h.gap text in
+    let b = length-append (codes "solve") (h.gap ++ text) in
+    let c = length-append h.before (58 ∷ (codes "solve" ++ (h.gap ++ text))) in
+    omega (arith, whole, a, b, c)
+
+-- equations that are to be solved
+pub answers_equations : (room bits : Option (Tree → ℕ)) (p : PoolState) (table : Table) (before after : List Breaker) (line text : List ℕ) (new : State) (given : LineAnswer) (written : List ℕ) → length line ≤ 1024 → is_command line ≡ true → IsCommandLine line (solve text)
+    → new ≡ state_of p table → TellsReply (IsReplyToEquations (state_of p table) before after line text) given written → AnswersUntold room bits (state_of p table) before line given written new after
+answers_equations room bits p table before after line text new given written short is asked same h = record {
+  reply = h.reply;
+  step = record { reply_is = is_calculated short is (solves asked h.reply_is); state_is = subst (Leaves h.reply (state_of p table)) (sym same) (h.leaves (state_of p table)) };
+  answer_is = h.answer_is;
+  text_is = h.text_is;
 }
 
 -- ---- as a session is seen

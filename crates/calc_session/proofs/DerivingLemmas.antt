@@ -1,5 +1,5 @@
 -- Lemmas on what the derivative of a tree comes to.
-use Rattle.std.proofs.Common.{◌≡◌, ◌∙◌, ℕ, ◌+◌, ◌≤◌, ◌<◌, List, [], ◌∷◌, nat_le, nat_lt, cond, Bool, true, false, Option, None, Result, Ok, Err, IsOk, ◌↔◌, refl, sym, ap, subst, arith}
+use Rattle.std.proofs.Common.{◌≡◌, ℕ, ◌+◌, ◌≤◌, ◌<◌, List, [], ◌∷◌, nat_le, nat_lt, cond, Bool, true, false, Option, None, Result, Ok, Err, refl, ap, subst, arith}
 use Rattle.std.proofs.lemmas.Bool.{leb-false, leb-true, ltb-false}
 use Rattle.breakers.specs.State.{State as Breaker}
 use Rattle.calc_language.specs.Texts.{IsWritable}
@@ -21,7 +21,7 @@ use Rattle.calc_session.specs.declared.evaluating.Evaluation.{Evaluation}
 use Rattle.calc_session.specs.Answers.{ComesTo, IsDisplayOf}
 use Rattle.calc_session.specs.Deriving.{IsReplyToDerivative, is_reduced}
 use Rattle.calc_session.specs.Evaluations.{IsReduction, made}
-use Rattle.calc_session.specs.Replies.{Reply, reported}
+use Rattle.calc_session.specs.Replies.{reported}
 use Rattle.calc_session.proofs.EvaluationLemmas.{comes_as, free_same}
 
 pub over : (a b : ℕ) → (a ≤ b → ⊥) → b < a

@@ -82,7 +82,7 @@ free_there {s} {t} {others} st st' e g k =
     omega (arith, free_without st g, used_forest t st', ap bytes_in k.whole, bytes_in-join others k.behind, st'.pool.fits, e)
 
 -- the nodes of a last tree are nodes of the pool
-last_nodes : {s : State} {others : Forest} {i : ℕ} {Told : Tree → Type 0} → Stands s → (g : Gives others (forest s) i Told) → AreNodes (flatten g.tree)
+pub last_nodes : {s : State} {others : Forest} {i : ℕ} {Told : Tree → Type 0} → Stands s → (g : Gives others (forest s) i Told) → AreNodes (flatten g.tree)
 last_nodes {s} {others} st g =
     AreNodes-right (flatten others) (flatten g.tree) (subst AreNodes (st.flat ∙ ap flatten g.ends.whole ∙ flatten-join others g.tree) st.pool.nodes)
 

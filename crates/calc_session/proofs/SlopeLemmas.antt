@@ -1,74 +1,39 @@
 -- What the answers to lines that ask for a derivative mean, and when there is one.
-use Rattle.std.proofs.Common.{◌≡◌, ◌∙◌, ℕ, zero, suc, ◌+◌, ◌*◌, ◌-◌, ◌≤◌, ◌<◌, List, [], ◌∷◌, ◌++◌, length, codes, Bool, true, false, cond, nat_eq, nat_le, nat_lt, Option, Some, None, Result, Ok, Err, ◌⊎◌, inl, inr, refl, sym, ap, subst, arith}
-use Rattle.std.specs.Prelude.{◌&&◌}
-use Rattle.std.specs.List.{list_all}
+use Rattle.std.proofs.Common.{◌≡◌, ◌∙◌, ℕ, zero, suc, ◌+◌, ◌*◌, ◌-◌, ◌≤◌, ◌<◌, List, [], ◌∷◌, length, codes, Bool, true, false, cond, nat_le, nat_lt, Option, None, Result, Ok, Err, ◌⊎◌, inl, inr, refl, sym, ap, subst, arith}
 use Rattle.std.proofs.lemmas.Bool.{leb-true}
 use Rattle.breakers.specs.State.{State as Breaker}
 use Rattle.beautify.proofs.FaceLaws.{reduced_face_means}
 use Rattle.calc_algebra.specs.Rewritings.{Reduces}
-use Rattle.calc_commands.specs.Commands.{Asked, pool, dump, draw, layout, forget, after, diff, solve, IsCommandLine, asks_diff, is_command}
 use Rattle.calc_commands.proofs.Lines.{once}
 use Rattle.calc_language.specs.Faces.{face}
 use Rattle.calc_language.specs.Texts.{text}
-use Rattle.calc_language.specs.Tokens.{is_blank}
 use Rattle.calc_parser.specs.Building.{building}
-use Rattle.calc_parser.specs.Lines.{IsLine, IsLineOver}
-use Rattle.calc_parser.proofs.Checks.{SameLine, one_line}
 use Rattle.calc_parser.proofs.Sizes.{building_takes_the_size, takes_room}
 use Rattle.calc_terms.specs.Trees.{Tree, undef, depth, is_undef, nodes, root_size, size, symbol}
-use Rattle.calc_tokens.specs.Placed.{Placed, bare}
-use Rattle.calc_tokens.specs.Scanned.{AreTokensOf}
-use Rattle.calc_tokens.proofs.OneScan.{character_or_all, wide_or_all, one_list}
+use Rattle.calc_tokens.specs.Placed.{Placed}
 use Rattle.dual_diff.specs.Derivatives.{HasDerivative, derivative}
 use Rattle.dual_diff.proofs.Derived.{slope_means}
 use Rattle.name_table.specs.Filling.{NamedTree, Filling, lacks, too_deep, fills, filling, filling_one}
 use Rattle.node_pool.specs.declared.full.Full.{Full}
 use Rattle.reduce_port.specs.Bounds.{MayExceed}
 use Rattle.reduce_port.specs.Checks.{TripsWithin}
-use Rattle.calc_session.specs.Arguments.{IsMisread, meets_no_token, meets_a_wide_number, forms_no_line, forms_a_deep_line, IsNoExpression, is_misread, forms_a_store, ReadsText}
-use Rattle.calc_session.specs.Calculating.{IsReplyToExpression, is_no_expression, is_read, derives, solves, made_in}
-use Rattle.calc_session.specs.Commanding.{IsReplyToCommand, tells_the_pool, tells_the_bytes, keeps_ans, forgets, knows_no_name, arms_a_breaker, finds_no_breaker, is_to_be_drawn, tells_the_layout, has_no_room, is_no_command}
+use Rattle.calc_session.specs.Calculating.{IsReplyToCalculation, IsReplyToExpression, is_no_expression, is_read, derives, solves, made_in}
 use Rattle.calc_session.specs.Deriving as derived
 use Rattle.calc_session.specs.Deriving.{IsReplyToDerivative, has_none}
 use Rattle.calc_session.specs.Evaluations.{Unmade, IsReplyToMade, is_not_made, is_made, IsReduction, is_interrupted, does_not_fit, lacks_bytes, is_answered, IsReplyWith, has_no_value, holds_its_name, is_shown, is_stored, made}
-use Rattle.calc_session.specs.Reading.{IsReplyUnread, is_long, is_nothing, has_no_token, has_a_wide_number, is_no_line, is_too_deep, stores_to_ans, finds_names_full}
-use Rattle.calc_session.specs.Replies.{Reply, long, report, reported, deep, full}
-use Rattle.calc_session.specs.Slopes.{AsksDerivativeOf, TellsSlope, TellsNoSlope, TellsDerivative}
+use Rattle.calc_session.specs.Replies.{Reply, long, report, reported}
+use Rattle.calc_session.specs.Slopes.{TellsSlope, TellsNoSlope, TellsDerivative}
 use Rattle.calc_session.specs.States.{State, free_bytes}
-use Rattle.calc_session.specs.Steps.{IsReply, is_unread, is_commanded, is_calculated, is_evaluated}
 use Rattle.tree_walks.proofs.Composing.{bytes_of_replaced}
 use Rattle.tree_walks.specs.Replacing.{occurrences, replaced, replacing}
 use Rattle.calc_session.proofs.MeaningLemmas.{nothing_meant, undef_is}
-
-clash : (b : Bool) → b ≡ true → b ≡ false → ⊥
-clash b e f = cc
-
--- ---- a line that begins with a colon
-
-colon_behind : (before rest : List ℕ) → list_all is_blank before ≡ true → is_command (before ++ (58 ∷ rest)) ≡ true
-colon_behind [] rest h = refl
-colon_behind (b ∷ before) rest h = by (is_blank b) h (λ k. colon_behind before rest k)
-  where
-    by : (t : Bool) → (t && list_all is_blank before) ≡ true → (list_all is_blank before ≡ true → is_command (before ++ (58 ∷ rest)) ≡ true) → cond t (is_command (before ++ (58 ∷ rest))) (nat_eq b 58) ≡ true
-    by true k more = more k
-    by false k more = absurd cc
-
-asks_colon : {line x behind : List ℕ} → IsCommandLine line (diff x behind) → is_command line ≡ true
-asks_colon (asks_diff h n b) = ap is_command h.whole ∙ colon_behind h.before _ h.blank_before
-
-blank_line : (line : List ℕ) → list_all is_blank line ≡ true → is_command line ≡ false
-blank_line [] h = refl
-blank_line (b ∷ line) h = by (is_blank b) h (λ k. blank_line line k)
-  where
-    by : (t : Bool) → (t && list_all is_blank line) ≡ true → (list_all is_blank line ≡ true → is_command line ≡ false) → cond t (is_command line) (nat_eq b 58) ≡ false
-    by true k more = more k
-    by false k more = absurd cc
+use Rattle.calc_commands.specs.Commands.{diff, solve, IsCommandLine}
+use Rattle.calc_session.specs.Arguments.{ReadsText}
+use Rattle.calc_session.specs.Steps.{IsReply}
+use Rattle.calc_session.proofs.AskedLines.{calculation}
+use Rattle.calc_session.proofs.TextLemmas.{misread_unreported, no_store, one_text, read_at_all, unmade_unreported}
 
 -- ---- the replies to a line that asks for a derivative
-
-abbrev is_diff : Asked → Bool
-is_diff (diff x behind) = true
-is_diff a = false
 
 same_name : (x y a b : List ℕ) → diff x a ≡ diff y b → x ≡ y
 same_name x y a b e = cc
@@ -77,42 +42,19 @@ same_text : (x y a b : List ℕ) → diff x a ≡ diff y b → a ≡ b
 same_text x y a b e = cc
 
 module _ (room bits : Option (Tree → ℕ)) (old : State) (before checked : List Breaker) (line x behind : List ℕ) (asked : IsCommandLine line (diff x behind)) where
-  asks_that : (a : Asked) → IsCommandLine line a → is_diff a ≡ true
-  asks_that a h = sym (ap is_diff (once line (diff x behind) a asked h))
+  no_equations : (y a : List ℕ) → solve y ≡ diff x a → ⊥
+  no_equations y a e = cc
 
-  not_unread : {reply : Reply} → (1024 < length line → reply ≡ long → ⊥) → IsReplyUnread old.table line reply → ⊥
-  not_unread h (is_long e) = h e refl
-  not_unread h (is_nothing e b) = clash _ (asks_colon asked) (blank_line line b)
-  not_unread h (has_no_token t f) = clash _ (asks_colon asked) t.no_command
-  not_unread h (has_a_wide_number t f) = clash _ (asks_colon asked) t.no_command
-  not_unread h (is_no_line t c d) = clash _ (asks_colon asked) t.no_command
-  not_unread h (is_too_deep t c d) = clash _ (asks_colon asked) t.no_command
-  not_unread h (stores_to_ans r e) = clash _ (asks_colon asked) r.text.no_command
-  not_unread h (finds_names_full r e f) = clash _ (asks_colon asked) r.text.no_command
-
-  not_commanded : {reply : Reply} → IsReplyToCommand old before checked line reply → ⊥
-  not_commanded (tells_the_pool a b) = clash _ (asks_that pool a) refl
-  not_commanded (tells_the_bytes a b) = clash _ (asks_that dump a) refl
-  not_commanded (keeps_ans {x = y} a b d) = clash _ (asks_that (forget y) a) refl
-  not_commanded (forgets {x = y} a b d f) = clash _ (asks_that (forget y) a) refl
-  not_commanded (knows_no_name {x = y} a b d f) = clash _ (asks_that (forget y) a) refl
-  not_commanded (arms_a_breaker {checks = k} a b d) = clash _ (asks_that (after k) a) refl
-  not_commanded (finds_no_breaker {checks = k} a b d) = clash _ (asks_that (after k) a) refl
-  not_commanded (is_to_be_drawn a b) = clash _ (asks_that draw a) refl
-  not_commanded (tells_the_layout a b d) = clash _ (asks_that layout a) refl
-  not_commanded (has_no_room a b d) = clash _ (asks_that layout a) refl
-  not_commanded (is_no_command n b) = n (diff x behind) asked
-
-  pub calculated : (reply : Reply) → (1024 < length line → reply ≡ long → ⊥) → IsReply room bits old before checked line reply
-      → IsReplyToExpression old before checked line behind (IsReplyToDerivative room bits (free_bytes old) before checked x) reply
-  calculated reply short (is_unread h same) = absurd (not_unread short h)
-  calculated reply short (is_commanded a b h) = absurd (not_commanded h)
-  calculated reply short (is_calculated a b (derives {x = y} {text = other} also h)) =
+  from_calculation : (reply : Reply) → IsReplyToCalculation room bits old before checked line reply → IsReplyToExpression old before checked line behind (IsReplyToDerivative room bits (free_bytes old) before checked x) reply
+  from_calculation reply (derives {x = y} {text = other} also h) =
       let same = once line (diff y other) (diff x behind) also asked in
       subst (λ z. IsReplyToExpression old before checked line behind (IsReplyToDerivative room bits (free_bytes old) before checked z) reply) (same_name y x other behind same)
       (subst (λ o. IsReplyToExpression old before checked line o (IsReplyToDerivative room bits (free_bytes old) before checked y) reply) (same_text y x other behind same) h)
-  calculated reply short (is_calculated a b (solves {text = other} also h)) = absurd (clash _ (asks_that (solve other) also) refl)
-  calculated reply short (is_evaluated reads h) = absurd (clash _ (asks_colon asked) reads.reads.text.no_command)
+  from_calculation reply (solves {text = other} also h) = absurd (no_equations other behind (once line (solve other) (diff x behind) also asked))
+
+  pub calculated : (reply : Reply) → (1024 < length line → reply ≡ long → ⊥) → IsReply room bits old before checked line reply
+      → IsReplyToExpression old before checked line behind (IsReplyToDerivative room bits (free_bytes old) before checked x) reply
+  calculated reply short h = from_calculation reply (calculation room bits old before checked line (diff x behind) asked refl reply short h)
 
   -- ---- what a report tells
 
@@ -150,24 +92,6 @@ module _ (room bits : Option (Tree → ℕ)) (old : State) (before checked : Lis
   told_tree left t reply told (derived.lacks_bytes l same) e = absurd cc
   told_tree left t reply told (derived.is_reduced {reply = r} d l h) e = told_reduced t None r told h e
 
-  misread_unreported : {n : ℕ} (reply : Reply) (told : List ℕ) → IsNoExpression n behind reply → reply ≡ report told → ⊥
-  misread_unreported reply told (is_misread (meets_no_token f)) e = cc
-  misread_unreported reply told (is_misread (meets_a_wide_number f)) e = cc
-  misread_unreported reply told (is_misread (forms_no_line c d)) e = cc
-  misread_unreported reply told (is_misread (forms_a_deep_line c d)) e = cc
-  misread_unreported reply told (forms_a_store r) e = cc
-
-  unmade_unreported : (making : Filling) (reply : Reply) (told : List ℕ) → Unmade making reply → reply ≡ report told → ⊥
-  unmade_unreported (lacks refusal) reply told u e = clash_full refusal (sym u ∙ e)
-    where
-      clash_full : (r : Full) → full r ≡ report told → ⊥
-      clash_full r k = cc
-  unmade_unreported too_deep reply told u e = clash_deep (sym u ∙ e)
-    where
-      clash_deep : deep ≡ report told → ⊥
-      clash_deep k = cc
-  unmade_unreported (fills left t) reply told u e = absurd u
-
   told_made : {tokens : List Placed} (tree : Tree) (reply : Reply) (told : List ℕ) → ReadsText behind tokens None tree → IsReplyToMade (made_in old tree) before checked (IsReplyToDerivative room bits (free_bytes old) before checked x) reply → reply ≡ report told → TellsDerivative old line x told
   told_made tree reply told reads (is_not_made u same) e = absurd (unmade_unreported (made_in old tree) reply told u e)
   told_made {tokens} tree reply told reads (is_made {left = left} {t = t} is h) e = record {
@@ -189,28 +113,9 @@ module _ (room bits : Option (Tree → ℕ)) (old : State) (before checked : Lis
   -- ---- where nothing is lacking
 
   module _ {tokens : List Placed} {tree t : Tree} {left : ℕ} (reads : ReadsText behind tokens None tree) (is : made_in old tree ≡ fills left t) where
-    one_text : {others : List Placed} {store : Option (List ℕ)} {other : Tree} → ReadsText behind others store other → SameLine None store tree other
-    one_text {others} {store} {other} r = one_line (bare others) None store tree other (subst (λ (ts : List Placed). IsLine (bare ts) None tree) (one_list behind tokens others reads.cut r.cut) reads.line-is) r.line-is
-
-    its_line : {others : List Placed} → AreTokensOf others behind → IsLine (bare others) None tree
-    its_line {others} cut = subst (λ (ts : List Placed). IsLine (bare ts) None tree) (one_list behind tokens others reads.cut cut) reads.line-is
-
-    none_is_some : (y : List ℕ) → None ≡ Some y → ⊥
-    none_is_some y e = cc
-
-    read_at_all : {n : ℕ} {reply : Reply} → IsNoExpression n behind reply → ⊥
-    read_at_all (is_misread (meets_no_token {at = at} f)) = character_or_all behind at tokens f reads.cut
-    read_at_all (is_misread (meets_a_wide_number {at = at} f)) = wide_or_all behind at tokens f reads.cut
-    read_at_all (is_misread (forms_no_line cut denied)) = denied None tree (its_line cut)
-    read_at_all (is_misread (forms_a_deep_line {tokens = others} cut over)) =
-        let same = one_line (bare others) None over.store tree over.tree (its_line cut) over.line in
-        let shallow = reads.shallow in
-        omega (arith, over.over, shallow, ap depth same.trees)
-    read_at_all (forms_a_store {x = y} r) = none_is_some y (one_text r).stores
-
     told_with : (answer : Tree) (store : Option (List ℕ)) (reply : Reply) → store ≡ None → IsReplyWith answer store reply → (told : List ℕ) × (reported reply ≡ report told)
     told_with answer store reply e (has_no_value d) = (codes "undef", refl)
-    told_with answer store reply e (holds_its_name {x = y} d m) = absurd (none_is_some y (sym e))
+    told_with answer store reply e (holds_its_name {x = y} d m) = absurd (no_store y (sym e))
     told_with answer store reply e (is_shown d) = (text (face answer), refl)
     told_with answer store reply e (is_stored d m) = (text (face answer), refl)
 
@@ -239,8 +144,8 @@ module _ (room bits : Option (Tree → ℕ)) (old : State) (before checked : Lis
           from_tree reply (subst (λ k. IsReplyToDerivative room bits (free_bytes old) before checked x k t reply) (filled_left l left u t e) (subst (λ v. IsReplyToDerivative room bits (free_bytes old) before checked x l v reply) (filled_tree l left u t e) h))
 
       pub is_told : (reply : Reply) → IsReplyToExpression old before checked line behind (IsReplyToDerivative room bits (free_bytes old) before checked x) reply → (told : List ℕ) × (reply ≡ report told)
-      is_told reply (is_no_expression h same) = absurd (read_at_all h)
-      is_told reply (is_read {t = other} r h) = from_made reply (subst (λ u. IsReplyToMade (made_in old u) before checked (IsReplyToDerivative room bits (free_bytes old) before checked x) reply) (sym (one_text r).trees) h)
+      is_told reply (is_no_expression h same) = absurd (read_at_all behind reads h)
+      is_told reply (is_read {t = other} r h) = from_made reply (subst (λ u. IsReplyToMade (made_in old u) before checked (IsReplyToDerivative room bits (free_bytes old) before checked x) reply) (sym (one_text behind reads r).trees) h)
 
 -- ---- the bytes that are left of those that were free
 
@@ -253,7 +158,7 @@ module _ (copy leaf : ℕ) where
       by true d k more = let fits = leb-true copy free d in let rest = more k in omega (arith, fits, rest)
       by false d k more = absurd cc
 
-filled_one : (free : ℕ) (v : NamedTree) (t : Tree) (left : ℕ) (u : Tree) → filling_one free v t ≡ fills left u → left + size u ≡ free + size t
+pub filled_one : (free : ℕ) (v : NamedTree) (t : Tree) (left : ℕ) (u : Tree) → filling_one free v t ≡ fills left u → left + size u ≡ free + size t
 filled_one free v t left u e = by (replacing free (occurrences v.name t) (size v.tree) (root_size (symbol v.name))) refl e
   where
     left_is : (l m : ℕ) (a b : Tree) → fills l a ≡ fills m b → l ≡ m

@@ -1,8 +1,7 @@
 -- Lemmas on what is told of an evaluation, and on whether its refusal is counted.
-use Rattle.std.proofs.Common.{◌≡◌, ◌∙◌, ◌↔◌, ℕ, List, [], ◌∷◌, codes, Option, Some, None, ◌⊎◌, inl, inr, refl, sym, ap, subst}
+use Rattle.std.proofs.Common.{◌≡◌, ◌∙◌, ◌↔◌, ℕ, List, codes, Option, Some, None, inl, inr, refl, sym, ap, subst}
 use Rattle.calc_language.specs.Texts.{IsWritable, text}
 use Rattle.calc_terms.specs.Node.{Node}
-use Rattle.calc_terms.specs.Trees.{Tree}
 use Rattle.name_table.specs.Tables.{Table}
 use Rattle.node_pool.specs.declared.full.Full.{Full}
 use Rattle.node_pool.specs.State.{State as PoolState}
@@ -18,7 +17,7 @@ use Rattle.calc_session.specs.declared.evaluating.Evaluation.TheVariants as eval
 use Rattle.calc_session.specs.Answers.{ComesTo, CountsRefusal, TellsReply, Tells, refusal_of_evaluation, refusal_of_pool, reply_of}
 use Rattle.calc_session.specs.Counting.{IsCountedBut}
 use Rattle.calc_session.specs.Replies.{Reply, report, reported, text_of}
-use Rattle.calc_session.specs.States.{State, state_of}
+use Rattle.calc_session.specs.States.{state_of}
 use Rattle.calc_session.specs.Telling.{HasFace}
 use Rattle.calc_session.proofs.EvaluationLemmas.{keeps_then}
 use Rattle.calc_session.proofs.PoolLemmas.{still_counted}

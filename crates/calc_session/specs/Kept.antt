@@ -18,4 +18,4 @@ seen_of s = record {
 pub record IsKept (s : Inside) : Type 0 where
   pub stands : Stands s.pool
   pub held : IsHeld s.table (forest s.pool)
-  pub room : s.text.capacity ≡ 3 * s.pool.size + 256
+  pub room : s.text.capacity ≡ 3 * s.pool.size + 8448

@@ -6,7 +6,15 @@ pub mod Evaluations
 pub mod Commanding
 pub mod Arguments
 pub mod Deriving
+pub mod Equations
+pub mod Ranges
+pub mod RisingNames
+pub mod Listed
+pub mod SolutionTexts
+pub mod Forms
 pub mod Solving
+pub mod Solved
+pub mod SolutionsMeant
 pub mod Calculating
 pub mod Counting
 pub mod Telling
@@ -17,4 +25,5 @@ pub mod Answers
 pub mod Faces
 pub mod Pools
 pub mod Meant
+pub mod Enough
 pub mod Slopes

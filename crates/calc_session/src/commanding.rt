@@ -16,6 +16,7 @@ use crate::differentiating::tell_derivative;
 use crate::drawing::write_layout;
 use crate::evaluating::refused;
 use crate::reading::{is_ans, read_expression};
+use crate::solving::solve_equations;
 use crate::{LineAnswer, Refusal};
 use breakers::{Breaker, Watch};
 use calc_commands::{
@@ -42,7 +43,7 @@ pub fn answer_command<R: Reducer, B: Breaker>(
     requires stands { Stands pool.old }
     requires held { IsHeld table.old (forest pool.old) }
     requires empty { text.old.bytes ≡ [] }
-    requires room { text.old.capacity ≡ 3 * pool.old.size + 256 }
+    requires room { text.old.capacity ≡ 3 * pool.old.size + 8448 }
     requires short { length line.now ≤ 1024 }
     requires command { begins_with_colon line.now ≡ true }
     ensures answers { AnswersUntold R.room R.bits (state_of pool.old table.old) (states B.state watch.old) line.now result text.new.bytes (state_of pool.new table.new) (states B.state watch.new) }
@@ -78,7 +79,10 @@ pub fn answer_command<R: Reducer, B: Breaker>(
                 Err(refusal) => LineAnswer::Refused(refusal),
             }
         }
-        Command::Solve(_) => LineAnswer::Refused(Refusal::Command),
+        Command::Solve(equations) => {
+            let before = bytes_before(line, equations);
+            solve_equations(pool, table, parser, text, watch, equations, before)
+        }
     }
 }
 
@@ -121,7 +125,7 @@ fn tell_layout(pool: &mut Pool, table: &NameTable, text: &mut Text) -> LineAnswe
     requires stands { Stands pool.old }
     requires held { IsHeld table.now (forest pool.old) }
     requires empty { text.old.bytes ≡ [] }
-    requires room { text.old.capacity ≡ 3 * pool.old.size + 256 }
+    requires room { text.old.capacity ≡ 3 * pool.old.size + 8448 }
     ensures answers { (line : List ℕ) (breakers : List Breaker) → IsCommandLine line asks_for_layout
         → AnswersCommand (state_of pool.old table.now) breakers line result text.new.bytes (state_of pool.new table.now) breakers }
     ensures no_interruption { (place : ℕ) → result ≡ LineAnswer.Refused (Refusal.Interrupted place) → ⊥ }

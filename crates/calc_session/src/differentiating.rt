@@ -49,7 +49,7 @@ pub fn tell_derivative<R: Reducer, B: Breaker>(
     requires held { IsHeld table.now (forest pool.old) }
     requires line { (t : Tree) × IsLine (bare (tokens_of parser.old)) None t × (depth t ≤ 64) }
     requires empty { text.old.bytes ≡ [] }
-    requires room { text.old.capacity ≡ 3 * pool.old.size + 256 }
+    requires room { text.old.capacity ≡ 3 * pool.old.size + 8448 }
     ensures told { (t : Tree) → IsLine (bare (tokens_of parser.old)) None t
         → TellsReply (IsReplyToMade (made (free_of pool.old) (values table.now (forest pool.old)) t) (states B.state watch.old) (states B.state watch.new)
         (IsReplyToDerivative R.room R.bits (free_of pool.old) (states B.state watch.old) (states B.state watch.new) (name_of name))) result text.new.bytes }

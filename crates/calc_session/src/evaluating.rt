@@ -9,7 +9,7 @@ ghost use Rattle.calc_terms.specs.Trees.{Tree, is_undef, names, size};
 ghost use Rattle.calc_tokens.specs.Placed.{bare};
 ghost use Rattle.calc_tokens.specs.Tokens.{tokens_of};
 ghost use Rattle.name_table.specs.Filling.{fills, values, LacksNames};
-ghost use Rattle.name_table.specs.Held.{IsHeld};
+ghost use Rattle.name_table.specs.Held.{HasEntries, IsHeld};
 ghost use Rattle.name_table.specs.Storing.{IsKeepable, name_in};
 ghost use Rattle.node_pool.specs.State.{free_of};
 ghost use Rattle.tree_handles.specs.Expressions.{IsExpression, plain};
@@ -122,7 +122,7 @@ pub fn build_and_fill(
     parser: &mut Parser,
 ) -> Result<Handle, Refusal>
     requires stands { Stands pool.old }
-    requires held { IsHeld table.now (forest pool.old) }
+    requires entries { HasEntries table.now (forest pool.old) }
     requires line { (t : Tree) × IsTreeOf (bare (tokens_of parser.old)) t }
     ensures ok { IfOk result (λ h. Gives (forest pool.old) (forest pool.new) h (LacksNames (table_names table.now))) }
     ensures made { (t : Tree) → IsTreeOf (bare (tokens_of parser.old)) t

@@ -1,26 +1,37 @@
 //! Laws of answers, each the contract of a function without a body.
-ghost use Rattle.std.specs.Prelude.{◌≡◌, ◌≤◌, ◌+◌, ℕ, List, None, Option, length};
+ghost use Rattle.std.specs.Prelude.{◌≡◌, ◌≢◌, ◌≤◌, ◌+◌, ℕ, List, Err, None, Some, Option, Contains, length};
 ghost use Rattle.breakers.specs.State.{State as Breaker};
 ghost use Rattle.calc_algebra.specs.BadAndEasy.{IsEasy};
 ghost use Rattle.calc_algebra.specs.Rewritings.{Reduces};
-ghost use Rattle.calc_commands.specs.Commands.{IsCommandLine, diff};
+ghost use Rattle.calc_commands.specs.Commands.{IsCommandLine, diff, solve};
 ghost use Rattle.calc_language.specs.Texts.{text};
-ghost use Rattle.calc_terms.specs.Trees.{Tree, nodes, size, undef};
+ghost use Rattle.calc_terms.specs.Trees.{Tree, depth, names, nodes, size, undef};
 ghost use Rattle.calc_tokens.specs.Placed.{Placed};
 ghost use Rattle.dual_diff.specs.Derivatives.{HasDerivative, derivative};
-ghost use Rattle.name_table.specs.Filling.{fills, values};
+ghost use Rattle.linear_solve.specs.Checks.{TripsWithin as TripsIn};
+ghost use Rattle.linear_solve.specs.Equations.{Equation, nodes_of_sides};
+ghost use Rattle.linear_solve.specs.Fitting.{Misfit};
+ghost use Rattle.linear_solve.specs.Solving.{solving};
+ghost use Rattle.name_table.specs.Filling.{depth_limit, fills, values};
+ghost use Rattle.name_table.specs.Held.{IsHeld};
+ghost use Rattle.node_pool.specs.declared.full.Full.{Full};
 ghost use Rattle.reduce_port.specs.Bounds.{MayExceed};
 ghost use Rattle.reduce_port.specs.Checks.{TripsWithin};
 ghost use Rattle.calc_session.specs.Arguments.{ReadsText};
 ghost use Rattle.calc_session.specs.Calculating.{IsReplyToExpression, made_in};
 ghost use Rattle.calc_session.specs.Deriving.{IsReplyToDerivative};
+ghost use Rattle.calc_session.specs.Enough.{HasBytesFor, HoldsNoSmallTree, IsAnswered, ReadsFilled};
 ghost use Rattle.calc_session.specs.Evaluations.{IsReplyTo};
+ghost use Rattle.calc_session.specs.Forms.{form_room};
 ghost use Rattle.calc_session.specs.Meant.{HasNoMeaning, HasSmallRadicands, MeanTheSame, MeansNothing, ShowsMeaning};
 ghost use Rattle.calc_session.specs.Reading.{ReadsTree};
-ghost use Rattle.calc_session.specs.Replies.{Reply, report, shown, stored, undefined};
+ghost use Rattle.calc_session.specs.Replies.{Reply, circular, full, report, shown, stored, undefined};
+ghost use Rattle.calc_session.specs.RisingNames.{AreNamesOf};
 ghost use Rattle.calc_session.specs.Slopes.{TellsDerivative};
-ghost use Rattle.calc_session.specs.States.{State, free_bytes, trees};
-ghost use Rattle.calc_session.specs.Steps.{IsReply};
+ghost use Rattle.calc_session.specs.SolutionsMeant.{AsksToSolve, TellsSolutionsOf};
+ghost use Rattle.calc_session.specs.Solving.{IsReplyToEquations, first_not_linear};
+ghost use Rattle.calc_session.specs.States.{State, first_state, free_bytes, trees};
+ghost use Rattle.calc_session.specs.Steps.{IsReply, Step};
 
 /// What is reduced to Undef means nothing.
 pub fn undef_has_no_meaning()
@@ -54,6 +65,36 @@ pub fn lines_that_read_are_evaluated()
         → IsReplyTo room bits (free_bytes old) (values old.table (trees old)) t before after store reply }
 {}
 
+/// A line is not refused for the pool where the bytes are free in which its tree is built and its names are replaced, and the
+/// reducer's room of what it becomes does not exceed the free bytes.
+pub fn lines_with_room_are_never_full()
+    ensures { (room bits : Option (Tree → ℕ)) (old : State) (before after : List Breaker) (line : List ℕ) (reply : Reply) (store : Option (List ℕ)) (t : Tree)
+        → ReadsFilled old line store t → HasBytesFor old t → ¬ (MayExceed room t (free_bytes old))
+        → IsReply room bits old before after line reply → (refusal : Full) → reply ≢ full refusal }
+{}
+
+/// No session stores a tree that is smaller than the leaf of a name.
+pub fn sessions_hold_no_small_tree()
+    ensures at_first { (size : ℕ) → HoldsNoSmallTree (first_state size) }
+    ensures behind_a_line { (room bits : Option (Tree → ℕ)) (old new : State) (before after : List Breaker) (line : List ℕ) (reply : Reply)
+        → IsHeld old.table (trees old) → HoldsNoSmallTree old → Step room bits old before line reply new after → HoldsNoSmallTree new }
+{}
+
+/// A line is answered where what it becomes is at most 64 deep, has bytes and room, takes at most 124 bits, and no breaker trips
+/// in as many checks as it has nodes: a tree is shown or stored, or the line is undefined, unless it is circular.
+pub fn lines_are_answered()
+    ensures { (room bits : Option (Tree → ℕ)) (old : State) (before after : List Breaker) (line : List ℕ) (reply : Reply) (store : Option (List ℕ)) (t : Tree)
+        → ReadsFilled old line store t → depth t ≤ depth_limit → HasBytesFor old t
+        → ¬ (MayExceed room t (free_bytes old)) → ¬ (MayExceed bits t 124) → ((place : ℕ) → ¬ (TripsWithin (nodes t) before after place))
+        → ((x : List ℕ) → reply ≢ circular x) → IsReply room bits old before after line reply → IsAnswered reply }
+{}
+
+/// Only a store is circular, and only where what the line becomes holds the name.
+pub fn circular_lines_hold_their_name()
+    ensures { (room bits : Option (Tree → ℕ)) (old : State) (before after : List Breaker) (line x : List ℕ) (store : Option (List ℕ)) (t : Tree)
+        → ReadsFilled old line store t → IsReply room bits old before after line (circular x) → (store ≡ Some x) × Contains (names t) x }
+{}
+
 /// What is told of a line that asks for a derivative is the slope of what the line becomes: for all pairs of a value and a
 /// slope that this has under an assignment, the printed expression means the slope there, and `undef` is told only where it
 /// has none under any.
@@ -77,5 +118,28 @@ pub fn derivatives_are_told()
         → HasDerivative x t → size t + size (derivative x t) ≤ free_bytes old
         → ¬ (MayExceed room (derivative x t) (free_bytes old)) → ¬ (MayExceed bits (derivative x t) 124)
         → ((place : ℕ) → ¬ (TripsWithin (nodes (derivative x t)) before after place))
+        → IsReply room bits old before after line reply → (told : List ℕ) × (reply ≡ report told) }
+{}
+
+/// What is told of a line that asks for solutions says which assignments solve the equations that the line becomes.
+pub fn solutions_mean_what_they_say()
+    ensures { (room bits : Option (Tree → ℕ)) (old : State) (before after : List Breaker) (line text told : List ℕ)
+        → IsCommandLine line (solve text) → IsReply room bits old before after line (report told) → TellsSolutionsOf old line told }
+{}
+
+/// A line that asks for solutions is answered by what is split, read, built, filled and solved, and by nothing else.
+pub fn solutions_are_calculated()
+    ensures { (room bits : Option (Tree → ℕ)) (old : State) (before after : List Breaker) (line text : List ℕ) (reply : Reply)
+        → length line ≤ 1024 → IsCommandLine line (solve text) → IsReply room bits old before after line reply
+        → IsReplyToEquations old before after line text reply }
+{}
+
+/// Solutions are told where the equations are read and their sides find room, they are linear and have at most six
+/// names, each operation fits, the bytes of a form and its face are free, and no breaker trips.
+pub fn linear_equations_are_solved()
+    ensures { (room bits : Option (Tree → ℕ)) (old : State) (before after : List Breaker) (line : List ℕ) (reply : Reply) (es : List Equation) (xs : List (List ℕ))
+        → length line ≤ 1024 → AsksToSolve old line es → AreNamesOf es xs → length xs ≤ 6 → first_not_linear es ≡ None
+        → ((m : Misfit) → ¬ (solving xs es ≡ Err m)) → form_room ≤ free_bytes old
+        → ((place : ℕ) → ¬ (TripsIn (nodes_of_sides es + length xs) before after place))
         → IsReply room bits old before after line reply → (told : List ℕ) × (reply ≡ report told) }
 {}

@@ -5,17 +5,23 @@ mod answers;
 mod commanding;
 mod differentiating;
 mod drawing;
+mod equations;
 mod evaluating;
+mod forms;
 mod laws;
 mod reading;
 mod session;
+mod side_names;
+mod solution_text;
+mod solving;
 mod telling;
 mod text;
 
 pub use answers::{DrawFault, LineAnswer, Refusal};
 pub use laws::{
     answers_mean_their_lines, derivatives_are_calculated, derivatives_are_told,
-    derivatives_mean_the_slope, lines_that_read_are_evaluated, one_value_has_one_text,
+    derivatives_mean_the_slope, linear_equations_are_solved, lines_that_read_are_evaluated,
+    one_value_has_one_text, solutions_are_calculated, solutions_mean_what_they_say,
     undef_has_no_meaning,
 };
 pub use session::Session;

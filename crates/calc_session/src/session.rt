@@ -68,7 +68,7 @@ impl Session {
         ensures { IfOk result (λ session. session ≡ record { state = first_state size; refusals = 0; last_refused = record { needed = 0; free = 0 }; text = [] }) }
     {
         let mut pool = Pool::open(alloc, size)?;
-        let text = Text::open(alloc, 3 * size + 256)?;
+        let text = Text::open(alloc, 3 * size + 8_448)?;
         let parser = Parser::open(alloc)?;
         let answer = number(&mut pool, Rat::whole(0)).unwrap();
         Ok(Session {

@@ -15,7 +15,7 @@ pub fn tell(pool: &Pool, text: &mut Text, evaluation: Evaluation) -> LineAnswer
     requires stands { Stands pool.now }
     requires face { HasFace (forest pool.now) evaluation }
     requires empty { text.old.bytes ≡ [] }
-    requires room { text.old.capacity ≡ 3 * pool.now.size + 256 }
+    requires room { text.old.capacity ≡ 3 * pool.now.size + 8448 }
     ensures told { Tells pool.now evaluation result text.new.bytes }
     ensures capacity { text.new.capacity ≡ text.old.capacity }
 {

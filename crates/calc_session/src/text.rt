@@ -95,7 +95,7 @@ fn push_place(text: &mut Text, word: &[u8], at: u16)
 }
 
 /// A rational, without its denominator where that is 1: at most 81 bytes.
-fn push_operand(text: &mut Text, value: Rat)
+pub fn push_operand(text: &mut Text, value: Rat)
     requires { length text.old.bytes + 81 ≤ text.old.capacity }
     ensures value { text.new ≡ extended text.old (operand_text (value_of value)) }
     ensures short { length text.new.bytes ≤ length text.old.bytes + 81 }

@@ -211,4 +211,33 @@ x = 5
 :after 3 = after 3
 :diff y y^2 = ! interrupted
 :diff y √(y)^2×2^-127 = ! overflow 1/2^127
-7 = 7";
+7 = 7
+
+:solve x+y=3;x-y=1 = x=2,y=1
+:solve x+2y=1 = x=1-2×y,y free
+:solve y=2x;z=1 = x=y/2,y free,z=1
+:solve b=2;a=1 = a=1,b=2
+:solve x=1;x=2 = none 1,-1
+:solve 2x=1;4x=3 = none 2,-1
+:solve 1=1 = true
+:solve 0=0;1=1 = true
+:solve 3x=1 = x=1/3
+:solve x×y=1 = ! not linear 1
+:solve x=1;x^2=1 = ! not linear 2
+:solve x = ! command
+:solve = ! command
+:solve x=1; = ! command
+:solve x=1=1 = ! command
+:solve x=1→y = ! command
+:solve x=2$3 = ! character 11
+:solve x=2+;y=1 = ! syntax
+:solve x=1;x=1;x=1;x=1;x=1;x=1;x=1 = ! too many
+:solve a+b+c+d=1;e+f+g=1 = ! too many
+2→x = 2
+:solve x+y=3 = y=1
+y = y
+:after 4 = after 4
+:solve z=1 = z=1
+:after 2 = after 2
+:solve z=1 = ! interrupted
+8 = 8";

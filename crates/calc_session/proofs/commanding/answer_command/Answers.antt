@@ -1,4 +1,4 @@
-use Rattle.std.proofs.Common.{◌≡◌, ◌∙◌, List, ℕ, inl, refl, sym, subst, arith}
+use Rattle.std.proofs.Common.{inl, refl, sym, subst, arith}
 use Rattle.breakers.specs.Watch.{states}
 use Rattle.calc_commands.specs.Commands.{IsCommandLine, asked_of}
 use Rattle.calc_commands.specs.Reports.{pool_report, dump_of}
@@ -11,10 +11,8 @@ use Rattle.calc_session.specs.States.{state_of}
 use Rattle.calc_terms.specs.Leaf.{name_of}
 use Rattle.calc_tokens.specs.Tokens.{tokens_of}
 use Rattle.name_table.specs.Held.{IsHeld}
-use Rattle.node_pool.specs.State.{State}
 use Rattle.tree_handles.specs.Forest.{forest_of}
-use Rattle.tree_handles.specs.Standing.{forest}
-use Rattle.calc_session.proofs.CalculatingLemmas.{answers_derivative, answers_no_expression, answers_unsolved, counts_derivative, text_within}
+use Rattle.calc_session.proofs.CalculatingLemmas.{answers_derivative, answers_no_expression, answers_equations, counts_derivative, equations_within, text_within}
 use Rattle.calc_session.proofs.CommandLemmas.{answers_drawn, answers_no_command, answers_told, calm_told, command_uninterrupted, draw_uninterrupted, none_of, refusal_uninterrupted, report_uninterrupted, written}
 use Rattle.calc_session.proofs.EvaluationLemmas.{none_rose}
 use Rattle.calc_session.proofs.SessionLemmas.{answers_command}
@@ -134,12 +132,19 @@ returns-in-Err-clause-interrupted g c = calm_told (answer.Refused c.in-Err.refus
 pub returns-in-Err-clause-counted : goal.returns-in-Err-clause-counted
 returns-in-Err-clause-counted g c = inl (subst (λ r. CountsRefusal r c.args.pool.now c.args.pool.now) (sym c.in-Err.ensures.no_pool) (record { size = refl; refusals = refl; last_refused = refl }))
 
+pub bytes_before-before-requires-clause-behind : goal.bytes_before-before-requires-clause-behind
+bytes_before-before-requires-clause-behind g c = equations_within (subst (λ (k : Command). IsCommandLine c.args.line.now (asked_of k)) c.in-Solve.is c.in-Some.ensures.some)
+
+pub solve_equations-requires-clause-short : goal.solve_equations-requires-clause-short
+solve_equations-requires-clause-short g c = let within = equations_within (subst (λ (k : Command). IsCommandLine c.args.line.now (asked_of k)) c.in-Solve.is c.in-Some.ensures.some) in let short = c.requires.short in omega (arith, within, short, c.bytes_before-before.ensures)
+
 pub returns-in-Solve-clause-answers : goal.returns-in-Solve-clause-answers
 returns-in-Solve-clause-answers g c =
-    answers_unsolved g.R.Reducer.room g.R.Reducer.bits (state_of c.args.pool.now c.args.table.now) (states g.B.Breaker.state c.args.watch.now) c.args.line.now c.in-Solve.field-0.now c.args.text.now.bytes c.requires.short c.requires.command (subst (λ (k : Command). IsCommandLine c.args.line.now (asked_of k)) c.in-Solve.is c.in-Some.ensures.some) c.requires.empty
-
-pub returns-in-Solve-clause-interrupted : goal.returns-in-Solve-clause-interrupted
-returns-in-Solve-clause-interrupted g c = calm_told (answer.Refused refusal.Command) (states g.B.Breaker.state c.args.watch.now) (states g.B.Breaker.state c.args.watch.now) command_uninterrupted (none_rose (states g.B.Breaker.state c.args.watch.now))
+    answers_equations g.R.Reducer.room g.R.Reducer.bits c.args.pool.now c.args.table.now (states g.B.Breaker.state c.args.watch.now) (states g.B.Breaker.state c.solve_equations.new.watch) c.args.line.now c.in-Solve.equations.now (state_of c.solve_equations.new.pool c.args.table.now) c.solve_equations.result c.solve_equations.new.text.bytes c.requires.short c.requires.command
+    (subst (λ (k : Command). IsCommandLine c.args.line.now (asked_of k)) c.in-Solve.is c.in-Some.ensures.some) c.solve_equations.ensures.same (c.solve_equations.ensures.told c.args.line.now (sym c.bytes_before-before.ensures))
 
 pub returns-in-Solve-clause-counted : goal.returns-in-Solve-clause-counted
-returns-in-Solve-clause-counted g c = inl (record { size = refl; refusals = refl; last_refused = refl })
+returns-in-Solve-clause-counted g c = inl c.solve_equations.ensures.counted
+
+pub returns-in-Solve-clause-held : goal.returns-in-Solve-clause-held
+returns-in-Solve-clause-held g c = subst (λ s. IsHeld s.table (forest_of s.nodes)) (sym c.solve_equations.ensures.same) c.requires.held

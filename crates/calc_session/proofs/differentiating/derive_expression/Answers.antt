@@ -1,8 +1,7 @@
 use Rattle.std.proofs.Common.{◌∙◌, ◌≤◌, None, inl, refl, sym, subst}
 use Rattle.breakers.specs.Watch.{states}
-use Rattle.calc_language.specs.Texts.{IsWritable}
 use Rattle.calc_terms.specs.Leaf.{name_of}
-use Rattle.calc_terms.specs.Trees.{depth, size}
+use Rattle.calc_terms.specs.Trees.{depth}
 use Rattle.name_table.specs.Filling.{values}
 use Rattle.node_pool.specs.State.{free_of}
 use Rattle.tree_handles.specs.Handed.{tree_of}
@@ -16,7 +15,11 @@ use Rattle.calc_session.specs.Replies.{refusal_in, reported}
 use Rattle.calc_session.proofs.DerivingLemmas.{made_shallow}
 use Rattle.calc_session.proofs.EvaluationLemmas.{calm_refused, comes_as, free_before, front_over, gives_told, size_kept}
 use Rattle.calc_session.proofs.TellingLemmas.{as_reported, counted_then}
+use Rattle.name_table.proofs.Entries.{held_entries}
 use Rattle.calc_session.proofs.differentiating.derive_expression.Goals as goal
+
+pub build_and_fill-requires-clause-entries : goal.build_and_fill-requires-clause-entries
+build_and_fill-requires-clause-entries g c = held_entries c.args.table.now (forest c.args.pool.now) c.requires.held
 
 pub build_and_fill-requires-clause-line : goal.build_and_fill-requires-clause-line
 build_and_fill-requires-clause-line g c = let (t, is, shallow) = c.requires.line in (t, (None, is))

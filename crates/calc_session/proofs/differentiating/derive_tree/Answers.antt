@@ -1,12 +1,11 @@
-use Rattle.std.proofs.Common.{◌≡◌, ◌∙◌, ◌+◌, ◌≤◌, ◌<◌, ℕ, Bool, true, false, inl, inr, refl, sym, ap, subst, arith}
+use Rattle.std.proofs.Common.{◌≡◌, ◌∙◌, ◌+◌, ◌≤◌, ℕ, Bool, true, false, inl, inr, refl, sym, ap, subst, arith}
 use Rattle.breakers.specs.Watch.{states}
 use Rattle.calc_terms.specs.Leaf.{name_of}
-use Rattle.calc_terms.specs.Trees.{Tree, depth, size}
+use Rattle.calc_terms.specs.Trees.{depth, size}
 use Rattle.dual_diff.specs.Derivatives.{HasDerivative, derivative}
-use Rattle.dual_diff.specs.Placing.{capped}
 use Rattle.node_pool.specs.State.{State, free_of}
 use Rattle.tree_handles.specs.Expressions.{IsExpression, plain}
-use Rattle.tree_handles.specs.Handed.{tree_of, Gives, KeepsFront}
+use Rattle.tree_handles.specs.Handed.{tree_of, Gives}
 use Rattle.tree_handles.specs.Inside.{tree_at}
 use Rattle.tree_handles.specs.Roots.{without_root}
 use Rattle.tree_handles.specs.Standing.{forest, KeepsRefusals}
@@ -15,7 +14,7 @@ use Rattle.tree_handles.proofs.Given.{given_handed, given_other, given_rest, giv
 use Rattle.tree_handles.proofs.Lasts.{expression_root, plain_root}
 use Rattle.calc_session.specs.declared.answers.Refusal.{Refusal}
 use Rattle.calc_session.specs.declared.answers.Refusal.TheVariants as refusal
-use Rattle.calc_session.specs.Answers.{CountsRefusal, refusal_of_evaluation, reply_of}
+use Rattle.calc_session.specs.Answers.{refusal_of_evaluation, reply_of}
 use Rattle.calc_session.specs.Deriving.{IsReplyToDerivative, LacksDerivative, has_none, lacks_bytes}
 use Rattle.calc_session.specs.Replies.{refusal_in, reported}
 use Rattle.calc_session.proofs.DerivingLemmas.{beside_released, comes_reduced, front_beside, over}

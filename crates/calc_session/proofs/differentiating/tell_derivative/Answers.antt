@@ -1,4 +1,4 @@
-use Rattle.std.proofs.Common.{◌≡◌, ◌∙◌, ◌*◌, ◌+◌, None, refl, sym, ap, subst, arith}
+use Rattle.std.proofs.Common.{◌∙◌, ◌*◌, ◌+◌, sym, ap, subst}
 use Rattle.breakers.specs.Breakers.{TripsRose}
 use Rattle.breakers.specs.Watch.{states}
 use Rattle.calc_terms.specs.Leaf.{name_of}
@@ -25,7 +25,7 @@ tell-answer-requires-clause-face g c =
     (forest c.args.pool.now) (forest c.derive_expression-evaluation.new.pool) c.derive_expression-evaluation.result (c.derive_expression-evaluation.ensures.reply t is)
 
 pub tell-answer-requires-clause-room : goal.tell-answer-requires-clause-room
-tell-answer-requires-clause-room g c = c.requires.room ∙ ap (λ n. 3 * n + 256) (sym c.derive_expression-evaluation.ensures.size)
+tell-answer-requires-clause-room g c = c.requires.room ∙ ap (λ n. 3 * n + 8448) (sym c.derive_expression-evaluation.ensures.size)
 
 pub roll_back-requires-clause-below : goal.roll_back-requires-clause-below
 roll_back-requires-clause-below g c = (forest c.args.pool.now, old_below (c.open_mark-mark.ensures.trees c.requires.stands) c.derive_expression-evaluation.ensures.front)

@@ -1,16 +1,10 @@
-use Rattle.std.proofs.Common.{◌≡◌, ◌∙◌, Ok, refl, sym, ap, subst, arith}
-use Rattle.std.proofs.lemmas.Result.{on_ok_weaker, on_err_weaker}
-use Rattle.std.specs.Io.KnownBytes.{Appends}
-use Rattle.calc_edges.specs.Taken.{AppendsPart}
+use Rattle.std.proofs.Common.{sym, ap, subst, arith}
 use Rattle.pool_layouts.specs.Drawings.{IsLayout, drawing}
-use Rattle.pool_layouts.specs.Layouts.{Layout, layout}
-use Rattle.pool_layouts.proofs.Given.{given_drawing, given_layout, given_room}
-use Rattle.tree_handles.specs.Expressions.{plain}
+use Rattle.pool_layouts.proofs.Given.{given_layout, given_room}
 use Rattle.tree_handles.specs.Forest.{bytes_in}
 use Rattle.tree_handles.specs.Inside.{tree_at}
 use Rattle.tree_handles.specs.Standing.{forest}
-use Rattle.calc_session.specs.Answers.{CountsRefusal}
-use Rattle.calc_session.specs.Drawing.{lack_in, rows_text, told_at}
+use Rattle.calc_session.specs.Drawing.{rows_text, told_at}
 use Rattle.calc_session.proofs.DrawingLemmas.{drawn_all, drawn_in_part, given_told}
 use Rattle.calc_session.proofs.drawing.draw_above.Goals as goal
 

@@ -1,4 +1,4 @@
-use Rattle.std.proofs.Common.{◌≡◌, ◌∙◌, ◌++◌, List, ℕ, [], Ok, length, sym, ap, subst, arith}
+use Rattle.std.proofs.Common.{◌∙◌, ◌++◌, List, ℕ, Ok, length, sym, ap, subst, arith}
 use Rattle.line_text.specs.Content.{Content}
 use Rattle.pool_layouts.specs.Drawings.{IsLayout, drawing}
 use Rattle.pool_layouts.specs.Serial.{serial}

@@ -1,4 +1,4 @@
-use Rattle.std.proofs.Common.{◌≡◌, ◌∙◌, ◌++◌, ◌∷◌, [], length, encode_utf8_all, refl, sym, ap, subst, arith, length-append}
+use Rattle.std.proofs.Common.{◌≡◌, ◌∙◌, ◌∷◌, [], length, encode_utf8_all, refl, ap, arith, length-append}
 use Rattle.std.proofs.KnownBytes.{Appends-nil}
 use Rattle.std.proofs.lemmas.Result.{err_from_is_err_and}
 use Rattle.calc_edges.proofs.Stops.{stops_later}
@@ -7,7 +7,7 @@ use Rattle.pool_layouts.specs.Drawings.{drawing}
 use Rattle.pool_layouts.specs.Pictures.{cut, height, picture}
 use Rattle.tree_handles.specs.Inside.{tree_at}
 use Rattle.tree_handles.specs.Standing.{forest}
-use Rattle.calc_session.specs.Drawing.{first_rows, row_text}
+use Rattle.calc_session.specs.Drawing.{row_text}
 use Rattle.calc_session.proofs.DrawingLemmas.{row_fits, row_written, rows_cut, rows_more}
 use Rattle.calc_session.proofs.drawing.write_rows.Goals as goal
 use Rattle.calc_session.proofs.drawing.write_rows.Goals.{After-push}

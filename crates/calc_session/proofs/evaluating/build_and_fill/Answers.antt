@@ -2,7 +2,7 @@ use Rattle.std.proofs.Common.{◌∙◌, sym, subst}
 use Rattle.calc_tokens.specs.Placed.{bare}
 use Rattle.calc_tokens.specs.Tokens.{tokens_of}
 use Rattle.name_table.specs.Filling.{LacksNames}
-use Rattle.name_table.specs.Held.{IsHeld}
+use Rattle.name_table.specs.Held.{HasEntries}
 use Rattle.name_table.specs.Tables.{table_names}
 use Rattle.tree_handles.proofs.Forests.{keeps_after}
 use Rattle.tree_handles.proofs.Given.{given_rest, gives_as}
@@ -14,8 +14,8 @@ use Rattle.calc_session.proofs.evaluating.build_and_fill.Goals as goal
 pub fill-requires-clause-last : goal.fill-requires-clause-last
 fill-requires-clause-last c = gives_as c.in-Ok.ensures.ok (sym (given_rest c.in-Ok.ensures.ok)) (λ t x. tt)
 
-pub fill-requires-clause-held : goal.fill-requires-clause-held
-fill-requires-clause-held c = subst (IsHeld c.args.table.now) (sym (given_rest c.in-Ok.ensures.ok)) c.requires.held
+pub fill-requires-clause-entries : goal.fill-requires-clause-entries
+fill-requires-clause-entries c = subst (HasEntries c.args.table.now) (sym (given_rest c.in-Ok.ensures.ok)) c.requires.entries
 
 pub returns-in-Err-clause-refused : goal.returns-in-Err-clause-refused
 returns-in-Err-clause-refused c = λ t is. unbuilt c.args.table.now c.args.pool.now t c.in-Err.full c.refused.result (c.in-Err.ensures.full t is) c.refused.ensures

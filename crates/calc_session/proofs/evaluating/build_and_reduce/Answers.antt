@@ -7,7 +7,11 @@ use Rattle.tree_handles.specs.Standing.{forest}
 use Rattle.tree_handles.proofs.Given.{given_rest, gives_as}
 use Rattle.calc_session.specs.Answers.{refusal_of_evaluation, reply_of}
 use Rattle.calc_session.proofs.EvaluationLemmas.{calm_refused, comes_made, front_over, keeps_then, unmade_reply}
+use Rattle.name_table.proofs.Entries.{held_entries}
 use Rattle.calc_session.proofs.evaluating.build_and_reduce.Goals as goal
+
+pub build_and_fill-requires-clause-entries : goal.build_and_fill-requires-clause-entries
+build_and_fill-requires-clause-entries g c = held_entries c.args.table.now (forest c.args.pool.now) c.requires.held
 
 pub reduce_tree-requires-clause-last : goal.reduce_tree-requires-clause-last
 reduce_tree-requires-clause-last g c = gives_as c.in-Ok.ensures.ok (sym (given_rest c.in-Ok.ensures.ok)) (λ t x. tt)

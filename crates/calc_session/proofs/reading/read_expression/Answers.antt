@@ -1,4 +1,4 @@
-use Rattle.std.proofs.Common.{None, Some, sym}
+use Rattle.std.proofs.Common.{None, Some}
 use Rattle.calc_tokens.specs.Tokens.{tokens_of}
 use Rattle.calc_session.specs.Arguments.{is_misread, forms_a_store}
 use Rattle.calc_session.proofs.ReadLemmas.{read_text}

@@ -1,4 +1,4 @@
-use Rattle.std.proofs.Common.{◌≡◌, sym, ap, subst, arith}
+use Rattle.std.proofs.Common.{sym, ap, subst, arith}
 use Rattle.line_text.specs.Content.{Content}
 use Rattle.tree_handles.specs.Expressions.{IsExpression}
 use Rattle.tree_handles.specs.Standing.{forest}

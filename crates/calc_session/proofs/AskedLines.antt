@@ -1,0 +1,86 @@
+-- Lines that ask for a calculation.
+use Rattle.std.proofs.Common.{◌≡◌, ◌∙◌, ℕ, ◌<◌, List, [], ◌∷◌, ◌++◌, length, Bool, true, false, cond, nat_eq, Option, refl, sym, ap}
+use Rattle.std.specs.Prelude.{◌&&◌}
+use Rattle.std.specs.List.{list_all}
+use Rattle.breakers.specs.State.{State as Breaker}
+use Rattle.calc_commands.specs.Commands.{Asked, pool, dump, draw, layout, forget, after, diff, solve, IsCommandLine, asks_pool, asks_dump, asks_draw, asks_layout, asks_forget, asks_after, asks_diff, asks_solve, is_command}
+use Rattle.calc_commands.proofs.Lines.{once}
+use Rattle.calc_language.specs.Tokens.{is_blank}
+use Rattle.calc_terms.specs.Trees.{Tree}
+use Rattle.calc_session.specs.Calculating.{IsReplyToCalculation}
+use Rattle.calc_session.specs.Commanding.{IsReplyToCommand, tells_the_pool, tells_the_bytes, keeps_ans, forgets, knows_no_name, arms_a_breaker, finds_no_breaker, is_to_be_drawn, tells_the_layout, has_no_room, is_no_command}
+use Rattle.calc_session.specs.Reading.{IsReplyUnread, is_long, is_nothing, has_no_token, has_a_wide_number, is_no_line, is_too_deep, stores_to_ans, finds_names_full}
+use Rattle.calc_session.specs.Replies.{Reply, long}
+use Rattle.calc_session.specs.States.{State}
+use Rattle.calc_session.specs.Steps.{IsReply, is_unread, is_commanded, is_calculated, is_evaluated}
+
+clash : (b : Bool) → b ≡ true → b ≡ false → ⊥
+clash b e f = cc
+
+-- ---- a line that begins with a colon
+
+colon_behind : (before rest : List ℕ) → list_all is_blank before ≡ true → is_command (before ++ (58 ∷ rest)) ≡ true
+colon_behind [] rest h = refl
+colon_behind (b ∷ before) rest h = by (is_blank b) h (λ k. colon_behind before rest k)
+  where
+    by : (t : Bool) → (t && list_all is_blank before) ≡ true → (list_all is_blank before ≡ true → is_command (before ++ (58 ∷ rest)) ≡ true) → cond t (is_command (before ++ (58 ∷ rest))) (nat_eq b 58) ≡ true
+    by true k more = more k
+    by false k more = absurd cc
+
+asks_colon : {line : List ℕ} (a : Asked) → IsCommandLine line a → is_command line ≡ true
+asks_colon pool (asks_pool h) = ap is_command h.whole ∙ colon_behind h.before _ h.blank_before
+asks_colon dump (asks_dump h) = ap is_command h.whole ∙ colon_behind h.before _ h.blank_before
+asks_colon draw (asks_draw h) = ap is_command h.whole ∙ colon_behind h.before _ h.blank_before
+asks_colon layout (asks_layout h) = ap is_command h.whole ∙ colon_behind h.before _ h.blank_before
+asks_colon (forget x) (asks_forget h n) = ap is_command h.whole ∙ colon_behind h.before _ h.blank_before
+asks_colon (after k) (asks_after h n) = ap is_command h.whole ∙ colon_behind h.before _ h.blank_before
+asks_colon (diff x text) (asks_diff h n b) = ap is_command h.whole ∙ colon_behind h.before _ h.blank_before
+asks_colon (solve text) (asks_solve h) = ap is_command h.whole ∙ colon_behind h.before _ h.blank_before
+
+blank_line : (line : List ℕ) → list_all is_blank line ≡ true → is_command line ≡ false
+blank_line [] h = refl
+blank_line (b ∷ line) h = by (is_blank b) h (λ k. blank_line line k)
+  where
+    by : (t : Bool) → (t && list_all is_blank line) ≡ true → (list_all is_blank line ≡ true → is_command line ≡ false) → cond t (is_command line) (nat_eq b 58) ≡ false
+    by true k more = more k
+    by false k more = absurd cc
+
+-- ---- the replies to a line that asks for a calculation
+
+abbrev pub calculates : Asked → Bool
+calculates (diff x text) = true
+calculates (solve text) = true
+calculates a = false
+
+module _ (room bits : Option (Tree → ℕ)) (old : State) (before checked : List Breaker) (line : List ℕ) (a : Asked) (asked : IsCommandLine line a) (is : calculates a ≡ true) where
+  asks_that : (b : Asked) → IsCommandLine line b → calculates b ≡ true
+  asks_that b h = sym (ap calculates (once line a b asked h)) ∙ is
+
+  not_unread : {reply : Reply} → (1024 < length line → reply ≡ long → ⊥) → IsReplyUnread old.table line reply → ⊥
+  not_unread h (is_long e) = h e refl
+  not_unread h (is_nothing e b) = clash _ (asks_colon a asked) (blank_line line b)
+  not_unread h (has_no_token t f) = clash _ (asks_colon a asked) t.no_command
+  not_unread h (has_a_wide_number t f) = clash _ (asks_colon a asked) t.no_command
+  not_unread h (is_no_line t c d) = clash _ (asks_colon a asked) t.no_command
+  not_unread h (is_too_deep t c d) = clash _ (asks_colon a asked) t.no_command
+  not_unread h (stores_to_ans r e) = clash _ (asks_colon a asked) r.text.no_command
+  not_unread h (finds_names_full r e f) = clash _ (asks_colon a asked) r.text.no_command
+
+  not_commanded : {reply : Reply} → IsReplyToCommand old before checked line reply → ⊥
+  not_commanded (tells_the_pool h same) = clash _ (asks_that pool h) refl
+  not_commanded (tells_the_bytes h b) = clash _ (asks_that dump h) refl
+  not_commanded (keeps_ans {x = y} h b d) = clash _ (asks_that (forget y) h) refl
+  not_commanded (forgets {x = y} h b d f) = clash _ (asks_that (forget y) h) refl
+  not_commanded (knows_no_name {x = y} h b d f) = clash _ (asks_that (forget y) h) refl
+  not_commanded (arms_a_breaker {checks = k} h b d) = clash _ (asks_that (after k) h) refl
+  not_commanded (finds_no_breaker {checks = k} h b d) = clash _ (asks_that (after k) h) refl
+  not_commanded (is_to_be_drawn h b) = clash _ (asks_that draw h) refl
+  not_commanded (tells_the_layout h b d) = clash _ (asks_that layout h) refl
+  not_commanded (has_no_room h b d) = clash _ (asks_that layout h) refl
+  not_commanded (is_no_command n b) = n a asked
+
+  pub calculation : (reply : Reply) → (1024 < length line → reply ≡ long → ⊥) → IsReply room bits old before checked line reply → IsReplyToCalculation room bits old before checked line reply
+  calculation reply short (is_unread h same) = absurd (not_unread short h)
+  calculation reply short (is_commanded s c h) = absurd (not_commanded h)
+  calculation reply short (is_calculated s c h) = h
+  calculation reply short (is_evaluated reads h) = absurd (clash _ (asks_colon a asked) reads.reads.text.no_command)

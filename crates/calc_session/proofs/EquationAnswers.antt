@@ -1,0 +1,77 @@
+-- Lemmas on the answers to equations.
+use Rattle.std.proofs.Common.{◌≡◌, ◌∙◌, ℕ, suc, ◌<◌, ◌≤◌, List, [], length, map, Some, None, Ok, refl, sym, ap, subst, arith}
+use Rattle.std.specs.List.{AllZip}
+use Rattle.breakers.specs.State.{State as Breaker}
+use Rattle.linear_solve.specs.Equations.{Equation}
+use Rattle.linear_solve.specs.Forms.{Form, HoldLaterFreeNames, solved}
+use Rattle.linear_solve.specs.declared.solution.Solution.{Solution}
+use Rattle.linear_solve.specs.declared.solution.Solution.TheVariants as solution
+use Rattle.linear_solve.specs.Solutions.{IfNever, IfSolved, answer_told, form_told}
+use Rattle.linear_solve.specs.Told.{entries_of}
+use Rattle.linear_solve.proofs.Theorem.{forms_are_later, forms_are_many, multipliers_are_many}
+use Rattle.linear_solve.specs.Solving.{solving}
+use Rattle.name_table.specs.Filling.{NamedTree, values}
+use Rattle.name_table.specs.Tables.{Table}
+use Rattle.node_pool.specs.declared.full.Full.{Full}
+use Rattle.node_pool.specs.State.{State as PoolState, free_of}
+use Rattle.tree_handles.specs.Standing.{forest}
+use Rattle.calc_session.specs.declared.answers.LineAnswer.TheVariants as answer
+use Rattle.calc_session.specs.declared.answers.Refusal.{Refusal}
+use Rattle.calc_session.specs.declared.answers.Refusal.TheVariants as refusal
+use Rattle.calc_session.specs.declared.equations.EquationRange.{EquationRange}
+use Rattle.calc_session.specs.declared.solving.Solved.{Solved}
+use Rattle.calc_session.specs.Answers.{TellsReply, reply_of}
+use Rattle.calc_session.specs.Arguments.{bytes_before}
+use Rattle.calc_session.specs.Equations.{all_placed}
+use Rattle.calc_session.specs.Forms.{form_room}
+use Rattle.calc_session.specs.Listed.{names_listed}
+use Rattle.calc_session.specs.Ranges.{AreSplit, pieces_at}
+use Rattle.calc_session.specs.Replies.{Reply, report, text_of}
+use Rattle.calc_session.specs.RisingNames.{AreNamesOf}
+use Rattle.calc_session.specs.SolutionTexts.{solution_text}
+use Rattle.calc_session.specs.Solved.{AreSolved}
+use Rattle.calc_session.specs.Solving.{Become, equation, nothing, IsReplyToEquations, IsReplyToRead, ReadsEquation, are_linear, are_made, are_read, first_not_linear, is_told, lacks_bytes}
+use Rattle.calc_session.specs.States.{state_of}
+use Rattle.calc_session.proofs.RisingLemmas.{rises_distinct}
+use Rattle.calc_session.proofs.SolutionMeanings.{linear_in}
+use Rattle.calc_session.proofs.SessionLemmas.{refused_leaves}
+
+-- a refusal that is among the replies, of which no text is written yet
+pub tells_refusal : (IsReply : Reply → Type 0) (r : Refusal) (written : List ℕ) → IsReply (reply_of r) → written ≡ [] → TellsReply IsReply (answer.Refused r) written
+tells_refusal IsReply r written is empty = record { reply = reply_of r; reply_is = is; leaves = λ s. refused_leaves r s s refl; answer_is = refl; text_is = empty }
+
+pub tells_report : (IsReply : Reply → Type 0) (told written : List ℕ) → IsReply (report told) → written ≡ told → TellsReply IsReply answer.Report written
+unfolding text_of
+tells_report IsReply told written is e = record { reply = report told; reply_is = is; leaves = λ s. refl; answer_is = (told, refl); text_is = ap Some e }
+
+module _ (p : PoolState) (table : Table) (before after : List Breaker) (line text : List ℕ) (n : ℕ) (behind : bytes_before line text ≡ n) (rs : List EquationRange) (split : AreSplit text rs) where
+  -- where the sides are read
+  pub read_reply : (es : List Equation) (reply : Reply) → AllZip ReadsEquation (map (pieces_at n text) rs) es → IsReplyToRead (values table (forest p)) (free_of p) es before after reply → IsReplyToEquations (state_of p table) before after line text reply
+  read_reply es reply reads h = are_read split.splits split.few (subst (λ k. AllZip ReadsEquation (all_placed k split.equations) es) (sym behind) (subst (λ ps. AllZip ReadsEquation ps es) (split.placed_are n) reads)) h
+
+  -- and the equations solved
+  module _ (es built : List Equation) (left : ℕ) (s : Solved) (reads : AllZip ReadsEquation (map (pieces_at n text) rs) es) (become : Become (values table (forest p)) (free_of p) es left built) (h : AreSolved built before after s) where
+    pub solved_reply : IsReplyToEquations (state_of p table) before after line text (report (solution_text (names_listed s.names.items) (answer_told s.solution)))
+    solved_reply = read_reply es _ reads (are_made become (are_linear h.names h.few h.linear (is_told h.calculated h.checks)))
+
+    pub lacking_reply : (forms : List Form) (lack : Full) (r : Refusal) → r ≡ refusal.Full lack.needed lack.free → answer_told s.solution ≡ solved forms → lack.free < lack.needed → free_of p < form_room → IsReplyToEquations (state_of p table) before after line text (reply_of r)
+    lacking_reply forms lack r e told short room =
+        subst (λ (x : Refusal). IsReplyToEquations (state_of p table) before after line text (reply_of x)) (sym e)
+        (read_reply es _ reads (are_made become (are_linear h.names h.few h.linear (lacks_bytes {refusal = lack} (h.calculated ∙ ap Ok told) h.checks short room))))
+
+pub become_many : {vs : List NamedTree} {free left : ℕ} {es fs : List Equation} → Become vs free es left fs → length fs ≡ length es
+become_many nothing = refl
+become_many (equation a b rest) = ap suc (become_many rest)
+
+-- what is told of the forms and of the multipliers
+module _ (xs : List (List ℕ)) (es : List Equation) (names : AreNamesOf es xs) (linear : first_not_linear es ≡ None) where
+  pub forms_told : (n : ℕ) (s : Solution) → n ≡ length xs → solving xs es ≡ Ok (answer_told s) → IfSolved (Ok s) (λ forms. (length forms ≡ n) × HoldLaterFreeNames forms)
+  forms_told n (solution.Solved lines) many e =
+      let distinct = rises_distinct xs names.rising in
+      let lin = linear_in xs es names linear in
+      (forms_are_many xs es distinct lin (map form_told lines.items) e ∙ sym many, forms_are_later xs es distinct lin (map form_told lines.items) e)
+  forms_told n (solution.Never cs) many e = tt
+
+  pub multipliers_told : (s : Solution) → length es ≤ 6 → solving xs es ≡ Ok (answer_told s) → IfNever (Ok s) (λ cs. length cs ≤ 6)
+  multipliers_told (solution.Solved lines) few e = tt
+  multipliers_told (solution.Never cs) few e = omega (arith, few, multipliers_are_many xs es (rises_distinct xs names.rising) (linear_in xs es names linear) (entries_of cs) e)

@@ -1,0 +1,71 @@
+-- Lemmas on the sides of equations, as they are read and built.
+use Rattle.std.proofs.Common.{◌≡◌, ℕ, List, [], ◌∷◌, ◌++◌, Some, None, refl, sym, ap, subst, arith}
+use Rattle.calc_parser.specs.Lines.{IsLine, IsLineOver, IsTreeOf}
+use Rattle.calc_parser.proofs.Checks.{SameLine, one_line}
+use Rattle.calc_terms.specs.Trees.{Tree, depth}
+use Rattle.calc_tokens.specs.Placed.{Placed, bare}
+use Rattle.calc_tokens.specs.Scanned.{AreTokensOf}
+use Rattle.calc_tokens.proofs.OneScan.{character_or_all, wide_or_all, one_list}
+use Rattle.name_table.specs.Filling.{NamedTree, fills, values}
+use Rattle.name_table.specs.Tables.{Table}
+use Rattle.linear_solve.specs.Equations.{Equation}
+use Rattle.node_pool.specs.State.{State, free_of}
+use Rattle.dual_diff.specs.Placing.{Adds}
+use Rattle.tree_handles.specs.Handed.{Gives, tree_of}
+use Rattle.tree_handles.specs.Standing.{KeepsRefusals, Stands, forest}
+use Rattle.calc_session.specs.Arguments.{IsNoExpression, ReadsText, forms_a_deep_line, forms_a_store, forms_no_line, is_misread, meets_a_wide_number, meets_no_token}
+use Rattle.calc_session.specs.Evaluations.{made}
+use Rattle.calc_session.specs.Replies.{Reply}
+use Rattle.calc_session.specs.Solved.{BuildsSide}
+use Rattle.calc_session.specs.Solving.{AreUnmade, Become, ReadsSide, equation, nothing}
+use Rattle.calc_session.specs.Solving.{later as unmade_later}
+use Rattle.calc_session.proofs.EvaluationLemmas.{gives_told}
+
+-- ---- they are read
+
+-- the tokens that were cut are the side's
+pub side_line : (before : ℕ) {text : List ℕ} {t u : Tree} {tokens : List Placed} → ReadsSide (record { before = before; text = text }) t → ReadsText text tokens None u → IsTreeOf (bare tokens) t
+side_line before {text = text} {t = t} {tokens = tokens} (ts, r) s = (None, subst (λ (us : List Placed). IsLine (bare us) None t) (one_list text ts tokens r.cut s.cut) r.line-is)
+
+-- what reads as an expression is none that does not
+pub no_expression_reads : (before : ℕ) {text : List ℕ} {t : Tree} {reply : Reply} (n : ℕ) → ReadsSide (record { before = before; text = text }) t → IsNoExpression n text reply → ⊥
+no_expression_reads before {text = text} {t = t} n (ts, r) h = by h
+  where
+    its_line : (us : List Placed) → AreTokensOf us text → IsLine (bare us) None t
+    its_line us cut = subst (λ (vs : List Placed). IsLine (bare vs) None t) (one_list text ts us r.cut cut) r.line-is
+
+    deep : (us : List Placed) → AreTokensOf us text → IsLineOver 64 (bare us) → ⊥
+    deep us cut over =
+        let same : SameLine over.store None over.tree t = one_line (bare us) over.store None over.tree t over.line (its_line us cut) in
+        let shallow = r.shallow in
+        omega (arith, over.over, shallow, ap depth same.trees)
+
+    clash : (x : List ℕ) → Some x ≡ None → ⊥
+    clash x e = cc
+
+    by : {reply : Reply} → IsNoExpression n text reply → ⊥
+    by (is_misread (meets_no_token {at} f)) = character_or_all text at ts f r.cut
+    by (is_misread (meets_a_wide_number {at} f)) = wide_or_all text at ts f r.cut
+    by (is_misread (forms_no_line {tokens} cut denied)) = denied None t (its_line tokens cut)
+    by (is_misread (forms_a_deep_line {tokens} cut over)) = deep tokens cut over
+    by (forms_a_store {tokens} {x} {t = u} s) = clash x (one_line (bare tokens) (Some x) None u t s.line-is (its_line tokens s.cut)).stores
+
+-- ---- they are built
+
+pub builds_side : (table : Table) (old new : State) (t : Tree) (h id : ℕ) {P : Tree → Type 0} → Gives (forest old) (forest new) h P → made (free_of old) (values table (forest old)) t ≡ fills (free_of new) (tree_of h new) → KeepsRefusals old new → Stands new → id ≡ h → BuildsSide table old new t id
+builds_side table old new t h id g m k st e = record {
+  built = tree_of h new;
+  is_made = m;
+  adds = subst (λ (i : ℕ). Adds old new (tree_of h new) i) (sym e) (record { gives = gives_told (λ u. u ≡ tree_of h new) g refl; kept = k; stands = st });
+}
+
+-- one more equation
+pub become_more : {vs : List NamedTree} {free left : ℕ} {es fs : List Equation} → Become vs free es left fs → (e : Equation) (between behind : ℕ) (l r : Tree) → made left vs e.left ≡ fills between l → made between vs e.right ≡ fills behind r
+    → Become vs free (es ++ e ∷ []) behind (fs ++ record { left = l; right = r } ∷ [])
+become_more nothing e between behind l r p q = equation p q nothing
+become_more (equation a b rest) e between behind l r p q = equation a b (become_more rest e between behind l r p q)
+
+-- what is not made behind those that are
+pub unmade_behind : {vs : List NamedTree} {free left : ℕ} {es fs gs : List Equation} {reply : Reply} → Become vs free es left fs → AreUnmade vs left gs reply → AreUnmade vs free (es ++ gs) reply
+unmade_behind nothing h = h
+unmade_behind (equation a b rest) h = unmade_later a b (unmade_behind rest h)

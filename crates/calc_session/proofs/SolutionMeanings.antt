@@ -1,0 +1,157 @@
+-- What the texts of solutions say is so.
+use Rattle.std.proofs.Common.{◌≡◌, ◌∙◌, ◌↔◌, ◌<◌, ◌≤◌, inl, inr, ℕ, zero, suc, List, [], ◌∷◌, length, get_or, map, Bool, true, false, not, cond, Option, Some, None, Ok, refl, sym, subst, arith}
+use Rattle.std.specs.Prelude.{All, nat_lt, ◌==◌, if◌then◌else◌, ⊤}
+use Rattle.std.specs.List.{AllZip, enumerate_from, position_or_len}
+use Rattle.std.proofs.lemmas.Bool.{and_parts, ltb-false, not-false}
+use Rattle.std.proofs.lemmas.List.FromFn.{length-map-range_with_len}
+use Rattle.std.proofs.lemmas.List.Sums.{fails_before_first}
+use Rattle.breakers.specs.State.{State as Breaker}
+use Rattle.beautify.proofs.FaceLaws.{reduced_face_means}
+use Rattle.calc_algebra.specs.Meanings.{Assignment, Gives, IsAssignment, Means}
+use Rattle.calc_algebra.specs.Surds.{surd_of}
+use Rattle.calc_algebra.proofs.TermLaws.{Same-refl}
+use Rattle.calc_language.specs.Faces.{face}
+use Rattle.calc_terms.specs.Fractions.{Fraction, negative, plus, zero_fraction}
+use Rattle.calc_terms.specs.Trees.{symbol, names}
+use Rattle.linear_solve.specs.Elimination.{Rows, equation_rows, first_with, row_at, settled_up_to}
+use Rattle.linear_solve.specs.Equations.{Assigns, Equation, IsLinearIn, SolvesAll}
+use Rattle.linear_solve.specs.Fitting.{and_then}
+use Rattle.linear_solve.specs.Forms.{Answer, never, solved, Form, free, bound, HasItsValue, HaveTheirValues, answer_of, answer_with, form_of, forms_of, multipliers}
+use Rattle.linear_solve.specs.Rows.{Row, entry, worth}
+use Rattle.linear_solve.specs.Solving.{solving}
+use Rattle.linear_solve.proofs.Calculations.{both, ok_is}
+use Rattle.linear_solve.proofs.Meanings.{one_rational_meaning}
+use Rattle.linear_solve.proofs.Theorem.{forms_are_later, forms_are_many, multipliers_are_many, never_solved, one_from, solved_where}
+use Rattle.calc_session.specs.Replies.{Reply, report}
+use Rattle.calc_session.specs.RisingNames.{AreNamesOf, IsNameIn, Rises}
+use Rattle.calc_session.specs.SolutionTexts.{form_tree, solution_text}
+use Rattle.calc_session.specs.SolutionsMeant.{HasPrintedValue, TellsSolutions, tells_forms, tells_none}
+use Rattle.calc_session.specs.Solving.{IsSolution, does_not_fit, first_not_linear, is_interrupted, is_linear_equation, is_told, lacks_bytes}
+use Rattle.calc_session.proofs.FormLemmas.{form_means, form_reduced}
+use Rattle.calc_session.proofs.RisingLemmas.{rises_distinct}
+
+-- ---- the equations are linear in their names
+
+none_at : (es : List Equation) (k : ℕ) (d : Equation) → first_not_linear es ≡ None → k < length es → is_linear_equation (get_or es k d) ≡ true
+none_at es k d e l = not-false _ (fails_before_first (λ (x : Equation). not (is_linear_equation x)) es k d (past (position_or_len (λ (x : Equation). not (is_linear_equation x)) es) e))
+  where
+    past : (m : ℕ) → cond (nat_lt m (length es)) (Some m) None ≡ None → k < m
+    past m e = by (nat_lt m (length es)) refl e
+      where
+        by : (b : Bool) → nat_lt m (length es) ≡ b → cond b (Some m) None ≡ None → k < m
+        by true f e = cc
+        by false f e = let h : length es ≤ m = ltb-false m (length es) f in omega (arith, h, l)
+
+name_in : (es : List Equation) (k : ℕ) (d : Equation) (x : List ℕ) → k < length es → IsNameIn (get_or es k d ∷ []) x → IsNameIn es x
+name_in [] k d x l h = absurd (omega (arith, l))
+name_in (e ∷ es) zero d x l (inl h) = inl h
+name_in (e ∷ es) zero d x l (inr h) = absurd h
+name_in (e ∷ es) (suc k) d x l h = inr (name_in es k d x (omega (arith, l)) h)
+
+pub linear_in : (xs : List (List ℕ)) (es : List Equation) → AreNamesOf es xs → first_not_linear es ≡ None → All (IsLinearIn xs) es
+linear_in xs es names e k d l =
+    let (left, right) = and_parts _ _ (none_at es k d e l) in
+    record {
+      left = left;
+      right = right;
+      left_names = λ x c. (names.all x).1 (name_in es k d x l (inl (inl c)));
+      right_names = λ x c. (names.all x).1 (name_in es k d x l (inl (inr c)));
+    }
+
+-- ---- a form has at most as many multiples as there are names
+
+abbrev pub IsWide : ℕ → Form → Type 0
+IsWide n free = ⊤
+IsWide n (bound q qs) = length qs ≤ n
+
+abbrev pub AreWide : ℕ → List Form → Type 0
+AreWide n [] = ⊤
+AreWide n (form ∷ forms) = IsWide n form × AreWide n forms
+
+wide_form : (n at : ℕ) (r : Option Row) → IsWide n (form_of n at r)
+wide_form n at None = tt
+wide_form n at (Some r) = omega (arith, length-map-range_with_len (λ (j : ℕ). if j == at then zero_fraction else negative (entry j r)) 0 n)
+
+wide_forms : (n : ℕ) (ps : List (ℕ × Option Row)) → AreWide n (map (λ (p : ℕ × Option Row). form_of n p.0 p.1) ps)
+wide_forms n [] = tt
+wide_forms n (p ∷ ps) = (wide_form n p.0 p.1, wide_forms n ps)
+
+forms_wide : (xs : List (List ℕ)) (es : List Equation) (forms : List Form) → solving xs es ≡ Ok (solved forms) → AreWide (length xs) forms
+unfolding solving
+forms_wide xs es forms e =
+    let (rows, p, e1) = both (equation_rows xs es) (λ rows. and_then (settled_up_to (length xs) (record { pivots = []; left = rows })) (λ s. answer_of (length xs) s)) (solved forms) e in
+    let (s, q, e2) = both (settled_up_to (length xs) (record { pivots = []; left = rows })) (λ s. answer_of (length xs) s) (solved forms) e1 in
+    by s (first_with (length xs) s.left) e2
+  where
+    by : (s : Rows) (at : Option ℕ) → answer_with (length xs) at s ≡ Ok (solved forms) → AreWide (length xs) forms
+    by s None e = subst (AreWide (length xs)) (same (ok_is _ _ e)) (wide_forms (length xs) (enumerate_from 0 s.pivots))
+      where
+        same : solved (forms_of (length xs) s.pivots) ≡ solved forms → forms_of (length xs) s.pivots ≡ forms
+        same e = cc
+    by s (Some at) e = let (cs, p, q) = both (multipliers (length xs) (row_at at s.left)) (λ cs. Ok (never cs)) (solved forms) e in absurd (clash cs (ok_is _ _ q))
+      where
+        clash : (cs : List Fraction) → never cs ≡ solved forms → ⊥
+        clash cs e = cc
+
+-- ---- a name has the value of its form where it has that of the tree that is printed
+
+module _ (f : Assignment) (once : IsAssignment f) (xs : List (List ℕ)) (vs : List Fraction) (gives : Assigns f xs vs) (rises : Rises xs) where
+  printed_means : (q : Fraction) (qs : List Fraction) → length qs ≤ length xs → Means (face (form_tree xs q qs)) f (surd_of (plus q (worth qs vs)))
+  printed_means q qs l = reduced_face_means (form_tree xs q qs) (form_reduced xs q qs rises) f (surd_of (plus q (worth qs vs))) (form_means f xs q qs vs gives l)
+
+  value_printed : (x : List ℕ) (v : Fraction) (form : Form) → Gives f x v → IsWide (length xs) form → HasItsValue vs form v → HasPrintedValue f xs x form
+  value_printed x v free g w h = tt
+  value_printed x v (bound q qs) g w h = (v, g, subst (λ (u : Fraction). Means (face (form_tree xs q qs)) f (surd_of u)) (sym h) (printed_means q qs w))
+
+  printed_value : (x : List ℕ) (v : Fraction) (form : Form) → Gives f x v → IsWide (length xs) form → HasPrintedValue f xs x form → HasItsValue vs form v
+  printed_value x v free g w h = tt
+  printed_value x v (bound q qs) g w (u, gu, m) =
+      one_rational_meaning f once (symbol x) v u (v, g, Same-refl (surd_of v)) (u, gu, Same-refl (surd_of u))
+      ∙ one_rational_meaning f once (face (form_tree xs q qs)) u (plus q (worth qs vs)) m (printed_means q qs w)
+
+  all_printed : (ys : List (List ℕ)) (us : List Fraction) (forms : List Form) → Assigns f ys us → AreWide (length xs) forms → AllZip (HasItsValue vs) forms us → AllZip (HasPrintedValue f xs) ys forms
+  all_printed [] [] [] g w h = tt
+  all_printed [] [] (form ∷ forms) g w h = absurd h
+  all_printed [] (u ∷ us) forms g w h = absurd g
+  all_printed (y ∷ ys) [] forms g w h = absurd g
+  all_printed (y ∷ ys) (u ∷ us) [] g w h = absurd h
+  all_printed (y ∷ ys) (u ∷ us) (form ∷ forms) g w h = (value_printed y u form g.0 w.0 h.0, all_printed ys us forms g.1 w.1 h.1)
+
+  all_values : (ys : List (List ℕ)) (us : List Fraction) (forms : List Form) → Assigns f ys us → AreWide (length xs) forms → AllZip (HasPrintedValue f xs) ys forms → AllZip (HasItsValue vs) forms us
+  all_values [] [] [] g w h = tt
+  all_values [] [] (form ∷ forms) g w h = absurd h
+  all_values [] (u ∷ us) forms g w h = absurd g
+  all_values (y ∷ ys) [] forms g w h = absurd g
+  all_values (y ∷ ys) (u ∷ us) [] g w h = absurd h
+  all_values (y ∷ ys) (u ∷ us) (form ∷ forms) g w h = (printed_value y u form g.0 w.0 h.0, all_values ys us forms g.1 w.1 h.1)
+
+-- ---- the texts
+
+module _ (xs : List (List ℕ)) (es : List Equation) (are : AreNamesOf es xs) (linear : first_not_linear es ≡ None) where
+  says_forms : (forms : List Form) → solving xs es ≡ Ok (solved forms) → TellsSolutions es (solution_text xs (solved forms))
+  says_forms forms e =
+      let distinct = rises_distinct xs are.rising in
+      let lin = linear_in xs es are linear in
+      let wide = forms_wide xs es forms e in
+      tells_forms forms are (forms_are_many xs es distinct lin forms e) (forms_are_later xs es distinct lin forms e) (λ f vs once gives.
+      let w : SolvesAll f es ↔ HaveTheirValues forms vs = solved_where xs es distinct lin f vs once gives forms e in
+      (λ s. all_printed f once xs vs gives are.rising xs vs forms gives wide (w.0 s), λ h. w.1 (all_values f once xs vs gives are.rising xs vs forms gives wide h)))
+
+  says_none : (cs : List Fraction) → solving xs es ≡ Ok (never cs) → TellsSolutions es (solution_text xs (never cs))
+  says_none cs e =
+      let distinct = rises_distinct xs are.rising in
+      let lin = linear_in xs es are linear in
+      tells_none cs are (multipliers_are_many xs es distinct lin cs e) (λ f vs ls rs once gives hl hr. one_from xs es distinct lin f vs once gives cs ls rs e hl hr) (λ f vs once gives. never_solved xs es distinct lin f vs once gives cs e)
+
+  says : (answer : Answer) → solving xs es ≡ Ok answer → TellsSolutions es (solution_text xs answer)
+  says (never cs) e = says_none cs e
+  says (solved forms) e = says_forms forms e
+
+  pub told_says : (room : ℕ) (before after : List Breaker) (told : List ℕ) (reply : Reply) → reply ≡ report told → IsSolution room xs es before after reply → TellsSolutions es told
+  told_says room before after told reply e (is_interrupted {by} t) = absurd cc
+  told_says room before after told reply e (does_not_fit {m} s c) = absurd cc
+  told_says room before after told reply e (lacks_bytes s c l short) = absurd cc
+  told_says room before after told reply e (is_told {answer} s c) = subst (TellsSolutions es) (same (solution_text xs answer) e) (says answer s)
+    where
+      same : (t : List ℕ) → report t ≡ report told → t ≡ told
+      same t e = cc

@@ -1,0 +1,51 @@
+-- A text is read in one way, and what is not made is no report.
+use Rattle.std.proofs.Common.{◌≡◌, ◌∙◌, ℕ, List, Option, Some, None, sym, ap, subst, arith}
+use Rattle.calc_parser.specs.Lines.{IsLine}
+use Rattle.calc_parser.proofs.Checks.{SameLine, one_line}
+use Rattle.calc_terms.specs.Trees.{Tree, depth}
+use Rattle.calc_tokens.specs.Placed.{Placed, bare}
+use Rattle.calc_tokens.specs.Scanned.{AreTokensOf}
+use Rattle.calc_tokens.proofs.OneScan.{character_or_all, wide_or_all, one_list}
+use Rattle.name_table.specs.Filling.{Filling, lacks, too_deep, fills}
+use Rattle.node_pool.specs.declared.full.Full.{Full}
+use Rattle.calc_session.specs.Arguments.{meets_no_token, meets_a_wide_number, forms_no_line, forms_a_deep_line, IsNoExpression, is_misread, forms_a_store, ReadsText}
+use Rattle.calc_session.specs.Evaluations.{Unmade}
+use Rattle.calc_session.specs.Replies.{Reply, report, deep, full}
+
+pub misread_unreported : {n : ℕ} {text : List ℕ} (reply : Reply) (told : List ℕ) → IsNoExpression n text reply → reply ≡ report told → ⊥
+misread_unreported reply told (is_misread (meets_no_token f)) e = cc
+misread_unreported reply told (is_misread (meets_a_wide_number f)) e = cc
+misread_unreported reply told (is_misread (forms_no_line c d)) e = cc
+misread_unreported reply told (is_misread (forms_a_deep_line c d)) e = cc
+misread_unreported reply told (forms_a_store r) e = cc
+
+pub unmade_unreported : (making : Filling) (reply : Reply) (told : List ℕ) → Unmade making reply → reply ≡ report told → ⊥
+unmade_unreported (lacks refusal) reply told u e = clash_full refusal (sym u ∙ e)
+  where
+    clash_full : (r : Full) → full r ≡ report told → ⊥
+    clash_full r k = cc
+unmade_unreported too_deep reply told u e = clash_deep (sym u ∙ e)
+  where
+    clash_deep : deep ≡ report told → ⊥
+    clash_deep k = cc
+unmade_unreported (fills left t) reply told u e = absurd u
+
+pub no_store : (y : List ℕ) → None ≡ Some y → ⊥
+no_store y e = cc
+
+module _ (text : List ℕ) {tokens : List Placed} {tree : Tree} (reads : ReadsText text tokens None tree) where
+  pub one_text : {others : List Placed} {store : Option (List ℕ)} {other : Tree} → ReadsText text others store other → SameLine None store tree other
+  one_text {others} {store} {other} r = one_line (bare others) None store tree other (subst (λ (ts : List Placed). IsLine (bare ts) None tree) (one_list text tokens others reads.cut r.cut) reads.line-is) r.line-is
+
+  its_line : {others : List Placed} → AreTokensOf others text → IsLine (bare others) None tree
+  its_line {others} cut = subst (λ (ts : List Placed). IsLine (bare ts) None tree) (one_list text tokens others reads.cut cut) reads.line-is
+
+  pub read_at_all : {n : ℕ} {reply : Reply} → IsNoExpression n text reply → ⊥
+  read_at_all (is_misread (meets_no_token {at = at} f)) = character_or_all text at tokens f reads.cut
+  read_at_all (is_misread (meets_a_wide_number {at = at} f)) = wide_or_all text at tokens f reads.cut
+  read_at_all (is_misread (forms_no_line cut denied)) = denied None tree (its_line cut)
+  read_at_all (is_misread (forms_a_deep_line {tokens = others} cut over)) =
+      let same = one_line (bare others) None over.store tree over.tree (its_line cut) over.line in
+      let shallow = reads.shallow in
+      omega (arith, over.over, shallow, ap depth same.trees)
+  read_at_all (forms_a_store {x = y} r) = no_store y (one_text r).stores

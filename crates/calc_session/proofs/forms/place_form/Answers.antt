@@ -1,0 +1,64 @@
+use Rattle.std.proofs.Common.{◌∙◌, ◌≤◌, [], map, sym, ap, arith}
+use Rattle.calc_terms.specs.declared.kind.Kind.TheVariants as kind
+use Rattle.calc_terms.specs.Leaf.{name_of}
+use Rattle.calc_terms.specs.Payload.{bare, size_of_payload}
+use Rattle.calc_terms.specs.Rat.{value_of}
+use Rattle.calc_terms.specs.Trees.{sizes}
+use Rattle.dual_diff.proofs.Added.{added_begin, added_few, adds_free}
+use Rattle.linear_solve.specs.Told.{entries_of}
+use Rattle.node_pool.specs.State.{free_of}
+use Rattle.calc_session.specs.SolutionTexts.{form_tree, multiples, summands}
+use Rattle.calc_session.proofs.PlacingLemmas.{constant_first, form_many, form_none, front_node, front_of_all, nothing_is, placed_as, summands_sizes, zero_size}
+use Rattle.calc_session.proofs.forms.place_form.Goals as goal
+
+pub returns-in_err-placed-2-clause-enough : goal.returns-in_err-placed-2-clause-enough
+returns-in_err-placed-2-clause-enough c = λ room.
+    let xs = map name_of c.args.names.now in
+    let qs = entries_of c.args.coefs.now in
+    let fits : sizes (multiples xs qs) ≤ free_of c.place_constant.new.pool = omega (arith, room, adds_free c.requires.stands c.in_ok-placed.ensures.ok.adds, summands_sizes xs (value_of c.args.constant) qs) in
+    absurd (cc (c.in_err-placed-2.ensures.enough fits))
+
+pub node_over_last-requires-clause-few : goal.node_over_last-requires-clause-few
+node_over_last-requires-clause-few c =
+    let b = c.in_ok-placed-2.ensures.ok c.args.pool.now (summands [] (value_of c.args.constant) []) c.requires.stands c.in_ok-placed.ensures.ok in
+    omega (arith, added_few b.adds, b.trees)
+
+pub node_over_last-requires-clause-begin : goal.node_over_last-requires-clause-begin
+node_over_last-requires-clause-begin c =
+    let b = c.in_ok-placed-2.ensures.ok c.args.pool.now (summands [] (value_of c.args.constant) []) c.requires.stands c.in_ok-placed.ensures.ok in
+    c.used-begin.ensures.value ∙ added_begin c.in_ok-placed-2.placed.trees c.requires.stands b.adds (sym b.trees)
+
+pub returns-in-None-clause-ok : goal.returns-in-None-clause-ok
+returns-in-None-clause-ok c =
+    let xs = map name_of c.args.names.now in
+    let qs = entries_of c.args.coefs.now in
+    let b = placed_as (c.in_ok-placed-2.ensures.ok c.args.pool.now (summands [] (value_of c.args.constant) []) c.requires.stands c.in_ok-placed.ensures.ok) (constant_first xs (value_of c.args.constant) qs) in
+    form_none c.number.result c.whole.result c.args.pool.now c.place_multiples.new.pool c.number.new.pool (summands xs (value_of c.args.constant) qs) c.in_ok-placed-2.placed c.whole.ensures b c.in-None.is c.number.ensures.given c.number.ensures.kept c.number.ensures.stands
+
+pub returns-in-None-clause-enough : goal.returns-in-None-clause-enough
+returns-in-None-clause-enough c = λ room.
+    let b = c.in_ok-placed-2.ensures.ok c.args.pool.now (summands [] (value_of c.args.constant) []) c.requires.stands c.in_ok-placed.ensures.ok in
+    let none = nothing_is _ c.in_ok-placed-2.placed c.args.pool.now c.place_multiples.new.pool b c.in-None.is in
+    c.number.ensures.exactly.1 (omega (arith, room, adds_free c.requires.stands b.adds, ap sizes none, zero_size c.whole.result c.whole.ensures))
+
+pub returns-in-Some-2-clause-ok : goal.returns-in-Some-2-clause-ok
+returns-in-Some-2-clause-ok c =
+    let xs = map name_of c.args.names.now in
+    let qs = entries_of c.args.coefs.now in
+    let b = placed_as (c.in_ok-placed-2.ensures.ok c.args.pool.now (summands [] (value_of c.args.constant) []) c.requires.stands c.in_ok-placed.ensures.ok) (constant_first xs (value_of c.args.constant) qs) in
+    form_many c.node_over_last.result c.in-Some-2.field-0 c.args.pool.now c.place_multiples.new.pool c.node_over_last.new.pool (summands xs (value_of c.args.constant) qs) c.in_ok-placed-2.placed b c.in-Some-2.is c.if-placed-eq1.false c.node_over_last.ensures.ok c.node_over_last.ensures.kept c.node_over_last.ensures.stands
+
+pub returns-in-Some-2-clause-enough : goal.returns-in-Some-2-clause-enough
+returns-in-Some-2-clause-enough c = λ room.
+    let xs = map name_of c.args.names.now in
+    let qs = entries_of c.args.coefs.now in
+    let b = placed_as (c.in_ok-placed-2.ensures.ok c.args.pool.now (summands [] (value_of c.args.constant) []) c.requires.stands c.in_ok-placed.ensures.ok) (constant_first xs (value_of c.args.constant) qs) in
+    c.node_over_last.ensures.exactly.1 (omega (arith, room, adds_free c.requires.stands b.adds))
+
+pub returns-in-Some-2-clause-front : goal.returns-in-Some-2-clause-front
+returns-in-Some-2-clause-front c =
+    let xs = map name_of c.args.names.now in
+    let qs = entries_of c.args.coefs.now in
+    let b = placed_as (c.in_ok-placed-2.ensures.ok c.args.pool.now (summands [] (value_of c.args.constant) []) c.requires.stands c.in_ok-placed.ensures.ok) (constant_first xs (value_of c.args.constant) qs) in
+    let made = form_many c.node_over_last.result c.in-Some-2.field-0 c.args.pool.now c.place_multiples.new.pool c.node_over_last.new.pool (summands xs (value_of c.args.constant) qs) c.in_ok-placed-2.placed b c.in-Some-2.is c.if-placed-eq1.false c.node_over_last.ensures.ok c.node_over_last.ensures.kept c.node_over_last.ensures.stands in
+    front_node c.node_over_last.result (size_of_payload (bare kind.Add)) c.args.pool.now c.place_multiples.new.pool c.node_over_last.new.pool (form_tree xs (value_of c.args.constant) qs) made c.node_over_last.ensures.full (front_of_all b.adds)

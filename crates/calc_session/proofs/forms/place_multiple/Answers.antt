@@ -1,0 +1,69 @@
+use Rattle.std.proofs.Common.{◌≡◌, ◌≤◌, ◌∙◌, true, false, refl, sym, ap, arith}
+use Rattle.calc_terms.specs.declared.kind.Kind.TheVariants as kind
+use Rattle.calc_terms.specs.Fractions.{is_one_fraction}
+use Rattle.calc_terms.specs.Leaf.{name_of}
+use Rattle.calc_terms.specs.Payload.{named, rational, size_of_payload, bare}
+use Rattle.calc_terms.specs.Rat.{ratio_of, value_of}
+use Rattle.calc_terms.specs.Trees.{num, symbol, mult, none, more, size}
+use Rattle.dual_diff.specs.Placing.{AddsAll}
+use Rattle.dual_diff.proofs.Added.{added_begin, added_few, adds_free, adds_join}
+use Rattle.node_pool.specs.State.{free_of}
+use Rattle.calc_session.specs.SolutionTexts.{multiple_of}
+use Rattle.calc_session.proofs.PlacingLemmas.{adds_by, adds_node, adds_placed, front_of_all, front_node, not_once, not_one_den, once, tests_one, tests_other}
+use Rattle.calc_session.proofs.forms.place_multiple.Goals as goal
+use Rattle.calc_session.proofs.forms.place_multiple.Goals.{else-num-eq1-via-then-num-eq1+else-is_whole, else-num-eq1-via-else-num-eq1}
+
+pub returns-then-is_whole-clause-ok : goal.returns-then-is_whole-clause-ok
+returns-then-is_whole-clause-ok c =
+    let is : is_one_fraction (value_of c.args.coef) ≡ true = tests_one c.args.coef c.num.result c.num.ensures.value c.if-num-eq1.true (c.if-is_whole.ensures.0 refl) in
+    adds_by c.symbol.result c.args.pool.now c.symbol.new.pool (symbol (name_of c.args.name)) (multiple_of (value_of c.args.coef) (name_of c.args.name)) (sym (once (value_of c.args.coef) (name_of c.args.name) is)) c.symbol.ensures.given c.symbol.ensures.kept c.symbol.ensures.stands
+
+pub returns-then-is_whole-clause-enough : goal.returns-then-is_whole-clause-enough
+returns-then-is_whole-clause-enough c = λ room.
+    let is : is_one_fraction (value_of c.args.coef) ≡ true = tests_one c.args.coef c.num.result c.num.ensures.value c.if-num-eq1.true (c.if-is_whole.ensures.0 refl) in
+    c.symbol.ensures.exactly.1 (omega (arith, room, ap size (once (value_of c.args.coef) (name_of c.args.name) is)))
+
+pub returns-in_err-number-clause-enough : goal.returns-in_err-number-clause-enough
+returns-in_err-number-clause-enough c = λ room.
+    let no : is_one_fraction (value_of c.args.coef) ≡ false = elim c.else-num-eq1.branch [ else-num-eq1-via-then-num-eq1+else-is_whole w ↦ not_one_den c.args.coef (λ d. cc (w.if-is_whole.ensures.1 d)) | else-num-eq1-via-else-num-eq1 w ↦ tests_other c.args.coef c.num.result c.num.ensures.value w.if-num-eq1.false ] in
+    let whole : multiple_of (value_of c.args.coef) (name_of c.args.name) ≡ mult (more (num (value_of c.args.coef)) (more (symbol (name_of c.args.name)) none)) = not_once (value_of c.args.coef) (name_of c.args.name) no in
+    let fits : size_of_payload (rational (ratio_of c.args.coef)) ≤ free_of c.args.pool.now = omega (arith, room, ap size whole) in
+    absurd (cc (c.in_err-number.ensures.exactly.1 fits))
+
+pub returns-in_err-symbol-clause-enough : goal.returns-in_err-symbol-clause-enough
+returns-in_err-symbol-clause-enough c = λ room.
+    let no : is_one_fraction (value_of c.args.coef) ≡ false = elim c.else-num-eq1.branch [ else-num-eq1-via-then-num-eq1+else-is_whole w ↦ not_one_den c.args.coef (λ d. cc (w.if-is_whole.ensures.1 d)) | else-num-eq1-via-else-num-eq1 w ↦ tests_other c.args.coef c.num.result c.num.ensures.value w.if-num-eq1.false ] in
+    let whole : multiple_of (value_of c.args.coef) (name_of c.args.name) ≡ mult (more (num (value_of c.args.coef)) (more (symbol (name_of c.args.name)) none)) = not_once (value_of c.args.coef) (name_of c.args.name) no in
+    let first : AddsAll c.args.pool.now c.number.new.pool (more (num (value_of c.args.coef)) none) = adds_placed c.requires.stands c.in_ok-number.ensures.given c.in_ok-number.ensures.kept c.in_ok-number.ensures.stands in
+    let fits : size_of_payload (named (name_of c.args.name)) ≤ free_of c.number.new.pool = omega (arith, room, ap size whole, adds_free c.requires.stands first) in
+    absurd (cc (c.in_err-symbol.ensures.exactly.1 fits))
+
+pub node_over_last-requires-clause-few : goal.node_over_last-requires-clause-few
+node_over_last-requires-clause-few c =
+    let both : AddsAll c.args.pool.now c.symbol-2.new.pool (more (num (value_of c.args.coef)) (more (symbol (name_of c.args.name)) none)) = adds_join (adds_placed c.requires.stands c.in_ok-number.ensures.given c.in_ok-number.ensures.kept c.in_ok-number.ensures.stands) (adds_placed c.in_ok-number.ensures.stands c.in_ok-symbol.ensures.given c.in_ok-symbol.ensures.kept c.in_ok-symbol.ensures.stands) in
+    omega (arith, added_few both)
+
+pub node_over_last-requires-clause-begin : goal.node_over_last-requires-clause-begin
+node_over_last-requires-clause-begin c =
+    let both : AddsAll c.args.pool.now c.symbol-2.new.pool (more (num (value_of c.args.coef)) (more (symbol (name_of c.args.name)) none)) = adds_join (adds_placed c.requires.stands c.in_ok-number.ensures.given c.in_ok-number.ensures.kept c.in_ok-number.ensures.stands) (adds_placed c.in_ok-number.ensures.stands c.in_ok-symbol.ensures.given c.in_ok-symbol.ensures.kept c.in_ok-symbol.ensures.stands) in
+    c.used-begin.ensures.value ∙ added_begin 2 c.requires.stands both refl
+
+pub returns-clause-ok : goal.returns-clause-ok
+returns-clause-ok c =
+    let no : is_one_fraction (value_of c.args.coef) ≡ false = elim c.else-num-eq1.branch [ else-num-eq1-via-then-num-eq1+else-is_whole w ↦ not_one_den c.args.coef (λ d. cc (w.if-is_whole.ensures.1 d)) | else-num-eq1-via-else-num-eq1 w ↦ tests_other c.args.coef c.num.result c.num.ensures.value w.if-num-eq1.false ] in
+    let whole : multiple_of (value_of c.args.coef) (name_of c.args.name) ≡ mult (more (num (value_of c.args.coef)) (more (symbol (name_of c.args.name)) none)) = not_once (value_of c.args.coef) (name_of c.args.name) no in
+    let both : AddsAll c.args.pool.now c.symbol-2.new.pool (more (num (value_of c.args.coef)) (more (symbol (name_of c.args.name)) none)) = adds_join (adds_placed c.requires.stands c.in_ok-number.ensures.given c.in_ok-number.ensures.kept c.in_ok-number.ensures.stands) (adds_placed c.in_ok-number.ensures.stands c.in_ok-symbol.ensures.given c.in_ok-symbol.ensures.kept c.in_ok-symbol.ensures.stands) in
+    adds_node c.node_over_last.result kind.Mult 2 c.args.pool.now c.symbol-2.new.pool c.node_over_last.new.pool (more (num (value_of c.args.coef)) (more (symbol (name_of c.args.name)) none)) (multiple_of (value_of c.args.coef) (name_of c.args.name)) (sym whole) both refl refl c.node_over_last.ensures.ok c.node_over_last.ensures.kept c.node_over_last.ensures.stands
+
+pub returns-clause-enough : goal.returns-clause-enough
+returns-clause-enough c = λ room.
+    let no : is_one_fraction (value_of c.args.coef) ≡ false = elim c.else-num-eq1.branch [ else-num-eq1-via-then-num-eq1+else-is_whole w ↦ not_one_den c.args.coef (λ d. cc (w.if-is_whole.ensures.1 d)) | else-num-eq1-via-else-num-eq1 w ↦ tests_other c.args.coef c.num.result c.num.ensures.value w.if-num-eq1.false ] in
+    let whole : multiple_of (value_of c.args.coef) (name_of c.args.name) ≡ mult (more (num (value_of c.args.coef)) (more (symbol (name_of c.args.name)) none)) = not_once (value_of c.args.coef) (name_of c.args.name) no in
+    let both : AddsAll c.args.pool.now c.symbol-2.new.pool (more (num (value_of c.args.coef)) (more (symbol (name_of c.args.name)) none)) = adds_join (adds_placed c.requires.stands c.in_ok-number.ensures.given c.in_ok-number.ensures.kept c.in_ok-number.ensures.stands) (adds_placed c.in_ok-number.ensures.stands c.in_ok-symbol.ensures.given c.in_ok-symbol.ensures.kept c.in_ok-symbol.ensures.stands) in
+    c.node_over_last.ensures.exactly.1 (omega (arith, room, ap size whole, adds_free c.requires.stands both))
+
+pub returns-clause-front : goal.returns-clause-front
+returns-clause-front c =
+    let both : AddsAll c.args.pool.now c.symbol-2.new.pool (more (num (value_of c.args.coef)) (more (symbol (name_of c.args.name)) none)) = adds_join (adds_placed c.requires.stands c.in_ok-number.ensures.given c.in_ok-number.ensures.kept c.in_ok-number.ensures.stands) (adds_placed c.in_ok-number.ensures.stands c.in_ok-symbol.ensures.given c.in_ok-symbol.ensures.kept c.in_ok-symbol.ensures.stands) in
+    let made = adds_node c.node_over_last.result kind.Mult 2 c.args.pool.now c.symbol-2.new.pool c.node_over_last.new.pool (more (num (value_of c.args.coef)) (more (symbol (name_of c.args.name)) none)) (mult (more (num (value_of c.args.coef)) (more (symbol (name_of c.args.name)) none))) refl both refl refl c.node_over_last.ensures.ok c.node_over_last.ensures.kept c.node_over_last.ensures.stands in
+    front_node c.node_over_last.result (size_of_payload (bare kind.Mult)) c.args.pool.now c.symbol-2.new.pool c.node_over_last.new.pool (mult (more (num (value_of c.args.coef)) (more (symbol (name_of c.args.name)) none))) made c.node_over_last.ensures.full (front_of_all both)

@@ -1,0 +1,8 @@
+use Rattle.std.proofs.Common.{map}
+use Rattle.calc_terms.specs.Leaf.{name_of}
+use Rattle.linear_solve.specs.Told.{entries_of}
+use Rattle.calc_session.proofs.PlacingLemmas.{AreFirst}
+use Rattle.calc_session.proofs.forms.place_multiples.Given as goal
+
+abbrev pub invariant-loop-at : goal.invariant-loop-at
+invariant-loop-at l = AreFirst (map name_of l.names) (entries_of l.coefs) l.fn.pool l.fn.placed l.at l.pool l.placed

@@ -1,0 +1,12 @@
+use Rattle.std.proofs.Common.{◌≡◌, ◌≤◌, ◌+◌, ◌*◌, ◌++◌, codes, length, map, take}
+use Rattle.linear_solve.specs.Told.{entries_of}
+use Rattle.calc_session.specs.Replies.{operand_text}
+use Rattle.calc_session.specs.SolutionTexts.{with_commas}
+use Rattle.calc_session.proofs.solution_text.write_multipliers.Given as goal
+
+abbrev pub invariant-loop-at : goal.invariant-loop-at
+invariant-loop-at l = record {
+  told : l.text.bytes ≡ codes "none " ++ with_commas (take l.at (map operand_text (entries_of l.multipliers)));
+  short : length l.text.bytes ≤ 5 + 82 * l.at;
+  capacity : l.text.capacity ≡ l.fn.text.capacity;
+}
