@@ -1,5 +1,6 @@
 -- What a step is known to have made, in the arm for it.
-use Rattle.std.proofs.Common.{◌≡◌, ◌<◌, ◌+◌, ◌^◌, ℕ, subst}
+use Rattle.std.proofs.Common.{◌≡◌, ◌<◌, ◌+◌, ◌^◌, ℕ, ℤ, subst}
+use Rattle.calc_terms.specs.Trees.{Tree}
 use Rattle.std.specs.Prelude.{Some, None}
 use Rattle.node_pool.specs.State.{State}
 use Rattle.power_reduce.specs.PowerAnswers.{base_in, exponent_in, IsPowerAnswer, IsStep}
@@ -11,6 +12,8 @@ use Rattle.product_reduce.specs.declared.steps.Joining.{Joining}
 use Rattle.product_reduce.specs.declared.steps.Joining.TheVariants as joining
 use Rattle.calc_algebra.specs.Rewritings.{Rewrites}
 use Rattle.tree_handles.specs.Handed.{tree_of, Gives}
+use Rattle.power_reduce.specs.Bits.{IsHeldAsPowerOf}
+use Rattle.reduce_port.specs.Steps.{IfDone}
 use Rattle.reduce_port.specs.declared.step.Step.{Step}
 use Rattle.reduce_port.specs.declared.step.Step.TheVariants as step
 use Rattle.tree_handles.specs.Expressions.{children_of}
@@ -41,3 +44,7 @@ module _ (i : ℕ) (old new : State) where
   pub is_again : {s : Step} {h : ℕ} → s ≡ step.Again h → IsStep (tree_of i old) (without_root i (forest old)) new s
       → Gives (without_root i (forest old)) (forest new) h (λ u. (rewritten (base_in (tree_of i old)) (exponent_in (tree_of i old)) ≡ Some u) × Rewrites (tree_of i old) u)
   is_again e h = subst (IsStep (tree_of i old) (without_root i (forest old)) new) e h
+
+-- what holds its answer
+pub is_held : {s : Step} {h : ℕ} (new : State) → s ≡ step.Done h → (n : ℤ) (b : Tree) → IfDone s (λ k. IsHeldAsPowerOf n b (tree_of k new)) → IsHeldAsPowerOf n b (tree_of h new)
+is_held new e n b k = subst (λ (x : Step). IfDone x (λ k. IsHeldAsPowerOf n b (tree_of k new))) e k

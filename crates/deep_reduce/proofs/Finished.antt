@@ -1,13 +1,15 @@
 -- A tree after a rewriting, whose powers or whose exponent were reduced.
 use Rattle.std.proofs.Common.{◌≡◌, suc, ◌≤◌, true, false, refl, sym, ap, subst, arith}
-use Rattle.calc_measures.specs.Loads.{nest, nest_of, load, weight, load_of_factors}
+use Rattle.calc_measures.specs.Loads.{nest, nest_of, weight, load_of_factors}
 use Rattle.calc_algebra.specs.Reduced.{is_reduced, are_reduced}
 use Rattle.calc_terms.specs.Trees.{Tree, num, symbol, undef, add, mult, power, root, neg, sub, div, Trees, none, more, count, is_mult}
 use Rattle.deep_reduce.specs.Answers.{IsReducedProduct, IsReducedPower}
 use Rattle.deep_reduce.specs.Unfinished.{nest_of_rewritten, weight_of_bases, weight_below, IsTransparent, AreTransparent, IsUnfinished, Finishes, IsMultiplied, IsLifted, AreReducedPowers, IsProductOfPowers}
+use Rattle.deep_reduce.proofs.HeldPowers.{product_holds, power_holds}
 use Rattle.deep_reduce.proofs.Heavy.{heavy, factor_load}
 use Rattle.deep_reduce.proofs.Nests.{over_power, product_load}
 use Rattle.deep_reduce.proofs.Pairs.{factors_rewritten}
+use Rattle.deep_reduce.proofs.Rewritten.{product_keeps, power_keeps}
 use Rattle.deep_reduce.proofs.Settled.{exponent_rewritten}
 use Rattle.power_reduce.specs.PowerAnswers.{base_in, exponent_in}
 use Rattle.calc_algebra.specs.Rewritings.{Rewrites}
@@ -47,6 +49,8 @@ product_of_powers (mult ts) v r m w p a =
       reduces = reduces_after l.rewrites b.reduces;
       nest = omega (arith, b.nest, l.nests);
       load = omega (arith, b.load, product_load p.factors, l.loads);
+      room = λ c e k. product_keeps (mult ts) v r c e m (omega (arith, ap (λ (x : Tree). count (children_of x)) p.is, l.count-is, w.1)) p a k;
+      held = λ c e n k q. product_holds (mult ts) v r c e n m p a k q;
     }
 product_of_powers t v r m w p a = cc
 
@@ -115,13 +119,15 @@ pub ready_power : (t v : Tree) → t ≡ power (base_in t) (exponent_in t) → I
 ready_power (power b e) v m w l = ready_of b e v w l
 ready_power t v m w l = cc
 
-pub power_lifted : (t v r : Tree) → IsReadyPower t v → IsReducedPower (base_in v) (exponent_in v) r → Finishes t r
-power_lifted t v r p a =
+pub power_lifted : (t v r : Tree) → is_mult t ≡ false → IsLifted t v → IsReadyPower t v → IsReducedPower (base_in v) (exponent_in v) r → Finishes t r
+power_lifted t v r m l p a =
     let nest-is : nest v ≡ nest (power (base_in v) (exponent_in v)) = ap nest p.is in
     record {
       reduces = reduces_after (subst (Rewrites t) p.is p.rewrites) a.reduces;
       nest = omega (arith, a.nest, nest-is, p.nests);
       load = omega (arith, a.opaque_load, p.weighs);
+      room = λ c e k. power_keeps t v r c e m l a k;
+      held = λ c e n k q. power_holds t v r c e n m l a k q;
     }
 
 -- a tree that is no product is a power

@@ -1,30 +1,23 @@
 -- Powers whose exponent is half of an odd whole number, from the root of the base and a power of it.
-use Rattle.std.proofs.Common.{◌≡◌, ℕ, suc, ◌+◌, ◌*◌, ◌≤◌, ◌⊎◌, inl, inr, zero, ℤ, pos, negsuc, Bool, true, false, ◌&&◌, ◌||◌, ◌==◌, not, if◌then◌else◌, [], ◌∷◌, length, Some, None, refl, sym, ap, ◌∙◌, subst, arith}
+use Rattle.std.proofs.Common.{◌≡◌, ℕ, suc, List, ◌+◌, ◌≤◌, ◌⊎◌, inl, inr, zero, ℤ, pos, negsuc, Bool, true, false, ◌&&◌, ◌||◌, ◌==◌, not, if◌then◌else◌, Some, None, refl, sym, ap, ◌∙◌, subst, arith}
 use Rattle.std.specs.Prelude.{◌≤ℤ◌, nat_le}
 use Rattle.std.proofs.lemmas.Bool.{and_parts, eqb-true, false_from_ne_true}
 use Rattle.std.proofs.lemmas.Int.{ints}
 use Rattle.calc_algebra.proofs.HalfLaws.{half_is_odd}
-use Rattle.calc_algebra.proofs.InverseLaws.{Same-times_zero}
-use Rattle.calc_algebra.proofs.MeaningLaws.{Same-sym}
 use Rattle.calc_algebra.proofs.MeaningRewrites as rewrites
-use Rattle.calc_algebra.proofs.NumberClasses.{number_zero, number_short}
 use Rattle.calc_algebra.proofs.NumberLaws.{number_words, number_test}
-use Rattle.calc_algebra.proofs.NumberRewrites.{number_value}
-use Rattle.calc_algebra.proofs.PowerLaws.{root_squared, root_zero, surd_of_zero, zero_surd_of}
 use Rattle.calc_algebra.proofs.Rewritings.{keeps, kept, reduces_after}
-use Rattle.calc_algebra.proofs.SquareClassLaws.{Same-trans}
-use Rattle.calc_algebra.proofs.TermLaws.{Same-refl, Same-eq}
-use Rattle.calc_algebra.specs.Meanings.{IsRootOf, IsRoot}
-use Rattle.calc_algebra.specs.Numbers.{is_number, IsNumber, value, classes}
+use Rattle.calc_algebra.specs.Numbers.{is_number, IsNumber, classes}
 use Rattle.calc_algebra.specs.Reduced.{is_half_num, is_reduced}
 use Rattle.calc_algebra.specs.Rewritings.{Rewrites}
-use Rattle.calc_algebra.specs.SquareClasses.{Same}
-use Rattle.calc_algebra.specs.Surds.{Surd, term, surd_of}
-use Rattle.calc_measures.specs.Loads.{nest, load, weight}
-use Rattle.calc_terms.proofs.FractionFacts.{zero_is, whole_numerator}
-use Rattle.calc_terms.specs.Fractions.{Fraction, lowest, whole_fraction, zero_fraction, is_zero_fraction}
-use Rattle.calc_terms.specs.Integers.{int_is_negative, int_is_zero, int_is_even}
+use Rattle.calc_measures.specs.Loads.{nest, weight}
+use Rattle.calc_terms.specs.Fractions.{Fraction, whole_fraction, zero_fraction, is_zero_fraction}
+use Rattle.calc_terms.specs.Integers.{int_is_negative, int_is_even}
 use Rattle.calc_terms.specs.Trees.{Tree, num, undef, power, root, names, is_undef, is_num, is_root}
+use Rattle.deep_reduce.specs.Bits.{IsHeldAsRootPower}
+use Rattle.deep_reduce.proofs.HeldRoots.{half_held, root_answer_held}
+use Rattle.product_reduce.specs.Bits.{IsFactorHeld}
+use Rattle.power_reduce.specs.Bits.{IsHeldAsPowerOf}
 use Rattle.deep_reduce.specs.Answers.{has_no_half_power, lacks_power, is_number_power, IsReducedPower}
 use Rattle.coefficients.proofs.Forms.{parts_reduced}
 use Rattle.deep_reduce.specs.Halves.{IsRooted}
@@ -32,48 +25,20 @@ use Rattle.deep_reduce.proofs.EasyNodes.{and_true, undef_words, whole_power_numb
 use Rattle.deep_reduce.proofs.NodeRewrites.{both}
 use Rattle.deep_reduce.proofs.Nests.{to_number}
 use Rattle.deep_reduce.proofs.Opened.{rewritten_written}
+use Rattle.deep_reduce.proofs.Calm.{calm_no_half}
+use Rattle.deep_reduce.proofs.PowerRooms.{half_room}
+use Rattle.deep_reduce.proofs.RootValues.{of_root}
+use Rattle.calc_room.specs.Spans.{SpansTree}
 use Rattle.number_forms.specs.Readers.{is_zero, numerator}
 use Rattle.power_reduce.specs.PowerAnswers.{base_in, exponent_in, has_no_power, has_number_power, IsPowerAnswer}
 use Rattle.power_reduce.specs.PowerSteps.{power_of_root, rewritten}
 use Rattle.power_reduce.proofs.ByRule.{transparent_whole}
 use Rattle.power_reduce.proofs.Cases.{root_once, undef_base_kept}
-use Rattle.power_reduce.proofs.Exponents.{by_half, one_is_not_two}
+use Rattle.power_reduce.proofs.Exponents.{by_half, one_is_not_two, whole_no_half}
 use Rattle.power_reduce.proofs.Weights.{number_weight}
 use Rattle.deep_reduce.proofs.Heavy.{some_weight}
 use Rattle.power_reduce.proofs.Whole.{whole_is}
 use Rattle.radical_forms.specs.RootAnswers.{argument_of, has_no_root, IsRootAnswer}
-
--- ---- the root of a rational that is not negative
-
-root_value : (z : ℤ) (d : ℕ) → int_is_negative z ≡ false → (v : Surd) × IsRootOf z d v × (length v ≤ 2)
-root_value (pos zero) d h = ([], Same-refl [], omega arith)
-root_value (pos (suc p)) d h = (term (lowest (pos 1) d) (suc p * d) ∷ [], Same-refl (term (lowest (pos 1) d) (suc p * d) ∷ []), omega arith)
-root_value (negsuc p) d h = cc
-
--- what is known of the Number that it is
-record IsOfRoot (p : Fraction) (r : Tree) : Type 0 where
-  few : classes r ≤ 2
-  zero_of_zero : is_zero_fraction p ≡ true → r ≡ num zero_fraction
-  zero_only : r ≡ num zero_fraction → is_zero_fraction p ≡ true
-
-zero_test : is_zero_fraction zero_fraction ≡ true
-unfolding zero_fraction
-zero_test = ap int_is_zero (whole_numerator (pos 0))
-
-zero_value : value (num zero_fraction) ≡ []
-zero_value = ap (λ (b : Bool). if b then [] else surd_of zero_fraction) zero_test
-
-of_root : (p : Fraction) (r : Tree) → int_is_negative p.num ≡ false → IsRootAnswer (num p) r → IsNumber r → IsOfRoot p r
-of_root p r n a h =
-    let (v, o, l) = root_value p.num p.den n in
-    let root_of : IsRoot (surd_of p) v = (p, Same-refl (surd_of p), o) in
-    let same : Same v (value r) = number_value [] tt r v h (a.reduces.meanings.means [] tt v (surd_of p, Same-refl (surd_of p), root_of)) in record {
-      few = number_short r v h (Same-sym same) l;
-      zero_of_zero = λ z. number_zero r h (Same-trans (Same-sym same) (root_zero (surd_of p) v root_of (zero_surd_of p (zero_is p z))));
-      zero_only = λ e.
-          let none : Same v [] = Same-trans same (Same-eq (ap value e ∙ zero_value)) in
-          ap is_zero_fraction (surd_of_zero p (Same-trans (Same-sym (root_squared (surd_of p) v root_of)) (Same-times_zero v v none))) ∙ zero_test;
-    }
 
 -- ---- the exponents
 
@@ -207,44 +172,6 @@ half_number b r u q h k a n l = by b k (rational (has_number_power b (num q)) (i
 nest_to_number : (b : Tree) (q : Fraction) → nest (power b (num q)) ≡ nest b
 nest_to_number b q = to_number b (num q) (number_test (num q) tt)
 
--- the power of the reduced root is that of the base
-pub half_finished : (b e r u : Tree) → is_half_num e ≡ true → is_undef b ≡ false → Rewrites (power b e) (power_of_root b e) → IsRootAnswer b r → IsPowerAnswer r (num (whole_fraction (numerator e))) u → IsReducedPower b e u
-half_finished b (num q) r u h d w k a = record {
-  reduces = reduces_after w (reduces_after (rooted b r (num (whole_fraction q.num)) k) a.reduces);
-  undefined = λ l. half_undefined b r u q h d k a l;
-  number = λ n l. half_number b r u q h k a n l;
-  written = λ l. rewritten_written b (num q) (power_of_root b (num q)) u (by_half b (num q) h d);
-  nest = omega (arith, a.nest_bound, nest_to_number r (whole_fraction q.num), k.nest, nest_to_number b q);
-  opaque_load = omega (arith, a.load_bound (transparent_whole (num (whole_fraction q.num)) (whole_is q.num)), root_weight b r k);
-  load = λ o. contrary (opaque (is_number (num q)) (q.den == 1) (number_test (num q) tt) (not_whole q h)) o;
-}
-  where
-    opaque : (x y : Bool) → x ≡ true → y ≡ false → (x && not y) ≡ true
-    opaque true true e f = cc
-    opaque true false e f = refl
-    opaque false y e f = cc
-half_finished b e r u h d w k a = absurd cc
-
--- ---- step by step
-
--- the first step is a rewriting where the base is not Undef
-pub record IsHalfStep (b e u : Tree) : Type 0 where
-  pub defined : is_undef b ≡ false
-  pub is : u ≡ power_of_root b e
-
-pub half_step : (b e u : Tree) → is_half_num e ≡ true → rewritten b e ≡ Some u → IsHalfStep b e u
-half_step b e u h r = by (is_undef b) refl
-  where
-    some : {t : Tree} → Some t ≡ Some u → t ≡ u
-    some k = cc
-
-    none : None ≡ Some u → ⊥
-    none k = cc
-
-    by : (x : Bool) → is_undef b ≡ x → IsHalfStep b e u
-    by true d = absurd (none (sym (undef_base_kept b e d) ∙ r))
-    by false d = record { defined = d; is = sym (some (sym (by_half b e h d) ∙ r)) }
-
 root_kinds : (b r : Tree) → IsRootAnswer b r → (is_undef r || is_number r || is_root r) ≡ true
 root_kinds b r h = by (has_no_root b) (is_num b) refl refl
   where
@@ -266,6 +193,49 @@ root_kinds b r h = by (has_no_root b) (is_num b) refl refl
     by true n e f = first (is_undef r) (is_number r) (is_root r) (h.undefined ∙ e)
     by false true e f = second (is_undef r) (is_number r) (is_root r) (h.number f e)
     by false false e f = ap (λ (t : Tree). is_undef t || is_number t || is_root t) (h.kept f e) ∙ third (is_undef (root b)) (is_number (root b))
+
+-- the power of the reduced root is that of the base
+pub half_finished : (b e r u : Tree) → is_half_num e ≡ true → is_undef b ≡ false → Rewrites (power b e) (power_of_root b e) → IsRootAnswer b r → ((gs : List ℕ) → SpansTree gs (root b) → SpansTree gs r) → IsPowerAnswer r (num (whole_fraction (numerator e))) u
+    → IsHeldAsRootPower (numerator e) b u → IsReducedPower b e u
+half_finished b (num q) r u h d w k s a x = record {
+  reduces = reduces_after w (reduces_after (rooted b r (num (whole_fraction q.num)) k) a.reduces);
+  undefined = λ l. half_undefined b r u q h d k a l;
+  number = λ n l. half_number b r u q h k a n l;
+  written = λ l. rewritten_written b (num q) (power_of_root b (num q)) u (by_half b (num q) h d);
+  nest = omega (arith, a.nest_bound, nest_to_number r (whole_fraction q.num), k.nest, nest_to_number b q);
+  opaque_load = omega (arith, a.load_bound (transparent_whole (num (whole_fraction q.num)) (whole_is q.num)), root_weight b r k);
+  load = λ o. contrary (opaque (is_number (num q)) (q.den == 1) (number_test (num q) tt) (not_whole q h)) o;
+  room = record { counts = λ ns c. contrary h (calm_no_half c); calm = λ ns c. contrary h (calm_no_half c); spanned = λ gs ns c s. contrary h (calm_no_half c) };
+  root_room = λ o. half_room b r u q.num k s (root_once r (num q) h (root_kinds b r k)) a;
+  held = λ n e. contrary (ap is_half_num (sym e) ∙ h) (whole_no_half (num (whole_fraction n)) (whole_is n));
+  root_held = λ o. x;
+}
+  where
+    opaque : (x y : Bool) → x ≡ true → y ≡ false → (x && not y) ≡ true
+    opaque true true e f = cc
+    opaque true false e f = refl
+    opaque false y e f = cc
+half_finished b e r u h d w k s a x = absurd cc
+
+-- ---- step by step
+
+-- the first step is a rewriting where the base is not Undef
+pub record IsHalfStep (b e u : Tree) : Type 0 where
+  pub defined : is_undef b ≡ false
+  pub is : u ≡ power_of_root b e
+
+pub half_step : (b e u : Tree) → is_half_num e ≡ true → rewritten b e ≡ Some u → IsHalfStep b e u
+half_step b e u h r = by (is_undef b) refl
+  where
+    some : {t : Tree} → Some t ≡ Some u → t ≡ u
+    some k = cc
+
+    none : None ≡ Some u → ⊥
+    none k = cc
+
+    by : (x : Bool) → is_undef b ≡ x → IsHalfStep b e u
+    by true d = absurd (none (sym (undef_base_kept b e d) ∙ r))
+    by false d = record { defined = d; is = sym (some (sym (by_half b e h d) ∙ r)) }
 
 -- the power of the root, before and after the root is reduced
 pub record IsHalfReady (u : Tree) : Type 0 where
@@ -296,7 +266,20 @@ half_last b e u v h s k =
       last = root_once r.root e h (root_kinds b r.root r.answer);
     })
 
-pub half_after : (b e u v r : Tree) → is_half_num e ≡ true → IsHalfStep b e u → Rewrites (power b e) u → IsRooted u v → IsPowerAnswer (base_in v) (exponent_in v) r → IsReducedPower b e r
-half_after b e u v r h s w k a =
+-- the exponent of the last step
+pub last_exponent : (b e u v : Tree) → IsHalfStep b e u → IsRooted u v → exponent_in v ≡ num (whole_fraction (numerator e))
+last_exponent b e u v s k = ap exponent_in (rooted_is b e u v s k).is
+
+-- what holds the base holds the root, unless that is Undef
+pub rooted_held : (b e u v : Tree) {h l : ℕ} → is_reduced b ≡ true → IsHalfStep b e u → IsRooted u v → (h ≡ 0 → l ≡ 0) → is_undef (base_in v) ≡ false → IsFactorHeld b h l → IsFactorHeld (base_in v) h l
+rooted_held b e u v {h} {l} m s k z d a =
     let t = rooted_is b e u v s k in
-    half_finished b e t.root r h s.defined (subst (Rewrites (power b e)) s.is w) t.answer (subst (λ (x : Tree). IsPowerAnswer (base_in x) (exponent_in x) r) t.is a)
+    subst (λ (x : Tree). IsFactorHeld x h l) (sym (ap base_in t.is)) (root_answer_held b t.root m t.answer t.measured z (sym (ap (λ (x : Tree). is_undef (base_in x)) t.is) ∙ d) a)
+
+pub half_after : (b e u v r : Tree) → is_half_num e ≡ true → IsHalfStep b e u → Rewrites (power b e) u → IsRooted u v → IsPowerAnswer (base_in v) (exponent_in v) r
+    → is_reduced b ≡ true → IsHeldAsPowerOf (numerator e) (base_in v) r → IsReducedPower b e r
+half_after b e u v r h s w k a m p =
+    let t = rooted_is b e u v s k in
+    let last = subst (λ (x : Tree). IsPowerAnswer (base_in x) (exponent_in x) r) t.is a in
+    half_finished b e t.root r h s.defined (subst (Rewrites (power b e)) s.is w) t.answer t.spanned last
+    (half_held b e t.root r m t.answer t.measured last (subst (λ (x : Tree). IsHeldAsPowerOf (numerator e) (base_in x) r) t.is p))

@@ -7,6 +7,8 @@ use Rattle.deep_reduce.specs.Reductions.{IsReducedFrom}
 use Rattle.deep_reduce.proofs.EasyNodes.{answered_easy, or_true, undef_test}
 use Rattle.deep_reduce.proofs.NodeRewrites.{AreReducedFrom, IsOver, over_sum, over_product, over_power, over_root, over_neg, over_sub, over_div, over_rewrites}
 use Rattle.deep_reduce.proofs.PlainNodes.{answered_plain, undef_has_no_value}
+use Rattle.deep_reduce.proofs.TreeBits.{node_held, node_leaf}
+use Rattle.deep_reduce.proofs.TreeRooms.{node_within}
 use Rattle.calc_algebra.proofs.Rewritings.{reduces_after}
 use Rattle.tree_handles.specs.Expressions.{children_of}
 
@@ -56,4 +58,7 @@ node_answered t u r h a =
       easy = λ e. answered_easy t u r h a reduced.meanings e;
       bad_part = λ b. bad_answer b.part b.easy b.bad t u r h b.inside a (λ s. (answered_easy t u r h a reduced.meanings (subst IsEasy (sym s) b.easy)).undefined.1 (subst IsBad (sym s) b.bad));
       plain = answered_plain t u r h a;
+      room = λ s. node_within t u r h a s;
+      held = node_held t u r h a;
+      leaf = node_leaf t u r h a;
     }

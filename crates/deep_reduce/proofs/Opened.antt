@@ -17,6 +17,9 @@ use Rattle.deep_reduce.specs.Answers.{has_no_half_power, lacks_power, is_number_
 use Rattle.deep_reduce.specs.Unfinished.{nest_of_rewritten, weight_of_bases, weight_below, AreTransparent, IsUnfinished, Finishes}
 use Rattle.deep_reduce.proofs.Heavy.{base_reduced, exponent_reduced}
 use Rattle.deep_reduce.proofs.Nests.{to_number, base_nest}
+use Rattle.deep_reduce.proofs.PowerRooms.{finished_room, undef_root_room}
+use Rattle.deep_reduce.proofs.Wholes.{is_rewritten}
+use Rattle.power_reduce.specs.Bits.{IsHeldAsPowerOf}
 use Rattle.power_reduce.specs.PowerAnswers.{has_no_power, has_number_power, IsWrittenPower, IsPowerAnswer}
 use Rattle.power_reduce.specs.PowerSteps.{goes_inside, half, parts_of, raised, rewritten, rewritten_whole}
 use Rattle.power_reduce.proofs.ByRule.{is_rewritable, transparent_whole}
@@ -171,6 +174,10 @@ undef_lacks : (b e : Tree) → is_undef b ≡ true → lacks_power b e ≡ has_n
 undef_lacks undef e h = refl
 undef_lacks b e h = absurd cc
 
+undef_has_none : (b e : Tree) → is_undef b ≡ true → has_no_power b e ≡ true
+undef_has_none undef e h = refl
+undef_has_none b e h = absurd cc
+
 undef_number : (b e : Tree) → is_undef b ≡ true → is_number_power b e ≡ has_number_power b e
 undef_number undef e h = or_false (has_number_power undef e)
 undef_number b e h = absurd cc
@@ -202,6 +209,10 @@ power_after b e t r n h k s f =
       nest = omega (arith, f.nest, o.nests);
       load = λ x. omega (arith, f.load, o.weighs);
       opaque_load = omega (arith, f.load, o.weighs);
+      room = f.room b e (is_rewritten b e t n h k s.0);
+      root_room = λ x. clash x n;
+      held = λ m q. f.held b e m (is_rewritten b e t n h k s.0) q;
+      root_held = λ x. clash x n;
     }
 
 undef_is : (t : Tree) → is_undef t ≡ true → t ≡ undef
@@ -209,8 +220,8 @@ undef_is undef h = refl
 undef_is t h = cc
 
 -- what a step answers that rewrites nothing
-pub power_finished : (b e t : Tree) → rewritten b e ≡ None → IsPowerAnswer b e t → IsReducedPower b e t
-power_finished b e t r a = record {
+pub power_finished : (b e t : Tree) → rewritten b e ≡ None → IsPowerAnswer b e t → ((n : ℤ) → e ≡ num (whole_fraction n) → IsHeldAsPowerOf n b t) → IsReducedPower b e t
+power_finished b e t r a k = record {
   reduces = a.reduces;
   undefined = λ h. undef_is t (a.undefined ∙ sym (lacks_kept b e r) ∙ h);
   number = λ h n. a.number (sym (number_kept b e r) ∙ h) (sym (lacks_kept b e r) ∙ n);
@@ -218,4 +229,8 @@ power_finished b e t r a = record {
   nest = a.nest_bound;
   opaque_load = a.opaque_bound;
   load = a.load_bound;
+  room = finished_room b e t r a;
+  root_room = λ h. elim (kept_half b e r) [ inl n ↦ clash h n | inr u ↦ undef_root_room b t (undef_is t (a.undefined ∙ undef_has_none b e u)) ];
+  held = k;
+  root_held = λ h d. elim (kept_half b e r) [ inl n ↦ clash h n | inr u ↦ clash (a.undefined ∙ undef_has_none b e u) d ];
 }

@@ -5,7 +5,7 @@ use Rattle.calc_measures.specs.PlainTrees.{IsPlainAnswer, IsPlainOverflow}
 use Rattle.calc_measures.specs.PlainValues.{PlainValue, exactly, undefined, overflow, nothing, Gathered, decided, values, gather, folded, on_one, on_two, divided, calculated, powered, plain_of, plain_of_children, is_plain, are_plain, plain_value}
 use Rattle.calc_terms.specs.Fits.{add_op, mul_op}
 use Rattle.calc_terms.specs.Fractions.{negative}
-use Rattle.calc_terms.specs.Trees.{Tree, num, add, mult, power, root, neg, sub, div, Trees, none, more, append, nodes, nodes_of}
+use Rattle.calc_terms.specs.Trees.{Tree, add, mult, power, root, neg, sub, div, Trees, none, more, append, nodes, nodes_of}
 use Rattle.deep_reduce.specs.Reductions.{IsReducedFrom}
 use Rattle.deep_reduce.proofs.NodeRewrites.{AreReducedFrom, IsOver, over_sum, over_product, over_power, over_neg, over_sub, over_div}
 use Rattle.deep_reduce.proofs.PlainNodes.{is_plain_value, and_left, and_right, Decides, child_decides}

@@ -1,5 +1,5 @@
 -- What a quotient answers, from the answers for the inverse and for the product.
-use Rattle.std.proofs.Common.{◌≡◌, ◌⊎◌, inl, inr, Bool, true, false, ◌&&◌, refl, sym, ap, ◌∙◌, subst, append-nil}
+use Rattle.std.proofs.Common.{◌≡◌, ◌+◌, ◌*◌, negsuc, arith, ◌⊎◌, inl, inr, Bool, true, false, ◌&&◌, refl, sym, ap, ◌∙◌, subst, append-nil}
 use Rattle.std.specs.Prelude.{◌||◌, Contains, if◌then◌else◌, [], ◌++◌}
 use Rattle.calc_algebra.proofs.MeaningRewrites as rewrites
 use Rattle.calc_algebra.proofs.PowerRewrites.{div_as_product}
@@ -9,8 +9,11 @@ use Rattle.calc_algebra.specs.Numbers.{is_number}
 use Rattle.calc_measures.specs.PlainValues.{PlainValue, undefined, calculated, plain_value}
 use Rattle.calc_terms.specs.Trees.{Tree, num, undef, mult, power, div, none, names, is_undef, is_num, has_undef, are_rationals}
 use Rattle.deep_reduce.specs.Nodes.{IsNodeAnswer, IsNodeOverflow}
+use Rattle.deep_reduce.specs.NodeBits.{holds_whole}
+use Rattle.deep_reduce.proofs.NodeBits.{two_factors, second_side, answer_defined}
 use Rattle.deep_reduce.proofs.EasyNodes.{and_true, and_first, and_second, or_none, undef_words, undef_test, number_defined}
 use Rattle.deep_reduce.proofs.NodeRewrites.{both}
+use Rattle.deep_reduce.proofs.NodeRooms.{quotient_room}
 use Rattle.deep_reduce.proofs.Rationals.{inverse_value, zero_inverse}
 use Rattle.deep_reduce.proofs.Steps.{two, or_split, or_first, or_second, left_undefined, right_undefined, two_rationals, product_value, AreTwo, are_two}
 use Rattle.deep_reduce.specs.Answers.{lacks_power, is_number_power}
@@ -83,6 +86,12 @@ module _ (a b c : Tree) (fit : (q : Fraction) → b ≡ num q → fraction_fits 
         h.number (and_true (is_number a) (is_number c && true) (and_first (is_number a) (is_number_power b (num minus_one_fraction)) n) (and_true (is_number c) true number refl))
         (or_none (is_undef a) (is_undef c || false) (or_first (is_undef a) (lacks_power b (num minus_one_fraction)) d) (or_none (is_undef c) false (number_defined c number) refl));
     rational = λ e. by_factor (is_undef c) refl e;
+    room = quotient_room a b c r known.room h.room;
+    root_room = λ k. cc;
+    held = λ d m l k.
+        let e = answer_defined (two a c) r h.undefined d in
+        h.held d m l (two_factors a c k.dividend (known.held (second_side a c e) (k.k + 2 * k.n) (2 * k.k + 2 * k.n) (holds_whole (negsuc 0) k.k k.n refl k.divisor (omega arith) (omega arith))) k.high k.low);
+    leaf = λ k. cc;
   }
     where
       by : (is_undef a ≡ true) ⊎ (lacks_power b (num minus_one_fraction) ≡ true) → r ≡ undef

@@ -1,5 +1,5 @@
 -- A node whose children are reduced, from the tree as it was handed.
-use Rattle.std.proofs.Common.{◌≡◌, ℕ, ◌≤◌, true, Some, None, Err, List, refl, sym, ap, ◌∙◌, subst, arith}
+use Rattle.std.proofs.Common.{◌≡◌, ℕ, ◌+◌, ◌≤◌, ◌<◌, true, Some, None, Err, List, refl, sym, ap, ◌∙◌, subst, arith}
 use Rattle.std.proofs.lemmas.Bool.{eqb-true}
 use Rattle.breakers.proofs.Runs.{CalmChecks-append}
 use Rattle.breakers.specs.Breakers.{Check, CalmChecks}
@@ -9,7 +9,7 @@ use Rattle.calc_terms.specs.declared.kind.Kind.{Kind}
 use Rattle.calc_terms.specs.declared.kind.Kind.TheVariants as kind
 use Rattle.calc_terms.specs.Payload.{Payload, rational, named, bare}
 use Rattle.calc_algebra.specs.Reduced.{is_reduced, are_reduced}
-use Rattle.calc_terms.specs.Trees.{Tree, power, root, neg, sub, div, Trees, none, more, count, nodes, nodes_of}
+use Rattle.calc_terms.specs.Trees.{Tree, power, root, neg, sub, div, Trees, none, more, count, nodes, nodes_of, size}
 use Rattle.deep_reduce.specs.Nodes.{IsNodeAnswer, IsNodeOverflow}
 use Rattle.deep_reduce.specs.Reductions.{IsReducedFrom, Stops}
 use Rattle.deep_reduce.proofs.EasyNodes.{and_true}
@@ -19,7 +19,9 @@ use Rattle.deep_reduce.proofs.Parents.{held_at, handed_node, parent_is_handed, p
 use Rattle.deep_reduce.proofs.Overflowing.{last_overflow}
 use Rattle.deep_reduce.proofs.PlainNodes.{overflowed_plain}
 use Rattle.deep_reduce.proofs.Walks.{AllWalked, nodes_by_children, reduced_count}
-use Rattle.node_pool.specs.State.{State}
+use Rattle.node_pool.specs.State.{State, free_of}
+use Rattle.calc_measures.specs.Measures.{bits, room}
+use Rattle.number_forms.specs.Lacks.{LacksBelow}
 use Rattle.number_forms.proofs.Loops.{kept_after, refuses_after}
 use Rattle.rational128.specs.declared.overflow.Overflow.{Overflow}
 use Rattle.reduce_port.proofs.Checks.{one_calm, calm_up_to, trips_at_once, trips_within_after}
@@ -123,10 +125,10 @@ some_nodes : (t : Tree) → 1 ≤ nodes t
 some_nodes t = omega (arith, nodes_by_children t)
 
 pub node_stops : {s t : State} (u : State) (before after : List BreakerState) (tree node : Tree) (e : NumberFault) → IsOver tree node → CalmChecks (nodes tree) before after → KeepsRefusals s t → Faults t u e → IsCaused u e → IfNoFit e (IsNodeOverflow node)
-    → Stops tree s u before after (fault_of e)
-node_stops u before after tree node (number.Full full) h c k f w x = (w, refuses_after k f, calm_up_to (nodes tree) (nodes tree) before after (some_nodes tree) (omega arith) c)
-node_stops u before after tree node (number.Overflow o) h c k f w x =
-    (w, kept_after k f, calm_up_to (nodes tree) (nodes tree) before after (some_nodes tree) (omega arith) c, overflowed_plain tree node o h x, λ v. subst (λ (n : ℕ). CalmChecks n before after) (sym (last_overflow tree node h v)) c)
+    → LacksBelow (room tree) (free_of s + size tree) e → IfNoFit e (λ o. 124 < bits tree) → Stops tree s u before after (fault_of e)
+node_stops u before after tree node (number.Full full) h c k f w x l b = (w, refuses_after k f, calm_up_to (nodes tree) (nodes tree) before after (some_nodes tree) (omega arith) c, l)
+node_stops u before after tree node (number.Overflow o) h c k f w x l b =
+    (w, kept_after k f, calm_up_to (nodes tree) (nodes tree) before after (some_nodes tree) (omega arith) c, overflowed_plain tree node o h x, λ v. subst (λ (n : ℕ). CalmChecks n before after) (sym (last_overflow tree node h v)) c, b)
 
 -- what is said of an overflow, where it is the error
 pub no_fit : (e : NumberFault) (P : Overflow → Type 0) → IfOverflow {A = ℕ} (Err e) P → IfNoFit e P

@@ -1,18 +1,23 @@
 -- What calls on numbers return, in other words.
-use Rattle.std.proofs.Common.{◌≡◌, ℕ, Result, Ok, Err, true, false, sym, subst}
-use Rattle.std.specs.Prelude.{IfOk, IsErr, IsErrAnd}
+use Rattle.std.proofs.Common.{◌≡◌, ℕ, ◌+◌, ◌≤◌, List, Result, Ok, Err, true, false, refl, sym, subst}
+use Rattle.std.specs.Prelude.{IfOk, IfErr, IsErr, IsErrAnd}
 use Rattle.calc_measures.specs.PlainValues.{PlainValue}
-use Rattle.calc_terms.specs.Trees.{Tree}
+use Rattle.calc_room.specs.Counts.{counted, counted_among}
+use Rattle.calc_room.specs.Powers.{HasPowersOf}
+use Rattle.calc_room.specs.Spans.{SpansTree}
+use Rattle.calc_terms.specs.Trees.{Tree, Trees, add}
+use Rattle.deep_reduce.specs.Rooms.{KeepsSumRoom}
+use Rattle.number_forms.proofs.Loops.{gives_itself}
 use Rattle.node_pool.specs.State.{State}
 use Rattle.number_forms.specs.Answers.{AnswersRationals}
-use Rattle.tree_handles.specs.Faults.{IfOverflow}
+use Rattle.tree_handles.specs.Faults.{IfOverflow, OfOverflow}
 use Rattle.rational128.specs.declared.overflow.Overflow.{Overflow}
 use Rattle.calc_measures.specs.PlainTrees.{IsPlainAnswer, IsPlainOverflow}
 use Rattle.tree_handles.proofs.Given.{gives_as}
 use Rattle.tree_handles.proofs.Lasts.{last_tree}
 use Rattle.tree_handles.specs.Expressions.{plain}
 use Rattle.tree_handles.specs.Forest.{Forest}
-use Rattle.tree_handles.specs.Handed.{Gives}
+use Rattle.tree_handles.specs.Handed.{tree_of, Gives}
 use Rattle.tree_handles.specs.Standing.{forest}
 use Rattle.tree_handles.specs.declared.fault.NumberFault.{NumberFault}
 use Rattle.tree_handles.specs.declared.fault.NumberFault.TheVariants as fault
@@ -58,3 +63,24 @@ pub any_overflow : (r : Result ℕ NumberFault) (Q : Overflow → Type 0) → ((
 any_overflow (Ok h) Q k = tt
 any_overflow (Err (fault.Full full)) Q k = tt
 any_overflow (Err (fault.Overflow o)) Q k = k o
+
+-- an overflow, of trees that are defined
+pub overflowed_defined : {C D : Type 0} (v : PlainValue) (s : State) (r : Result ℕ NumberFault) (Q : Overflow → Type 0) → (C → AnswersRationals v s r) → IfErr r (OfOverflow (λ o. D)) → ((o : Overflow) → D → (C → IsPlainOverflow v o) → Q o)
+    → IfOverflow r Q
+overflowed_defined v s (Ok h) Q a d k = tt
+overflowed_defined v s (Err (fault.Full full)) Q a d k = tt
+overflowed_defined v s (Err (fault.Overflow o)) Q a d k = k o d a
+
+-- what is said of the answer beside
+pub with_facts : (others : Forest) (s : State) (r : Result ℕ NumberFault) (P Q : Tree → Type 0) → IfOk r (λ h. Gives others (forest s) h P) → IfOk r (λ h. Q (tree_of h s)) → IfOk r (λ h. Gives others (forest s) h (λ t. P t × Q t))
+with_facts others s (Ok h) P Q g q = gives_as (gives_itself g) refl (λ t k. (k.0, subst Q (sym k.1) q))
+with_facts others s (Err e) P Q g q = tt
+
+pub sum_facts : (ts : Trees) (u : Tree) (s : State) (r : Result ℕ NumberFault) → u ≡ add ts → IfOk r (λ h. counted (tree_of h s) ≤ 1 + counted_among ts) → IfOk r (λ h. HasPowersOf ts (tree_of h s))
+    → ((gs : List ℕ) → SpansTree gs u → IfOk r (λ h. SpansTree gs (tree_of h s))) → IfOk r (λ h. KeepsSumRoom ts (tree_of h s))
+sum_facts ts u s (Ok h) e l p k = record { counts = l; powers = p; spanned = λ gs x. k gs (subst (SpansTree gs) (sym e) (tt, x)) }
+sum_facts ts u s (Err f) e l p k = tt
+
+pub span_facts : (u : Tree) (s : State) (r : Result ℕ NumberFault) → ((gs : List ℕ) → SpansTree gs u → IfOk r (λ h. SpansTree gs (tree_of h s))) → IfOk r (λ h. (gs : List ℕ) → SpansTree gs u → SpansTree gs (tree_of h s))
+span_facts u s (Ok h) k = k
+span_facts u s (Err f) k = tt

@@ -3,16 +3,22 @@ use Rattle.std.proofs.Common.{◌≡◌, ℕ, zero, suc, ◌+◌, ◌≤◌, ◌
 use Rattle.std.specs.Prelude.{Option, Some, None, MatchOption, IfSome}
 use Rattle.std.proofs.lemmas.Bool.{and_parts}
 use Rattle.std.proofs.lemmas.List.Elements.{Contains-append_left, Contains-append_right, Contains-append_cases}
-use Rattle.calc_measures.specs.Loads.{nest, nest_of, load, weight, load_of_factor, load_of_factors}
+use Rattle.calc_measures.specs.Loads.{nest, nest_of, weight, load_of_factor, load_of_factors}
 use Rattle.calc_algebra.specs.Reduced.{is_reduced, is_opaque_exponent, num_one, base_of, are_reduced}
 use Rattle.calc_terms.specs.Trees.{Tree, undef, add, mult, power, Trees, none, more, count, is_mult, is_undef, names}
 use Rattle.calc_algebra.proofs.MeaningRewrites.{KeepsMeanings-refl, KeepsMeanings-power}
 use Rattle.deep_reduce.specs.Answers.{IsReducedProduct, IsReducedPower}
-use Rattle.deep_reduce.specs.Unfinished.{nest_of_joint, replaced, Joins, joins_gathered, joins_pair, joins_then, IsLess, IsSummed, IsSettled}
+use Rattle.calc_room.specs.Counts.{counted}
+use Rattle.deep_reduce.specs.Rooms.{KeepsRoom, KeepsSumRoom}
+use Rattle.deep_reduce.specs.Unfinished.{nest_of_joint, replaced, Joins, joins_gathered, joins_pair, joins_then, HandsOn, IsLess, IsSummed, IsSettled}
 use Rattle.coefficients.proofs.Forms.{parts_reduced}
 use Rattle.deep_reduce.proofs.Heavy.{base_reduced, exponent_reduced, some_weight, factor_load}
 use Rattle.deep_reduce.proofs.Joined.{JointsBelow, IsLessLoaded, pair_loaded, numbers_opened}
 use Rattle.deep_reduce.proofs.Pairs.{factors_rewritten, pair_rewritten}
+use Rattle.deep_reduce.proofs.JointRooms.{settled_hands_on, hands_on_next, keeps_next}
+use Rattle.deep_reduce.specs.Bits.{AddsCounts, IsHeldAsProduct}
+use Rattle.deep_reduce.proofs.HeldJoints.{first_reduced, settled_held}
+use Rattle.deep_reduce.proofs.ProductCounts.{product_counts, product_joins_none}
 use Rattle.deep_reduce.proofs.Joints.{transparent_exponent, joint_load, reduced_joint}
 use Rattle.deep_reduce.proofs.Nests.{over_power, product_load}
 use Rattle.number_forms.specs.Sums.{removed}
@@ -138,7 +144,7 @@ answered t s r j sum answer =
 one_reduced : is_reduced num_one ≡ true
 one_reduced = parts_reduced num_one (inl tt)
 
-exponent_is_reduced : (t : Tree) → is_reduced t ≡ true → is_reduced (exponent_of t) ≡ true
+pub exponent_is_reduced : (t : Tree) → is_reduced t ≡ true → is_reduced (exponent_of t) ≡ true
 exponent_is_reduced (power b e) h = by (is_opaque_exponent e)
   where
     by : (x : Bool) → is_reduced (if x then num_one else e) ≡ true
@@ -146,7 +152,7 @@ exponent_is_reduced (power b e) h = by (is_opaque_exponent e)
     by false = exponent_reduced b e h
 exponent_is_reduced t h = one_reduced
 
-base_is_reduced : (t : Tree) → is_reduced t ≡ true → is_reduced (base_of t) ≡ true
+pub base_is_reduced : (t : Tree) → is_reduced t ≡ true → is_reduced (base_of t) ≡ true
 base_is_reduced (power b e) h = by (is_opaque_exponent e)
   where
     by : (x : Bool) → is_reduced (if x then power b e else b) ≡ true
@@ -176,13 +182,14 @@ pub record IsPairJoined (at : ℕ) (ts : Trees) (u : Tree) : Type 0 where
   pub less : IsLessLoaded ts (children_of u)
   pub rewrites : Rewrites (mult ts) u
   pub pair : IsPairAt at ts
+  pub reduced : are_reduced ts ≡ true
   pub whole : children_of u ≡ joined_pair at (suc at) ts
   pub joint-is : nth at (children_of u) ≡ joint_of (nth at ts) (nth (suc at) ts)
 
 pub pair_joined : (at : ℕ) (ts : Trees) (u : Tree) → are_reduced ts ≡ true → IsPairAt at ts → u ≡ mult (joined_pair at (at + 1) ts) → IsPairJoined at ts u
 pair_joined at ts u r p e =
     let whole : u ≡ mult (joined_pair at (suc at) ts) = e ∙ ap (λ (n : ℕ). mult (joined_pair at n ts)) (add-one at) in
-    subst (IsPairJoined at ts) (sym whole) (record { is = refl; joint = neighbours_joint at ts r p; less = pair_loaded at ts r p; rewrites = pair_rewritten at ts p; pair = p; whole = refl; joint-is = joint_there at ts p })
+    subst (IsPairJoined at ts) (sym whole) (record { is = refl; joint = neighbours_joint at ts r p; less = pair_loaded at ts r p; rewrites = pair_rewritten at ts p; pair = p; reduced = r; whole = refl; joint-is = joint_there at ts p })
 
 pub settled_less : (at : ℕ) (ts : Trees) (u v : Tree) → IsPairJoined at ts u → IsSettled at (children_of u) v → IsLess ts v
 settled_less at ts u v j s =
@@ -200,6 +207,12 @@ settled_less at ts u v j s =
       joins =
           subst (λ (xs : Trees). Joins ts (replaced at s.factor xs)) (sym j.whole)
           (joins_pair at s.exponent s.factor j.pair (subst (λ (x : Tree). IsSumAnswer (children_of (exponent_in x)) s.exponent) j.joint-is s.sum) (subst (λ (x : Tree). IsReducedPower (base_in x) s.exponent s.factor) j.joint-is s.answer));
+      hands_on =
+          settled_hands_on at ts us (base_of (nth at ts)) (exponent_of (nth at ts)) (exponent_of (nth (suc at) ts)) s.exponent s.factor j.pair j.whole p.within j.joint-is
+          (subst (λ (x : Tree). IsSumAnswer (children_of (exponent_in x)) s.exponent) j.joint-is s.sum) (subst (λ (x : Tree). KeepsSumRoom (children_of (exponent_in x)) s.exponent) j.joint-is s.room)
+          (subst (λ (x : Tree). IsReducedPower (base_in x) s.exponent s.factor) j.joint-is s.answer).room
+          (settled_held at ts us j.pair j.reduced j.whole s.exponent s.factor (base_is_reduced (nth at ts) (first_reduced at ts us j.pair j.reduced j.whole)) s.sum.reduces.reduced
+          (subst (λ (x : Tree). AddsCounts (children_of (exponent_in x)) s.exponent) j.joint-is s.counts) (subst (λ (x : Tree). IsReducedPower (base_in x) s.exponent s.factor) j.joint-is s.answer));
     })
 
 pub settled_within : (at : ℕ) (us : Trees) (v : Tree) → IsJointAt at us → IsSettled at us v → at < count (children_of v)
@@ -223,8 +236,8 @@ joint_less at ts u j =
     }
 
 -- from the gathered product
-pub less_gathered : (ts : Trees) (u v : Tree) → IsGathered ts u → IsLess (children_of u) v → IsLess ts v
-less_gathered ts u v g l =
+pub less_gathered : (ts : Trees) (u v : Tree) → IsGathered ts u → HandsOn ts (children_of u) → IsLess (children_of u) v → IsLess ts v
+less_gathered ts u v g k l =
     let product : u ≡ mult (children_of u) = subst (λ (x : Tree). x ≡ mult (children_of x)) (sym g.is) refl in
     record {
       is = l.is;
@@ -234,6 +247,7 @@ less_gathered ts u v g l =
       nests = omega (arith, l.nests, g.nest);
       loads = omega (arith, l.loads, g.load);
       joins = joins_then (joins_gathered u g) l.joins;
+      hands_on = hands_on_next ts (children_of u) (children_of v) k l.hands_on;
     }
 
 pub less_next : (ts : Trees) (u v : Tree) → IsLess ts u → IsLess (children_of u) v → IsLess ts v
@@ -245,6 +259,7 @@ less_next ts u v k l = record {
   nests = omega (arith, l.nests, k.nests);
   loads = omega (arith, l.loads, k.loads);
   joins = joins_then k.joins l.joins;
+  hands_on = hands_on_next ts (children_of u) (children_of v) k.hands_on l.hands_on;
 }
 
 pub gathered_product : (ts : Trees) (u : Tree) → IsGathered ts u → is_mult u ≡ true
@@ -257,24 +272,30 @@ some_pair from ts (Some at) h = h.pair
 clash : {x : Bool} {A : Type 0} → x ≡ true → x ≡ false → A
 clash e f = absurd cc
 
-pub product_after : (ts : Trees) (c v t : Tree) → AreJoinable c ts → IsLess ts v → IsReducedProduct (children_of v) t → IsReducedProduct ts t
-product_after ts c v t j l a = record {
+pub product_after : (ts : Trees) (c v t : Tree) → are_reduced ts ≡ true → AreJoinable c ts → IsLess ts v → IsReducedProduct (children_of v) t → IsReducedProduct ts t
+product_after ts c v t r j l a = record {
   reduces = reduces_after (subst (Rewrites (mult ts)) l.is l.rewrites) a.reduces;
   undefined = λ e. clash e j.defined;
   number = λ e. clash (j.partners) (ap have_partners (numbers_opened ts e));
   nest = omega (arith, a.nest, l.nests);
   load = omega (arith, a.load, product_load ts, product_load (children_of v), l.loads);
+  room = keeps_next _ (mult (children_of v)) l.hands_on.room a.room;
+  held = λ d h m k. a.held d h m (l.hands_on.held h m k);
+  counts = product_joins_none ts t r j.partners;
 }
 
 undef_is : (t : Tree) → is_undef t ≡ true → t ≡ undef
 undef_is undef h = refl
 undef_is t h = cc
 
-pub product_finished : (ts : Trees) (t : Tree) → IsFinished ts t → IsReducedProduct ts t
-product_finished ts t f = record {
+pub product_finished : (ts : Trees) (t : Tree) → are_reduced ts ≡ true → IsFinished ts t → KeepsRoom (counted (mult ts)) (mult ts) t → IsHeldAsProduct ts t → IsReducedProduct ts t
+product_finished ts t r f k a = record {
   reduces = f.reduces;
   undefined = λ e. undef_is t (f.undefined ∙ e);
   number = f.number;
   nest = f.nest;
   load = f.load;
+  room = k;
+  held = a;
+  counts = product_counts ts t r f;
 }

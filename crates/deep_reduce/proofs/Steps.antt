@@ -5,23 +5,35 @@ use Rattle.calc_algebra.proofs.MeaningRewrites as rewrites
 use Rattle.calc_algebra.proofs.UndefRewrites.{undef_part}
 use Rattle.calc_terms.specs.Fits.{fraction_fits, add_op, mul_op}
 use Rattle.calc_terms.specs.Fractions.{Fraction, minus_one_fraction, negative, zero_fraction, one_fraction}
-use Rattle.calc_algebra.specs.Numbers.{is_number}
+use Rattle.calc_algebra.specs.Numbers.{is_number, value}
 use Rattle.calc_measures.specs.PlainValues.{PlainValue, exactly, undefined, overflow, nothing, calculated, plain_value}
 use Rattle.calc_algebra.specs.Reduced.{is_reduced}
+use Rattle.calc_terms.specs.Integers.{int_is_negative}
 use Rattle.calc_terms.specs.declared.kind.Kind.{Kind}
 use Rattle.calc_terms.specs.declared.kind.Kind.TheVariants as kind
 use Rattle.calc_terms.specs.Trees.{Tree, num, symbol, undef, add, mult, power, root, neg, sub, div, Trees, none, more, names, is_undef, is_num, IsPart, IsPartOf, itself, in_add, in_mult, in_base, in_exponent, in_root, in_neg, in_left, in_right, in_dividend, in_divisor, first, later, has_undef, are_rationals}
 use Rattle.deep_reduce.specs.Answers.{IsReducedProduct, IsReducedPower}
 use Rattle.deep_reduce.specs.Nodes.{IsNodeAnswer, IsNodeOverflow, has_no_value}
 use Rattle.deep_reduce.proofs.EasyNodes.{and_true, and_first, and_second, or_true, or_none, undef_words, undef_test, number_defined}
+use Rattle.calc_room.specs.Spans.{SpansTree}
+use Rattle.deep_reduce.specs.Rooms.{KeepsSumRoom}
 use Rattle.deep_reduce.proofs.NodeRewrites.{both}
+use Rattle.deep_reduce.proofs.HeldFactors.{tree_factor}
+use Rattle.deep_reduce.proofs.HeldRoots.{root_answer_held}
+use Rattle.deep_reduce.proofs.NodeBits.{zero_held, one_held, opposite_factors, two_terms, second_side, answer_defined, power_answer_held, leaf_no_children}
+use Rattle.deep_reduce.proofs.NodeRooms.{product_node_room, power_node_room, undef_room, same_room, number_room, sum_room, root_node_room, opposite_room, difference_room}
+use Rattle.deep_reduce.proofs.PowerRooms.{undef_root_room}
+use Rattle.power_reduce.specs.PowerAnswers.{base_in}
 use Rattle.deep_reduce.proofs.PlainNodes.{undef_has_no_value}
 use Rattle.deep_reduce.proofs.Rationals.{opposite_value}
-use Rattle.radical_forms.specs.RootAnswers.{IsRootAnswer}
+use Rattle.radical_forms.specs.RootAnswers.{IfRational, IsRootAnswer}
 use Rattle.rational128.specs.declared.overflow.Overflow.{Overflow}
 use Rattle.calc_algebra.proofs.Rewritings.{keeps, kept, Rewrites-refl, reduces, reduces_after}
 use Rattle.calc_measures.specs.PlainTrees.{IsPlainAnswer, IsPlainOverflow}
 use Rattle.calc_algebra.specs.Rewritings.{HasNoNewName, Rewrites, Reduces}
+use Rattle.surd_bits.specs.Rooted.{IsNoLargerThanRoot}
+use Rattle.tree_bits.specs.Children.{IsSumHeld, addends_of_each}
+use Rattle.tree_bits.specs.HeldTrees.{IsTreeHeld}
 use Rattle.sum_reduce.specs.SumAnswers.{IsSumAnswer}
 use Rattle.tree_handles.specs.Expressions.{compound, children_of}
 
@@ -107,6 +119,10 @@ undefined_answer u e = record {
   undefined = λ h. refl;
   number = λ h n. absurd (let y : has_no_value u ≡ true = undef_has_no_value u e in cc);
   rational = λ h. absurd (let n : has_undef (children_of u) ≡ false = rationals_defined (children_of u) h in cc);
+  room = undef_room u;
+  root_room = λ h. undef_root_room (base_in u) undef refl;
+  held = λ d. absurd (let f : true ≡ false = d in cc);
+  leaf = leaf_no_children u e;
 }
 
 -- of two sides, where the right is Undef
@@ -125,6 +141,10 @@ number_answer q = record {
   undefined = λ h. cc;
   number = λ h n. rational_number q;
   rational = λ h. refl;
+  room = same_room (num q) (λ gs s. s);
+  root_room = λ h. cc;
+  held = λ d h l k. k;
+  leaf = λ h. refl;
 }
 
 pub symbol_answer : (x : List ℕ) → IsNodeAnswer (symbol x) (symbol x)
@@ -133,6 +153,10 @@ symbol_answer x = record {
   undefined = λ h. cc;
   number = λ h n. cc;
   rational = λ h. tt;
+  room = same_room (symbol x) (λ gs s. s);
+  root_room = λ h. cc;
+  held = λ d h l k. k;
+  leaf = λ h. refl;
 }
 
 pub undef_answer : IsNodeAnswer undef undef
@@ -141,21 +165,25 @@ undef_answer = record {
   undefined = λ h. refl;
   number = λ h n. cc;
   rational = λ h. refl;
+  room = same_room (undef) (λ gs s. s);
+  root_room = λ h. cc;
+  held = λ d h l k. k;
+  leaf = λ h. refl;
 }
 
 -- ---- sums, products, powers and roots
 
-pub sum_answer : (ts : Trees) (r : Tree) → IsSumAnswer ts r → (are_rationals ts ≡ true → IsPlainAnswer (plain_value (add ts)) r) → IsNodeAnswer (add ts) r
-sum_answer ts r a p = record { reduces = a.reduces; undefined = λ h. undef_words r (a.undefined ∙ h); number = λ h n. a.number h; rational = p }
+pub sum_answer : (ts : Trees) (r : Tree) → IsSumAnswer ts r → KeepsSumRoom ts r → ((h l : ℕ) → has_undef ts ≡ false → IsSumHeld (addends_of_each ts) h l → IsTreeHeld r h l) → (are_rationals ts ≡ true → IsPlainAnswer (plain_value (add ts)) r) → IsNodeAnswer (add ts) r
+sum_answer ts r a k b p = record { reduces = a.reduces; undefined = λ h. undef_words r (a.undefined ∙ h); number = λ h n. a.number h; rational = p; room = sum_room ts r k; root_room = λ h. cc; held = λ d h l x. tree_factor r a.reduces.reduced d (b h l (sym a.undefined ∙ d) x); leaf = λ h. cc }
 
 pub product_answer : (ts : Trees) (r : Tree) → IsReducedProduct ts r → (are_rationals ts ≡ true → IsPlainAnswer (plain_value (mult ts)) r) → IsNodeAnswer (mult ts) r
-product_answer ts r a p = record { reduces = a.reduces; undefined = a.undefined; number = λ h n. a.number h; rational = p }
+product_answer ts r a p = record { reduces = a.reduces; undefined = a.undefined; number = λ h n. a.number h; rational = p; room = product_node_room ts r a.room; root_room = λ h. cc; held = a.held; leaf = λ h. cc }
 
 pub power_answer : (b e r : Tree) → IsReducedPower b e r → (are_rationals (two b e) ≡ true → IsPlainAnswer (plain_value (power b e)) r) → IsNodeAnswer (power b e) r
-power_answer b e r a p = record { reduces = a.reduces; undefined = a.undefined; number = a.number; rational = p }
+power_answer b e r a p = record { reduces = a.reduces; undefined = a.undefined; number = a.number; rational = p; room = power_node_room b e r a.room; root_room = a.root_room; held = power_answer_held b e r a; leaf = λ h. cc }
 
-pub root_answer : (a r : Tree) → IsRootAnswer a r → IsNodeAnswer (root a) r
-root_answer a r h = record { reduces = h.reduces; undefined = λ e. undef_words r (h.undefined ∙ e); number = h.number; rational = λ e. tt }
+pub root_answer : (a r : Tree) → is_reduced a ≡ true → IsRootAnswer a r → ((gs : List ℕ) → SpansTree gs (root a) → SpansTree gs r) → IfRational a (λ q. int_is_negative q.num ≡ false → IsNoLargerThanRoot q (value r)) → IsNodeAnswer (root a) r
+root_answer a r x h s m = record { reduces = h.reduces; undefined = λ e. undef_words r (h.undefined ∙ e); number = h.number; rational = λ e. tt; room = root_node_room a r h s; root_room = λ k. cc; held = λ d i l k. root_answer_held a r x h m k.1 d k.0; leaf = λ k. cc }
 
 pub empty_sum_answer : (r : Tree) → r ≡ num zero_fraction → IsNodeAnswer (add none) r
 empty_sum_answer r e = subst (IsNodeAnswer (add none)) (sym e) (record {
@@ -163,6 +191,10 @@ empty_sum_answer r e = subst (IsNodeAnswer (add none)) (sym e) (record {
   undefined = λ h. cc;
   number = λ h n. rational_number zero_fraction;
   rational = λ h. tt;
+  room = number_room (add none) zero_fraction;
+  root_room = λ h. cc;
+  held = λ d h l k. zero_held h l;
+  leaf = λ h. cc;
 })
 
 pub empty_product_answer : (r : Tree) → r ≡ num one_fraction → IsNodeAnswer (mult none) r
@@ -171,6 +203,10 @@ empty_product_answer r e = subst (IsNodeAnswer (mult none)) (sym e) (record {
   undefined = λ h. cc;
   number = λ h n. rational_number one_fraction;
   rational = λ h. tt;
+  room = number_room (mult none) one_fraction;
+  root_room = λ h. cc;
+  held = λ d h l k. one_held h l;
+  leaf = λ h. cc;
 })
 
 -- ---- opposites
@@ -197,6 +233,10 @@ module _ (a r : Tree) (fit : (q : Fraction) → a ≡ num q → fraction_fits q 
         let (q, is) = num_words a (and_first (is_num a) true e) in
         let w : IsPlainAnswer (exactly (negative q)) r = subst (λ (v : PlainValue). IsPlainAnswer v r) (neg_value q is) (h.rational e) in
         subst (λ (t : Tree). IsPlainAnswer (plain_value (neg t)) r) (sym is) w;
+    room = opposite_room a r h.room;
+    root_room = λ k. cc;
+    held = λ d m l k. h.held d m l (opposite_factors a k);
+    leaf = λ k. cc;
   }
 
   pub neg_overflow : (o : Overflow) → IsNodeOverflow (mult (two (num minus_one_fraction) a)) o → IsNodeOverflow (neg a) o
@@ -278,6 +318,10 @@ module _ (a b c : Tree) (known : IsNodeAnswer (neg b) c) where
         h.number (and_true (is_number a) (is_number c && true) (and_first (is_number a) (is_number b) n) (and_true (is_number c) true number refl))
         (or_none (is_undef a) (is_undef c || false) (or_first (is_undef a) (is_undef b) d) (or_none (is_undef c) false (number_defined c number) refl));
     rational = λ e. subst (λ (v : PlainValue). IsPlainAnswer v r) (difference_value (are_two a b e)) (h.rational (sides_rational e));
+    room = difference_room a b c r known.room h.room;
+    root_room = λ k. cc;
+    held = λ d m l k. let e = answer_defined (two a c) r h.undefined d in h.held d m l (two_terms a c e k.left (known.held (second_side a c e) k.k k.n k.right) k.high k.low);
+    leaf = λ k. cc;
   }
     where
       by : (is_undef a ≡ true) ⊎ (is_undef b ≡ true) → r ≡ undef

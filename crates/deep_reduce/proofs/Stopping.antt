@@ -7,13 +7,15 @@ use Rattle.breakers.specs.State.{State as BreakerState}
 use Rattle.calc_measures.specs.PlainOverflows.{nodes_to_overflow}
 use Rattle.calc_measures.specs.PlainTrees.{IsPlainOverflow}
 use Rattle.calc_measures.specs.PlainValues.{plain_value}
-use Rattle.calc_terms.specs.Trees.{Tree, Trees, none, more, count, nodes, nodes_of}
+use Rattle.calc_terms.specs.Trees.{Tree, Trees, none, more, count, nodes, nodes_of, size}
+use Rattle.calc_measures.specs.Measures.{bits, room}
 use Rattle.deep_reduce.specs.Leaves.{is_leaf}
 use Rattle.deep_reduce.specs.Reductions.{IsAtItsNode, Stops}
+use Rattle.deep_reduce.proofs.BitsBeyond.{child_beyond}
 use Rattle.deep_reduce.proofs.Overflowing.{first_overflow}
 use Rattle.deep_reduce.proofs.PlainNodes.{child_overflow}
 use Rattle.deep_reduce.proofs.Walks.{IsWalked, IsNextChild, fewer_nodes, nodes_by_children, leaf_nodes}
-use Rattle.node_pool.specs.State.{State}
+use Rattle.node_pool.specs.State.{State, free_of}
 use Rattle.number_forms.proofs.Loops.{kept_after, refuses_after}
 use Rattle.rational128.specs.declared.overflow.Overflow.{Overflow}
 use Rattle.reduce_port.proofs.Checks.{one_calm, trips_at_once, calm_up_to_after, trips_within_after}
@@ -41,17 +43,18 @@ child_at_its_node {i = i} {old = old} {before = before} {after = after} {w = w} 
     subst (λ (m : ℕ). CalmChecks m before last) (sym f.many-is) (CalmChecks-append (nodes_of w.done) (nodes_to_overflow n.child) before after last w.calm (h f.overflows))
 
 pub child_stops : {i leaves at : ℕ} {old new : Forest} {before after : List BreakerState} {s t : State} {w : IsWalked i leaves at old new before after} (last : List BreakerState) (u : State) (n : IsNextChild w) (c : Tree) (e : ReduceFault)
-    → c ≡ n.child → KeepsRefusals s t → Stops c t u after last e → Stops (plain (root_tree i old)) s u before last e
-child_stops {i = i} {old = old} {before = before} {after = after} {w = w} last u n c (fault.Full full) same k (l, r, m) =
-    (l, refuses_after k r, calm_more (calm_up_to_after (nodes_of w.done) (nodes c) before after last w.calm m) (omega (arith, fewer_nodes n, ap nodes same)))
-child_stops {i = i} {old = old} {before = before} {after = after} {w = w} last u n c (fault.Overflow o) same k (x, r, m, p, q) = (
+    → c ≡ n.child → KeepsRefusals s t → (free_of t + size c < room c → free_of s + size (plain (root_tree i old)) < room (plain (root_tree i old))) → Stops c t u after last e → Stops (plain (root_tree i old)) s u before last e
+child_stops {i = i} {old = old} {before = before} {after = after} {w = w} last u n c (fault.Full full) same k short (l, r, m, x) =
+    (l, refuses_after k r, calm_more (calm_up_to_after (nodes_of w.done) (nodes c) before after last w.calm m) (omega (arith, fewer_nodes n, ap nodes same)), short x)
+child_stops {i = i} {old = old} {before = before} {after = after} {w = w} last u n c (fault.Overflow o) same k short (x, r, m, p, q, b) = (
   x,
   kept_after k r,
   calm_more (calm_up_to_after (nodes_of w.done) (nodes c) before after last w.calm m) (omega (arith, fewer_nodes n, ap nodes same)),
   child_overflow w.done w.answers n.child n.rest o w.reduced (subst (λ (t : Tree). IsPlainOverflow (plain_value t) o) same p) (plain (root_tree i old)) n.split,
   child_at_its_node last n o (subst (λ (t : Tree). IsPlainOverflow (plain_value t) o) same p) (subst (λ (t : Tree). IsAtItsNode t after last) same q),
+  child_beyond (plain (root_tree i old)) w.done n.child n.rest n.split (subst (λ (t : Tree). 124 < bits t) same b),
 )
-child_stops {before = before} {after = after} {w = w} last u n c (fault.Interrupted by) same k (r, m) =
+child_stops {before = before} {after = after} {w = w} last u n c (fault.Interrupted by) same k short (r, m) =
     (kept_after k r, trips_more (trips_within_after (nodes_of w.done) (nodes c) before after last by.by w.calm m) (omega (arith, fewer_nodes n, ap nodes same)))
 
 -- what an error tells, where a `?` hands it on
@@ -60,15 +63,15 @@ handed_on (Ok x) e P n a h = let no : false ≡ true = n in cc
 handed_on (Err f) e P n a h = subst P (sym a) h
 
 -- after a call that kept the refusals
-pub stops_after : {s t : State} (u : State) (before after : List BreakerState) (tree : Tree) (e : ReduceFault) → KeepsRefusals s t → Stops tree t u before after e → Stops tree s u before after e
-stops_after u before after tree (fault.Full full) k (l, r, m) = (l, refuses_after k r, m)
-stops_after u before after tree (fault.Overflow o) k (w, r, m, p, q) = (w, kept_after k r, m, p, q)
-stops_after u before after tree (fault.Interrupted by) k (r, m) = (kept_after k r, m)
+pub stops_after : {s t : State} (u : State) (before after : List BreakerState) (tree : Tree) (e : ReduceFault) → KeepsRefusals s t → free_of t ≡ free_of s → Stops tree t u before after e → Stops tree s u before after e
+stops_after u before after tree (fault.Full full) k f (l, r, m, x) = (l, refuses_after k r, m, omega (arith, f, x))
+stops_after u before after tree (fault.Overflow o) k f (w, r, m, p, q, b) = (w, kept_after k r, m, p, q, b)
+stops_after u before after tree (fault.Interrupted by) k f (r, m) = (kept_after k r, m)
 
 -- where it is the error
-pub stopped : {s t : State} (r : Result ℕ ReduceFault) (u : State) (before after : List BreakerState) {x y : Tree} → x ≡ y → KeepsRefusals s t → IfErr r (Stops x t u before after) → IfErr r (Stops y s u before after)
-stopped (Ok a) u before after e k h = tt
-stopped {s = s} (Err f) u before after {x = x} e k h = subst (λ (z : Tree). Stops z s u before after f) e (stops_after u before after x f k h)
+pub stopped : {s t : State} (r : Result ℕ ReduceFault) (u : State) (before after : List BreakerState) {x y : Tree} → x ≡ y → KeepsRefusals s t → free_of t ≡ free_of s → IfErr r (Stops x t u before after) → IfErr r (Stops y s u before after)
+stopped (Ok a) u before after e k g h = tt
+stopped {s = s} (Err f) u before after {x = x} e k g h = subst (λ (z : Tree). Stops z s u before after f) e (stops_after u before after x f k g h)
 
 pub kept_from : {s t : State} (u : State) (r : Result ℕ ReduceFault) → KeepsRefusals s t → OnOk r (KeepsRefusals t u) → OnOk r (KeepsRefusals s u)
 kept_from u (Ok a) k h = kept_after k h

@@ -1,6 +1,6 @@
 -- What calls on a node of a kind tell, in the words of any node.
 use Rattle.std.proofs.lemmas.Bool.{false_from_ne_true}
-use Rattle.std.proofs.Common.{◌≡◌, ◌≢◌, pos, negsuc, Bool, true, false, ◌&&◌, refl, sym, ap, ◌∙◌, subst, arith}
+use Rattle.std.proofs.Common.{◌≡◌, ◌≢◌, ℕ, List, pos, negsuc, Bool, true, false, ◌&&◌, refl, sym, ap, ◌∙◌, subst, arith}
 use Rattle.std.specs.Prelude.{◌||◌}
 use Rattle.calc_terms.specs.declared.rat.Rat.{Rat}
 use Rattle.calc_terms.specs.Fractions.{lowest, whole_fraction, zero_fraction, one_fraction, minus_one_fraction}
@@ -10,15 +10,23 @@ use Rattle.calc_measures.specs.PlainValues.{PlainValue, nothing, plain_value}
 use Rattle.calc_algebra.specs.Reduced.{is_half_num, is_reduced, is_whole_num, are_reduced}
 use Rattle.calc_terms.specs.Trees.{Tree, num, symbol, undef, add, mult, power, root, neg, sub, div, Trees, none, more, count, is_add, is_mult, is_root, is_sub, is_div, is_num, is_undef, root_kind, are_rationals, has_undef}
 use Rattle.calc_terms.specs.declared.kind.Kind.TheVariants as kind
+use Rattle.calc_algebra.specs.Numbers.{value}
+use Rattle.calc_terms.specs.Integers.{int_is_negative}
+use Rattle.surd_bits.specs.Rooted.{IsNoLargerThanRoot}
+use Rattle.tree_bits.specs.Children.{IsSumHeld, addends_of_each}
+use Rattle.tree_bits.specs.HeldTrees.{IsTreeHeld}
 use Rattle.deep_reduce.specs.Answers.{IsReducedProduct, IsReducedPower}
+use Rattle.calc_room.specs.Spans.{SpansTree}
 use Rattle.deep_reduce.specs.Nodes.{IsNodeAnswer, IsNodeOverflow, is_neg}
+use Rattle.deep_reduce.specs.Rooms.{KeepsSumRoom}
 use Rattle.deep_reduce.proofs.EasyNodes.{and_true, and_first, and_second, or_none}
 use Rattle.deep_reduce.proofs.Steps.{two, or_first, or_second, sum_answer, product_answer, power_answer, root_answer, empty_sum_answer, empty_product_answer, number_answer, symbol_answer, undef_answer}
 use Rattle.power_reduce.specs.PowerAnswers.{base_in, exponent_in}
 use Rattle.power_reduce.proofs.Cases.{no_plain_value}
 use Rattle.power_reduce.proofs.Exponents.{whole_no_half}
 use Rattle.power_reduce.proofs.Whole.{whole_is}
-use Rattle.radical_forms.specs.RootAnswers.{argument_of, IsRootAnswer}
+use Rattle.radical_forms.specs.Refusals.{NamesProduct}
+use Rattle.radical_forms.specs.RootAnswers.{argument_of, IfRational, IsRootAnswer}
 use Rattle.rational128.specs.declared.overflow.Overflow.{Overflow}
 use Rattle.calc_measures.specs.PlainTrees.{IsPlainAnswer, IsPlainOverflow}
 use Rattle.sum_reduce.specs.SumAnswers.{IsSumAnswer}
@@ -56,6 +64,10 @@ div_kind t e = cc
 
 -- ---- the node by its children
 
+pub sum_words : (t : Tree) → is_add t ≡ true → t ≡ add (children_of t)
+sum_words (add ts) e = refl
+sum_words t e = cc
+
 pub neg_is : (t : Tree) → is_neg t ≡ true → t ≡ neg (nth 0 (children_of t))
 neg_is (neg a) e = refl
 neg_is t e = cc
@@ -82,9 +94,9 @@ div_children t e = cc
 
 -- ---- answers
 
-pub sum_told : (t r : Tree) → is_add t ≡ true → IsSumAnswer (children_of t) r → (are_rationals (children_of t) ≡ true → IsPlainAnswer (plain_value t) r) → IsNodeAnswer t r
-sum_told (add ts) r e a p = sum_answer ts r a p
-sum_told t r e a p = cc
+pub sum_told : (t r : Tree) → is_add t ≡ true → IsSumAnswer (children_of t) r → KeepsSumRoom (children_of t) r → ((h l : ℕ) → has_undef (children_of t) ≡ false → IsSumHeld (addends_of_each (children_of t)) h l → IsTreeHeld r h l) → (are_rationals (children_of t) ≡ true → IsPlainAnswer (plain_value t) r) → IsNodeAnswer t r
+sum_told (add ts) r e a k b p = sum_answer ts r a k b p
+sum_told t r e a k b p = cc
 
 pub product_told : (t r : Tree) → is_mult t ≡ true → IsReducedProduct (children_of t) r → (are_rationals (children_of t) ≡ true → IsPlainAnswer (plain_value t) r) → IsNodeAnswer t r
 product_told (mult ts) r e a p = product_answer ts r a p
@@ -135,17 +147,19 @@ pub power_reduced : (t : Tree) → t ≡ power (base_in t) (exponent_in t) → a
 power_reduced (power b e) k h = (and_first (is_reduced b) (is_reduced e && true) h, and_first (is_reduced e) true (and_second (is_reduced b) (is_reduced e && true) h))
 power_reduced t k h = cc
 
-pub root_told : (t r : Tree) → is_root t ≡ true → IsRootAnswer (argument_of t) r → IsNodeAnswer t r
-root_told (root a) r e h = root_answer a r h
-root_told t r e h = cc
+pub root_told : (t r : Tree) → is_root t ≡ true → is_reduced (argument_of t) ≡ true → IsRootAnswer (argument_of t) r → ((gs : List ℕ) → SpansTree gs t → SpansTree gs r)
+    → IfRational (argument_of t) (λ q. int_is_negative q.num ≡ false → IsNoLargerThanRoot q (value r)) → IsNodeAnswer t r
+root_told (root a) r e x h s m = root_answer a r x h s m
+root_told t r e x h s m = cc
 
 pub argument_reduced : (t : Tree) → is_root t ≡ true → are_reduced (children_of t) ≡ true → is_reduced (argument_of t) ≡ true
 argument_reduced (root a) e h = and_first (is_reduced a) true h
 argument_reduced t e h = cc
 
 -- a root of rationals has no plain value
-pub root_overflow : (t : Tree) (o : Overflow) → is_root t ≡ true → has_undef (children_of t) ≡ false → IsNodeOverflow t o
-root_overflow (root a) o e h = record { defined = h; rational = λ r. tt }
+pub root_overflow : (t : Tree) (o : Overflow) → is_root t ≡ true → NamesProduct (argument_of t) o → IsNodeOverflow t o
+root_overflow (root (num q)) o e h = record { defined = refl; rational = λ r. tt }
+root_overflow (root a) o e h = absurd h
 root_overflow t o e h = cc
 
 pub empty_sum_told : (t r : Tree) → is_add t ≡ true → count (children_of t) ≡ 0 → r ≡ num (whole_fraction (pos 0)) → IsNodeAnswer t r
@@ -209,8 +223,8 @@ pub second_defined : (a b : Tree) → has_undef (two a b) ≡ false → is_undef
 second_defined a b h = or_first (is_undef b) false (or_second (is_undef a) (is_undef b || false) h)
 
 -- an overflow of a power that is the inverse of a defined tree
-pub inverse_overflowed : (t b : Tree) (o : Overflow) → t ≡ power b (num minus_one_fraction) → is_undef b ≡ false → (are_rationals (children_of t) ≡ true → IsPlainOverflow (plain_value t) o) → IsNodeOverflow (power b (num minus_one_fraction)) o
-inverse_overflowed t b o e d h = overflow_at {t = t} o e (record { defined = ap (λ (u : Tree). has_undef (children_of u)) e ∙ two_defined b (num minus_one_fraction) d refl; rational = h })
+pub inverse_overflowed : (t b : Tree) (o : Overflow) → t ≡ power b (num minus_one_fraction) → has_undef (children_of t) ≡ false → (are_rationals (children_of t) ≡ true → IsPlainOverflow (plain_value t) o) → IsNodeOverflow (power b (num minus_one_fraction)) o
+inverse_overflowed t b o e d h = overflow_at {t = t} o e (record { defined = d; rational = h })
 
 pub only_reduced : (ts : Trees) (a : Tree) → ts ≡ more a none → are_reduced ts ≡ true → is_reduced a ≡ true
 only_reduced ts a e h = and_first (is_reduced a) true (ap are_reduced (sym e) ∙ h)

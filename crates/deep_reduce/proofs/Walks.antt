@@ -5,7 +5,7 @@ use Rattle.std.proofs.lemmas.List.{length-append}
 use Rattle.breakers.proofs.Runs.{CalmChecks-append}
 use Rattle.breakers.specs.Breakers.{CalmChecks}
 use Rattle.breakers.specs.State.{State as BreakerState}
-use Rattle.calc_terms.specs.Trees.{Tree, num, symbol, undef, root, Trees, none, more, append, count, nodes, nodes_of}
+use Rattle.calc_terms.specs.Trees.{Tree, num, symbol, undef, Trees, none, more, append, count, nodes, nodes_of}
 use Rattle.coefficients.proofs.Places.{cut, cut_rest, represents_count}
 use Rattle.coefficients.proofs.Steps.{expression, seen}
 use Rattle.deep_reduce.specs.Leaves.{is_leaf, BeginWithLeaves}

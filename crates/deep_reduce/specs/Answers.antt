@@ -1,12 +1,17 @@
 -- What products and powers of reduced trees reduce to.
-use Rattle.std.specs.Prelude.{◌≡◌, ◌≤◌, ◌+◌, Bool, true, false, ◌&&◌, ◌||◌, ◌==◌}
-use Rattle.calc_terms.specs.Fractions.{is_zero_fraction}
+use Rattle.std.specs.Prelude.{ℤ, ◌≡◌, ◌≤◌, ◌+◌, Bool, true, false, ◌&&◌, ◌||◌, ◌==◌}
+use Rattle.calc_terms.specs.Fractions.{is_zero_fraction, whole_fraction}
 use Rattle.calc_terms.specs.Integers.{int_is_negative}
 use Rattle.calc_measures.specs.Loads.{nest, load, weight}
 use Rattle.calc_algebra.specs.Numbers.{is_number, are_numbers}
 use Rattle.calc_algebra.specs.Reduced.{is_half_num, is_opaque_exponent}
+use Rattle.calc_room.specs.Counts.{counted}
 use Rattle.calc_terms.specs.Trees.{Tree, num, undef, mult, power, Trees, has_undef, is_num}
 use Rattle.power_reduce.specs.PowerAnswers.{has_no_power, has_number_power, IsWrittenPower}
+use Rattle.deep_reduce.specs.Bits.{IsHeldAsProduct, IsHeldAsRootPower, MultipliesCounts}
+use Rattle.number_forms.specs.Readers.{numerator}
+use Rattle.power_reduce.specs.Bits.{IsHeldAsPowerOf}
+use Rattle.deep_reduce.specs.Rooms.{KeepsRoom, KeepsRootRoom, power_count}
 use Rattle.product_reduce.specs.Answers.{AreJoinable, IsWrittenProduct}
 use Rattle.calc_algebra.specs.Rewritings.{Reduces}
 
@@ -17,6 +22,9 @@ pub record IsReducedProduct (ts : Trees) (t : Tree) : Type 0 where
   pub number : are_numbers ts ≡ true → is_number t ≡ true
   pub nest : nest t ≤ nest (mult ts)
   pub load : load t ≤ load (mult ts)
+  pub room : KeepsRoom (counted (mult ts)) (mult ts) t
+  pub held : IsHeldAsProduct ts t
+  pub counts : MultipliesCounts ts t
 
 -- where no two of the factors are to be joined, their product is the coefficient times the others in order
 abbrev pub IsWrittenApart : Trees → Tree → Type 0
@@ -44,3 +52,7 @@ pub record IsReducedPower (b e t : Tree) : Type 0 where
   pub nest : nest t ≤ nest (power b e)
   pub opaque_load : load t ≤ 1 + weight b
   pub load : is_opaque_exponent e ≡ false → load t ≤ weight b
+  pub room : KeepsRoom (power_count b e) (power b e) t
+  pub root_room : is_half_num e ≡ true → KeepsRootRoom b t
+  pub held : (n : ℤ) → e ≡ num (whole_fraction n) → IsHeldAsPowerOf n b t
+  pub root_held : is_half_num e ≡ true → IsHeldAsRootPower (numerator e) b t

@@ -5,3 +5,7 @@ pub mod Nodes
 pub mod Reductions
 pub mod Leaves
 pub mod Pairs
+pub mod Rooms
+pub mod NodeRooms
+pub mod Bits
+pub mod NodeBits

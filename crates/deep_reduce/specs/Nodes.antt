@@ -1,10 +1,17 @@
 -- What a node over reduced children reduces to.
-use Rattle.std.specs.Prelude.{◌≡◌, Bool, true, false, ◌&&◌, ◌||◌}
+use Rattle.std.specs.Prelude.{ℕ, ◌≡◌, Bool, true, false, ◌&&◌, ◌||◌}
 use Rattle.calc_terms.specs.Fractions.{minus_one_fraction}
 use Rattle.calc_algebra.specs.Numbers.{is_number, are_numbers}
 use Rattle.calc_measures.specs.PlainValues.{plain_value}
 use Rattle.calc_terms.specs.Trees.{Tree, num, undef, add, mult, power, root, neg, sub, div, is_num, is_undef, has_undef, are_rationals}
+use Rattle.calc_algebra.specs.Reduced.{is_half_num}
 use Rattle.deep_reduce.specs.Answers.{lacks_power, is_number_power}
+use Rattle.deep_reduce.specs.Leaves.{is_leaf}
+use Rattle.deep_reduce.specs.NodeBits.{HoldsNode}
+use Rattle.product_reduce.specs.Bits.{IsFactorHeld}
+use Rattle.deep_reduce.specs.NodeRooms.{KeepsNodeRoom, node_count}
+use Rattle.deep_reduce.specs.Rooms.{KeepsRootRoom}
+use Rattle.power_reduce.specs.PowerAnswers.{base_in, exponent_in}
 use Rattle.radical_forms.specs.RootAnswers.{has_no_root}
 use Rattle.rational128.specs.declared.overflow.Overflow.{Overflow}
 use Rattle.calc_measures.specs.PlainTrees.{IsPlainAnswer, IsPlainOverflow}
@@ -46,6 +53,10 @@ pub record IsNodeAnswer (t answer : Tree) : Type 0 where
   pub undefined : has_no_value t ≡ true → answer ≡ undef
   pub number : has_number t ≡ true → has_no_value t ≡ false → is_number answer ≡ true
   pub rational : are_rationals (children_of t) ≡ true → IsPlainAnswer (plain_value t) answer
+  pub room : KeepsNodeRoom (node_count t) t answer
+  pub root_room : is_half_num (exponent_in t) ≡ true → KeepsRootRoom (base_in t) answer
+  pub held : is_undef answer ≡ false → (h l : ℕ) → HoldsNode t h l → IsFactorHeld answer h l
+  pub leaf : is_leaf t ≡ true → answer ≡ t
 
 -- an operation that does not fit: no child is Undef, and over rationals it is the one of the plain value
 pub record IsNodeOverflow (t : Tree) (overflow : Overflow) : Type 0 where

@@ -1,11 +1,23 @@
 //! Opposites, differences and quotients, as sums, products and powers.
-ghost use Rattle.std.specs.Prelude.{◌≡◌, ◌⊎◌, true, false, IfOk, IfErr, OnOk, [], ◌∷◌};
+ghost use Rattle.std.specs.Prelude.{ℕ, negsuc, List, length, ◌≡◌, ◌⊎◌, ◌+◌, ◌^◌, true, false, IfOk, IfErr, OnOk, [], ◌∷◌};
 ghost use Rattle.calc_terms.specs.Fractions.{minus_one_fraction};
 ghost use Rattle.calc_algebra.specs.Reduced.{is_reduced, are_reduced};
-ghost use Rattle.calc_terms.specs.Trees.{num, neg, power, none, more, count, is_undef, is_sub, is_div, has_undef};
+ghost use Rattle.calc_room.specs.Counts.{counted};
+ghost use Rattle.calc_room.specs.Spans.{SpansTree};
+ghost use Rattle.calc_terms.specs.Trees.{num, add, mult, neg, power, none, more, count, is_sub, is_div, is_undef, has_undef, size, sizes};
 ghost use Rattle.calc_terms.specs.declared.kind.Kind.TheVariants.{Add, Mult};
 ghost use Rattle.deep_reduce.specs.Nodes.{IsNodeAnswer, IsNodeOverflow, is_neg};
+ghost use Rattle.deep_reduce.specs.Bits.{HasFewBits};
+ghost use Rattle.deep_reduce.specs.NodeBits.{HoldsNode};
+ghost use Rattle.power_reduce.specs.Bits.{HasFewBitsRaised};
+ghost use Rattle.product_reduce.specs.Bits.{IsFactorHeld};
+ghost use Rattle.deep_reduce.specs.NodeRooms.{HasNodesFor};
 ghost use Rattle.deep_reduce.specs.Pairs.{GivesSides};
+ghost use Rattle.deep_reduce.specs.Rooms.{IsCalmAtZero};
+ghost use Rattle.node_pool.specs.State.{free_of};
+ghost use Rattle.number_forms.specs.Lacks.{LacksBelow};
+ghost use Rattle.tree_room.specs.Handed.{sum_count, product_count};
+ghost use Rattle.tree_room.specs.Needs.{simple_room, sum_room, product_room, product_power_room};
 ghost use Rattle.tree_handles.specs.Causes.{IsCaused};
 ghost use Rattle.tree_handles.specs.Handed.{tree_of, IsHanded, Ends, Gives, KeepsFront};
 ghost use Rattle.tree_handles.specs.Expressions.{children_of, compound};
@@ -17,7 +29,9 @@ use crate::nodes::{add_up, multiply};
 use crate::whole::reduce_power;
 use calc_terms::{Kind, Rat};
 use node_pool::Pool;
-use tree_handles::{Handle, NumberFault, is_undefined, node_over_two, number, release, take_child};
+use tree_handles::{
+    Handle, NumberFault, has_undefined_child, node_over_two, number, release, take_child, undefined,
+};
 
 /// -1 times the argument.
 pub(crate) fn negate(pool: &mut Pool, opposite: Handle) -> Result<Handle, NumberFault>
@@ -25,13 +39,15 @@ pub(crate) fn negate(pool: &mut Pool, opposite: Handle) -> Result<Handle, Number
     requires handed { IsHanded opposite (forest pool.old) }
     requires opposite { is_neg (tree_of opposite pool.old) ≡ true }
     requires reduced { are_reduced (children_of (tree_of opposite pool.old)) ≡ true }
-    requires defined { has_undef (children_of (tree_of opposite pool.old)) ≡ false }
     ensures ok { IfOk result (λ h. Gives (without_root opposite (forest pool.old)) (forest pool.new) h (IsNodeAnswer (tree_of opposite pool.old))) }
     ensures overflow { IfOverflow result (IsNodeOverflow (tree_of opposite pool.old)) }
     ensures front { KeepsFront (opposite ∷ []) (forest pool.old) (forest pool.new) }
     ensures kept { OnOk result (KeepsRefusals pool.old pool.new) }
     ensures faults { IfErr result (Faults pool.old pool.new) }
     ensures caused { IfErr result (IsCaused pool.new) }
+    ensures room { (gs : List ℕ) (ns : List (List ℕ)) (n : ℕ) → HasNodesFor n (tree_of opposite pool.old) → IsCalmAtZero ns (tree_of opposite pool.old) → SpansTree gs (tree_of opposite pool.old)
+        → IfErr result (LacksBelow (simple_room n (2 ^ length gs)) (free_of pool.old + size (tree_of opposite pool.old))) }
+    ensures bits { (h l : ℕ) → (has_undef (children_of (tree_of opposite pool.old)) ≡ false → HoldsNode (tree_of opposite pool.old) h l) → HasFewBits h l → IfOverflow result (λ o. ⊥) }
     ensures stands { Stands pool.new }
 {
     let argument = take_child(pool, &opposite, 0);
@@ -39,47 +55,57 @@ pub(crate) fn negate(pool: &mut Pool, opposite: Handle) -> Result<Handle, Number
     minus(pool, argument)
 }
 
-/// The left and -1 times the right, added.
+/// The left and -1 times the right, added. An Undef side decides before the right is multiplied.
 pub(crate) fn subtract(pool: &mut Pool, difference: Handle) -> Result<Handle, NumberFault>
     requires stands { Stands pool.old }
     requires handed { IsHanded difference (forest pool.old) }
     requires difference { is_sub (tree_of difference pool.old) ≡ true }
     requires reduced { are_reduced (children_of (tree_of difference pool.old)) ≡ true }
-    requires defined { has_undef (children_of (tree_of difference pool.old)) ≡ false }
     ensures ok { IfOk result (λ h. Gives (without_root difference (forest pool.old)) (forest pool.new) h (IsNodeAnswer (tree_of difference pool.old))) }
     ensures overflow { IfOverflow result (IsNodeOverflow (tree_of difference pool.old)) }
     ensures front { KeepsFront (difference ∷ []) (forest pool.old) (forest pool.new) }
     ensures kept { OnOk result (KeepsRefusals pool.old pool.new) }
     ensures faults { IfErr result (Faults pool.old pool.new) }
     ensures caused { IfErr result (IsCaused pool.new) }
+    ensures room { (gs : List ℕ) (ns : List (List ℕ)) (n : ℕ) → HasNodesFor n (tree_of difference pool.old) → IsCalmAtZero ns (tree_of difference pool.old) → SpansTree gs (tree_of difference pool.old)
+        → IfErr result (LacksBelow (simple_room n (2 ^ length gs)) (free_of pool.old + size (tree_of difference pool.old))) }
+    ensures bits { (h l : ℕ) → (has_undef (children_of (tree_of difference pool.old)) ≡ false → HoldsNode (tree_of difference pool.old) h l) → HasFewBits h l → IfOverflow result (λ o. ⊥) }
     ensures stands { Stands pool.new }
 {
+    if has_undefined_child(pool, difference.id()) {
+        return Ok(undefined(pool, difference));
+    }
     let (left, right) = take_sides(pool, difference);
     let term = minus(pool, right)?;
     join_sides(pool, Kind::Add, left, term)
 }
 
-/// The dividend and the divisor to the power -1, multiplied.
+/// The dividend and the divisor to the power -1, multiplied. An Undef side decides before the divisor is inverted.
 pub(crate) fn divide(pool: &mut Pool, quotient: Handle) -> Result<Handle, NumberFault>
     requires stands { Stands pool.old }
     requires handed { IsHanded quotient (forest pool.old) }
     requires quotient { is_div (tree_of quotient pool.old) ≡ true }
     requires reduced { are_reduced (children_of (tree_of quotient pool.old)) ≡ true }
-    requires defined { has_undef (children_of (tree_of quotient pool.old)) ≡ false }
     ensures ok { IfOk result (λ h. Gives (without_root quotient (forest pool.old)) (forest pool.new) h (IsNodeAnswer (tree_of quotient pool.old))) }
     ensures overflow { IfOverflow result (IsNodeOverflow (tree_of quotient pool.old)) }
     ensures front { KeepsFront (quotient ∷ []) (forest pool.old) (forest pool.new) }
     ensures kept { OnOk result (KeepsRefusals pool.old pool.new) }
     ensures faults { IfErr result (Faults pool.old pool.new) }
     ensures caused { IfErr result (IsCaused pool.new) }
+    ensures room { (gs : List ℕ) (ns : List (List ℕ)) (n : ℕ) → HasNodesFor n (tree_of quotient pool.old) → IsCalmAtZero ns (tree_of quotient pool.old) → SpansTree gs (tree_of quotient pool.old)
+        → IfErr result (LacksBelow (simple_room n (2 ^ length gs)) (free_of pool.old + size (tree_of quotient pool.old))) }
+    ensures bits { (h l : ℕ) → (has_undef (children_of (tree_of quotient pool.old)) ≡ false → HoldsNode (tree_of quotient pool.old) h l) → HasFewBits h l → IfOverflow result (λ o. ⊥) }
     ensures stands { Stands pool.new }
 {
+    if has_undefined_child(pool, quotient.id()) {
+        return Ok(undefined(pool, quotient));
+    }
     let (dividend, divisor) = take_sides(pool, quotient);
     let factor = inverse(pool, divisor)?;
     join_sides(pool, Kind::Mult, dividend, factor)
 }
 
-/// The sum or the product of two sides, the right of which stands last. A right side that is Undef leaves nothing else of it.
+/// The sum or the product of two sides, the right of which stands last.
 fn join_sides(
     pool: &mut Pool,
     kind: Kind,
@@ -92,7 +118,6 @@ fn join_sides(
     requires last { Ends right (root_tree right (forest pool.old)) (without_root right (forest pool.old)) (forest pool.old) }
     requires left { IsHanded left (without_root right (forest pool.old)) }
     requires left_reduced { is_reduced (tree_of left pool.old) ≡ true }
-    requires left_defined { is_undef (tree_of left pool.old) ≡ false }
     requires right_reduced { is_reduced (tree_of right pool.old) ≡ true }
     ensures ok { let t = compound kind (more (tree_of left pool.old) (more (tree_of right pool.old) none)) in
         IfOk result (λ h. Gives (without_root right (without_root left (forest pool.old))) (forest pool.new) h (IsNodeAnswer t)) }
@@ -101,12 +126,14 @@ fn join_sides(
     ensures kept { OnOk result (KeepsRefusals pool.old pool.new) }
     ensures faults { IfErr result (Faults pool.old pool.new) }
     ensures caused { IfErr result (IsCaused pool.new) }
+    ensures sum_room { (gs : List ℕ) → kind ≡ Add → let ts = more (tree_of left pool.old) (more (tree_of right pool.old) none) in SpansTree gs (add ts)
+        → IfErr result (LacksBelow (sum_room (sum_count ts) (2 ^ length gs)) (free_of pool.old + sizes ts)) }
+    ensures product_room { (gs : List ℕ) (ns : List (List ℕ)) → kind ≡ Mult → let ts = more (tree_of left pool.old) (more (tree_of right pool.old) none) in IsCalmAtZero ns (mult ts) → SpansTree gs (mult ts)
+        → IfErr result (LacksBelow (product_room (product_count ts) (2 ^ length gs)) (free_of pool.old + sizes ts)) }
+    ensures sum_bits { (h l : ℕ) → kind ≡ Add → let ts = more (tree_of left pool.old) (more (tree_of right pool.old) none) in (has_undef ts ≡ false → HoldsNode (add ts) h l) → HasFewBits h l → IfOverflow result (λ o. ⊥) }
+    ensures product_bits { (h l : ℕ) → kind ≡ Mult → let ts = more (tree_of left pool.old) (more (tree_of right pool.old) none) in (has_undef ts ≡ false → HoldsNode (mult ts) h l) → HasFewBits h l → IfOverflow result (λ o. ⊥) }
     ensures stands { Stands pool.new }
 {
-    if is_undefined(pool, right.id()) {
-        release(pool, left);
-        return Ok(right);
-    }
     let both = node_over_two(pool, kind, left, right)?;
     match kind {
         Kind::Add => add_up(pool, both),
@@ -119,13 +146,15 @@ fn minus(pool: &mut Pool, argument: Handle) -> Result<Handle, NumberFault>
     requires stands { Stands pool.old }
     requires handed { IsHanded argument (forest pool.old) }
     requires reduced { is_reduced (tree_of argument pool.old) ≡ true }
-    requires defined { is_undef (tree_of argument pool.old) ≡ false }
     ensures ok { IfOk result (λ h. Gives (without_root argument (forest pool.old)) (forest pool.new) h (IsNodeAnswer (neg (tree_of argument pool.old)))) }
     ensures overflow { IfOverflow result (IsNodeOverflow (neg (tree_of argument pool.old))) }
     ensures front { KeepsFront (argument ∷ []) (forest pool.old) (forest pool.new) }
     ensures kept { OnOk result (KeepsRefusals pool.old pool.new) }
     ensures faults { IfErr result (Faults pool.old pool.new) }
     ensures caused { IfErr result (IsCaused pool.new) }
+    ensures room { (gs : List ℕ) (ns : List (List ℕ)) → IsCalmAtZero ns (tree_of argument pool.old) → SpansTree gs (tree_of argument pool.old)
+        → IfErr result (LacksBelow (product_room (2 + counted (tree_of argument pool.old)) (2 ^ length gs)) (free_of pool.old + size (tree_of argument pool.old))) }
+    ensures bits { (h l : ℕ) → (is_undef (tree_of argument pool.old) ≡ false → IsFactorHeld (tree_of argument pool.old) h l) → HasFewBits h l → IfOverflow result (λ o. ⊥) }
     ensures stands { Stands pool.new }
 {
     let minus_one = number(pool, Rat::whole(-1))?;
@@ -138,13 +167,15 @@ fn inverse(pool: &mut Pool, base: Handle) -> Result<Handle, NumberFault>
     requires stands { Stands pool.old }
     requires handed { IsHanded base (forest pool.old) }
     requires reduced { is_reduced (tree_of base pool.old) ≡ true }
-    requires defined { is_undef (tree_of base pool.old) ≡ false }
     ensures ok { IfOk result (λ h. Gives (without_root base (forest pool.old)) (forest pool.new) h (IsNodeAnswer (power (tree_of base pool.old) (num minus_one_fraction)))) }
     ensures overflow { IfOverflow result (IsNodeOverflow (power (tree_of base pool.old) (num minus_one_fraction))) }
     ensures front { KeepsFront (base ∷ []) (forest pool.old) (forest pool.new) }
     ensures kept { OnOk result (KeepsRefusals pool.old pool.new) }
     ensures faults { IfErr result (Faults pool.old pool.new) }
     ensures caused { IfErr result (IsCaused pool.new) }
+    ensures room { (gs : List ℕ) (ns : List (List ℕ)) → IsCalmAtZero ns (tree_of base pool.old) → SpansTree gs (tree_of base pool.old)
+        → IfErr result (LacksBelow (product_power_room (counted (tree_of base pool.old)) (2 ^ length gs)) (free_of pool.old + size (tree_of base pool.old))) }
+    ensures bits { (h l : ℕ) → IsFactorHeld (tree_of base pool.old) h l → HasFewBitsRaised (negsuc 0) h l → IfOverflow result (λ o. ⊥) }
     ensures stands { Stands pool.new }
 {
     let exponent = number(pool, Rat::whole(-1))?;

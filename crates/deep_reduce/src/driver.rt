@@ -19,7 +19,7 @@ use node_pool::{Id, Pool};
 use reduce_port::{ReduceFault, Reducer};
 use tree_handles::{Handle, adopt, child_ids, children, kind, move_last, take_child};
 
-/// Reduces a tree node by node, and tells neither its room nor its bits.
+/// Reduces a tree node by node, and tells its room and its bits.
 ///
 /// The machine's stack that it takes grows with the tree's depth, since a child is reduced by a call within its
 /// parent's.
@@ -27,11 +27,12 @@ use tree_handles::{Handle, adopt, child_ids, children, kind, move_last, take_chi
 pub struct DeepReducer;
 
 impl Reducer for DeepReducer {
-    ghost use Rattle.std.specs.Prelude.{None};
+    ghost use Rattle.std.specs.Prelude.{Some};
+    ghost use Rattle.calc_measures.specs.Measures.{bits as bits_of, room as room_of};
 
-    ghost room = { None };
+    ghost room = { Some room_of };
 
-    ghost bits = { None };
+    ghost bits = { Some bits_of };
 
     fn reduce<B: Breaker>(
         &self,

@@ -1,13 +1,20 @@
 //! The exponent of a power, reduced in its place.
-ghost use Rattle.std.specs.Prelude.{◌≡◌, ◌≤◌, IfOk, IfErr, OnOk, [], ◌∷◌, true};
-ghost use Rattle.calc_terms.specs.Trees.{add, count, power as power_tree};
+ghost use Rattle.std.specs.Prelude.{ℕ, List, length, ◌≡◌, ◌≤◌, ◌+◌, ◌^◌, IfOk, IfErr, OnOk, [], ◌∷◌, true};
+ghost use Rattle.calc_terms.specs.Trees.{add, count, size, power as power_tree};
+ghost use Rattle.calc_room.specs.Spans.{SpansTree};
 ghost use Rattle.deep_reduce.specs.Unfinished.{IsSummed};
+ghost use Rattle.node_pool.specs.State.{free_of};
+ghost use Rattle.number_forms.specs.Lacks.{LacksBelow};
+ghost use Rattle.tree_room.specs.Handed.{sum_count};
+ghost use Rattle.tree_room.specs.Needs.{sum_room};
 ghost use Rattle.power_reduce.specs.PowerAnswers.{base_in, exponent_in};
+ghost use Rattle.deep_reduce.specs.Bits.{HasFewBits};
+ghost use Rattle.tree_bits.specs.Children.{IsSumHeld, addends_of_each};
 ghost use Rattle.tree_handles.specs.Causes.{IsCaused};
 ghost use Rattle.calc_algebra.specs.Reduced.{are_reduced};
 ghost use Rattle.tree_handles.specs.Handed.{tree_of, IsHanded, Gives, KeepsFront};
 ghost use Rattle.tree_handles.specs.Expressions.{children_of};
-ghost use Rattle.tree_handles.specs.Faults.{Faults};
+ghost use Rattle.tree_handles.specs.Faults.{Faults, OfOverflow};
 ghost use Rattle.tree_handles.specs.Roots.{without_root};
 ghost use Rattle.tree_handles.specs.Standing.{Stands, forest, KeepsRefusals};
 
@@ -29,6 +36,9 @@ pub(crate) fn sum_exponent(pool: &mut Pool, power: Handle) -> Result<Handle, Num
     ensures kept { OnOk result (KeepsRefusals pool.old pool.new) }
     ensures faults { IfErr result (Faults pool.old pool.new) }
     ensures caused { IfErr result (IsCaused pool.new) }
+    ensures room { (gs : List ℕ) → SpansTree gs (tree_of power pool.old)
+        → let t = tree_of power pool.old in IfErr result (LacksBelow (8 + size (base_in t) + sum_room (sum_count (children_of (exponent_in t))) (2 ^ length gs)) (free_of pool.old + size t)) }
+    ensures bits { (h l : ℕ) → IsSumHeld (addends_of_each (children_of (exponent_in (tree_of power pool.old)))) h l → HasFewBits h l → IfErr result (OfOverflow (λ o. ⊥)) }
     ensures stands { Stands pool.new }
 {
     let exponent = take_child(pool, &power, 1);

@@ -1,15 +1,28 @@
 //! Powers whose exponent is half of an odd whole number: powers of the root of the base.
-ghost use Rattle.std.specs.Prelude.{◌≡◌, None, IfOk, IfErr, OnOk, [], ◌∷◌, true};
-ghost use Rattle.calc_algebra.specs.Reduced.{is_half_num, is_reduced};
-ghost use Rattle.calc_terms.specs.Trees.{is_root, power as power_tree};
+ghost use Rattle.std.specs.Prelude.{ℕ, ℤ, List, length, ◌+◌, ◌^◌, ◌≤◌, ◌≡◌, None, IfOk, IfErr, OnOk, [], ◌∷◌, true, false};
+ghost use Rattle.calc_algebra.specs.Reduced.{is_half_num, is_reduced, is_whole_num};
+ghost use Rattle.calc_terms.specs.Trees.{num, is_root, is_undef, has_undef, size, power as power_tree};
+ghost use Rattle.calc_room.specs.Counts.{counted};
+ghost use Rattle.calc_room.specs.Spans.{SpansTree};
+ghost use Rattle.node_pool.specs.State.{free_of};
+ghost use Rattle.calc_terms.specs.Fractions.{whole_fraction};
+ghost use Rattle.deep_reduce.specs.Bits.{HasFewBits};
+ghost use Rattle.deep_reduce.specs.Rooms.{SpansRootOf};
+ghost use Rattle.number_forms.specs.Readers.{numerator};
+ghost use Rattle.power_reduce.specs.Bits.{IsHeldAsPowerOf, HasFewBitsRaised};
+ghost use Rattle.product_reduce.specs.Bits.{IsFactorHeld};
+ghost use Rattle.number_forms.specs.Lacks.{LacksBelow};
+ghost use Rattle.tree_room.specs.Needs.{power_room};
 ghost use Rattle.deep_reduce.specs.Answers.{IsReducedPower};
 ghost use Rattle.deep_reduce.specs.Halves.{IsRooted};
 ghost use Rattle.power_reduce.specs.PowerAnswers.{base_in, exponent_in, IsPowerAnswer};
 ghost use Rattle.power_reduce.specs.PowerSteps.{rewritten};
+ghost use Rattle.power_reduce.specs.Rooms.{LacksStep};
 ghost use Rattle.radical_forms.specs.RootAnswers.{argument_of};
 ghost use Rattle.tree_handles.specs.Causes.{IsCaused};
 ghost use Rattle.tree_handles.specs.Handed.{tree_of, IsHanded, Gives, KeepsFront};
-ghost use Rattle.tree_handles.specs.Faults.{Faults};
+ghost use Rattle.tree_handles.specs.Expressions.{children_of};
+ghost use Rattle.tree_handles.specs.Faults.{Faults, OfOverflow};
 ghost use Rattle.tree_handles.specs.Roots.{without_root};
 ghost use Rattle.tree_handles.specs.Standing.{Stands, forest, KeepsRefusals};
 
@@ -46,10 +59,15 @@ pub(crate) fn reduce_half_power(pool: &mut Pool, power: Handle) -> Result<Handle
     ensures ok { let t = tree_of power pool.old in
         IfOk result (λ h. Gives (without_root power (forest pool.old)) (forest pool.new) h
         (IsReducedPower (base_in t) (exponent_in t))) }
+    ensures defined { IfErr result (OfOverflow (λ o. has_undef (children_of (tree_of power pool.old)) ≡ false)) }
     ensures front { KeepsFront (power ∷ []) (forest pool.old) (forest pool.new) }
     ensures kept { OnOk result (KeepsRefusals pool.old pool.new) }
     ensures faults { IfErr result (Faults pool.old pool.new) }
     ensures caused { IfErr result (IsCaused pool.new) }
+    ensures room { (gs : List ℕ) → SpansRootOf gs (base_in (tree_of power pool.old))
+        → IfErr result (LacksBelow (power_room (1 + counted (base_in (tree_of power pool.old))) (2 ^ length gs)) (free_of pool.old + size (tree_of power pool.old))) }
+    ensures bits { (h l : ℕ) → (h ≡ 0 → l ≡ 0) → IsFactorHeld (base_in (tree_of power pool.old)) h l → HasFewBits h l → HasFewBitsRaised (numerator (exponent_in (tree_of power pool.old))) h l
+        → IfErr result (OfOverflow (λ o. ⊥)) }
     ensures stands { Stands pool.new }
 {
     match power_step(pool, power)? {
@@ -73,6 +91,8 @@ fn reduce_base(pool: &mut Pool, power: Handle) -> Result<Handle, NumberFault>
     ensures kept { OnOk result (KeepsRefusals pool.old pool.new) }
     ensures faults { IfErr result (Faults pool.old pool.new) }
     ensures caused { IfErr result (IsCaused pool.new) }
+    ensures room { IfErr result (LacksBelow (96 + size (tree_of power pool.old)) (free_of pool.old + size (tree_of power pool.old))) }
+    ensures bits { (h l : ℕ) → IsFactorHeld (argument_of (base_in (tree_of power pool.old))) h l → HasFewBits h l → IfErr result (OfOverflow (λ o. ⊥)) }
     ensures stands { Stands pool.new }
 {
     let root = take_child(pool, &power, 0);
@@ -97,6 +117,11 @@ fn last_step(pool: &mut Pool, power: Handle) -> Result<Handle, NumberFault>
     ensures kept { OnOk result (KeepsRefusals pool.old pool.new) }
     ensures faults { IfErr result (Faults pool.old pool.new) }
     ensures caused { IfErr result (IsCaused pool.new) }
+    ensures room { (gs : List ℕ) → SpansTree gs (tree_of power pool.old) → is_whole_num (exponent_in (tree_of power pool.old)) ≡ true
+        → IfErr result (LacksStep gs (tree_of power pool.old) (free_of pool.old)) }
+    ensures held { (n : ℤ) → exponent_in (tree_of power pool.old) ≡ num (whole_fraction n) → IfOk result (λ h. IsHeldAsPowerOf n (base_in (tree_of power pool.old)) (tree_of h pool.new)) }
+    ensures bits { (n : ℤ) (h l : ℕ) → exponent_in (tree_of power pool.old) ≡ num (whole_fraction n) → (is_undef (base_in (tree_of power pool.old)) ≡ false → IsFactorHeld (base_in (tree_of power pool.old)) h l) → HasFewBitsRaised n h l
+        → IfErr result (OfOverflow (λ o. ⊥)) }
     ensures stands { Stands pool.new }
 {
     match power_step(pool, power)? {

@@ -1,10 +1,20 @@
 //! One node whose children are reduced.
-ghost use Rattle.std.specs.Prelude.{◌≡◌, ◌<◌, ◌^◌, nat_abs, true, false, IfOk, IfErr, OnOk, [], ◌∷◌};
+ghost use Rattle.std.specs.Prelude.{ℕ, List, length, ◌≡◌, ◌<◌, ◌+◌, ◌^◌, nat_abs, true, false, IfOk, IfErr, OnOk, [], ◌∷◌};
 ghost use Rattle.calc_terms.specs.Fractions.{whole_fraction};
-ghost use Rattle.calc_terms.specs.Trees.{num, is_add, is_mult, has_undef};
+ghost use Rattle.calc_terms.specs.Trees.{num, is_add, is_mult, has_undef, size};
+ghost use Rattle.calc_room.specs.Spans.{SpansTree};
+ghost use Rattle.deep_reduce.specs.Bits.{HasFewBits};
+ghost use Rattle.deep_reduce.specs.NodeBits.{HoldsNode};
+ghost use Rattle.deep_reduce.specs.NodeRooms.{HasNodesFor, SpansNode, factors_room};
 ghost use Rattle.deep_reduce.specs.Nodes.{IsNodeAnswer, IsNodeOverflow};
+ghost use Rattle.deep_reduce.specs.Rooms.{IsCalmAtZero, SpansRootOf};
+ghost use Rattle.node_pool.specs.State.{free_of};
+ghost use Rattle.number_forms.specs.Lacks.{LacksBelow};
+ghost use Rattle.power_reduce.specs.PowerAnswers.{base_in, exponent_in};
+ghost use Rattle.tree_room.specs.Handed.{sum_count};
+ghost use Rattle.tree_room.specs.Needs.{simple_room, sum_room};
 ghost use Rattle.tree_handles.specs.Causes.{IsCaused};
-ghost use Rattle.calc_algebra.specs.Reduced.{are_reduced};
+ghost use Rattle.calc_algebra.specs.Reduced.{are_reduced, is_half_num};
 ghost use Rattle.tree_handles.specs.Handed.{tree_of, IsHanded, Ends, Gives, KeepsFront};
 ghost use Rattle.tree_handles.specs.Expressions.{IsExpression, plain, children_of};
 ghost use Rattle.tree_handles.specs.Faults.{Faults, IfOverflow};
@@ -18,9 +28,7 @@ use calc_terms::{Kind, Rat};
 use node_pool::{Id, Pool};
 use radical_forms::reduce_root;
 use sum_reduce::reduce_sum;
-use tree_handles::{
-    Handle, NumberFault, children, has_undefined_child, kind, number, release, undefined,
-};
+use tree_handles::{Handle, NumberFault, children, kind, number, release};
 
 /// The last tree, a node over reduced children, as the rules of its kind reduce it. A leaf is its own answer.
 pub(crate) fn reduce_node(pool: &mut Pool, tree: Handle) -> Result<Handle, NumberFault>
@@ -34,12 +42,19 @@ pub(crate) fn reduce_node(pool: &mut Pool, tree: Handle) -> Result<Handle, Numbe
     ensures kept { OnOk result (KeepsRefusals pool.old pool.new) }
     ensures faults { IfErr result (Faults pool.old pool.new) }
     ensures caused { IfErr result (IsCaused pool.new) }
+
+    // In a tree of enough nodes bytes are lacking only where fewer are at hand than that needs; and so for half of an odd number as
+    // the exponent, where the radicands span the root of the base.
+    ensures room { (gs : List ℕ) (ns : List (List ℕ)) (n : ℕ) → HasNodesFor n (tree_of tree pool.old) → IsCalmAtZero ns (tree_of tree pool.old) → SpansNode gs (tree_of tree pool.old)
+        → IfErr result (LacksBelow (simple_room n (2 ^ length gs)) (free_of pool.old + size (tree_of tree pool.old))) }
+    ensures root_room { (gs : List ℕ) (n : ℕ) → HasNodesFor n (tree_of tree pool.old) → is_half_num (exponent_in (tree_of tree pool.old)) ≡ true → SpansRootOf gs (base_in (tree_of tree pool.old))
+        → IfErr result (LacksBelow (simple_room n (2 ^ length gs)) (free_of pool.old + size (tree_of tree pool.old))) }
+
+    // Where few bits hold the node, nothing overflows.
+    ensures bits { (h l : ℕ) → (has_undef (children_of (tree_of tree pool.old)) ≡ false → HoldsNode (tree_of tree pool.old) h l) → HasFewBits h l → IfOverflow result (λ o. ⊥) }
+
     ensures stands { Stands pool.new }
 {
-    // A node with an Undef child is Undef, whatever the others are.
-    if has_undefined_child(pool, tree.id()) {
-        return Ok(undefined(pool, tree));
-    }
     match kind(pool, tree.id()) {
         Kind::Add => add_up(pool, tree),
         Kind::Mult => multiply(pool, tree),
@@ -58,13 +73,15 @@ pub(crate) fn add_up(pool: &mut Pool, sum: Handle) -> Result<Handle, NumberFault
     requires handed { IsHanded sum (forest pool.old) }
     requires sum { is_add (tree_of sum pool.old) ≡ true }
     requires reduced { are_reduced (children_of (tree_of sum pool.old)) ≡ true }
-    requires defined { has_undef (children_of (tree_of sum pool.old)) ≡ false }
     ensures ok { IfOk result (λ h. Gives (without_root sum (forest pool.old)) (forest pool.new) h (IsNodeAnswer (tree_of sum pool.old))) }
     ensures overflow { IfOverflow result (IsNodeOverflow (tree_of sum pool.old)) }
     ensures front { KeepsFront (sum ∷ []) (forest pool.old) (forest pool.new) }
     ensures kept { OnOk result (KeepsRefusals pool.old pool.new) }
     ensures faults { IfErr result (Faults pool.old pool.new) }
     ensures caused { IfErr result (IsCaused pool.new) }
+    ensures room { (gs : List ℕ) → SpansTree gs (tree_of sum pool.old)
+        → IfErr result (LacksBelow (sum_room (sum_count (children_of (tree_of sum pool.old))) (2 ^ length gs)) (free_of pool.old + size (tree_of sum pool.old))) }
+    ensures bits { (h l : ℕ) → (has_undef (children_of (tree_of sum pool.old)) ≡ false → HoldsNode (tree_of sum pool.old) h l) → HasFewBits h l → IfOverflow result (λ o. ⊥) }
     ensures stands { Stands pool.new }
 {
     if children(pool, sum.id()) == 0 {
@@ -79,13 +96,15 @@ pub(crate) fn multiply(pool: &mut Pool, product: Handle) -> Result<Handle, Numbe
     requires handed { IsHanded product (forest pool.old) }
     requires product { is_mult (tree_of product pool.old) ≡ true }
     requires reduced { are_reduced (children_of (tree_of product pool.old)) ≡ true }
-    requires defined { has_undef (children_of (tree_of product pool.old)) ≡ false }
     ensures ok { IfOk result (λ h. Gives (without_root product (forest pool.old)) (forest pool.new) h (IsNodeAnswer (tree_of product pool.old))) }
     ensures overflow { IfOverflow result (IsNodeOverflow (tree_of product pool.old)) }
     ensures front { KeepsFront (product ∷ []) (forest pool.old) (forest pool.new) }
     ensures kept { OnOk result (KeepsRefusals pool.old pool.new) }
     ensures faults { IfErr result (Faults pool.old pool.new) }
     ensures caused { IfErr result (IsCaused pool.new) }
+    ensures room { (gs : List ℕ) (ns : List (List ℕ)) → IsCalmAtZero ns (tree_of product pool.old) → SpansTree gs (tree_of product pool.old)
+        → IfErr result (LacksBelow (factors_room (children_of (tree_of product pool.old)) (2 ^ length gs)) (free_of pool.old + size (tree_of product pool.old))) }
+    ensures bits { (h l : ℕ) → (has_undef (children_of (tree_of product pool.old)) ≡ false → HoldsNode (tree_of product pool.old) h l) → HasFewBits h l → IfOverflow result (λ o. ⊥) }
     ensures stands { Stands pool.new }
 {
     if children(pool, product.id()) == 0 {
@@ -105,6 +124,7 @@ fn whole(pool: &mut Pool, tree: Handle, n: i128) -> Result<Handle, NumberFault>
     ensures kept { OnOk result (KeepsRefusals pool.old pool.new) }
     ensures faults { IfErr result (Faults pool.old pool.new) }
     ensures caused { IfErr result (IsCaused pool.new) }
+    ensures room { IfErr result (LacksBelow 40 (free_of pool.old + size (tree_of tree pool.old))) }
     ensures stands { Stands pool.new }
 {
     release(pool, tree);

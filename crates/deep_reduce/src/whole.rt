@@ -1,9 +1,21 @@
 //! Products and powers of reduced trees: steps are taken, and the new powers of each are reduced,
 //! until nothing is left to reduce.
-ghost use Rattle.std.specs.Prelude.{◌≡◌, ◌≤◌, ◌<◌, ◌+◌, ◌^◌, IfOk, IfErr, OnOk, [], ◌∷◌, true, false};
+ghost use Rattle.std.specs.Prelude.{ℕ, ℤ, List, length, IsOk, ◌≡◌, ◌≤◌, ◌<◌, ◌+◌, ◌^◌, IfOk, IfErr, OnOk, [], ◌∷◌, true, false};
 ghost use Rattle.calc_measures.specs.PlainValues.{plain_value};
-ghost use Rattle.calc_algebra.specs.Reduced.{is_half_num, is_reduced, are_reduced};
-ghost use Rattle.calc_terms.specs.Trees.{count, is_mult, is_num, power as power_tree, are_rationals};
+ghost use Rattle.calc_algebra.specs.Reduced.{is_half_num, is_whole_num, is_reduced, are_reduced};
+ghost use Rattle.calc_terms.specs.Trees.{Tree, Trees, mult, count, is_mult, is_num, num, size, has_undef, power as power_tree, are_rationals};
+ghost use Rattle.calc_room.specs.Counts.{counted};
+ghost use Rattle.calc_room.specs.Spans.{SpansTree};
+ghost use Rattle.calc_terms.specs.Fractions.{whole_fraction};
+ghost use Rattle.deep_reduce.specs.Bits.{HasFewBits};
+ghost use Rattle.number_forms.specs.Readers.{numerator};
+ghost use Rattle.power_reduce.specs.Bits.{HasFewBitsRaised};
+ghost use Rattle.product_reduce.specs.Bits.{IsFactorHeld, AreFactorsHeld};
+ghost use Rattle.deep_reduce.specs.Rooms.{IsCalmAtZero, IsJoinedFrom, IsRewritten, SpansRootOf, whole_power_room};
+ghost use Rattle.number_forms.specs.Lacks.{LacksBelow};
+ghost use Rattle.node_pool.specs.State.{free_of};
+ghost use Rattle.tree_room.specs.Handed.{product_count};
+ghost use Rattle.tree_room.specs.Needs.{power_room, product_room};
 ghost use Rattle.deep_reduce.specs.Answers.{IsReducedProduct, IsWrittenApart, IsReducedPower};
 ghost use Rattle.deep_reduce.specs.Unfinished.{AreTransparent, Finishes, IsJoinedProduct, IsLess, IsLifted, IsProductOfPowers, IsSettled, IsUnfinished};
 ghost use Rattle.number_forms.specs.Answers.{AnswersRationals};
@@ -13,7 +25,7 @@ ghost use Rattle.product_reduce.specs.Neighbours.{IsPairAt};
 ghost use Rattle.tree_handles.specs.Causes.{IsCaused};
 ghost use Rattle.tree_handles.specs.Handed.{tree_of, IsHanded, Gives, KeepsFront};
 ghost use Rattle.tree_handles.specs.Expressions.{children_of};
-ghost use Rattle.tree_handles.specs.Faults.{Faults};
+ghost use Rattle.tree_handles.specs.Faults.{Faults, OfOverflow};
 ghost use Rattle.tree_handles.specs.Roots.{without_root};
 ghost use Rattle.tree_handles.specs.Standing.{Stands, forest, KeepsRefusals};
 
@@ -47,10 +59,19 @@ pub fn reduce_product(pool: &mut Pool, product: Handle) -> Result<Handle, Number
 
     ensures rationals { are_rationals (children_of (tree_of product pool.old)) ≡ true
         → AnswersRationals (plain_value (tree_of product pool.old)) pool.new result }
+    ensures defined { IfErr result (OfOverflow (λ o. has_undef (children_of (tree_of product pool.old)) ≡ false)) }
     ensures front { KeepsFront (product ∷ []) (forest pool.old) (forest pool.new) }
     ensures kept { OnOk result (KeepsRefusals pool.old pool.new) }
     ensures faults { IfErr result (Faults pool.old pool.new) }
     ensures caused { IfErr result (IsCaused pool.new) }
+
+    // Of calm factors bytes are lacking only where fewer are at hand than the product needs.
+    ensures room { (gs : List ℕ) (ns : List (List ℕ)) → IsCalmAtZero ns (tree_of product pool.old) → SpansTree gs (tree_of product pool.old)
+        → IfErr result (LacksBelow (product_room (product_count (children_of (tree_of product pool.old))) (2 ^ length gs)) (free_of pool.old + size (tree_of product pool.old))) }
+
+    // Where few bits hold the factors one by one, nothing overflows.
+    ensures bits { (h l : ℕ) → AreFactorsHeld (children_of (tree_of product pool.old)) h l → HasFewBits h l → IfErr result (OfOverflow (λ o. ⊥)) }
+
     ensures stands { Stands pool.new }
 {
     match gather_factors(pool, product)? {
@@ -77,6 +98,9 @@ fn join_pairs(pool: &mut Pool, product: Handle, first: u16) -> Result<Handle, Nu
     ensures kept { OnOk result (KeepsRefusals pool.old pool.new) }
     ensures faults { IfErr result (Faults pool.old pool.new) }
     ensures caused { IfErr result (IsCaused pool.new) }
+    ensures room { (gs : List ℕ) (ns : List (List ℕ)) → IsCalmAtZero ns (tree_of product pool.old) → SpansTree gs (tree_of product pool.old)
+        → IfErr result (LacksBelow (product_room (product_count (children_of (tree_of product pool.old))) (2 ^ length gs)) (free_of pool.old + size (tree_of product pool.old))) }
+    ensures bits { (h l : ℕ) → AreFactorsHeld (children_of (tree_of product pool.old)) h l → HasFewBits h l → IfErr result (OfOverflow (λ o. ⊥)) }
     ensures stands { Stands pool.new }
 {
     let mut joined = join_two(pool, product, first)?;
@@ -107,6 +131,9 @@ fn join_two(pool: &mut Pool, product: Handle, at: u16) -> Result<Handle, NumberF
     ensures kept { OnOk result (KeepsRefusals pool.old pool.new) }
     ensures faults { IfErr result (Faults pool.old pool.new) }
     ensures caused { IfErr result (IsCaused pool.new) }
+    ensures room { (gs : List ℕ) (ns : List (List ℕ)) → IsCalmAtZero ns (tree_of product pool.old) → SpansTree gs (tree_of product pool.old)
+        → IfErr result (LacksBelow (product_room (product_count (children_of (tree_of product pool.old))) (2 ^ length gs)) (free_of pool.old + size (tree_of product pool.old))) }
+    ensures bits { (h l : ℕ) → AreFactorsHeld (children_of (tree_of product pool.old)) h l → HasFewBits h l → IfErr result (OfOverflow (λ o. ⊥)) }
     ensures stands { Stands pool.new }
 {
     let joined = join_neighbours(pool, product, at)?;
@@ -126,6 +153,9 @@ fn reduce_joint(pool: &mut Pool, product: Handle, at: u16) -> Result<Handle, Num
     ensures kept { OnOk result (KeepsRefusals pool.old pool.new) }
     ensures faults { IfErr result (Faults pool.old pool.new) }
     ensures caused { IfErr result (IsCaused pool.new) }
+    ensures room { (gs : List ℕ) (ns : List (List ℕ)) (ts : Trees) → IsJoinedFrom at ts (children_of (tree_of product pool.old)) → IsCalmAtZero ns (mult ts) → SpansTree gs (mult ts)
+        → IfErr result (LacksBelow (product_room (product_count ts) (2 ^ length gs)) (free_of pool.old + size (tree_of product pool.old))) }
+    ensures bits { (h l : ℕ) (ts : Trees) → IsJoinedFrom at ts (children_of (tree_of product pool.old)) → AreFactorsHeld ts h l → HasFewBits h l → IfErr result (OfOverflow (λ o. ⊥)) }
     ensures stands { Stands pool.new }
 {
     let joint = take_child(pool, &product, at);
@@ -150,10 +180,27 @@ pub fn reduce_power(pool: &mut Pool, power: Handle) -> Result<Handle, NumberFaul
     ensures rationals { let t = tree_of power pool.old in
         is_num (base_in t) ≡ true → is_num (exponent_in t) ≡ true → is_half_num (exponent_in t) ≡ false
         → AnswersRationals (plain_value t) pool.new result }
+    ensures defined { IfErr result (OfOverflow (λ o. has_undef (children_of (tree_of power pool.old)) ≡ false)) }
     ensures front { KeepsFront (power ∷ []) (forest pool.old) (forest pool.new) }
     ensures kept { OnOk result (KeepsRefusals pool.old pool.new) }
     ensures faults { IfErr result (Faults pool.old pool.new) }
     ensures caused { IfErr result (IsCaused pool.new) }
+
+    // For a calm whole power bytes are lacking only where fewer are at hand than it needs, and for half of an odd number only where
+    // fewer are than the power of the root needs. Any other power is answered.
+    ensures room { (gs : List ℕ) (ns : List (List ℕ)) → IsCalmAtZero ns (tree_of power pool.old) → SpansTree gs (tree_of power pool.old)
+        → is_whole_num (exponent_in (tree_of power pool.old)) ≡ true
+        → IfErr result (LacksBelow (whole_power_room (base_in (tree_of power pool.old)) (2 ^ length gs)) (free_of pool.old + size (tree_of power pool.old))) }
+    ensures root_room { (gs : List ℕ) → is_half_num (exponent_in (tree_of power pool.old)) ≡ true → SpansRootOf gs (base_in (tree_of power pool.old))
+        → IfErr result (LacksBelow (power_room (1 + counted (base_in (tree_of power pool.old))) (2 ^ length gs)) (free_of pool.old + size (tree_of power pool.old))) }
+    ensures others { is_whole_num (exponent_in (tree_of power pool.old)) ≡ false → is_half_num (exponent_in (tree_of power pool.old)) ≡ false → IsOk result }
+
+    // Where the power n of what holds the base has few bits, nothing overflows; for n/2 as the exponent, where the base has few bits too.
+    ensures bits { (n : ℤ) (h l : ℕ) → exponent_in (tree_of power pool.old) ≡ num (whole_fraction n) → IsFactorHeld (base_in (tree_of power pool.old)) h l → HasFewBitsRaised n h l
+        → IfErr result (OfOverflow (λ o. ⊥)) }
+    ensures root_bits { (h l : ℕ) → is_half_num (exponent_in (tree_of power pool.old)) ≡ true → (h ≡ 0 → l ≡ 0) → IsFactorHeld (base_in (tree_of power pool.old)) h l → HasFewBits h l
+        → HasFewBitsRaised (numerator (exponent_in (tree_of power pool.old))) h l → IfErr result (OfOverflow (λ o. ⊥)) }
+
     ensures stands { Stands pool.new }
 {
     if has_half_exponent(pool, &power) {
@@ -178,6 +225,10 @@ fn reduce_rewritten(pool: &mut Pool, tree: Handle) -> Result<Handle, NumberFault
     ensures kept { OnOk result (KeepsRefusals pool.old pool.new) }
     ensures faults { IfErr result (Faults pool.old pool.new) }
     ensures caused { IfErr result (IsCaused pool.new) }
+    ensures room { (gs : List ℕ) (ns : List (List ℕ)) (b e : Tree) → IsRewritten b e (tree_of tree pool.old) → IsCalmAtZero ns (power_tree b e) → SpansTree gs (power_tree b e)
+        → IfErr result (LacksBelow (whole_power_room b (2 ^ length gs)) (free_of pool.old + size (tree_of tree pool.old))) }
+    ensures bits { (b e : Tree) (n : ℤ) (h l : ℕ) → IsRewritten b e (tree_of tree pool.old) → e ≡ num (whole_fraction n) → IsFactorHeld b h l → HasFewBitsRaised n h l
+        → IfErr result (OfOverflow (λ o. ⊥)) }
     ensures stands { Stands pool.new }
 {
     match kind(pool, tree.id()) {
@@ -205,6 +256,10 @@ fn reduce_powers(pool: &mut Pool, product: Handle) -> Result<Handle, NumberFault
     ensures kept { OnOk result (KeepsRefusals pool.old pool.new) }
     ensures faults { IfErr result (Faults pool.old pool.new) }
     ensures caused { IfErr result (IsCaused pool.new) }
+    ensures room { (gs : List ℕ) (ns : List (List ℕ)) (b e : Tree) → IsRewritten b e (tree_of product pool.old) → IsCalmAtZero ns (power_tree b e) → SpansTree gs (power_tree b e)
+        → IfErr result (LacksBelow (whole_power_room b (2 ^ length gs)) (free_of pool.old + size (tree_of product pool.old))) }
+    ensures bits { (b e : Tree) (n : ℤ) (h l : ℕ) → IsRewritten b e (tree_of product pool.old) → e ≡ num (whole_fraction n) → IsFactorHeld b h l → HasFewBitsRaised n h l
+        → IfErr result (OfOverflow (λ o. ⊥)) }
     ensures stands { Stands pool.new }
 {
     let powers = children(pool, product.id());
@@ -230,6 +285,10 @@ fn reduce_exponent(pool: &mut Pool, power: Handle) -> Result<Handle, NumberFault
     ensures kept { OnOk result (KeepsRefusals pool.old pool.new) }
     ensures faults { IfErr result (Faults pool.old pool.new) }
     ensures caused { IfErr result (IsCaused pool.new) }
+    ensures room { (gs : List ℕ) (ns : List (List ℕ)) (b e : Tree) → IsRewritten b e (tree_of power pool.old) → IsCalmAtZero ns (power_tree b e) → SpansTree gs (power_tree b e)
+        → IfErr result (LacksBelow (whole_power_room b (2 ^ length gs)) (free_of pool.old + size (tree_of power pool.old))) }
+    ensures bits { (b e : Tree) (n : ℤ) (h l : ℕ) → IsRewritten b e (tree_of power pool.old) → e ≡ num (whole_fraction n) → IsFactorHeld b h l → HasFewBitsRaised n h l
+        → IfErr result (OfOverflow (λ o. ⊥)) }
     ensures stands { Stands pool.new }
 {
     let exponent = child_id(pool, power.id(), 1);

@@ -6,6 +6,7 @@ use Rattle.calc_session.specs.Drawing.{rows_in}
 use Rattle.calc_session.specs.Replies.{Reply, shown, stored, drawn, full, text_of}
 use Rattle.calc_session.specs.States.{State}
 use Rattle.calc_session.specs.Steps.{Step}
+use Rattle.calc_measures.specs.Measures.{room as room_of, bits as bits_of}
 use Rattle.calc_terms.specs.Trees.{Tree}
 
 -- between two lines: what the session keeps, the breakers that are watched, and whether what is shown is drawn too
@@ -14,12 +15,12 @@ pub record Moment : Type 0 where
   pub breakers : List Breaker
   pub draws : Bool
 
--- the room and the bits of trees, which the program's reducer does not tell
+-- the room of trees, within which the program's reducer has enough bytes, and the bits of trees, of which few keep it from overflowing
 abbrev pub room : Option (Tree → ℕ)
-room = None
+room = Some room_of
 
 abbrev pub bits : Option (Tree → ℕ)
-bits = None
+bits = Some bits_of
 
 -- At a moment a line is answered by a reply. At the next one the breakers that have tripped are gone.
 pub record LineStep (old : Moment) (line : List ℕ) (reply : Reply) (new : Moment) : Type 0 where

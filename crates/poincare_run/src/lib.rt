@@ -11,7 +11,7 @@ mod top;
 mod words;
 
 pub use generated::session_from;
-pub use laws::words_ask_for_options;
+pub use laws::{lines_are_answered, lines_with_room_are_never_full, words_ask_for_options};
 pub use top::run;
 
 #[cfg(test)]

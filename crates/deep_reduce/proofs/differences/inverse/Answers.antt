@@ -1,15 +1,32 @@
-use Rattle.std.proofs.Common.{rules, refl, ap, ◌∙◌}
+use Rattle.std.proofs.Common.{rules, length, negsuc, ◌<◌, ◌+◌, ◌^◌, refl, sym, ap, ◌∙◌, subst, arith}
+use Rattle.calc_room.specs.Spans.{SpansTree}
+use Rattle.calc_room.proofs.NumberBytes.{num_bytes}
+use Rattle.calc_terms.specs.Payload.{rational}
+use Rattle.calc_terms.specs.Rat.{ratio_of, value_of}
+use Rattle.coefficients.proofs.Free.{number_refused}
+use Rattle.deep_reduce.specs.Rooms.{IsCalmAtZero, whole_power_room}
+use Rattle.product_reduce.specs.Bits.{IsFactorHeld}
+use Rattle.deep_reduce.proofs.NodeBits.{as_overflow}
+use Rattle.deep_reduce.proofs.Lacking.{result_lacks}
+use Rattle.deep_reduce.proofs.NodeBytes.{inverse_lacks, inverse_calm, inverse_spans}
+use Rattle.deep_reduce.proofs.PowerBytes.{needs_most}
+use Rattle.node_pool.specs.State.{free_of}
+use Rattle.number_forms.proofs.FreeBytes.{both_replaced_free, refused_below}
+use Rattle.number_forms.proofs.Overflows.{passed_on}
+use Rattle.power_reduce.proofs.Whole.{whole_is}
+use Rattle.tree_handles.specs.declared.fault.NumberFault.TheVariants as fault
+use Rattle.tree_handles.proofs.Room.{given_free}
 use Rattle.calc_terms.specs.Fractions.{minus_one_fraction}
 use Rattle.calc_measures.specs.PlainValues.{plain_value}
-use Rattle.calc_algebra.specs.Reduced.{is_reduced}
-use Rattle.calc_terms.specs.Trees.{Tree, num}
+use Rattle.calc_algebra.specs.Reduced.{is_reduced, is_whole_num}
+use Rattle.calc_terms.specs.Trees.{Tree, num, size}
 use Rattle.calc_terms.specs.declared.kind.Kind.TheVariants as kind
 use Rattle.power_reduce.specs.PowerAnswers.{base_in, exponent_in}
 use Rattle.tree_handles.specs.Handed.{tree_of}
 use Rattle.tree_handles.proofs.Fronts.{behind_first, behind_new, front_same, front_end, front_after, front_after_two}
-use Rattle.tree_handles.proofs.Given.{gives_as, given_handed, given_other, given_without}
-use Rattle.deep_reduce.proofs.Results.{answered, answer_as, overflowed}
-use Rattle.deep_reduce.proofs.Sides.{apart_second, new_second, reduced_front}
+use Rattle.tree_handles.proofs.Given.{gives_as, given_handed, given_other, given_told, given_without}
+use Rattle.deep_reduce.proofs.Results.{answered, answer_as, overflowed_defined}
+use Rattle.deep_reduce.proofs.Sides.{apart_second, beside_new, new_second, reduced_front}
 use Rattle.deep_reduce.proofs.Steps.{number_reduced}
 use Rattle.deep_reduce.proofs.Told.{answer_at, minus_one_value, power_told, power_words, power_sides, inverse_no_half, inverse_overflowed}
 use Rattle.deep_reduce.proofs.differences.inverse.Goals as goal
@@ -59,12 +76,53 @@ returns-clause-overflow c =
     let p = new_second {k = kind.Pow} n c.requires.handed c.in_ok-power.ensures.ok in
     let power : Tree = tree_of c.in_ok-power.power c.node_over_two.new.pool in
     let words = power_words power _ (num minus_one_fraction) p.tree in
-    overflowed (plain_value power) c.reduce_power.new.pool _ _
-    (λ h. c.reduce_power.ensures.rationals (power_sides power words h).0 (power_sides power words h).1 (inverse_no_half power _ p.tree))
-    (λ o h. inverse_overflowed power _ o p.tree c.requires.defined h)
+    overflowed_defined (plain_value power) c.reduce_power.new.pool _ _
+    (λ h. c.reduce_power.ensures.rationals (power_sides power words h).0 (power_sides power words h).1 (inverse_no_half power _ p.tree)) c.reduce_power.ensures.defined
+    (λ o d h. inverse_overflowed power _ o p.tree d h)
 
 pub returns-clause-front : goal.returns-clause-front
 returns-clause-front c =
     let n = c.in_ok-exponent.ensures.given in
     let paired = front_after_two behind_first (behind_new n.ends front_same) (front_end n.ends front_same) c.node_over_two.ensures.front in
     reduced_front paired c.in_ok-power.ensures.ok (given_without n c.requires.handed) c.reduce_power.ensures.front
+
+pub returns-in_err-exponent-clause-room : goal.returns-in_err-exponent-clause-room
+returns-in_err-exponent-clause-room c = λ gs ns k s.
+    let few : free_of c.args.pool.now < 48 = omega (arith, number_refused (rational (ratio_of c.whole.result)) c.in_err-exponent.ensures.full) in
+    passed_on c.from_residual.result (fault.Full c.in_err-exponent.field-0.0) _ c.from_residual.ensures.0 c.from_residual.ensures.1 (inverse_lacks gs (tree_of c.args.base c.args.pool.now) (free_of c.args.pool.now) c.requires.reduced s few)
+
+pub returns-in_err-power-clause-room : goal.returns-in_err-power-clause-room
+returns-in_err-power-clause-room c = λ gs ns k s.
+    let g = c.in_ok-exponent.ensures.given in
+    let free = given_free c.requires.stands c.in_ok-exponent.ensures.stands c.in_ok-exponent.ensures.kept g in
+    let few : free_of c.args.pool.now < 48 = omega (arith, free, ap size (given_told g), num_bytes (value_of c.whole.result), refused_below c.in_err-power.ensures.full) in
+    passed_on c.from_residual-in_err-power.result (fault.Full c.in_err-power.field-0.0) _ c.from_residual-in_err-power.ensures.0 c.from_residual-in_err-power.ensures.1
+    (inverse_lacks gs (tree_of c.args.base c.args.pool.now) (free_of c.args.pool.now) c.requires.reduced s few)
+
+pub returns-clause-room : goal.returns-clause-room
+returns-clause-room c = λ gs ns k s.
+    let b : Tree = tree_of c.args.base c.args.pool.now in
+    let g = c.in_ok-exponent.ensures.given in
+    let n = gives_as g refl (λ t e. e ∙ minus_one_value c.whole.result c.whole.ensures) in
+    let p = new_second {k = kind.Pow} n c.requires.handed c.in_ok-power.ensures.ok in
+    let free = given_free c.requires.stands c.in_ok-exponent.ensures.stands c.in_ok-exponent.ensures.kept g in
+    let both =
+    both_replaced_free c.in_ok-exponent.ensures.stands c.in_ok-power.ensures.stands c.in_ok-power.ensures.kept (apart_second g c.requires.handed) (given_other g c.requires.handed) (given_handed g) c.in_ok-power.ensures.ok in
+    let same = ap size (beside_new c.args.base g c.requires.handed) in
+    let w : Tree = tree_of c.in_ok-power.power c.node_over_two.new.pool in
+    result_lacks c.reduce_power.result
+    (c.reduce_power.ensures.room gs ns (subst (IsCalmAtZero ns) (sym p.tree) (inverse_calm b k)) (subst (SpansTree gs) (sym p.tree) (inverse_spans gs b s)) (ap (λ (x : Tree). is_whole_num (exponent_in x)) p.tree ∙ whole_is (negsuc 0)))
+    (λ l. omega (
+      arith,
+      subst (λ (x : Tree). free_of c.node_over_two.new.pool + size w < whole_power_room (base_in x) (2 ^ length gs)) p.tree l,
+      free,
+      both,
+      same,
+      needs_most b (2 ^ length gs),
+    ))
+
+pub returns-clause-bits : goal.returns-clause-bits
+returns-clause-bits c = λ h l k few.
+    let n = gives_as c.in_ok-exponent.ensures.given refl (λ t e. e ∙ minus_one_value c.whole.result c.whole.ensures) in
+    let p = new_second {k = kind.Pow} n c.requires.handed c.in_ok-power.ensures.ok in
+    as_overflow c.reduce_power.result (c.reduce_power.ensures.bits (negsuc 0) h l (ap exponent_in p.tree) (subst (λ (x : Tree). IsFactorHeld (base_in x) h l) (sym p.tree) k) few)

@@ -1,22 +1,32 @@
-use Rattle.std.proofs.Common.{◌≡◌, ◌⊎◌, ℕ, rules, true, false, inl, inr, refl, sym, ap, ◌∙◌, subst}
+use Rattle.std.proofs.Common.{◌≡◌, ◌⊎◌, ℕ, length, ◌<◌, ◌+◌, ◌^◌, rules, true, inl, inr, refl, sym, ap, ◌∙◌, subst, arith}
 use Rattle.calc_algebra.specs.Reduced.{is_reduced, are_reduced}
-use Rattle.calc_terms.specs.Trees.{Tree, is_undef, is_add, is_mult, has_undef}
+use Rattle.calc_room.specs.Spans.{SpansTree}
+use Rattle.calc_terms.specs.Payload.{bare, size_of_payload}
+use Rattle.calc_terms.specs.Trees.{Tree, is_add, is_mult, size}
+use Rattle.deep_reduce.specs.NodeRooms.{factors_room}
+use Rattle.deep_reduce.specs.Rooms.{IsCalmAtZero}
+use Rattle.calc_terms.specs.Trees.{has_undef}
+use Rattle.deep_reduce.specs.NodeBits.{HoldsNode}
+use Rattle.deep_reduce.proofs.Lacking.{result_lacks}
+use Rattle.deep_reduce.proofs.NodeBytes.{sum_node_lacks, product_node_lacks}
+use Rattle.number_forms.proofs.FreeBytes.{both_replaced_free, refused_below}
+use Rattle.number_forms.proofs.Overflows.{passed_on}
+use Rattle.tree_handles.specs.declared.fault.NumberFault.TheVariants as fault
+use Rattle.tree_room.specs.Handed.{sum_count}
+use Rattle.tree_room.specs.Needs.{sum_room}
 use Rattle.calc_terms.specs.declared.kind.Kind.{Kind}
 use Rattle.calc_terms.specs.declared.kind.Kind.TheVariants as kind
-use Rattle.node_pool.specs.State.{State}
-use Rattle.deep_reduce.specs.Nodes.{IsNodeAnswer}
-use Rattle.coefficients.proofs.Steps.{expression, seen}
+use Rattle.node_pool.specs.State.{State, free_of}
 use Rattle.tree_handles.specs.Handed.{Gives, tree_of}
-use Rattle.tree_handles.specs.Expressions.{children_of, compound, takes_kind}
 use Rattle.tree_handles.specs.Roots.{without_root}
 use Rattle.tree_handles.specs.Standing.{forest}
-use Rattle.tree_handles.proofs.Given.{gives, gives_as, given_handed, given_other, given_rest, given_told, owned, represents_handed}
+use Rattle.tree_handles.specs.Expressions.{children_of, compound, takes_kind}
+use Rattle.tree_handles.proofs.Given.{gives, given_handed, given_other, given_rest, given_told, represents_handed}
 use Rattle.deep_reduce.proofs.Results.{answer_as, overflow_as}
-use Rattle.deep_reduce.proofs.Sides.{apart_second, joined_front, left_gone}
-use Rattle.deep_reduce.proofs.Steps.{two, undefined_sides}
-use Rattle.deep_reduce.proofs.Told.{answer_at, overflow_at, two_reduced, two_defined}
+use Rattle.deep_reduce.proofs.Sides.{apart_second, joined_front}
+use Rattle.deep_reduce.proofs.Steps.{two}
+use Rattle.deep_reduce.proofs.Told.{answer_at, overflow_at, two_reduced}
 use Rattle.deep_reduce.proofs.differences.join_sides.Goals as goal
-use Rattle.deep_reduce.proofs.differences.join_sides.Goals.{After-is_undefined}
 
 abbrev sides : Kind → ℕ → ℕ → State → Tree
 sides k i j s = compound k (two (tree_of i s) (tree_of j s))
@@ -25,56 +35,35 @@ takes_two : {k : Kind} → (k ≡ kind.Add) ⊎ (k ≡ kind.Mult) → takes_kind
 takes_two (inl q) = ap (λ (x : Kind). takes_kind x 2) q
 takes_two (inr q) = ap (λ (x : Kind). takes_kind x 2) q
 
+below_node : {n : ℕ} (k : Kind) → (k ≡ kind.Add) ⊎ (k ≡ kind.Mult) → n < size_of_payload (bare k) → n < 8
+below_node {n} k (inl q) l = subst (λ (x : Kind). n < size_of_payload (bare x)) q l
+below_node {n} k (inr q) l = subst (λ (x : Kind). n < size_of_payload (bare x)) q l
+
 -- what is known of both sides under a node
-known : {k : Kind} {t : Tree} (a b : Tree) → (k ≡ kind.Add) ⊎ (k ≡ kind.Mult) → t ≡ compound k (two a b) → is_reduced a ≡ true → is_reduced b ≡ true → is_undef a ≡ false → is_undef b ≡ false
-    → (are_reduced (children_of t) ≡ true) × (has_undef (children_of t) ≡ false)
-known {k = k} a b h e r s d u = let c = ap children_of e ∙ under h in (ap are_reduced c ∙ two_reduced a b r s, ap has_undef c ∙ two_defined a b d u)
+known : {k : Kind} {t : Tree} (a b : Tree) → (k ≡ kind.Add) ⊎ (k ≡ kind.Mult) → t ≡ compound k (two a b) → is_reduced a ≡ true → is_reduced b ≡ true → are_reduced (children_of t) ≡ true
+known {k = k} a b h e r s = ap are_reduced (ap children_of e ∙ under h) ∙ two_reduced a b r s
   where
     under : (k ≡ kind.Add) ⊎ (k ≡ kind.Mult) → children_of (compound k (two a b)) ≡ two a b
     under (inl q) = ap (λ (x : Kind). children_of (compound x (two a b))) q
     under (inr q) = ap (λ (x : Kind). children_of (compound x (two a b))) q
 
--- the right side, which stands last
-right : (c : After-is_undefined) → Gives (without_root c.args.right (forest c.args.pool.now)) (forest c.args.pool.now) c.args.right (λ t. t ≡ tree_of c.args.right c.args.pool.now)
-right c = gives c.requires.last (represents_handed c.requires.handed) refl
-
-undef-is : (c : After-is_undefined) → c.is_undefined.result ≡ is_undef (tree_of c.args.right c.args.pool.now)
-undef-is c = c.is_undefined.ensures ∙ ap is_undef (seen c.id.ensures c.requires.stands c.requires.handed)
-
-pub is_undefined-requires-clause-expression : goal.is_undefined-requires-clause-expression
-is_undefined-requires-clause-expression c = expression c.id.ensures c.requires.stands c.requires.handed
-
-pub release-requires-clause-releasable : goal.release-requires-clause-releasable
-release-requires-clause-releasable c = inl (given_other (right (goal.at.release-requires-clause-releasable c).After-is_undefined) c.requires.left).root
-
-pub returns-then-is_undefined-clause-ok : goal.returns-then-is_undefined-clause-ok
-returns-then-is_undefined-clause-ok c =
-    let k = (goal.at.returns-then-is_undefined-clause-ok c).After-is_undefined in
-    let answer = undefined_sides (tree_of c.args.left c.args.pool.now) (tree_of c.args.right c.args.pool.now) c.requires.kind (sym (undef-is k) ∙ c.if-is_undefined.true) in
-    gives_as (left_gone c.requires.left (right k) (c.release.ensures.owned (owned (given_other (right k) c.requires.left)))).0 refl (λ u e. subst (λ (t : Tree). IsNodeAnswer (sides c.args.kind c.args.left c.args.right c.args.pool.now) t) (sym e) answer)
-
-pub returns-then-is_undefined-clause-front : goal.returns-then-is_undefined-clause-front
-returns-then-is_undefined-clause-front c =
-    let r = right (goal.at.returns-then-is_undefined-clause-front c).After-is_undefined in
-    (left_gone c.requires.left r (c.release.ensures.owned (owned (given_other r c.requires.left)))).1
-
 pub node_over_two-requires : goal.node_over_two-requires
 node_over_two-requires c =
-    let r = right (goal.at.node_over_two-requires c).After-is_undefined in
+    let r : Gives (without_root c.args.right (forest c.args.pool.now)) (forest c.args.pool.now) c.args.right (λ t. t ≡ tree_of c.args.right c.args.pool.now) = gives c.requires.last (represents_handed c.requires.handed) refl in
     record { stands = c.requires.stands; takes = takes_two c.requires.kind; first = given_other r c.requires.left; second = c.requires.handed; apart = apart_second r c.requires.left }
 
 pub add_up-requires : goal.add_up-requires
 add_up-requires c =
     let n = c.in_ok-both.ensures.ok in
-    let k = known _ _ c.requires.kind (given_told n) c.requires.left_reduced c.requires.right_reduced c.requires.left_defined (sym (undef-is (goal.at.add_up-requires c).After-is_undefined) ∙ c.if-is_undefined.false) in
-    record { stands = search rules; handed = given_handed n; sum = ap is_add (given_told n) ∙ ap (λ (k : Kind). is_add (sides k c.args.left c.args.right c.args.pool.now)) c.in-Add.is; reduced = k.0; defined = k.1 }
+    let k = known _ _ c.requires.kind (given_told n) c.requires.left_reduced c.requires.right_reduced in
+    record { stands = search rules; handed = given_handed n; sum = ap is_add (given_told n) ∙ ap (λ (k : Kind). is_add (sides k c.args.left c.args.right c.args.pool.now)) c.in-Add.is; reduced = k }
 
 pub multiply-requires : goal.multiply-requires
 multiply-requires c =
     let n = c.in_ok-both.ensures.ok in
-    let k = known _ _ c.requires.kind (given_told n) c.requires.left_reduced c.requires.right_reduced c.requires.left_defined (sym (undef-is (goal.at.multiply-requires c).After-is_undefined) ∙ c.if-is_undefined.false) in
+    let k = known _ _ c.requires.kind (given_told n) c.requires.left_reduced c.requires.right_reduced in
     let is : c.args.kind ≡ kind.Mult = elim c.requires.kind [ inl q ↦ absurd (c.in_default.not-Add q) | inr q ↦ q ] in
-    record { stands = search rules; handed = given_handed n; product = ap is_mult (given_told n) ∙ ap (λ (k : Kind). is_mult (sides k c.args.left c.args.right c.args.pool.now)) is; reduced = k.0; defined = k.1 }
+    record { stands = search rules; handed = given_handed n; product = ap is_mult (given_told n) ∙ ap (λ (k : Kind). is_mult (sides k c.args.left c.args.right c.args.pool.now)) is; reduced = k }
 
 pub returns-in-Add-clause-ok : goal.returns-in-Add-clause-ok
 returns-in-Add-clause-ok c = answer_as _ _ c.add_up.new.pool _ _ _ c.add_up.ensures.ok (given_rest c.in_ok-both.ensures.ok) (λ u h. answer_at u (given_told c.in_ok-both.ensures.ok) h)
@@ -93,3 +82,59 @@ returns-in_default-clause-overflow c = overflow_as _ _ _ c.multiply.ensures.over
 
 pub returns-in_default-clause-front : goal.returns-in_default-clause-front
 returns-in_default-clause-front c = joined_front c.node_over_two.ensures.front c.in_ok-both.ensures.ok c.multiply.ensures.front
+
+-- ---- bytes at hand
+
+pub returns-in_err-both-clause-sum_room : goal.returns-in_err-both-clause-sum_room
+returns-in_err-both-clause-sum_room c = λ gs q s.
+    passed_on c.from_residual.result (fault.Full c.in_err-both.field-0.0) _ c.from_residual.ensures.0 c.from_residual.ensures.1
+    (sum_node_lacks gs (two (tree_of c.args.left c.args.pool.now) (tree_of c.args.right c.args.pool.now)) (free_of c.args.pool.now) (two_reduced _ _ c.requires.left_reduced c.requires.right_reduced) s.1 (below_node c.args.kind c.requires.kind (refused_below c.in_err-both.ensures.full)))
+
+pub returns-in_err-both-clause-product_room : goal.returns-in_err-both-clause-product_room
+returns-in_err-both-clause-product_room c = λ gs ns q k s.
+    passed_on c.from_residual.result (fault.Full c.in_err-both.field-0.0) _ c.from_residual.ensures.0 c.from_residual.ensures.1
+    (product_node_lacks gs (two (tree_of c.args.left c.args.pool.now) (tree_of c.args.right c.args.pool.now)) (free_of c.args.pool.now) (two_reduced _ _ c.requires.left_reduced c.requires.right_reduced) s.1 (below_node c.args.kind c.requires.kind (refused_below c.in_err-both.ensures.full)))
+
+pub returns-in-Add-clause-sum_room : goal.returns-in-Add-clause-sum_room
+returns-in-Add-clause-sum_room c = λ gs q s.
+    let r : Gives (without_root c.args.right (forest c.args.pool.now)) (forest c.args.pool.now) c.args.right (λ t. t ≡ tree_of c.args.right c.args.pool.now) = gives c.requires.last (represents_handed c.requires.handed) refl in
+    let n = c.in_ok-both.ensures.ok in
+    let e = given_told n ∙ ap (λ (k : Kind). sides k c.args.left c.args.right c.args.pool.now) q in
+    let both = both_replaced_free c.requires.stands c.in_ok-both.ensures.stands c.in_ok-both.ensures.kept (apart_second r c.requires.left) (given_other r c.requires.left) c.requires.handed n in
+    let w : Tree = tree_of c.in_ok-both.both c.node_over_two.new.pool in
+    result_lacks c.add_up.result (c.add_up.ensures.room gs (subst (SpansTree gs) (sym e) s))
+    (λ l. omega (arith, subst (λ (x : Tree). free_of c.node_over_two.new.pool + size w < sum_room (sum_count (children_of x)) (2 ^ length gs)) e l, both))
+
+pub returns-in-Add-clause-product_room : goal.returns-in-Add-clause-product_room
+returns-in-Add-clause-product_room c = λ gs ns q k s. absurd (cc (sym q ∙ c.in-Add.is))
+
+pub returns-in_default-clause-sum_room : goal.returns-in_default-clause-sum_room
+returns-in_default-clause-sum_room c = λ gs q s. absurd (c.in_default.not-Add q)
+
+pub returns-in_default-clause-product_room : goal.returns-in_default-clause-product_room
+returns-in_default-clause-product_room c = λ gs ns q k s.
+    let r : Gives (without_root c.args.right (forest c.args.pool.now)) (forest c.args.pool.now) c.args.right (λ t. t ≡ tree_of c.args.right c.args.pool.now) = gives c.requires.last (represents_handed c.requires.handed) refl in
+    let n = c.in_ok-both.ensures.ok in
+    let e = given_told n ∙ ap (λ (k : Kind). sides k c.args.left c.args.right c.args.pool.now) q in
+    let both = both_replaced_free c.requires.stands c.in_ok-both.ensures.stands c.in_ok-both.ensures.kept (apart_second r c.requires.left) (given_other r c.requires.left) c.requires.handed n in
+    let w : Tree = tree_of c.in_ok-both.both c.node_over_two.new.pool in
+    result_lacks c.multiply.result (c.multiply.ensures.room gs ns (subst (IsCalmAtZero ns) (sym e) k) (subst (SpansTree gs) (sym e) s))
+    (λ l. omega (arith, subst (λ (x : Tree). free_of c.node_over_two.new.pool + size w < factors_room (children_of x) (2 ^ length gs)) e l, both))
+
+-- ---- bits
+
+pub returns-in-Add-clause-sum_bits : goal.returns-in-Add-clause-sum_bits
+returns-in-Add-clause-sum_bits c = λ h l q k few.
+    let e = given_told c.in_ok-both.ensures.ok ∙ ap (λ (k : Kind). sides k c.args.left c.args.right c.args.pool.now) q in
+    c.add_up.ensures.bits h l (λ d. subst (λ (x : Tree). HoldsNode x h l) (sym e) (k (sym (ap (λ (x : Tree). has_undef (children_of x)) e) ∙ d))) few
+
+pub returns-in-Add-clause-product_bits : goal.returns-in-Add-clause-product_bits
+returns-in-Add-clause-product_bits c = λ h l q k few. absurd (cc (sym q ∙ c.in-Add.is))
+
+pub returns-in_default-clause-sum_bits : goal.returns-in_default-clause-sum_bits
+returns-in_default-clause-sum_bits c = λ h l q k few. absurd (c.in_default.not-Add q)
+
+pub returns-in_default-clause-product_bits : goal.returns-in_default-clause-product_bits
+returns-in_default-clause-product_bits c = λ h l q k few.
+    let e = given_told c.in_ok-both.ensures.ok ∙ ap (λ (k : Kind). sides k c.args.left c.args.right c.args.pool.now) q in
+    c.multiply.ensures.bits h l (λ d. subst (λ (x : Tree). HoldsNode x h l) (sym e) (k (sym (ap (λ (x : Tree). has_undef (children_of x)) e) ∙ d))) few

@@ -1,18 +1,35 @@
-use Rattle.std.proofs.Common.{rules, refl, ap, ◌∙◌}
+use Rattle.std.proofs.Common.{rules, length, ◌<◌, ◌+◌, ◌^◌, refl, sym, ap, ◌∙◌, subst, arith}
+use Rattle.calc_room.specs.Spans.{SpansTree}
+use Rattle.calc_room.proofs.NumberBytes.{num_bytes}
+use Rattle.calc_terms.specs.Payload.{rational}
+use Rattle.calc_terms.specs.Rat.{ratio_of, value_of}
+use Rattle.coefficients.proofs.Free.{number_refused}
+use Rattle.deep_reduce.specs.NodeRooms.{factors_room}
+use Rattle.deep_reduce.specs.Rooms.{IsCalmAtZero}
+use Rattle.calc_terms.specs.Trees.{has_undef}
+use Rattle.deep_reduce.specs.NodeBits.{HoldsNode}
+use Rattle.deep_reduce.proofs.NodeBits.{opposite_factors, second_side}
+use Rattle.deep_reduce.proofs.Lacking.{result_lacks}
+use Rattle.deep_reduce.proofs.NodeBytes.{opposite_lacks, opposite_calm, opposite_spans, opposite_fits}
+use Rattle.node_pool.specs.State.{free_of}
+use Rattle.number_forms.proofs.FreeBytes.{both_replaced_free, refused_below}
+use Rattle.number_forms.proofs.Overflows.{passed_on}
+use Rattle.tree_handles.specs.declared.fault.NumberFault.TheVariants as fault
+use Rattle.tree_handles.proofs.Room.{given_free}
 use Rattle.calc_terms.specs.Fractions.{minus_one_fraction}
-use Rattle.calc_terms.specs.Trees.{Tree, num, is_mult, has_undef}
+use Rattle.calc_terms.specs.Trees.{Tree, num, is_mult, size}
 use Rattle.calc_terms.specs.declared.kind.Kind.TheVariants as kind
 use Rattle.calc_algebra.specs.Reduced.{are_reduced}
 use Rattle.tree_handles.specs.Handed.{tree_of}
 use Rattle.tree_handles.specs.Expressions.{children_of}
 use Rattle.tree_handles.proofs.Fronts.{behind_first, behind_new, front_same, front_end, front_after, front_after_two}
-use Rattle.tree_handles.proofs.Given.{gives_as, given_handed, given_other, given_rest}
+use Rattle.tree_handles.proofs.Given.{gives_as, given_handed, given_other, given_rest, given_told}
 use Rattle.tree_handles.specs.Roots.{without_root}
 use Rattle.deep_reduce.proofs.Fitting.{root_fits}
 use Rattle.deep_reduce.proofs.Results.{answer_as, overflow_as}
-use Rattle.deep_reduce.proofs.Sides.{apart_first, new_first, reduced_front}
+use Rattle.deep_reduce.proofs.Sides.{apart_first, beside_new, new_first, reduced_front}
 use Rattle.deep_reduce.proofs.Steps.{neg_answer, neg_overflow, number_reduced}
-use Rattle.deep_reduce.proofs.Told.{answer_at, overflow_at, minus_one_value, two_reduced, two_defined}
+use Rattle.deep_reduce.proofs.Told.{answer_at, overflow_at, minus_one_value, two_reduced}
 use Rattle.deep_reduce.proofs.differences.minus.Goals as goal
 
 pub returns-in_err-minus_one-clause-front : goal.returns-in_err-minus_one-clause-front
@@ -40,7 +57,6 @@ multiply-requires c =
       handed = given_handed c.in_ok-product.ensures.ok;
       product = ap is_mult (new_first {k = kind.Mult} n c.requires.handed c.in_ok-product.ensures.ok).tree;
       reduced = ap (λ (t : Tree). are_reduced (children_of t)) (new_first {k = kind.Mult} n c.requires.handed c.in_ok-product.ensures.ok).tree ∙ two_reduced (num minus_one_fraction) _ (number_reduced minus_one_fraction) c.requires.reduced;
-      defined = ap (λ (t : Tree). has_undef (children_of t)) (new_first {k = kind.Mult} n c.requires.handed c.in_ok-product.ensures.ok).tree ∙ two_defined (num minus_one_fraction) _ refl c.requires.defined;
     }
 
 pub returns-clause-ok : goal.returns-clause-ok
@@ -64,3 +80,45 @@ returns-clause-front c =
     let n = c.in_ok-minus_one.ensures.given in
     let paired = front_after_two (behind_new n.ends front_same) behind_first (front_end n.ends front_same) c.node_over_two.ensures.front in
     reduced_front paired c.in_ok-product.ensures.ok (ap (without_root c.args.argument) (given_rest n)) c.multiply.ensures.front
+
+pub returns-in_err-minus_one-clause-room : goal.returns-in_err-minus_one-clause-room
+returns-in_err-minus_one-clause-room c = λ gs ns k s.
+    let few : free_of c.args.pool.now < 48 = omega (arith, number_refused (rational (ratio_of c.whole.result)) c.in_err-minus_one.ensures.full) in
+    passed_on c.from_residual.result (fault.Full c.in_err-minus_one.field-0.0) _ c.from_residual.ensures.0 c.from_residual.ensures.1 (opposite_lacks gs (tree_of c.args.argument c.args.pool.now) (free_of c.args.pool.now) c.requires.reduced s few)
+
+pub returns-in_err-product-clause-room : goal.returns-in_err-product-clause-room
+returns-in_err-product-clause-room c = λ gs ns k s.
+    let g = c.in_ok-minus_one.ensures.given in
+    let free = given_free c.requires.stands c.in_ok-minus_one.ensures.stands c.in_ok-minus_one.ensures.kept g in
+    let few : free_of c.args.pool.now < 48 = omega (arith, free, ap size (given_told g), num_bytes (value_of c.whole.result), refused_below c.in_err-product.ensures.full) in
+    passed_on c.from_residual-in_err-product.result (fault.Full c.in_err-product.field-0.0) _ c.from_residual-in_err-product.ensures.0 c.from_residual-in_err-product.ensures.1
+    (opposite_lacks gs (tree_of c.args.argument c.args.pool.now) (free_of c.args.pool.now) c.requires.reduced s few)
+
+pub returns-clause-room : goal.returns-clause-room
+returns-clause-room c = λ gs ns k s.
+    let a : Tree = tree_of c.args.argument c.args.pool.now in
+    let g = c.in_ok-minus_one.ensures.given in
+    let n = gives_as g refl (λ t e. e ∙ minus_one_value c.whole.result c.whole.ensures) in
+    let p = new_first {k = kind.Mult} n c.requires.handed c.in_ok-product.ensures.ok in
+    let free = given_free c.requires.stands c.in_ok-minus_one.ensures.stands c.in_ok-minus_one.ensures.kept g in
+    let both =
+    both_replaced_free c.in_ok-minus_one.ensures.stands c.in_ok-product.ensures.stands c.in_ok-product.ensures.kept (apart_first g c.requires.handed) (given_handed g) (given_other g c.requires.handed) c.in_ok-product.ensures.ok in
+    let same = ap size (beside_new c.args.argument g c.requires.handed) in
+    let w : Tree = tree_of c.in_ok-product.product c.node_over_two.new.pool in
+    result_lacks c.multiply.result (c.multiply.ensures.room gs ns (subst (IsCalmAtZero ns) (sym p.tree) (opposite_calm a k)) (subst (SpansTree gs) (sym p.tree) (opposite_spans gs a s)))
+    (λ l. omega (
+      arith,
+      subst (λ (x : Tree). free_of c.node_over_two.new.pool + size w < factors_room (children_of x) (2 ^ length gs)) p.tree l,
+      free,
+      both,
+      same,
+      opposite_fits a (2 ^ length gs),
+    ))
+
+pub returns-clause-bits : goal.returns-clause-bits
+returns-clause-bits c = λ h l k few.
+    let a : Tree = tree_of c.args.argument c.args.pool.now in
+    let n = gives_as c.in_ok-minus_one.ensures.given refl (λ t e. e ∙ minus_one_value c.whole.result c.whole.ensures) in
+    let p = new_first {k = kind.Mult} n c.requires.handed c.in_ok-product.ensures.ok in
+    c.multiply.ensures.bits h l
+    (λ d. subst (λ (x : Tree). HoldsNode x h l) (sym p.tree) (opposite_factors a (k (second_side (num minus_one_fraction) a (sym (ap (λ (x : Tree). has_undef (children_of x)) p.tree) ∙ d))))) few

@@ -1,13 +1,25 @@
-use Rattle.std.proofs.Common.{rules, inl, sym, ap, ◌∙◌, arith}
+use Rattle.std.proofs.Common.{rules, inl, length, ◌<◌, ◌+◌, ◌^◌, sym, ap, ◌∙◌, subst, arith}
 use Rattle.calc_algebra.specs.Reduced.{is_reduced}
-use Rattle.calc_terms.specs.Trees.{Tree, neg, count, is_undef}
+use Rattle.calc_terms.specs.Trees.{Tree, neg, count, size}
+use Rattle.calc_room.specs.Counts.{counted}
+use Rattle.calc_room.specs.Spans.{SpansTree}
+use Rattle.deep_reduce.specs.Rooms.{IsCalmAtZero}
+use Rattle.calc_terms.specs.Trees.{is_undef, has_undef}
+use Rattle.product_reduce.specs.Bits.{IsFactorHeld}
+use Rattle.deep_reduce.proofs.NodeBits.{opposite_holds, only_undef}
+use Rattle.deep_reduce.proofs.Lacking.{result_lacks}
+use Rattle.deep_reduce.proofs.NodeBytes.{negated_calm, negated_spans, negated_fits}
+use Rattle.node_pool.specs.State.{free_of}
+use Rattle.number_forms.proofs.FreeBytes.{replaced_free}
+use Rattle.tree_room.specs.Needs.{product_room}
+use Rattle.tree_handles.proofs.Forests.{keeps_after}
 use Rattle.tree_handles.specs.Handed.{tree_of}
 use Rattle.tree_handles.proofs.Fronts.{behind_first, behind_new, front_same, front_end, front_without, front_after_one}
 use Rattle.tree_handles.proofs.Given.{given_handed, given_told, given_rest}
 use Rattle.tree_handles.specs.Expressions.{nth, children_of}
 use Rattle.deep_reduce.proofs.Parents.{alone_out, parent_children, parent_handed}
 use Rattle.deep_reduce.proofs.Results.{answer_as, overflow_as}
-use Rattle.deep_reduce.proofs.Told.{answer_at, overflow_at, neg_is, neg_children, only_reduced, only_defined}
+use Rattle.deep_reduce.proofs.Told.{answer_at, overflow_at, neg_is, neg_children, only_reduced}
 use Rattle.deep_reduce.proofs.differences.negate.Goals as goal
 
 pub take_child-argument-requires-clause-within : goal.take_child-argument-requires-clause-within
@@ -28,7 +40,6 @@ minus-requires c =
       stands = search rules;
       handed = given_handed (a.given (c.release.ensures.owned a.owned));
       reduced = ap is_reduced (given_told (a.given (c.release.ensures.owned a.owned))) ∙ only_reduced (children_of t) (nth 0 (children_of t)) (neg_children t c.requires.opposite) c.requires.reduced;
-      defined = ap is_undef (given_told (a.given (c.release.ensures.owned a.owned))) ∙ only_defined (children_of t) (nth 0 (children_of t)) (neg_children t c.requires.opposite) c.requires.defined;
     }
 
 pub returns : goal.returns
@@ -41,6 +52,12 @@ returns c =
       ok = answer_as _ _ c.minus.new.pool _ _ _ c.minus.ensures.ok (given_rest g) (λ u h. answer_at u (ap neg (given_told g) ∙ sym (neg_is t c.requires.opposite)) h);
       overflow = overflow_as _ _ _ c.minus.ensures.overflow (λ o h. overflow_at o (ap neg (given_told g) ∙ sym (neg_is t c.requires.opposite)) h);
       front = front_after_one (behind_new g.ends without) (front_end g.ends without) c.minus.ensures.front;
+      room = λ gs ns n h k s.
+          let told = given_told g in
+          let moved = replaced_free c.requires.stands c.release.ensures.stands (keeps_after _ _ _ c.take_child-argument.ensures.kept c.release.ensures.kept) c.requires.handed g in
+          result_lacks c.minus.result (c.minus.ensures.room gs ns (subst (IsCalmAtZero ns) (sym told) (negated_calm t c.requires.opposite k)) (subst (SpansTree gs) (sym told) (negated_spans gs t c.requires.opposite s)))
+          (λ l. omega (arith, subst (λ (x : Tree). free_of c.release.new.pool + size x < product_room (2 + counted x) (2 ^ length gs)) told l, moved, ap size told, negated_fits t n (2 ^ length gs) c.requires.opposite h));
+      bits = λ h l k few. c.minus.ensures.bits h l (λ d. subst (λ (x : Tree). IsFactorHeld x h l) (sym (given_told g)) (opposite_holds t c.requires.opposite (k (ap has_undef (neg_children t c.requires.opposite) ∙ only_undef (nth 0 (children_of t)) (sym (ap is_undef (given_told g)) ∙ d))))) few;
       kept = search rules;
       faults = search rules;
       caused = search rules;

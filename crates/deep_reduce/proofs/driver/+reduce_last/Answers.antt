@@ -12,6 +12,9 @@ use Rattle.tree_handles.proofs.Given.{gives, given_handed, given_told, represent
 use Rattle.coefficients.proofs.Steps.{live, expression, seen}
 use Rattle.deep_reduce.specs.Leaves.{is_leaf, BeginWithLeaves}
 use Rattle.reduce_port.specs.Checks.{TripsWithin}
+use Rattle.deep_reduce.proofs.BitsBeyond.{node_unfit}
+use Rattle.deep_reduce.proofs.ChildRooms.{child_short, node_short}
+use Rattle.power_reduce.proofs.RaisedBytes.{kept_free}
 use Rattle.deep_reduce.proofs.Ready.{walked_ready, ready_gives, all_checks, last_trips, node_stops, no_fit}
 use Rattle.deep_reduce.proofs.Stopping.{child_stops, handed_on, leaf_calm, leaf_trips}
 use Rattle.deep_reduce.proofs.Walks.{leaf_reduced, leaves_walked, leaves_within, next_child, next_there, next_within, fewer_nodes, next_taken, stands_last, next_walked, to_adopt, all_walked, many_children, child_front}
@@ -73,7 +76,8 @@ returns-in_err-_answer-clause-stops g t c =
     let n = next_child c.loop-at.invariant.walked (omega (arith, c.loop-at.invariant.many, c.loop-at-test.true)) in
     let a = next_taken n (c.take_child-child.ensures.last (next_there n).root) in
     handed_on c.from_residual-in_err-_answer.result c.in_err-_answer.field-0.0 _ c.from_residual-in_err-_answer.ensures.0 c.from_residual-in_err-_answer.ensures.1
-    (child_stops _ _ n _ c.in_err-_answer.field-0.0 (given_told a) (keeps_after _ _ _ c.loop-at.invariant.kept c.take_child-child.ensures.kept) c.in_err-_answer.ensures.stops)
+    (child_stops _ _ n _ c.in_err-_answer.field-0.0 (given_told a) (keeps_after _ _ _ c.loop-at.invariant.kept c.take_child-child.ensures.kept)
+    (child_short c.loop-at.pool n c.requires.stands c.take_child-child.ensures.stands (keeps_after _ _ _ c.loop-at.invariant.kept c.take_child-child.ensures.kept) c.requires.handed a) c.in_err-_answer.ensures.stops)
 
 pub returns-in_err-_answer-clause-front : goal.returns-in_err-_answer-clause-front
 returns-in_err-_answer-clause-front g t c =
@@ -125,7 +129,11 @@ returns-in_err-answer-clause-stops g t c =
     let e = c.in_err-answer.field-0.0 in
     handed_on c.from_residual-in_err-answer.result (fault_of e) _ c.from_residual-in_err-answer.ensures.0 c.from_residual-in_err-answer.ensures.1
     (node_stops _ _ _ (tree_of c.args.tree c.args.pool.now) (tree_of c.args.tree c.adopt.new.pool) e r.over (all_checks _ w c.in_ok-check.ensures.calm) (keeps_after _ _ _ c.loop-at.invariant.kept c.adopt.ensures.kept)
-    c.in_err-answer.ensures.faults c.in_err-answer.ensures.caused (no_fit e (IsNodeOverflow (tree_of c.args.tree c.adopt.new.pool)) c.in_err-answer.ensures.overflow))
+    c.in_err-answer.ensures.faults c.in_err-answer.ensures.caused (no_fit e (IsNodeOverflow (tree_of c.args.tree c.adopt.new.pool)) c.in_err-answer.ensures.overflow)
+    (node_short c.args.tree c.args.pool.now (tree_of c.args.tree c.adopt.new.pool) _ e c.requires.stands c.requires.handed r.over
+    (kept_free c.requires.stands c.adopt.ensures.stands (keeps_after _ _ _ c.loop-at.invariant.kept c.adopt.ensures.kept) c.requires.handed r.handed r.rest)
+    (record { room = c.in_err-answer.ensures.room; root_room = c.in_err-answer.ensures.root_room }))
+    (node_unfit (tree_of c.args.tree c.args.pool.now) (tree_of c.args.tree c.adopt.new.pool) e r.over c.in_err-answer.ensures.bits))
 
 pub returns-in_err-answer-clause-front : goal.returns-in_err-answer-clause-front
 returns-in_err-answer-clause-front g t c =

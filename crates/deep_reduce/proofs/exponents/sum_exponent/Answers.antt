@@ -1,10 +1,19 @@
-use Rattle.std.proofs.Common.{rules, ap, ◌∙◌, refl, arith, subst}
+use Rattle.std.proofs.Common.{rules, ap, sym, ◌∙◌, refl, arith, subst}
 use Rattle.calc_terms.specs.Trees.{Tree, count, is_add}
 use Rattle.coefficients.proofs.Rewritten.{over_back, apart_back, put_back, front_lost}
 use Rattle.coefficients.proofs.Steps.{children_in, moved, moved_front}
+use Rattle.deep_reduce.proofs.JointRooms.{sum_keeps}
+use Rattle.deep_reduce.proofs.Lacking.{exponent_lacks, exponent_spans}
+use Rattle.coefficients.proofs.Free.{taken_free}
+use Rattle.calc_room.specs.Spans.{SpansTree}
+use Rattle.number_forms.proofs.Overflows.{passed_on}
+use Rattle.node_pool.specs.State.{free_of}
 use Rattle.deep_reduce.proofs.Children.{over_power, power_of_sum, exponent_taken, itself}
 use Rattle.power_reduce.specs.PowerAnswers.{exponent_in}
 use Rattle.calc_algebra.specs.Reduced.{are_reduced}
+use Rattle.tree_bits.specs.Children.{IsSumHeld, addends_of_each}
+use Rattle.tree_bits.specs.Exponents.{are_counted, counts_of, counts_of_all}
+use Rattle.tree_bits.specs.Powers.{IsWithin}
 use Rattle.tree_handles.specs.Handed.{tree_of}
 use Rattle.sum_reduce.specs.SumAnswers.{IsSumAnswer}
 use Rattle.tree_handles.specs.Expressions.{children_of}
@@ -61,6 +70,8 @@ returns-clause-ok c =
     moved p refl c.move_last.ensures.last (record {
       exponent = tree_of c.in_ok-sum.sum c.reduce_sum.new.pool;
       sum = subst (λ (t : Tree). IsSumAnswer (children_of t) (tree_of c.in_ok-sum.sum c.reduce_sum.new.pool)) (given_told a.gives) (given_told c.in_ok-sum.ensures.ok);
+      room = sum_keeps (tree_of c.take_child-exponent.result c.take_child-exponent.new.pool) _ _ (given_told a.gives ∙ ap exponent_in c.requires.power) c.in_ok-sum.ensures.counted c.in_ok-sum.ensures.powers c.in_ok-sum.ensures.spanned;
+      counts = λ k. let w = c.in_ok-sum.ensures.exponents (ap (λ (t : Tree). are_counted (children_of t)) (given_told a.gives) ∙ k) in record { counted = w.0; within = subst (λ (t : Tree). IsWithin (counts_of (tree_of c.in_ok-sum.sum c.reduce_sum.new.pool)) (counts_of_all (children_of t))) (given_told a.gives) w.1 };
       is = refl;
     })
 
@@ -71,3 +82,21 @@ returns-clause-front c =
     let g = itself c.in_ok-sum.ensures.ok in
     let p = put_back o a g (c.add_child.ensures.root (over_back o a g).root) refl in
     moved_front p c.move_last.ensures.last
+
+pub returns-in_err-sum-clause-room : goal.returns-in_err-sum-clause-room
+returns-in_err-sum-clause-room c = λ gs s.
+    let o = over_power _ c.requires.handed refl (power_of_sum _ c.requires.power) in
+    let a = exponent_taken o (c.take_child-exponent.ensures.last c.requires.handed.root) in
+    let e = given_told a.gives in
+    let same = taken_free c.requires.stands c.take_child-exponent.ensures.stands c.take_child-exponent.ensures.kept o a (omega arith) in
+    let x : Tree = tree_of c.take_child-exponent.result c.take_child-exponent.new.pool in
+    let spans : SpansTree gs x = subst (SpansTree gs) (sym e) (exponent_spans gs _ c.requires.power s) in
+    passed_on c.from_residual.result c.in_err-sum.field-0.0 _ c.from_residual.ensures.0 c.from_residual.ensures.1
+    (exponent_lacks gs (tree_of c.args.power c.args.pool.now) x (free_of c.take_child-exponent.new.pool) (free_of c.args.pool.now) c.in_err-sum.field-0.0 c.requires.power e same (c.in_err-sum.ensures.room gs spans))
+
+pub returns-in_err-sum-clause-bits : goal.returns-in_err-sum-clause-bits
+returns-in_err-sum-clause-bits c = λ h l s few.
+    let o = over_power _ c.requires.handed refl (power_of_sum _ c.requires.power) in
+    let a = exponent_taken o (c.take_child-exponent.ensures.last c.requires.handed.root) in
+    passed_on c.from_residual.result c.in_err-sum.field-0.0 _ c.from_residual.ensures.0 c.from_residual.ensures.1
+    (c.in_err-sum.ensures.bits h l (subst (λ (t : Tree). IsSumHeld (addends_of_each (children_of t)) h l) (sym (given_told a.gives)) s) few)

@@ -1,7 +1,14 @@
-use Rattle.std.proofs.Common.{◌≡◌, sym, ◌∙◌}
+use Rattle.std.proofs.Common.{◌≡◌, sym, ◌∙◌, subst}
 use Rattle.std.specs.Prelude.{Some, None}
 use Rattle.calc_terms.specs.Trees.{Tree}
 use Rattle.deep_reduce.proofs.Arms.{is_done, is_again}
+use Rattle.deep_reduce.proofs.HeldRoots.{last_fits}
+use Rattle.power_reduce.specs.Bits.{IsHeldAsPowerOf}
+use Rattle.power_reduce.specs.PowerAnswers.{base_in, exponent_in}
+use Rattle.reduce_port.specs.Steps.{IfDone}
+use Rattle.reduce_port.specs.declared.step.Step.{Step}
+use Rattle.tree_handles.specs.Handed.{tree_of}
+use Rattle.number_forms.proofs.Overflows.{passed_on}
 use Rattle.tree_handles.proofs.Given.{given_told}
 use Rattle.deep_reduce.proofs.halves.last_step.Goals as goal
 
@@ -13,3 +20,14 @@ returns-clause-ok c = (is_done c.args.power c.args.pool.now c.power_step.new.poo
 
 pub unreachable-requires : goal.unreachable-requires
 unreachable-requires c = none_some (sym (given_told (is_again c.args.power c.args.pool.now c.power_step.new.pool c.in-Again.is c.in_ok-answer.ensures.ok)).0 ∙ c.requires.last)
+
+pub returns-in_err-answer-clause-room : goal.returns-in_err-answer-clause-room
+returns-in_err-answer-clause-room c = λ gs s w. passed_on c.from_residual.result c.in_err-answer.field-0.0 _ c.from_residual.ensures.0 c.from_residual.ensures.1 (c.in_err-answer.ensures.room gs s w)
+
+pub returns-clause-held : goal.returns-clause-held
+returns-clause-held c = λ n q. subst (λ (s : Step). IfDone s (λ h. IsHeldAsPowerOf n (base_in (tree_of c.args.power c.args.pool.now)) (tree_of h c.power_step.new.pool))) c.in-Done.is (c.in_ok-answer.ensures.held n q)
+
+pub returns-in_err-answer-clause-bits : goal.returns-in_err-answer-clause-bits
+returns-in_err-answer-clause-bits c = λ n h l q a few.
+    passed_on c.from_residual.result c.in_err-answer.field-0.0 _ c.from_residual.ensures.0 c.from_residual.ensures.1
+    (last_fits (base_in (tree_of c.args.power c.args.pool.now)) (exponent_in (tree_of c.args.power c.args.pool.now)) c.in_err-answer.field-0.0 (λ d. c.in_err-answer.ensures.bits n q h l (a d) few) c.in_err-answer.ensures.overflow)

@@ -1,10 +1,20 @@
-use Rattle.std.proofs.Common.{rules, refl, ap, ◌∙◌, subst, arith}
+use Rattle.std.proofs.Common.{◌≡◌, false, rules, refl, sym, ap, ◌∙◌, subst, arith}
+use Rattle.calc_algebra.specs.Numbers.{value}
+use Rattle.calc_terms.specs.Integers.{int_is_negative}
+use Rattle.deep_reduce.proofs.HeldRoots.{root_fits}
+use Rattle.product_reduce.specs.Bits.{IsFactorHeld}
+use Rattle.surd_bits.specs.Rooted.{IsNoLargerThanRoot}
+use Rattle.calc_room.specs.Spans.{SpansTree}
+use Rattle.coefficients.proofs.Free.{taken_free}
+use Rattle.deep_reduce.proofs.HalfRooms.{root_lacks}
+use Rattle.node_pool.specs.State.{free_of}
+use Rattle.number_forms.proofs.Overflows.{passed_on}
 use Rattle.calc_algebra.specs.Reduced.{is_reduced}
 use Rattle.calc_terms.specs.Trees.{Tree, is_root}
 use Rattle.coefficients.proofs.Rewritten.{over_back, apart_back, put_back, front_lost}
 use Rattle.coefficients.proofs.Steps.{children_in, moved, moved_front}
 use Rattle.deep_reduce.proofs.Children.{over_power, base_taken, itself}
-use Rattle.radical_forms.specs.RootAnswers.{argument_of, IsRootAnswer}
+use Rattle.radical_forms.specs.RootAnswers.{argument_of, IfRational, IsRootAnswer}
 use Rattle.tree_handles.specs.Handed.{tree_of}
 use Rattle.tree_handles.proofs.Fronts.{front_same}
 use Rattle.tree_handles.proofs.Given.{given_handed, given_root, given_told}
@@ -56,6 +66,8 @@ returns-clause-ok c =
     moved q refl c.move_last.ensures.last (record {
       root = v;
       answer = subst (λ (x : Tree). IsRootAnswer (argument_of x) v) (given_told a.gives) (given_told c.in_ok-reduced.ensures.ok);
+      spanned = λ gs s. c.in_ok-reduced.ensures.spanned gs (subst (SpansTree gs) (sym (given_told a.gives)) s);
+      measured = subst (λ (x : Tree). IfRational (argument_of x) (λ q. int_is_negative q.num ≡ false → IsNoLargerThanRoot q (value v))) (given_told a.gives) c.in_ok-reduced.ensures.measured;
       is = refl;
     })
 
@@ -65,3 +77,18 @@ returns-clause-front c =
     let a = base_taken o (c.take_child-root.ensures.last c.requires.handed.root) in
     let g = itself c.in_ok-reduced.ensures.ok in
     moved_front (put_back o a g (c.add_child.ensures.root (over_back o a g).root) refl) c.move_last.ensures.last
+
+pub returns-in_err-reduced-clause-room : goal.returns-in_err-reduced-clause-room
+returns-in_err-reduced-clause-room c =
+    let o = over_power _ c.requires.handed refl c.requires.power in
+    let a = base_taken o (c.take_child-root.ensures.last c.requires.handed.root) in
+    let same = taken_free c.requires.stands c.take_child-root.ensures.stands c.take_child-root.ensures.kept o a (omega arith) in
+    passed_on c.from_residual.result c.in_err-reduced.field-0.0 _ c.from_residual.ensures.0 c.from_residual.ensures.1
+    (root_lacks (tree_of c.args.power c.args.pool.now) (free_of c.take_child-root.new.pool) (free_of c.args.pool.now) c.in_err-reduced.field-0.0 c.in_err-reduced.ensures.full_below_96_bytes same)
+
+pub returns-in_err-reduced-clause-bits : goal.returns-in_err-reduced-clause-bits
+returns-in_err-reduced-clause-bits c = λ h l k few.
+    let o = over_power _ c.requires.handed refl c.requires.power in
+    let a = base_taken o (c.take_child-root.ensures.last c.requires.handed.root) in
+    passed_on c.from_residual.result c.in_err-reduced.field-0.0 _ c.from_residual.ensures.0 c.from_residual.ensures.1
+    (root_fits _ c.in_err-reduced.field-0.0 c.in_err-reduced.ensures.bits c.in_err-reduced.ensures.overflows.0 (subst (λ (x : Tree). IsFactorHeld (argument_of x) h l) (sym (given_told a.gives)) k) few)

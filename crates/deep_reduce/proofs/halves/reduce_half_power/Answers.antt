@@ -1,11 +1,24 @@
-use Rattle.std.proofs.Common.{rules, refl, subst}
+use Rattle.std.proofs.Common.{rules, refl, sym, subst, arith}
 use Rattle.calc_algebra.specs.Rewritings.{Rewrites}
 use Rattle.calc_terms.specs.Trees.{Tree}
-use Rattle.coefficients.proofs.Steps.{if_map}
 use Rattle.deep_reduce.proofs.Arms.{is_done, is_again}
 use Rattle.deep_reduce.proofs.Chains.{gives_next, front_next}
-use Rattle.deep_reduce.proofs.HalfPowers.{half_step, half_ready, half_last, half_after}
+use Rattle.deep_reduce.proofs.HalfPowers.{half_step, half_ready, half_last, last_exponent, rooted_held, half_after}
+use Rattle.deep_reduce.proofs.Defined.{any_fault, any_refusal, misfit_fault, half_defined}
+use Rattle.deep_reduce.proofs.HalfRooms.{step_finds_none, base_finds_none, last_step, last_finds_none}
+use Rattle.deep_reduce.proofs.HeldRoots.{half_no_whole, half_fits, if_two}
+use Rattle.number_forms.specs.Readers.{numerator}
+use Rattle.number_forms.proofs.Loops.{gives_itself}
+use Rattle.power_reduce.specs.Bits.{IsHeldAsPowerOf}
+use Rattle.product_reduce.specs.Bits.{IsFactorHeld}
+use Rattle.radical_forms.specs.RootAnswers.{argument_of}
+use Rattle.deep_reduce.proofs.Lacking.{lacks_as}
 use Rattle.deep_reduce.proofs.Opened.{power_finished}
+use Rattle.node_pool.specs.State.{free_of}
+use Rattle.number_forms.proofs.FreeBytes.{replaced_free}
+use Rattle.number_forms.proofs.Overflows.{passed_on}
+use Rattle.number_forms.proofs.Rooms.{refusal_as}
+use Rattle.tree_handles.proofs.Forests.{keeps_after}
 use Rattle.power_reduce.specs.PowerAnswers.{base_in, exponent_in}
 use Rattle.tree_handles.specs.Handed.{tree_of}
 use Rattle.tree_handles.proofs.Given.{gives_as, given_handed, given_told}
@@ -14,7 +27,7 @@ use Rattle.deep_reduce.proofs.halves.reduce_half_power.Goals as goal
 pub returns-in-Done-clause-ok : goal.returns-in-Done-clause-ok
 returns-in-Done-clause-ok c =
     let d = is_done c.args.power c.args.pool.now c.power_step.new.pool c.in-Done.is c.in_ok-answer.ensures.ok in
-    gives_as d.1 refl (λ t a. power_finished (base_in (tree_of c.args.power c.args.pool.now)) (exponent_in (tree_of c.args.power c.args.pool.now)) t d.0 a)
+    gives_as d.1 refl (λ t a. power_finished (base_in (tree_of c.args.power c.args.pool.now)) (exponent_in (tree_of c.args.power c.args.pool.now)) t d.0 a (λ n q. half_no_whole (exponent_in (tree_of c.args.power c.args.pool.now)) n c.requires.half q))
 
 pub reduce_base-requires : goal.reduce_base-requires
 reduce_base-requires c = record {
@@ -43,10 +56,76 @@ returns-in_ok-rooted-in-Again-clause-ok c =
     let g = is_again c.args.power c.args.pool.now c.power_step.new.pool c.in-Again.is c.in_ok-answer.ensures.ok in
     let k = c.in_ok-rooted-in-Again.ensures.ok in
     let w = subst (λ (x : Tree). Rewrites x (tree_of c.in-Again.tree c.power_step.new.pool)) c.requires.power (given_told g).1 in
-    if_map c.last_step.result _ _ c.last_step.ensures.ok
-    (λ h x. gives_next (gives_next g k (λ u y. y)) x (λ r a. half_after (base_in (tree_of c.args.power c.args.pool.now)) (exponent_in (tree_of c.args.power c.args.pool.now)) (tree_of c.in-Again.tree c.power_step.new.pool) (tree_of c.in_ok-rooted-in-Again.rooted c.reduce_base.new.pool) r c.requires.half (half_step (base_in (tree_of c.args.power c.args.pool.now)) (exponent_in (tree_of c.args.power c.args.pool.now)) (tree_of c.in-Again.tree c.power_step.new.pool) c.requires.half (given_told (is_again c.args.power c.args.pool.now c.power_step.new.pool c.in-Again.is c.in_ok-answer.ensures.ok)).0) w (given_told k) a))
+    let s = half_step (base_in (tree_of c.args.power c.args.pool.now)) (exponent_in (tree_of c.args.power c.args.pool.now)) (tree_of c.in-Again.tree c.power_step.new.pool) c.requires.half (given_told (is_again c.args.power c.args.pool.now c.power_step.new.pool c.in-Again.is c.in_ok-answer.ensures.ok)).0 in
+    let e = last_exponent (base_in (tree_of c.args.power c.args.pool.now)) (exponent_in (tree_of c.args.power c.args.pool.now)) (tree_of c.in-Again.tree c.power_step.new.pool) (tree_of c.in_ok-rooted-in-Again.rooted c.reduce_base.new.pool) s (given_told k) in
+    if_two c.last_step.result _ _ _ c.last_step.ensures.ok (c.last_step.ensures.held (numerator (exponent_in (tree_of c.args.power c.args.pool.now))) e)
+    (λ h x y. gives_next (gives_next g k (λ u y. y)) (gives_itself x)
+    (λ r a. half_after (base_in (tree_of c.args.power c.args.pool.now)) (exponent_in (tree_of c.args.power c.args.pool.now)) (tree_of c.in-Again.tree c.power_step.new.pool) (tree_of c.in_ok-rooted-in-Again.rooted c.reduce_base.new.pool) r c.requires.half s w (given_told k) a.0 c.requires.base (subst (IsHeldAsPowerOf (numerator (exponent_in (tree_of c.args.power c.args.pool.now))) (base_in (tree_of c.in_ok-rooted-in-Again.rooted c.reduce_base.new.pool))) (sym a.1) y)))
 
 pub returns-in_ok-rooted-in-Again-clause-front : goal.returns-in_ok-rooted-in-Again-clause-front
 returns-in_ok-rooted-in-Again-clause-front c =
     let g = is_again c.args.power c.args.pool.now c.power_step.new.pool c.in-Again.is c.in_ok-answer.ensures.ok in
     front_next (gives_next g c.in_ok-rooted-in-Again.ensures.ok (λ u y. y)) (front_next g c.power_step.ensures.front c.reduce_base.ensures.front) c.last_step.ensures.front
+
+-- ---- operations that do not fit
+
+pub returns-in_err-answer-clause-defined : goal.returns-in_err-answer-clause-defined
+returns-in_err-answer-clause-defined c =
+    passed_on c.from_residual.result c.in_err-answer.field-0.0 _ c.from_residual.ensures.0 c.from_residual.ensures.1
+    (misfit_fault (tree_of c.args.power c.args.pool.now) c.in_err-answer.field-0.0 c.requires.power c.in_err-answer.ensures.overflow)
+
+pub returns-in_err-rooted-in-Again-clause-defined : goal.returns-in_err-rooted-in-Again-clause-defined
+returns-in_err-rooted-in-Again-clause-defined c =
+    let h = half_step (base_in (tree_of c.args.power c.args.pool.now)) (exponent_in (tree_of c.args.power c.args.pool.now)) (tree_of c.in-Again.tree c.power_step.new.pool) c.requires.half (given_told (is_again c.args.power c.args.pool.now c.power_step.new.pool c.in-Again.is c.in_ok-answer.ensures.ok)).0 in
+    passed_on c.from_residual-in_err-rooted-in-Again.result c.in_err-rooted-in-Again.field-0.0 _ c.from_residual-in_err-rooted-in-Again.ensures.0 c.from_residual-in_err-rooted-in-Again.ensures.1
+    (any_fault c.in_err-rooted-in-Again.field-0.0 _ (half_defined (tree_of c.args.power c.args.pool.now) c.requires.power c.requires.half h.defined))
+
+pub returns-in_ok-rooted-in-Again-clause-defined : goal.returns-in_ok-rooted-in-Again-clause-defined
+returns-in_ok-rooted-in-Again-clause-defined c =
+    let h = half_step (base_in (tree_of c.args.power c.args.pool.now)) (exponent_in (tree_of c.args.power c.args.pool.now)) (tree_of c.in-Again.tree c.power_step.new.pool) c.requires.half (given_told (is_again c.args.power c.args.pool.now c.power_step.new.pool c.in-Again.is c.in_ok-answer.ensures.ok)).0 in
+    any_refusal c.last_step.result _ (half_defined (tree_of c.args.power c.args.pool.now) c.requires.power c.requires.half h.defined)
+
+-- ---- bytes at hand
+
+pub returns-in_err-answer-clause-room : goal.returns-in_err-answer-clause-room
+returns-in_err-answer-clause-room c = λ gs s.
+    passed_on c.from_residual.result c.in_err-answer.field-0.0 _ c.from_residual.ensures.0 c.from_residual.ensures.1
+    (step_finds_none gs (tree_of c.args.power c.args.pool.now) (free_of c.args.pool.now) c.in_err-answer.field-0.0 c.requires.base s (c.in_err-answer.ensures.root_room c.requires.half))
+
+pub returns-in_err-rooted-in-Again-clause-room : goal.returns-in_err-rooted-in-Again-clause-room
+returns-in_err-rooted-in-Again-clause-room c = λ gs s.
+    let g = is_again c.args.power c.args.pool.now c.power_step.new.pool c.in-Again.is c.in_ok-answer.ensures.ok in
+    let h = half_step (base_in (tree_of c.args.power c.args.pool.now)) (exponent_in (tree_of c.args.power c.args.pool.now)) (tree_of c.in-Again.tree c.power_step.new.pool) c.requires.half (given_told g).0 in
+    let moved = replaced_free c.requires.stands c.in_ok-answer.ensures.stands c.in_ok-answer.ensures.kept c.requires.handed g in
+    passed_on c.from_residual-in_err-rooted-in-Again.result c.in_err-rooted-in-Again.field-0.0 _ c.from_residual-in_err-rooted-in-Again.ensures.0 c.from_residual-in_err-rooted-in-Again.ensures.1
+    (base_finds_none gs (base_in (tree_of c.args.power c.args.pool.now)) (exponent_in (tree_of c.args.power c.args.pool.now)) (tree_of c.in-Again.tree c.power_step.new.pool) (free_of c.power_step.new.pool) _ c.in_err-rooted-in-Again.field-0.0 c.requires.base s h moved c.in_err-rooted-in-Again.ensures.room)
+
+pub returns-in_ok-rooted-in-Again-clause-room : goal.returns-in_ok-rooted-in-Again-clause-room
+returns-in_ok-rooted-in-Again-clause-room c = λ gs s.
+    let g = is_again c.args.power c.args.pool.now c.power_step.new.pool c.in-Again.is c.in_ok-answer.ensures.ok in
+    let h = half_step (base_in (tree_of c.args.power c.args.pool.now)) (exponent_in (tree_of c.args.power c.args.pool.now)) (tree_of c.in-Again.tree c.power_step.new.pool) c.requires.half (given_told g).0 in
+    let v = tree_of c.in_ok-rooted-in-Again.rooted c.reduce_base.new.pool in
+    let x = last_step gs (base_in (tree_of c.args.power c.args.pool.now)) (exponent_in (tree_of c.args.power c.args.pool.now)) (tree_of c.in-Again.tree c.power_step.new.pool) v s h (given_told c.in_ok-rooted-in-Again.ensures.ok) in
+    let kept = keeps_after _ _ _ c.in_ok-answer.ensures.kept c.in_ok-rooted-in-Again.ensures.kept in
+    let moved = replaced_free c.requires.stands c.in_ok-rooted-in-Again.ensures.stands kept c.requires.handed (gives_next g c.in_ok-rooted-in-Again.ensures.ok (λ u y. y)) in
+    refusal_as c.last_step.result (c.last_step.ensures.room gs x.spanned x.whole)
+    (λ f k. lacks_as f (last_finds_none gs (base_in (tree_of c.args.power c.args.pool.now)) v (free_of c.reduce_base.new.pool) f x k) (λ l. omega (arith, l, moved)))
+
+-- ---- bits
+
+pub returns-in_err-answer-clause-bits : goal.returns-in_err-answer-clause-bits
+returns-in_err-answer-clause-bits c = λ h l z a few more.
+    passed_on c.from_residual.result c.in_err-answer.field-0.0 _ c.from_residual.ensures.0 c.from_residual.ensures.1
+    (half_fits (base_in (tree_of c.args.power c.args.pool.now)) (exponent_in (tree_of c.args.power c.args.pool.now)) c.in_err-answer.field-0.0 c.requires.half c.in_err-answer.ensures.overflow)
+
+pub returns-in_err-rooted-in-Again-clause-bits : goal.returns-in_err-rooted-in-Again-clause-bits
+returns-in_err-rooted-in-Again-clause-bits c = λ h l z a few more.
+    let s = half_step (base_in (tree_of c.args.power c.args.pool.now)) (exponent_in (tree_of c.args.power c.args.pool.now)) (tree_of c.in-Again.tree c.power_step.new.pool) c.requires.half (given_told (is_again c.args.power c.args.pool.now c.power_step.new.pool c.in-Again.is c.in_ok-answer.ensures.ok)).0 in
+    passed_on c.from_residual-in_err-rooted-in-Again.result c.in_err-rooted-in-Again.field-0.0 _ c.from_residual-in_err-rooted-in-Again.ensures.0 c.from_residual-in_err-rooted-in-Again.ensures.1
+    (c.in_err-rooted-in-Again.ensures.bits h l (subst (λ (x : Tree). IsFactorHeld (argument_of (base_in x)) h l) (sym s.is) a) few)
+
+pub returns-in_ok-rooted-in-Again-clause-bits : goal.returns-in_ok-rooted-in-Again-clause-bits
+returns-in_ok-rooted-in-Again-clause-bits c = λ h l z a few more.
+    let s = half_step (base_in (tree_of c.args.power c.args.pool.now)) (exponent_in (tree_of c.args.power c.args.pool.now)) (tree_of c.in-Again.tree c.power_step.new.pool) c.requires.half (given_told (is_again c.args.power c.args.pool.now c.power_step.new.pool c.in-Again.is c.in_ok-answer.ensures.ok)).0 in
+    let k = given_told c.in_ok-rooted-in-Again.ensures.ok in
+    c.last_step.ensures.bits (numerator (exponent_in (tree_of c.args.power c.args.pool.now))) h l (last_exponent (base_in (tree_of c.args.power c.args.pool.now)) (exponent_in (tree_of c.args.power c.args.pool.now)) (tree_of c.in-Again.tree c.power_step.new.pool) (tree_of c.in_ok-rooted-in-Again.rooted c.reduce_base.new.pool) s k) (λ d. rooted_held (base_in (tree_of c.args.power c.args.pool.now)) (exponent_in (tree_of c.args.power c.args.pool.now)) (tree_of c.in-Again.tree c.power_step.new.pool) (tree_of c.in_ok-rooted-in-Again.rooted c.reduce_base.new.pool) c.requires.base s k z d a) more

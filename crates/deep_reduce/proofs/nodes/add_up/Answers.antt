@@ -1,11 +1,21 @@
-use Rattle.std.proofs.Common.{◌≡◌, ap, ◌∙◌, sym, refl, arith}
+use Rattle.std.proofs.Common.{◌≡◌, ◌^◌, length, ap, ◌∙◌, sym, refl, arith}
+use Rattle.std.proofs.Common.{ℕ, false}
+use Rattle.calc_terms.specs.Trees.{has_undef}
+use Rattle.deep_reduce.proofs.HeldFits.{product_fits}
+use Rattle.deep_reduce.proofs.NodeBits.{as_overflow, held_facts, sum_holds}
+use Rattle.tree_bits.specs.Children.{IsSumHeld, addends_of_each}
+use Rattle.tree_bits.specs.HeldTrees.{IsTreeHeld}
 use Rattle.calc_measures.specs.PlainValues.{plain_value}
 use Rattle.calc_terms.specs.Trees.{Tree, count}
 use Rattle.tree_handles.specs.Handed.{tree_of}
 use Rattle.tree_handles.specs.Expressions.{children_of}
 use Rattle.coefficients.proofs.Steps.{live, expression, seen}
-use Rattle.deep_reduce.proofs.Results.{answered, answer_as}
-use Rattle.deep_reduce.proofs.Told.{sum_told, empty_sum_told}
+use Rattle.std.proofs.lemmas.Nat.{pow_pos}
+use Rattle.deep_reduce.specs.Rooms.{KeepsSumRoom}
+use Rattle.deep_reduce.proofs.Lacking.{result_lacks}
+use Rattle.deep_reduce.proofs.NodeBytes.{number_fits_sum}
+use Rattle.deep_reduce.proofs.Results.{answered, answer_as, overflowed_defined, with_facts, sum_facts}
+use Rattle.deep_reduce.proofs.Told.{sum_told, empty_sum_told, sum_words}
 use Rattle.deep_reduce.proofs.nodes.add_up.Goals as goal
 use Rattle.deep_reduce.proofs.nodes.add_up.Goals.{After-children}
 
@@ -27,5 +37,28 @@ reduce_sum-requires-clause-some c =
 
 pub returns-clause-ok : goal.returns-clause-ok
 returns-clause-ok c =
-    answered _ (plain_value (tree_of c.args.sum c.args.pool.now)) c.reduce_sum.new.pool _ _ _ c.reduce_sum.ensures.ok c.reduce_sum.ensures.rationals
-    (λ t a p. sum_told (tree_of c.args.sum c.args.pool.now) t c.requires.sum a p)
+    let t : Tree = tree_of c.args.sum c.args.pool.now in
+    let facts = sum_facts (children_of t) t c.reduce_sum.new.pool c.reduce_sum.result (sum_words t c.requires.sum) c.reduce_sum.ensures.counted c.reduce_sum.ensures.powers c.reduce_sum.ensures.spanned in
+    answered _ (plain_value t) c.reduce_sum.new.pool _ _ _ (with_facts _ c.reduce_sum.new.pool _ _ (λ u. (h l : ℕ) → has_undef (children_of t) ≡ false → IsSumHeld (addends_of_each (children_of t)) h l → IsTreeHeld u h l)
+    (with_facts _ c.reduce_sum.new.pool _ _ (KeepsSumRoom (children_of t)) c.reduce_sum.ensures.ok facts)
+    (held_facts (children_of t) IsTreeHeld (λ i. tree_of i c.reduce_sum.new.pool) c.reduce_sum.result c.reduce_sum.ensures.held)) c.reduce_sum.ensures.rationals
+    (λ u a p. sum_told t u c.requires.sum a.0.0 a.0.1 a.1 p)
+
+pub returns-clause-overflow : goal.returns-clause-overflow
+returns-clause-overflow c = overflowed_defined (plain_value (tree_of c.args.sum c.args.pool.now)) c.reduce_sum.new.pool _ _ c.reduce_sum.ensures.rationals c.reduce_sum.ensures.defined (λ o d h. record { defined = d; rational = h })
+
+pub returns-then-children-eq0-clause-room : goal.returns-then-children-eq0-clause-room
+returns-then-children-eq0-clause-room c = λ gs s.
+    result_lacks c.whole.result c.whole.ensures.room (λ l. omega (arith, l, number_fits_sum (children_of (tree_of c.args.sum c.args.pool.now)) (2 ^ length gs) (pow_pos (length gs))))
+
+pub returns-clause-room : goal.returns-clause-room
+returns-clause-room c = λ gs s. c.reduce_sum.ensures.room gs s
+
+pub returns-then-children-eq0-clause-bits : goal.returns-then-children-eq0-clause-bits
+returns-then-children-eq0-clause-bits c = λ h l k few. c.whole.ensures.overflow
+
+pub returns-clause-bits : goal.returns-clause-bits
+returns-clause-bits c = λ h l k few.
+    let t : Tree = tree_of c.args.sum c.args.pool.now in
+    as_overflow c.reduce_sum.result
+    (product_fits (children_of t) c.reduce_sum.result (λ d. c.reduce_sum.ensures.bits h l (sum_holds t c.requires.sum (k d)) few) c.reduce_sum.ensures.defined)

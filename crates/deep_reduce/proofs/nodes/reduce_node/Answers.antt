@@ -1,70 +1,50 @@
-use Rattle.std.proofs.Common.{rules, ◌≡◌, refl, sym, ap, ◌∙◌, subst, false}
+use Rattle.std.proofs.Common.{rules, false, ◌≡◌, ◌^◌, ℕ, List, length, refl, sym, ◌∙◌, arith}
 use Rattle.calc_measures.specs.PlainValues.{plain_value}
-use Rattle.calc_terms.specs.Trees.{Tree, root_kind, has_undef}
-use Rattle.deep_reduce.specs.Nodes.{IsNodeAnswer}
+use Rattle.calc_terms.specs.Trees.{Tree, root_kind}
 use Rattle.tree_handles.specs.Handed.{tree_of}
 use Rattle.tree_handles.proofs.Forests.{keeps_none}
 use Rattle.tree_handles.proofs.Fronts.{front_same}
-use Rattle.tree_handles.proofs.Given.{gives, gives_as, represents_handed}
+use Rattle.tree_handles.proofs.Given.{gives, represents_handed}
+use Rattle.coefficients.proofs.Steps.{live, kind_of_root}
+use Rattle.std.proofs.lemmas.Nat.{pow_pos}
+use Rattle.calc_room.specs.Spans.{SpansTree}
+use Rattle.calc_algebra.specs.Numbers.{value}
+use Rattle.calc_terms.specs.Integers.{int_is_negative}
+use Rattle.deep_reduce.proofs.HeldFits.{product_fits}
+use Rattle.deep_reduce.proofs.NodeBits.{as_overflow, node_fits, power_holds, power_node_fits, root_holds, root_node_fits, measured_facts}
+use Rattle.power_reduce.specs.PowerAnswers.{base_in, exponent_in}
+use Rattle.radical_forms.specs.RootAnswers.{argument_of, IfRational}
+use Rattle.surd_bits.specs.Rooted.{IsNoLargerThanRoot}
 use Rattle.tree_handles.specs.Expressions.{children_of}
-use Rattle.coefficients.proofs.Steps.{live, expression, seen, kind_of_root}
-use Rattle.deep_reduce.proofs.Results.{answered, answer_as, overflowed, any_overflow}
-use Rattle.deep_reduce.proofs.Steps.{undefined_answer}
+use Rattle.deep_reduce.proofs.Lacking.{result_lacks, power_result}
+use Rattle.deep_reduce.proofs.NodeBytes.{sum_fits, factors_fit, power_fits, half_fits, root_result, no_half_power, node_spans}
+use Rattle.node_pool.specs.State.{free_of}
+use Rattle.deep_reduce.proofs.Results.{answered, answer_as, overflow_as, overflowed_defined, with_facts, span_facts}
 use Rattle.deep_reduce.proofs.Told.{sum_kind, product_kind, power_kind, root_kind_is, neg_kind, sub_kind, div_kind, power_told, power_sides, IsRationalPower, rational_answer, rational_overflow, power_reduced, root_told, root_overflow, argument_reduced, leaf_told}
 use Rattle.deep_reduce.proofs.nodes.reduce_node.Goals as goal
-use Rattle.deep_reduce.proofs.nodes.reduce_node.Goals.{After-kind, After-has_undefined_child}
+use Rattle.deep_reduce.proofs.nodes.reduce_node.Goals.{After-kind}
 
 -- what the readers tell
-has-is : (c : After-has_undefined_child) → c.has_undefined_child.result ≡ has_undef (children_of (tree_of c.args.tree c.args.pool.now))
-has-is c = c.has_undefined_child.ensures ∙ ap (λ (t : Tree). has_undef (children_of t)) (seen c.id.ensures c.requires.stands c.requires.handed)
-
 kind-is : (c : After-kind) → c.kind.result ≡ root_kind (tree_of c.args.tree c.args.pool.now)
-kind-is c = kind_of_root c.id-2.ensures c.requires.stands c.requires.handed c.kind.ensures.plain
-
-defined : (c : After-kind) → has_undef (children_of (tree_of c.args.tree c.args.pool.now)) ≡ false
-defined c = sym (c.has_undefined_child.ensures ∙ ap (λ (t : Tree). has_undef (children_of t)) (seen c.id.ensures c.requires.stands c.requires.handed)) ∙ c.if-has_undefined_child.false
-
-pub has_undefined_child-requires-clause-expression : goal.has_undefined_child-requires-clause-expression
-has_undefined_child-requires-clause-expression c = expression c.id.ensures c.requires.stands c.requires.handed
-
-pub returns-then-has_undefined_child-clause-ok : goal.returns-then-has_undefined_child-clause-ok
-returns-then-has_undefined_child-clause-ok c =
-    let t : Tree = tree_of c.args.tree c.args.pool.now in
-    let some = sym (has-is (goal.at.returns-then-has_undefined_child-clause-ok c).After-has_undefined_child) ∙ c.if-has_undefined_child.true in
-    gives_as c.undefined.ensures.gives refl (λ u e. subst (IsNodeAnswer t) (sym e) (undefined_answer t some))
+kind-is c = kind_of_root c.id.ensures c.requires.stands c.requires.handed c.kind.ensures.plain
 
 pub kind-requires-clause-live : goal.kind-requires-clause-live
-kind-requires-clause-live c = live c.args.pool.now c.id-2.ensures c.requires.handed.root
+kind-requires-clause-live c = live c.args.pool.now c.id.ensures c.requires.handed.root
 
 pub add_up-requires-clause-sum : goal.add_up-requires-clause-sum
 add_up-requires-clause-sum c = sum_kind (tree_of c.args.tree c.args.pool.now) (sym c.in-Add.is ∙ kind-is (goal.at.add_up-requires-clause-sum c).After-kind)
 
-pub add_up-requires-clause-defined : goal.add_up-requires-clause-defined
-add_up-requires-clause-defined c = defined (goal.at.add_up-requires-clause-defined c).After-kind
-
 pub multiply-requires-clause-product : goal.multiply-requires-clause-product
 multiply-requires-clause-product c = product_kind (tree_of c.args.tree c.args.pool.now) (sym c.in-Mult.is ∙ kind-is (goal.at.multiply-requires-clause-product c).After-kind)
-
-pub multiply-requires-clause-defined : goal.multiply-requires-clause-defined
-multiply-requires-clause-defined c = defined (goal.at.multiply-requires-clause-defined c).After-kind
 
 pub negate-requires-clause-opposite : goal.negate-requires-clause-opposite
 negate-requires-clause-opposite c = neg_kind (tree_of c.args.tree c.args.pool.now) (sym c.in-Neg.is ∙ kind-is (goal.at.negate-requires-clause-opposite c).After-kind)
 
-pub negate-requires-clause-defined : goal.negate-requires-clause-defined
-negate-requires-clause-defined c = defined (goal.at.negate-requires-clause-defined c).After-kind
-
 pub subtract-requires-clause-difference : goal.subtract-requires-clause-difference
 subtract-requires-clause-difference c = sub_kind (tree_of c.args.tree c.args.pool.now) (sym c.in-Sub.is ∙ kind-is (goal.at.subtract-requires-clause-difference c).After-kind)
 
-pub subtract-requires-clause-defined : goal.subtract-requires-clause-defined
-subtract-requires-clause-defined c = defined (goal.at.subtract-requires-clause-defined c).After-kind
-
 pub divide-requires-clause-quotient : goal.divide-requires-clause-quotient
 divide-requires-clause-quotient c = div_kind (tree_of c.args.tree c.args.pool.now) (sym c.in-Div.is ∙ kind-is (goal.at.divide-requires-clause-quotient c).After-kind)
-
-pub divide-requires-clause-defined : goal.divide-requires-clause-defined
-divide-requires-clause-defined c = defined (goal.at.divide-requires-clause-defined c).After-kind
 
 pub reduce_root-requires-clause-root : goal.reduce_root-requires-clause-root
 reduce_root-requires-clause-root c = root_kind_is (tree_of c.args.tree c.args.pool.now) (sym c.in-Root.is ∙ kind-is (goal.at.reduce_root-requires-clause-root c).After-kind)
@@ -77,13 +57,15 @@ pub returns-in-Root-clause-ok : goal.returns-in-Root-clause-ok
 returns-in-Root-clause-ok c =
     let t : Tree = tree_of c.args.tree c.args.pool.now in
     let is = root_kind_is t (sym c.in-Root.is ∙ kind-is (goal.at.returns-in-Root-clause-ok c).After-kind) in
-    answer_as _ _ c.reduce_root.new.pool _ _ _ c.reduce_root.ensures.ok refl (λ u h. root_told t u is h)
+    answer_as _ _ c.reduce_root.new.pool _ _ _ (with_facts _ c.reduce_root.new.pool _ _ (λ u. IfRational (argument_of t) (λ q. int_is_negative q.num ≡ false → IsNoLargerThanRoot q (value u)))
+    (with_facts _ c.reduce_root.new.pool _ _ (λ u. (gs : List ℕ) → SpansTree gs t → SpansTree gs u) c.reduce_root.ensures.ok (span_facts t c.reduce_root.new.pool _ c.reduce_root.ensures.spanned))
+    (measured_facts (argument_of t) (λ i. tree_of i c.reduce_root.new.pool) c.reduce_root.result c.reduce_root.ensures.measured)) refl (λ u h. root_told t u is (argument_reduced t is c.requires.reduced) h.0.0 h.0.1 h.1)
 
 pub returns-in-Root-clause-overflow : goal.returns-in-Root-clause-overflow
 returns-in-Root-clause-overflow c =
     let t : Tree = tree_of c.args.tree c.args.pool.now in
     let k = (goal.at.returns-in-Root-clause-overflow c).After-kind in
-    any_overflow _ _ (λ o. root_overflow t o (root_kind_is t (sym c.in-Root.is ∙ kind-is k)) (defined k))
+    overflow_as _ _ _ c.reduce_root.ensures.named (λ o h. root_overflow t o (root_kind_is t (sym c.in-Root.is ∙ kind-is k)) h)
 
 pub reduce_power-requires : goal.reduce_power-requires
 reduce_power-requires c = record {
@@ -106,9 +88,8 @@ returns-in-Pow-clause-overflow c =
     let t : Tree = tree_of c.args.tree c.args.pool.now in
     let k = (goal.at.returns-in-Pow-clause-overflow c).After-kind in
     let is = power_kind t (sym c.in-Pow.is ∙ kind-is k) in
-    let whole = defined k in
-    overflowed {C = IsRationalPower t} (plain_value t) c.reduce_power.new.pool _ _
-    (λ h. c.reduce_power.ensures.rationals (power_sides t is h.rationals).0 (power_sides t is h.rationals).1 h.no_half) (λ o h. record { defined = whole; rational = rational_overflow t o is h })
+    overflowed_defined {C = IsRationalPower t} (plain_value t) c.reduce_power.new.pool _ _
+    (λ h. c.reduce_power.ensures.rationals (power_sides t is h.rationals).0 (power_sides t is h.rationals).1 h.no_half) c.reduce_power.ensures.defined (λ o d h. record { defined = d; rational = rational_overflow t o is h })
 
 pub returns-in_default : goal.returns-in_default
 returns-in_default c =
@@ -123,5 +104,104 @@ returns-in_default c =
       kept = keeps_none c.args.pool.now;
       faults = tt;
       caused = tt;
+      room = λ gs ns n h k s. tt;
+      root_room = λ gs n h z s. tt;
+      bits = λ h l k few. tt;
       stands = c.requires.stands;
     }
+
+-- ---- bytes at hand
+
+pub returns-in-Add-clause-room : goal.returns-in-Add-clause-room
+returns-in-Add-clause-room c = λ gs ns n h k s.
+    let t : Tree = tree_of c.args.tree c.args.pool.now in
+    let kind = sym c.in-Add.is ∙ kind-is (goal.at.returns-in-Add-clause-room c).After-kind in
+    let is = sum_kind t kind in
+    result_lacks c.add_up.result (c.add_up.ensures.room gs (node_spans gs t kind (λ e. cc) s)) (λ l. omega (arith, l, sum_fits t n (2 ^ length gs) is h))
+
+pub returns-in-Mult-clause-room : goal.returns-in-Mult-clause-room
+returns-in-Mult-clause-room c = λ gs ns n h k s.
+    let t : Tree = tree_of c.args.tree c.args.pool.now in
+    let kind = sym c.in-Mult.is ∙ kind-is (goal.at.returns-in-Mult-clause-room c).After-kind in
+    let is = product_kind t kind in
+    result_lacks c.multiply.result (c.multiply.ensures.room gs ns k (node_spans gs t kind (λ e. cc) s)) (λ l. omega (arith, l, factors_fit t n (2 ^ length gs) (pow_pos (length gs)) is h))
+
+pub returns-in-Pow-clause-room : goal.returns-in-Pow-clause-room
+returns-in-Pow-clause-room c = λ gs ns n h k s.
+    let t : Tree = tree_of c.args.tree c.args.pool.now in
+    let kind = sym c.in-Pow.is ∙ kind-is (goal.at.returns-in-Pow-clause-room c).After-kind in
+    let is = power_kind t kind in
+    power_result _ _ t c.reduce_power.result is k (λ w. result_lacks c.reduce_power.result (c.reduce_power.ensures.room gs ns k (node_spans gs t kind (λ e. cc) s) w) (λ l. omega (arith, l, power_fits t n (2 ^ length gs) is h))) (λ w z. c.reduce_power.ensures.others w z)
+
+pub returns-in-Pow-clause-root_room : goal.returns-in-Pow-clause-root_room
+returns-in-Pow-clause-root_room c = λ gs n h z s.
+    let t : Tree = tree_of c.args.tree c.args.pool.now in
+    let is = power_kind t (sym c.in-Pow.is ∙ kind-is (goal.at.returns-in-Pow-clause-root_room c).After-kind) in
+    result_lacks c.reduce_power.result (c.reduce_power.ensures.root_room gs z s) (λ l. omega (arith, l, half_fits t n (2 ^ length gs) is h))
+
+pub returns-in-Root-clause-room : goal.returns-in-Root-clause-room
+returns-in-Root-clause-room c = λ gs ns n h k s.
+    let t : Tree = tree_of c.args.tree c.args.pool.now in
+    let is = root_kind_is t (sym c.in-Root.is ∙ kind-is (goal.at.returns-in-Root-clause-room c).After-kind) in
+    root_result gs t (free_of c.args.pool.now) n c.reduce_root.result is h c.reduce_root.ensures.full_of_a_rational c.reduce_root.ensures.full_below_96_bytes
+
+pub returns-in-Add-clause-root_room : goal.returns-in-Add-clause-root_room
+returns-in-Add-clause-root_room c = λ gs n h z s. no_half_power (tree_of c.args.tree c.args.pool.now) (sym c.in-Add.is ∙ kind-is (goal.at.returns-in-Add-clause-root_room c).After-kind) (λ e. cc) z
+
+pub returns-in-Mult-clause-root_room : goal.returns-in-Mult-clause-root_room
+returns-in-Mult-clause-root_room c = λ gs n h z s. no_half_power (tree_of c.args.tree c.args.pool.now) (sym c.in-Mult.is ∙ kind-is (goal.at.returns-in-Mult-clause-root_room c).After-kind) (λ e. cc) z
+
+pub returns-in-Root-clause-root_room : goal.returns-in-Root-clause-root_room
+returns-in-Root-clause-root_room c = λ gs n h z s. no_half_power (tree_of c.args.tree c.args.pool.now) (sym c.in-Root.is ∙ kind-is (goal.at.returns-in-Root-clause-root_room c).After-kind) (λ e. cc) z
+
+pub returns-in-Neg-clause-root_room : goal.returns-in-Neg-clause-root_room
+returns-in-Neg-clause-root_room c = λ gs n h z s. no_half_power (tree_of c.args.tree c.args.pool.now) (sym c.in-Neg.is ∙ kind-is (goal.at.returns-in-Neg-clause-root_room c).After-kind) (λ e. cc) z
+
+pub returns-in-Sub-clause-root_room : goal.returns-in-Sub-clause-root_room
+returns-in-Sub-clause-root_room c = λ gs n h z s. no_half_power (tree_of c.args.tree c.args.pool.now) (sym c.in-Sub.is ∙ kind-is (goal.at.returns-in-Sub-clause-root_room c).After-kind) (λ e. cc) z
+
+pub returns-in-Div-clause-root_room : goal.returns-in-Div-clause-root_room
+returns-in-Div-clause-root_room c = λ gs n h z s. no_half_power (tree_of c.args.tree c.args.pool.now) (sym c.in-Div.is ∙ kind-is (goal.at.returns-in-Div-clause-root_room c).After-kind) (λ e. cc) z
+
+pub returns-in-Neg-clause-room : goal.returns-in-Neg-clause-room
+returns-in-Neg-clause-room c = λ gs ns n h k s.
+    c.negate.ensures.room gs ns n h k (node_spans gs (tree_of c.args.tree c.args.pool.now) (sym c.in-Neg.is ∙ kind-is (goal.at.returns-in-Neg-clause-room c).After-kind) (λ e. cc) s)
+
+pub returns-in-Sub-clause-room : goal.returns-in-Sub-clause-room
+returns-in-Sub-clause-room c = λ gs ns n h k s.
+    c.subtract.ensures.room gs ns n h k (node_spans gs (tree_of c.args.tree c.args.pool.now) (sym c.in-Sub.is ∙ kind-is (goal.at.returns-in-Sub-clause-room c).After-kind) (λ e. cc) s)
+
+pub returns-in-Div-clause-room : goal.returns-in-Div-clause-room
+returns-in-Div-clause-room c = λ gs ns n h k s.
+    c.divide.ensures.room gs ns n h k (node_spans gs (tree_of c.args.tree c.args.pool.now) (sym c.in-Div.is ∙ kind-is (goal.at.returns-in-Div-clause-room c).After-kind) (λ e. cc) s)
+
+-- ---- bits
+
+pub returns-in-Add-clause-bits : goal.returns-in-Add-clause-bits
+returns-in-Add-clause-bits c = λ h l k few. c.add_up.ensures.bits h l k few
+
+pub returns-in-Mult-clause-bits : goal.returns-in-Mult-clause-bits
+returns-in-Mult-clause-bits c = λ h l k few. c.multiply.ensures.bits h l k few
+
+pub returns-in-Neg-clause-bits : goal.returns-in-Neg-clause-bits
+returns-in-Neg-clause-bits c = λ h l k few. c.negate.ensures.bits h l k few
+
+pub returns-in-Sub-clause-bits : goal.returns-in-Sub-clause-bits
+returns-in-Sub-clause-bits c = λ h l k few. c.subtract.ensures.bits h l k few
+
+pub returns-in-Div-clause-bits : goal.returns-in-Div-clause-bits
+returns-in-Div-clause-bits c = λ h l k few. c.divide.ensures.bits h l k few
+
+pub returns-in-Pow-clause-bits : goal.returns-in-Pow-clause-bits
+returns-in-Pow-clause-bits c = λ h l k few.
+    let t : Tree = tree_of c.args.tree c.args.pool.now in
+    let is = power_kind t (sym c.in-Pow.is ∙ kind-is (goal.at.returns-in-Pow-clause-bits c).After-kind) in
+    as_overflow c.reduce_power.result
+    (product_fits (children_of t) c.reduce_power.result (λ d. power_node_fits (base_in t) (exponent_in t) c.reduce_power.result h l (power_holds t is (k d)) few c.reduce_power.ensures.bits c.reduce_power.ensures.root_bits c.reduce_power.ensures.others) c.reduce_power.ensures.defined)
+
+pub returns-in-Root-clause-bits : goal.returns-in-Root-clause-bits
+returns-in-Root-clause-bits c = λ h l k few.
+    let t : Tree = tree_of c.args.tree c.args.pool.now in
+    let is = root_kind_is t (sym c.in-Root.is ∙ kind-is (goal.at.returns-in-Root-clause-bits c).After-kind) in
+    node_fits t c.reduce_root.result (overflow_as _ _ _ c.reduce_root.ensures.named (λ o h. root_overflow t o is h))
+    (λ d. as_overflow c.reduce_root.result (root_node_fits (argument_of t) c.reduce_root.result c.reduce_root.ensures.bits c.reduce_root.ensures.overflows.0 (root_holds t is (k d)) few))

@@ -1,28 +1,49 @@
-use Rattle.std.proofs.Common.{◌≡◌, ◌<◌, ◌+◌, ◌^◌, ℕ, Bool, true, false, ap, ◌∙◌, refl, sym, subst, arith, Option, IfSome, OnOk, IfErr}
-use Rattle.calc_terms.specs.Trees.{Tree, Trees, add, count, is_mult, power as power_tree}
+use Rattle.std.proofs.Common.{◌≡◌, ◌<◌, ◌+◌, ◌^◌, ℕ, length, Bool, true, false, ap, ◌∙◌, refl, sym, subst, arith, Option, IfSome, Err}
+use Rattle.calc_terms.specs.Trees.{Tree, Trees, add, mult, count, is_mult, is_undef, size, power as power_tree}
 use Rattle.coefficients.proofs.Places.{over_product}
 use Rattle.coefficients.proofs.Puttings.{on_ok_after, fault_after}
 use Rattle.coefficients.proofs.Rewritten.{given_back, over_back, apart_back, put_back, front_lost}
 use Rattle.coefficients.proofs.Steps.{live, children_at, children_in, kind_of_root, product_kind, no_product_kind, if_map, moved, moved_front}
 use Rattle.deep_reduce.specs.Answers.{IsReducedProduct, IsReducedPower}
 use Rattle.deep_reduce.specs.Unfinished.{IsSummed, joins_none, joins_then}
-use Rattle.deep_reduce.proofs.Arms.{is_finished, is_gathered, is_at, is_few, is_done, is_again}
+use Rattle.deep_reduce.proofs.Arms.{is_finished, is_gathered, is_at, is_few, is_done, is_again, is_held}
 use Rattle.deep_reduce.proofs.Chains.{gives_next, front_next}
 use Rattle.deep_reduce.proofs.Children.{over_power, exponent_taken, placed, factor_taken, factor_inserted, itself}
 use Rattle.deep_reduce.proofs.Nested.{exponent_seen, with_product, without_product, taken_falls}
 use Rattle.deep_reduce.proofs.Falls.{joint_falls, two_falls, next_two_falls, pairs_fall, product_falls, power_falls, rewritten_falls, powers_fall, ready_product_falls, exponent_falls, ready_power_falls, one_power_falls}
 use Rattle.deep_reduce.proofs.Finished.{product_of_powers, ready_product, transparent_children, ready_power, power_lifted, power_of_kind}
+use Rattle.deep_reduce.proofs.Defined.{any_fault, any_refusal, misfit_fault, rewritten_defined}
+use Rattle.deep_reduce.proofs.Gathered.{gathered_hands, finished_hands, finished_holds}
+use Rattle.deep_reduce.proofs.HeldFits.{product_fits, powers_ready, part_ready, power_fits, exponent_ready, joint_exponents, joint_fits}
+use Rattle.deep_reduce.proofs.HeldRoots.{half_no_whole}
+use Rattle.deep_reduce.specs.Bits.{IsHeldAsProduct}
+use Rattle.power_reduce.specs.Bits.{IsHeldAsPowerOf}
+use Rattle.product_reduce.specs.Bits.{IsFactorHeld}
+use Rattle.tree_bits.specs.Powers.{raised_high, raised_low}
+use Rattle.deep_reduce.proofs.JointBytes.{joint_lacks}
+use Rattle.deep_reduce.proofs.Lacking.{lacks_as, result_lacks, product_words, handed_on, joint_sum_lacks, joint_power_short, joint_at_spans, joint_ready, placed_bytes, next_bytes, part_free, step_lacks, power_refused, power_result, ready_product as ready_for_product, ready_power as ready_for_power, ready_exponent, ready_part}
 use Rattle.deep_reduce.proofs.Measures.{few_factors}
+use Rattle.deep_reduce.proofs.Wholes.{is_rewritten}
+use Rattle.deep_reduce.specs.Rooms.{IsCalmAtZero, IsJoinedFrom, KeepsRoom, whole_power_room}
+use Rattle.calc_room.specs.Counts.{counted}
+use Rattle.calc_room.specs.Spans.{SpansTree}
+use Rattle.coefficients.proofs.Free.{taken_free}
+use Rattle.node_pool.specs.State.{free_of}
+use Rattle.number_forms.proofs.FreeBytes.{replaced_free}
+use Rattle.number_forms.proofs.Loops.{gives_itself}
+use Rattle.number_forms.proofs.Overflows.{passed_on}
+use Rattle.power_reduce.proofs.Exponents.{whole_no_half}
+use Rattle.tree_handles.specs.declared.fault.NumberFault.TheVariants as fault
 use Rattle.deep_reduce.proofs.Opened.{opened, power_after, power_finished}
 use Rattle.deep_reduce.proofs.Ranks.{below_measure}
 use Rattle.deep_reduce.proofs.Rows.{IsPowerOf, none_reduced, part_front, next_power, next_within, back_within, next_of, next_taken, next_reduced, all_reduced}
 use Rattle.deep_reduce.proofs.Settled.{joint_at, ready_joint, ready_summed, pair_joined, settled_less, settled_within, less_gathered, less_next, gathered_product, some_pair, product_after, product_finished}
 use Rattle.product_reduce.specs.Neighbours.{IsPairAt}
 use Rattle.power_reduce.specs.PowerAnswers.{base_in, exponent_in}
-use Rattle.calc_algebra.specs.Reduced.{are_reduced}
+use Rattle.calc_algebra.specs.Reduced.{are_reduced, is_whole_num}
 use Rattle.calc_algebra.specs.Rewritings.{Rewrites}
 use Rattle.tree_handles.specs.Handed.{tree_of}
-use Rattle.tree_handles.specs.Expressions.{nth, children_of}
+use Rattle.tree_handles.specs.Expressions.{children_of}
 use Rattle.tree_handles.proofs.Forests.{keeps_none, keeps_after}
 use Rattle.tree_handles.proofs.Fronts.{behind_first, behind_new, front_same, front_put, front_end, front_without, front_after_one}
 use Rattle.tree_handles.proofs.Given.{gives, gives_as, given_handed, given_root, given_told, given_rest, represents_handed}
@@ -32,7 +53,12 @@ use Rattle.deep_reduce.proofs.whole.+reduction.Goals as goal
 -- ---- reduce_product
 
 pub reduce_product-returns-in-Done-clause-ok : goal.reduce_product-returns-in-Done-clause-ok
-reduce_product-returns-in-Done-clause-ok t c = gives_as (is_finished c.args.product c.args.pool.now c.gather_factors.new.pool c.in-Done.is c.in_ok-answer.ensures.done) refl (λ u f. product_finished _ u f)
+reduce_product-returns-in-Done-clause-ok t c =
+    let ts : Trees = children_of (tree_of c.args.product c.args.pool.now) in
+    let k = finished_hands c.args.product c.args.pool.now c.gather_factors.new.pool c.requires.product c.in-Done.is c.in_ok-answer.ensures.counted c.in_ok-answer.ensures.powers c.in_ok-answer.ensures.spanned in
+    gives_as (gives_itself (is_finished c.args.product c.args.pool.now c.gather_factors.new.pool c.in-Done.is c.in_ok-answer.ensures.done)) refl
+    (λ u f. product_finished ts u c.requires.reduced f.0 (subst (KeepsRoom (counted (mult ts)) (mult ts)) (sym f.1) k)
+    (subst (IsHeldAsProduct ts) (sym f.1) (finished_holds c.args.product c.args.pool.now c.gather_factors.new.pool c.requires.product c.in-Done.is c.in_ok-answer.ensures.held (ap is_undef (sym f.1) ∙ f.0.undefined))))
 
 pub reduce_product-returns-in-Done-clause-written : goal.reduce_product-returns-in-Done-clause-written
 reduce_product-returns-in-Done-clause-written t c = λ d n.
@@ -59,7 +85,7 @@ reduce_product-returns-in_err-joined-in-Joined-clause-front t c = front_next (is
 pub reduce_product-reduce_product-requires : goal.reduce_product-reduce_product-requires
 reduce_product-reduce_product-requires t c =
     let g = c.in_ok-joined-in-Joined.ensures.ok in
-    let l = less_gathered _ _ _ (given_told (is_gathered c.args.product c.args.pool.now c.gather_factors.new.pool c.in-Joined.is c.in_ok-answer.ensures.gathered)) (given_told g) in
+    let l = less_gathered _ _ _ (given_told (is_gathered c.args.product c.args.pool.now c.gather_factors.new.pool c.in-Joined.is c.in_ok-answer.ensures.gathered)) (gathered_hands c.args.product c.args.pool.now c.gather_factors.new.pool c.requires.product c.in-Joined.is c.in_ok-answer.ensures.gathered c.in_ok-answer.ensures.counted_among c.in_ok-answer.ensures.few_numbers c.in_ok-answer.ensures.powers c.in_ok-answer.ensures.spanned c.in_ok-answer.ensures.factors_held) (given_told g) in
     (below_measure c.decreases (product_falls (tree_of c.args.product c.args.pool.now) _ l), (c.in_ok-joined-in-Joined.ensures.stands, (given_handed g, (ap is_mult l.is, (l.some, l.reduced)))))
 
 pub reduce_product-returns-in_ok-joined-in-Joined-clause-ok : goal.reduce_product-returns-in_ok-joined-in-Joined-clause-ok
@@ -67,12 +93,12 @@ reduce_product-returns-in_ok-joined-in-Joined-clause-ok t c =
     let g = c.in_ok-joined-in-Joined.ensures.ok in
     let first = is_gathered c.args.product c.args.pool.now c.gather_factors.new.pool c.in-Joined.is c.in_ok-answer.ensures.gathered in
     let j = given_told first in
-    let l = less_gathered _ _ _ j (given_told g) in
-    if_map c.reduce_product.result _ _ c.reduce_product.ensures.ok (λ h x. gives_next (gives_next first g (λ u y. y)) x (λ r a. product_after _ _ _ r j.joinable l a))
+    let l = less_gathered _ _ _ j (gathered_hands c.args.product c.args.pool.now c.gather_factors.new.pool c.requires.product c.in-Joined.is c.in_ok-answer.ensures.gathered c.in_ok-answer.ensures.counted_among c.in_ok-answer.ensures.few_numbers c.in_ok-answer.ensures.powers c.in_ok-answer.ensures.spanned c.in_ok-answer.ensures.factors_held) (given_told g) in
+    if_map c.reduce_product.result _ _ c.reduce_product.ensures.ok (λ h x. gives_next (gives_next first g (λ u y. y)) x (λ r a. product_after _ _ _ r c.requires.reduced j.joinable l a))
 
 pub reduce_product-returns-in_ok-joined-in-Joined-clause-joined : goal.reduce_product-returns-in_ok-joined-in-Joined-clause-joined
 reduce_product-returns-in_ok-joined-in-Joined-clause-joined t c =
-    let l = less_gathered _ _ _ (given_told (is_gathered c.args.product c.args.pool.now c.gather_factors.new.pool c.in-Joined.is c.in_ok-answer.ensures.gathered)) (given_told c.in_ok-joined-in-Joined.ensures.ok) in
+    let l = less_gathered _ _ _ (given_told (is_gathered c.args.product c.args.pool.now c.gather_factors.new.pool c.in-Joined.is c.in_ok-answer.ensures.gathered)) (gathered_hands c.args.product c.args.pool.now c.gather_factors.new.pool c.requires.product c.in-Joined.is c.in_ok-answer.ensures.gathered c.in_ok-answer.ensures.counted_among c.in_ok-answer.ensures.few_numbers c.in_ok-answer.ensures.powers c.in_ok-answer.ensures.spanned c.in_ok-answer.ensures.factors_held) (given_told c.in_ok-joined-in-Joined.ensures.ok) in
     if_map c.reduce_product.result _ _ c.reduce_product.ensures.joined (λ h x. record { us = x.us; joins = joins_then l.joins x.joins; finished = x.finished })
 
 pub reduce_product-returns-in_ok-joined-in-Joined-clause-written : goal.reduce_product-returns-in_ok-joined-in-Joined-clause-written
@@ -84,6 +110,42 @@ pub reduce_product-returns-in_ok-joined-in-Joined-clause-front : goal.reduce_pro
 reduce_product-returns-in_ok-joined-in-Joined-clause-front t c =
     let first = is_gathered c.args.product c.args.pool.now c.gather_factors.new.pool c.in-Joined.is c.in_ok-answer.ensures.gathered in
     front_next (gives_next first c.in_ok-joined-in-Joined.ensures.ok (λ u y. y)) (front_next first c.gather_factors.ensures.front c.join_pairs.ensures.front) c.reduce_product.ensures.front
+
+pub reduce_product-returns-in_err-answer-clause-room : goal.reduce_product-returns-in_err-answer-clause-room
+reduce_product-returns-in_err-answer-clause-room t c = λ gs ns k s.
+    passed_on c.from_residual.result c.in_err-answer.field-0.0 _ c.from_residual.ensures.0 c.from_residual.ensures.1 (lacks_as c.in_err-answer.field-0.0 (c.in_err-answer.ensures.room gs s) (λ l. omega (arith, l)))
+
+pub reduce_product-returns-in_err-joined-in-Joined-clause-room : goal.reduce_product-returns-in_err-joined-in-Joined-clause-room
+reduce_product-returns-in_err-joined-in-Joined-clause-room t c = λ gs ns k s.
+    let g = is_gathered c.args.product c.args.pool.now c.gather_factors.new.pool c.in-Joined.is c.in_ok-answer.ensures.gathered in
+    let u : Tree = tree_of c.in-Joined.product c.gather_factors.new.pool in
+    let x = handed_on (tree_of c.args.product c.args.pool.now) u c.requires.product (product_words u (gathered_product _ _ (given_told g))) (gathered_hands c.args.product c.args.pool.now c.gather_factors.new.pool c.requires.product c.in-Joined.is c.in_ok-answer.ensures.gathered c.in_ok-answer.ensures.counted_among c.in_ok-answer.ensures.few_numbers c.in_ok-answer.ensures.powers c.in_ok-answer.ensures.spanned c.in_ok-answer.ensures.factors_held) gs ns k s in
+    passed_on c.from_residual-in_err-joined-in-Joined.result c.in_err-joined-in-Joined.field-0.0 _ c.from_residual-in_err-joined-in-Joined.ensures.0 c.from_residual-in_err-joined-in-Joined.ensures.1
+    (lacks_as c.in_err-joined-in-Joined.field-0.0 (c.in_err-joined-in-Joined.ensures.room gs ns x.calm x.spanned) (λ l. omega (arith, l, x.needs, replaced_free c.requires.stands c.in_ok-answer.ensures.stands c.in_ok-answer.ensures.kept c.requires.handed g)))
+
+pub reduce_product-returns-in_ok-joined-in-Joined-clause-room : goal.reduce_product-returns-in_ok-joined-in-Joined-clause-room
+reduce_product-returns-in_ok-joined-in-Joined-clause-room t c = λ gs ns k s.
+    let first = is_gathered c.args.product c.args.pool.now c.gather_factors.new.pool c.in-Joined.is c.in_ok-answer.ensures.gathered in
+    let g = gives_next first c.in_ok-joined-in-Joined.ensures.ok (λ u y. y) in
+    let l = less_gathered _ _ _ (given_told first) (gathered_hands c.args.product c.args.pool.now c.gather_factors.new.pool c.requires.product c.in-Joined.is c.in_ok-answer.ensures.gathered c.in_ok-answer.ensures.counted_among c.in_ok-answer.ensures.few_numbers c.in_ok-answer.ensures.powers c.in_ok-answer.ensures.spanned c.in_ok-answer.ensures.factors_held) (given_told c.in_ok-joined-in-Joined.ensures.ok) in
+    let v : Tree = tree_of c.in_ok-joined-in-Joined.joined c.join_pairs.new.pool in
+    let x = handed_on (tree_of c.args.product c.args.pool.now) v c.requires.product l.is l.hands_on gs ns k s in
+    let kept = keeps_after _ _ _ c.in_ok-answer.ensures.kept c.in_ok-joined-in-Joined.ensures.kept in
+    result_lacks c.reduce_product.result (c.reduce_product.ensures.room gs ns x.calm x.spanned) (λ l. omega (arith, l, x.needs, replaced_free c.requires.stands c.in_ok-joined-in-Joined.ensures.stands kept c.requires.handed g))
+
+pub reduce_product-returns-in_err-answer-clause-defined : goal.reduce_product-returns-in_err-answer-clause-defined
+reduce_product-returns-in_err-answer-clause-defined t c = passed_on c.from_residual.result c.in_err-answer.field-0.0 _ c.from_residual.ensures.0 c.from_residual.ensures.1 c.in_err-answer.ensures.defined
+
+pub reduce_product-returns-in_err-joined-in-Joined-clause-defined : goal.reduce_product-returns-in_err-joined-in-Joined-clause-defined
+reduce_product-returns-in_err-joined-in-Joined-clause-defined t c =
+    let j = given_told (is_gathered c.args.product c.args.pool.now c.gather_factors.new.pool c.in-Joined.is c.in_ok-answer.ensures.gathered) in
+    passed_on c.from_residual-in_err-joined-in-Joined.result c.in_err-joined-in-Joined.field-0.0 _ c.from_residual-in_err-joined-in-Joined.ensures.0 c.from_residual-in_err-joined-in-Joined.ensures.1
+    (any_fault c.in_err-joined-in-Joined.field-0.0 _ j.joinable.defined)
+
+pub reduce_product-returns-in_ok-joined-in-Joined-clause-defined : goal.reduce_product-returns-in_ok-joined-in-Joined-clause-defined
+reduce_product-returns-in_ok-joined-in-Joined-clause-defined t c =
+    let j = given_told (is_gathered c.args.product c.args.pool.now c.gather_factors.new.pool c.in-Joined.is c.in_ok-answer.ensures.gathered) in
+    any_refusal c.reduce_product.result _ j.joinable.defined
 
 -- ---- join_pairs
 
@@ -150,6 +212,38 @@ join_pairs-loop-next-preserved t c =
 pub join_pairs-returns-in-Err-clause-front : goal.join_pairs-returns-in-Err-clause-front
 join_pairs-returns-in-Err-clause-front t c = front_next c.loop-next.invariant.given c.loop-next.invariant.front c.join_two-in-Some.ensures.front
 
+pub join_pairs-returns-in_err-joined-clause-room : goal.join_pairs-returns-in_err-joined-clause-room
+join_pairs-returns-in_err-joined-clause-room t c = λ gs ns k s.
+    passed_on c.from_residual.result c.in_err-joined.field-0.0 _ c.from_residual.ensures.0 c.from_residual.ensures.1 (c.in_err-joined.ensures.room gs ns k s)
+
+pub join_pairs-returns-in-Err-clause-room : goal.join_pairs-returns-in-Err-clause-room
+join_pairs-returns-in-Err-clause-room t c = λ gs ns k s.
+    let i = c.loop-next.invariant in
+    let l = given_told i.given in
+    let x = handed_on (tree_of c.args.product c.args.pool.now) (tree_of c.loop-next.joined c.loop-next.pool) c.requires.product l.is l.hands_on gs ns k s in
+    lacks_as c.in-Err.fault (c.in-Err.ensures.room gs ns x.calm x.spanned) (λ l. omega (arith, l, x.needs, replaced_free c.requires.stands i.stands i.kept c.requires.handed i.given))
+
+pub reduce_product-returns-in_err-answer-clause-bits : goal.reduce_product-returns-in_err-answer-clause-bits
+reduce_product-returns-in_err-answer-clause-bits t c = λ h l a few.
+    passed_on c.from_residual.result c.in_err-answer.field-0.0 _ c.from_residual.ensures.0 c.from_residual.ensures.1 (c.in_err-answer.ensures.bits h l a few)
+
+pub reduce_product-returns-in_err-joined-in-Joined-clause-bits : goal.reduce_product-returns-in_err-joined-in-Joined-clause-bits
+reduce_product-returns-in_err-joined-in-Joined-clause-bits t c = λ h l a few.
+    passed_on c.from_residual-in_err-joined-in-Joined.result c.in_err-joined-in-Joined.field-0.0 _ c.from_residual-in_err-joined-in-Joined.ensures.0 c.from_residual-in_err-joined-in-Joined.ensures.1
+    (c.in_err-joined-in-Joined.ensures.bits h l ((gathered_hands c.args.product c.args.pool.now c.gather_factors.new.pool c.requires.product c.in-Joined.is c.in_ok-answer.ensures.gathered c.in_ok-answer.ensures.counted_among c.in_ok-answer.ensures.few_numbers c.in_ok-answer.ensures.powers c.in_ok-answer.ensures.spanned c.in_ok-answer.ensures.factors_held).held h l a) few)
+
+pub reduce_product-returns-in_ok-joined-in-Joined-clause-bits : goal.reduce_product-returns-in_ok-joined-in-Joined-clause-bits
+reduce_product-returns-in_ok-joined-in-Joined-clause-bits t c = λ h l a few.
+    let k = less_gathered _ _ _ (given_told (is_gathered c.args.product c.args.pool.now c.gather_factors.new.pool c.in-Joined.is c.in_ok-answer.ensures.gathered)) (gathered_hands c.args.product c.args.pool.now c.gather_factors.new.pool c.requires.product c.in-Joined.is c.in_ok-answer.ensures.gathered c.in_ok-answer.ensures.counted_among c.in_ok-answer.ensures.few_numbers c.in_ok-answer.ensures.powers c.in_ok-answer.ensures.spanned c.in_ok-answer.ensures.factors_held) (given_told c.in_ok-joined-in-Joined.ensures.ok) in
+    c.reduce_product.ensures.bits h l (k.hands_on.held h l a) few
+
+pub join_pairs-returns-in_err-joined-clause-bits : goal.join_pairs-returns-in_err-joined-clause-bits
+join_pairs-returns-in_err-joined-clause-bits t c = λ h l a few.
+    passed_on c.from_residual.result c.in_err-joined.field-0.0 _ c.from_residual.ensures.0 c.from_residual.ensures.1 (c.in_err-joined.ensures.bits h l a few)
+
+pub join_pairs-returns-in-Err-clause-bits : goal.join_pairs-returns-in-Err-clause-bits
+join_pairs-returns-in-Err-clause-bits t c = λ h l a few. c.in-Err.ensures.bits h l ((given_told c.loop-next.invariant.given).hands_on.held h l a) few
+
 -- ---- join_two
 
 pub join_two-reduce_joint-requires : goal.join_two-reduce_joint-requires
@@ -173,6 +267,30 @@ join_two-returns-clause-within t c =
 
 pub join_two-returns-clause-front : goal.join_two-returns-clause-front
 join_two-returns-clause-front t c = front_next c.in_ok-joined.ensures.ok c.join_neighbours.ensures.front c.reduce_joint.ensures.front
+
+pub join_two-returns-in_err-joined-clause-room : goal.join_two-returns-in_err-joined-clause-room
+join_two-returns-in_err-joined-clause-room t c = λ gs ns k s.
+    let u : Tree = tree_of c.args.product c.args.pool.now in
+    let w = product_words u c.requires.product in
+    passed_on c.from_residual.result (fault.Full c.in_err-joined.field-0.0) _ c.from_residual.ensures.0 c.from_residual.ensures.1
+    (omega (arith, joint_lacks gs (children_of u) (free_of c.args.pool.now) c.requires.reduced (subst (SpansTree gs) w s).1 c.in_err-joined.ensures.room, ap size w))
+
+pub join_two-returns-clause-room : goal.join_two-returns-clause-room
+join_two-returns-clause-room t c = λ gs ns k s.
+    let g = c.in_ok-joined.ensures.ok in
+    let u : Tree = tree_of c.args.product c.args.pool.now in
+    let w = product_words u c.requires.product in
+    let j = pair_joined c.args.at (children_of u) _ c.requires.reduced c.requires.pair (given_told g) in
+    let from : IsJoinedFrom c.args.at (children_of u) (children_of (tree_of c.in_ok-joined.joined c.join_neighbours.new.pool)) = record { pair = c.requires.pair; reduced = c.requires.reduced; is = j.whole } in
+    result_lacks c.reduce_joint.result (c.reduce_joint.ensures.room gs ns (children_of u) from (subst (IsCalmAtZero ns) w k) (subst (SpansTree gs) w s))
+    (λ l. omega (arith, l, replaced_free c.requires.stands c.in_ok-joined.ensures.stands c.in_ok-joined.ensures.kept c.requires.handed g))
+
+pub join_two-returns-clause-bits : goal.join_two-returns-clause-bits
+join_two-returns-clause-bits t c = λ h l a few.
+    let u : Tree = tree_of c.args.product c.args.pool.now in
+    let j = pair_joined c.args.at (children_of u) _ c.requires.reduced c.requires.pair (given_told c.in_ok-joined.ensures.ok) in
+    let from : IsJoinedFrom c.args.at (children_of u) (children_of (tree_of c.in_ok-joined.joined c.join_neighbours.new.pool)) = record { pair = c.requires.pair; reduced = c.requires.reduced; is = j.whole } in
+    c.reduce_joint.ensures.bits h l (children_of u) from a few
 
 -- ---- reduce_joint
 
@@ -281,6 +399,8 @@ reduce_joint-returns-clause-ok t c =
     moved p refl c.move_last.ensures.last (record {
       exponent = s.exponent;
       sum = s.sum;
+      room = s.room;
+      counts = s.counts;
       factor = tree_of c.in_ok-factor.factor c.reduce_power.new.pool;
       answer = subst (λ (x : Tree). IsReducedPower (base_in x) (exponent_in x) (tree_of c.in_ok-factor.factor c.reduce_power.new.pool)) s.is (given_told c.in_ok-factor.ensures.ok);
       is = refl;
@@ -295,6 +415,62 @@ reduce_joint-returns-clause-front t c =
     let p = put_back o a g (c.add_child.ensures.root (over_back o a g).root) (factor_inserted c.args.at n _) in
     moved_front p c.move_last.ensures.last
 
+pub reduce_joint-returns-in_err-power-clause-room : goal.reduce_joint-returns-in_err-power-clause-room
+reduce_joint-returns-in_err-power-clause-room t c = λ gs ns ts k q s.
+    let o = over_product c.requires.handed c.requires.product in
+    let n = placed c.args.at _ c.requires.joint.within in
+    let a = factor_taken c.args.at n o (c.take_child-joint.ensures.last c.requires.handed.root) in
+    let us : Trees = children_of (tree_of c.args.product c.args.pool.now) in
+    let w = product_words (tree_of c.args.product c.args.pool.now) c.requires.product in
+    let e = given_told a.gives in
+    let same = taken_free c.requires.stands c.take_child-joint.ensures.stands c.take_child-joint.ensures.kept o a (placed_bytes n) in
+    let x : Tree = tree_of c.take_child-joint.result c.take_child-joint.new.pool in
+    passed_on c.from_residual.result c.in_err-power.field-0.0 _ c.from_residual.ensures.0 c.from_residual.ensures.1
+    (lacks_as c.in_err-power.field-0.0 (c.in_err-power.ensures.room gs (subst (SpansTree gs) (sym e) (joint_at_spans gs c.args.at ts us k s.1)))
+    (λ l. omega (arith, joint_sum_lacks gs c.args.at ts us k s.1 x (free_of c.take_child-joint.new.pool) (free_of c.args.pool.now) e same l, ap size w)))
+
+pub reduce_joint-returns-in_err-factor-clause-room : goal.reduce_joint-returns-in_err-factor-clause-room
+reduce_joint-returns-in_err-factor-clause-room t c = λ gs ns ts k q s.
+    let o = over_product c.requires.handed c.requires.product in
+    let n = placed c.args.at _ c.requires.joint.within in
+    let a = factor_taken c.args.at n o (c.take_child-joint.ensures.last c.requires.handed.root) in
+    let us : Trees = children_of (tree_of c.args.product c.args.pool.now) in
+    let w = product_words (tree_of c.args.product c.args.pool.now) c.requires.product in
+    let e = given_told a.gives in
+    let g = c.in_ok-power.ensures.ok in
+    let x : Tree = tree_of c.take_child-joint.result c.take_child-joint.new.pool in
+    let v : Tree = tree_of c.in_ok-power.power c.sum_exponent.new.pool in
+    let m = subst (λ (y : Tree). IsSummed (base_in y) (children_of (exponent_in y)) v) e (given_told g) in
+    let same = taken_free c.requires.stands c.take_child-joint.ensures.stands c.take_child-joint.ensures.kept o a (placed_bytes n) in
+    let moved = replaced_free c.take_child-joint.ensures.stands c.in_ok-power.ensures.stands c.in_ok-power.ensures.kept (given_handed a.gives) g in
+    let y = joint_ready gs ns c.args.at ts us v k q s m in
+    passed_on c.from_residual-in_err-factor.result c.in_err-factor.field-0.0 _ c.from_residual-in_err-factor.ensures.0 c.from_residual-in_err-factor.ensures.1
+    (power_refused _ _ v c.in_err-factor.field-0.0 y.is y.calm
+    (λ h. lacks_as c.in_err-factor.field-0.0 (c.in_err-factor.ensures.room gs ns y.calm y.spanned h)
+    (λ l. omega (arith, joint_power_short gs c.args.at ts us k s.1 x v (free_of c.sum_exponent.new.pool + size v) (free_of c.args.pool.now) e (ap base_in m.is ∙ sym (ap base_in e)) (omega (arith, moved, same)) l, ap size w)))
+    (λ h z. c.in_err-factor.ensures.others h z))
+
+pub reduce_joint-returns-in_err-power-clause-bits : goal.reduce_joint-returns-in_err-power-clause-bits
+reduce_joint-returns-in_err-power-clause-bits t c = λ h l ts k b few.
+    let o = over_product c.requires.handed c.requires.product in
+    let n = placed c.args.at _ c.requires.joint.within in
+    let a = factor_taken c.args.at n o (c.take_child-joint.ensures.last c.requires.handed.root) in
+    let us : Trees = children_of (tree_of c.args.product c.args.pool.now) in
+    passed_on c.from_residual.result c.in_err-power.field-0.0 _ c.from_residual.ensures.0 c.from_residual.ensures.1
+    (c.in_err-power.ensures.bits 8 0 (joint_exponents c.args.at ts us k (tree_of c.take_child-joint.result c.take_child-joint.new.pool) (given_told a.gives) h l b few) (omega arith))
+
+pub reduce_joint-returns-in_err-factor-clause-bits : goal.reduce_joint-returns-in_err-factor-clause-bits
+reduce_joint-returns-in_err-factor-clause-bits t c = λ h l ts k b few.
+    let o = over_product c.requires.handed c.requires.product in
+    let n = placed c.args.at _ c.requires.joint.within in
+    let a = factor_taken c.args.at n o (c.take_child-joint.ensures.last c.requires.handed.root) in
+    let us : Trees = children_of (tree_of c.args.product c.args.pool.now) in
+    let e = given_told a.gives in
+    let v : Tree = tree_of c.in_ok-power.power c.sum_exponent.new.pool in
+    let m = given_told c.in_ok-power.ensures.ok in
+    passed_on c.from_residual-in_err-factor.result c.in_err-factor.field-0.0 _ c.from_residual-in_err-factor.ensures.0 c.from_residual-in_err-factor.ensures.1
+    (joint_fits c.args.at ts us k (tree_of c.take_child-joint.result c.take_child-joint.new.pool) e {A = ℕ} v h l (Err c.in_err-factor.field-0.0) m b few c.in_err-factor.ensures.bits c.in_err-factor.ensures.others)
+
 -- ---- reduce_power
 
 contrary : {A : Type 0} (b : Bool) → b ≡ true → b ≡ false → A
@@ -306,7 +482,9 @@ reduce_power-returns-then-has_half_exponent-clause-rationals t c = λ b e n. con
 pub reduce_power-returns-in-Done-clause-ok : goal.reduce_power-returns-in-Done-clause-ok
 reduce_power-returns-in-Done-clause-ok t c =
     let d = is_done c.args.power c.args.pool.now c.power_step.new.pool c.in-Done.is c.in_ok-answer.ensures.ok in
-    gives_as d.1 refl (λ u a. power_finished (base_in (tree_of c.args.power c.args.pool.now)) (exponent_in (tree_of c.args.power c.args.pool.now)) u d.0 a)
+    gives_as (gives_itself d.1) refl
+    (λ u a. power_finished (base_in (tree_of c.args.power c.args.pool.now)) (exponent_in (tree_of c.args.power c.args.pool.now)) u d.0 a.0
+    (λ n q. subst (IsHeldAsPowerOf n (base_in (tree_of c.args.power c.args.pool.now))) (sym a.1) (is_held c.power_step.new.pool c.in-Done.is n (base_in (tree_of c.args.power c.args.pool.now)) (c.in_ok-answer.ensures.held n q))))
 
 pub reduce_power-reduce_rewritten-requires : goal.reduce_power-reduce_rewritten-requires
 reduce_power-reduce_rewritten-requires t c =
@@ -324,6 +502,75 @@ reduce_power-returns-in-Again-clause-ok t c =
 
 pub reduce_power-returns-in-Again-clause-front : goal.reduce_power-returns-in-Again-clause-front
 reduce_power-returns-in-Again-clause-front t c = front_next (is_again c.args.power c.args.pool.now c.power_step.new.pool c.in-Again.is c.in_ok-answer.ensures.ok) c.power_step.ensures.front c.reduce_rewritten.ensures.front
+
+pub reduce_power-returns-then-has_half_exponent-clause-room : goal.reduce_power-returns-then-has_half_exponent-clause-room
+reduce_power-returns-then-has_half_exponent-clause-room t c = λ gs ns k s w. contrary _ (sym c.has_half_exponent.ensures ∙ c.if-has_half_exponent.true) (whole_no_half (exponent_in (tree_of c.args.power c.args.pool.now)) w)
+
+pub reduce_power-returns-then-has_half_exponent-clause-root_room : goal.reduce_power-returns-then-has_half_exponent-clause-root_room
+reduce_power-returns-then-has_half_exponent-clause-root_room t c = λ gs h s. c.reduce_half_power.ensures.room gs s
+
+pub reduce_power-returns-then-has_half_exponent-clause-others : goal.reduce_power-returns-then-has_half_exponent-clause-others
+reduce_power-returns-then-has_half_exponent-clause-others t c = λ w h. contrary _ (sym c.has_half_exponent.ensures ∙ c.if-has_half_exponent.true) h
+
+pub reduce_power-returns-in_err-answer-clause-room : goal.reduce_power-returns-in_err-answer-clause-room
+reduce_power-returns-in_err-answer-clause-room t c = λ gs ns k s w.
+    passed_on c.from_residual.result c.in_err-answer.field-0.0 _ c.from_residual.ensures.0 c.from_residual.ensures.1
+    (step_lacks gs (tree_of c.args.power c.args.pool.now) (free_of c.args.pool.now) c.in_err-answer.field-0.0 (c.in_err-answer.ensures.room gs s w))
+
+pub reduce_power-returns-in_err-answer-clause-root_room : goal.reduce_power-returns-in_err-answer-clause-root_room
+reduce_power-returns-in_err-answer-clause-root_room t c = λ gs h s. contrary _ h (sym c.has_half_exponent.ensures ∙ c.if-has_half_exponent.false)
+
+pub reduce_power-returns-in_err-answer-clause-others : goal.reduce_power-returns-in_err-answer-clause-others
+reduce_power-returns-in_err-answer-clause-others t c = λ w h. let no : false ≡ true = c.in_err-answer.ensures.others w h in cc
+
+pub reduce_power-returns-in-Again-clause-room : goal.reduce_power-returns-in-Again-clause-room
+reduce_power-returns-in-Again-clause-room t c = λ gs ns k s w.
+    let g = is_again c.args.power c.args.pool.now c.power_step.new.pool c.in-Again.is c.in_ok-answer.ensures.ok in
+    let n = sym c.has_half_exponent.ensures ∙ c.if-has_half_exponent.false in
+    let r = is_rewritten _ _ _ n c.requires.base c.requires.exponent (given_told g).0 in
+    result_lacks c.reduce_rewritten.result (c.reduce_rewritten.ensures.room gs ns _ _ r (subst (IsCalmAtZero ns) c.requires.power k) (subst (SpansTree gs) c.requires.power s))
+    (λ l. omega (arith, l, replaced_free c.requires.stands c.in_ok-answer.ensures.stands c.in_ok-answer.ensures.kept c.requires.handed g))
+
+pub reduce_power-returns-in-Again-clause-root_room : goal.reduce_power-returns-in-Again-clause-root_room
+reduce_power-returns-in-Again-clause-root_room t c = λ gs h s. contrary _ h (sym c.has_half_exponent.ensures ∙ c.if-has_half_exponent.false)
+
+pub reduce_power-returns-in-Again-clause-others : goal.reduce_power-returns-in-Again-clause-others
+reduce_power-returns-in-Again-clause-others t c = λ w h.
+    let g = is_again c.args.power c.args.pool.now c.power_step.new.pool c.in-Again.is c.in_ok-answer.ensures.ok in
+    let r = is_rewritten _ _ _ h c.requires.base c.requires.exponent (given_told g).0 in
+    contrary _ r.whole w
+
+pub reduce_power-returns-in_err-answer-clause-defined : goal.reduce_power-returns-in_err-answer-clause-defined
+reduce_power-returns-in_err-answer-clause-defined t c =
+    passed_on c.from_residual.result c.in_err-answer.field-0.0 _ c.from_residual.ensures.0 c.from_residual.ensures.1
+    (misfit_fault (tree_of c.args.power c.args.pool.now) c.in_err-answer.field-0.0 c.requires.power c.in_err-answer.ensures.overflow)
+
+pub reduce_power-returns-in-Again-clause-defined : goal.reduce_power-returns-in-Again-clause-defined
+reduce_power-returns-in-Again-clause-defined t c =
+    let g = is_again c.args.power c.args.pool.now c.power_step.new.pool c.in-Again.is c.in_ok-answer.ensures.ok in
+    any_refusal c.reduce_rewritten.result _ (rewritten_defined (tree_of c.args.power c.args.pool.now) _ c.requires.power (sym c.has_half_exponent.ensures ∙ c.if-has_half_exponent.false) (given_told g).0)
+
+pub reduce_power-returns-then-has_half_exponent-clause-bits : goal.reduce_power-returns-then-has_half_exponent-clause-bits
+reduce_power-returns-then-has_half_exponent-clause-bits t c = λ n h l q a few. half_no_whole (exponent_in (tree_of c.args.power c.args.pool.now)) n (sym c.has_half_exponent.ensures ∙ c.if-has_half_exponent.true) q
+
+pub reduce_power-returns-then-has_half_exponent-clause-root_bits : goal.reduce_power-returns-then-has_half_exponent-clause-root_bits
+reduce_power-returns-then-has_half_exponent-clause-root_bits t c = λ h l e z a few more. c.reduce_half_power.ensures.bits h l z a few more
+
+pub reduce_power-returns-in_err-answer-clause-bits : goal.reduce_power-returns-in_err-answer-clause-bits
+reduce_power-returns-in_err-answer-clause-bits t c = λ n h l q a few.
+    passed_on c.from_residual.result c.in_err-answer.field-0.0 _ c.from_residual.ensures.0 c.from_residual.ensures.1 (c.in_err-answer.ensures.bits n q h l a few)
+
+pub reduce_power-returns-in_err-answer-clause-root_bits : goal.reduce_power-returns-in_err-answer-clause-root_bits
+reduce_power-returns-in_err-answer-clause-root_bits t c = λ h l e z a few more. contrary _ e (sym c.has_half_exponent.ensures ∙ c.if-has_half_exponent.false)
+
+pub reduce_power-returns-in-Again-clause-bits : goal.reduce_power-returns-in-Again-clause-bits
+reduce_power-returns-in-Again-clause-bits t c = λ n h l q a few.
+    let g = is_again c.args.power c.args.pool.now c.power_step.new.pool c.in-Again.is c.in_ok-answer.ensures.ok in
+    let r = is_rewritten _ _ _ (sym c.has_half_exponent.ensures ∙ c.if-has_half_exponent.false) c.requires.base c.requires.exponent (given_told g).0 in
+    c.reduce_rewritten.ensures.bits _ _ n h l r q a few
+
+pub reduce_power-returns-in-Again-clause-root_bits : goal.reduce_power-returns-in-Again-clause-root_bits
+reduce_power-returns-in-Again-clause-root_bits t c = λ h l e z a few more. contrary _ e (sym c.has_half_exponent.ensures ∙ c.if-has_half_exponent.false)
 
 -- ---- reduce_rewritten
 
@@ -373,13 +620,51 @@ reduce_rewritten-returns-in_ok-power-in_default t c =
     let y = ready_power _ _ p c.requires.unfinished (given_told g) in
     let kept = c.in_ok-power-in_default.ensures.kept in
     record {
-      ok = if_map c.reduce_power.result _ _ c.reduce_power.ensures.ok (λ h x. gives_next g x (λ r a. power_lifted _ _ r y a));
+      ok = if_map c.reduce_power.result _ _ c.reduce_power.ensures.ok (λ h x. gives_next g x (λ r a. power_lifted _ _ r (ap is_mult p) (given_told g) y a));
       front = front_next g c.reduce_exponent.ensures.front c.reduce_power.ensures.front;
       kept = on_ok_after c.reduce_power.result _ _ _ kept c.reduce_power.ensures.kept;
       faults = fault_after c.reduce_power.result _ _ _ kept c.reduce_power.ensures.faults;
       caused = c.reduce_power.ensures.caused;
+      room = λ gs ns b e r k s.
+          let x = ready_for_power gs ns b e (tree_of c.args.tree c.args.pool.now) (tree_of c.in_ok-power-in_default.power c.reduce_exponent.new.pool) (ap is_mult p) r k s (given_told g) in
+          power_result _ _ (tree_of c.in_ok-power-in_default.power c.reduce_exponent.new.pool) c.reduce_power.result y.is x.calm
+          (λ w. result_lacks c.reduce_power.result (c.reduce_power.ensures.room gs ns x.calm x.spanned w) (λ l. omega (arith, x.lacks _ l, replaced_free c.requires.stands c.in_ok-power-in_default.ensures.stands kept c.requires.handed g)))
+          (λ w h. c.reduce_power.ensures.others w h);
+      bits = λ b e n h l r q a few. power_fits b e (tree_of c.args.tree c.args.pool.now) (tree_of c.in_ok-power-in_default.power c.reduce_exponent.new.pool) n h l c.reduce_power.result (ap is_mult p) r (given_told g) q a few c.reduce_power.ensures.bits c.reduce_power.ensures.others;
       stands = c.reduce_power.ensures.stands;
     }
+
+pub reduce_rewritten-returns-in_err-product-in-Mult-clause-room : goal.reduce_rewritten-returns-in_err-product-in-Mult-clause-room
+reduce_rewritten-returns-in_err-product-in-Mult-clause-room t c = λ gs ns b e r k s.
+    passed_on c.from_residual.result c.in_err-product-in-Mult.field-0.0 _ c.from_residual.ensures.0 c.from_residual.ensures.1 (c.in_err-product-in-Mult.ensures.room gs ns b e r k s)
+
+pub reduce_rewritten-returns-in_ok-product-in-Mult-clause-room : goal.reduce_rewritten-returns-in_ok-product-in-Mult-clause-room
+reduce_rewritten-returns-in_ok-product-in-Mult-clause-room t c = λ gs ns b e r k s.
+    let m = product_kind _ (sym c.in-Mult.is ∙ kind_of_root {k = c.kind.result} c.id.ensures c.requires.stands c.requires.handed c.kind.ensures.plain) in
+    let g = c.in_ok-product-in-Mult.ensures.ok in
+    let x = ready_for_product gs ns b e (tree_of c.args.tree c.args.pool.now) (tree_of c.in_ok-product-in-Mult.product c.reduce_powers.new.pool) m r k s (given_told g) in
+    result_lacks c.reduce_product.result (c.reduce_product.ensures.room gs ns x.calm x.spanned)
+    (λ l. omega (arith, x.lacks _ l, replaced_free c.requires.stands c.in_ok-product-in-Mult.ensures.stands c.in_ok-product-in-Mult.ensures.kept c.requires.handed g))
+
+pub reduce_rewritten-returns-in_err-power-in_default-clause-room : goal.reduce_rewritten-returns-in_err-power-in_default-clause-room
+reduce_rewritten-returns-in_err-power-in_default-clause-room t c = λ gs ns b e r k s.
+    passed_on c.from_residual-in_err-power-in_default.result c.in_err-power-in_default.field-0.0 _ c.from_residual-in_err-power-in_default.ensures.0 c.from_residual-in_err-power-in_default.ensures.1 (c.in_err-power-in_default.ensures.room gs ns b e r k s)
+
+pub reduce_rewritten-returns-in_err-product-in-Mult-clause-bits : goal.reduce_rewritten-returns-in_err-product-in-Mult-clause-bits
+reduce_rewritten-returns-in_err-product-in-Mult-clause-bits t c = λ b e n h l r q a few.
+    passed_on c.from_residual.result c.in_err-product-in-Mult.field-0.0 _ c.from_residual.ensures.0 c.from_residual.ensures.1 (c.in_err-product-in-Mult.ensures.bits b e n h l r q a few)
+
+pub reduce_rewritten-returns-in_ok-product-in-Mult-clause-bits : goal.reduce_rewritten-returns-in_ok-product-in-Mult-clause-bits
+reduce_rewritten-returns-in_ok-product-in-Mult-clause-bits t c = λ b e n h l r q a few.
+    let m = product_kind _ (sym c.in-Mult.is ∙ kind_of_root {k = c.kind.result} c.id.ensures c.requires.stands c.requires.handed c.kind.ensures.plain) in
+    let v : Tree = tree_of c.in_ok-product-in-Mult.product c.reduce_powers.new.pool in
+    product_fits (children_of v) c.reduce_product.result
+    (λ d. c.reduce_product.ensures.bits (raised_high n h l) (raised_low n h l) (powers_ready b e (tree_of c.args.tree c.args.pool.now) v n h l m r (given_told c.in_ok-product-in-Mult.ensures.ok) q a d) few)
+    c.reduce_product.ensures.defined
+
+pub reduce_rewritten-returns-in_err-power-in_default-clause-bits : goal.reduce_rewritten-returns-in_err-power-in_default-clause-bits
+reduce_rewritten-returns-in_err-power-in_default-clause-bits t c = λ b e n h l r q a few.
+    passed_on c.from_residual-in_err-power-in_default.result c.in_err-power-in_default.field-0.0 _ c.from_residual-in_err-power-in_default.ensures.0 c.from_residual-in_err-power-in_default.ensures.1 (c.in_err-power-in_default.ensures.bits b e n h l r q a few)
 
 -- ---- reduce_powers
 
@@ -461,6 +746,35 @@ reduce_powers-returns-clause-front t c =
     let many = c.children-powers.ensures.value ∙ children_at (over_product c.requires.handed c.requires.product) c.requires.stands c.id.ensures in
     let x = all_reduced c.loop-at.invariant.part (omega (arith, many, c.loop-at-test.false)) in
     moved_front x.added c.move_last.ensures.last
+
+pub reduce_powers-returns-in_err-reduced-clause-room : goal.reduce_powers-returns-in_err-reduced-clause-room
+reduce_powers-returns-in_err-reduced-clause-room t c = λ gs ns b e r k s.
+    let o = over_product c.requires.handed c.requires.product in
+    let many = c.children-powers.ensures.value ∙ children_at o c.requires.stands c.id.ensures in
+    let n = next_power c.loop-at.invariant.part (omega (arith, many, c.loop-at-test.true)) in
+    let a = next_taken n (c.take_child-power.ensures.last n.over.root) in
+    let same = taken_free c.loop-at.invariant.stands c.take_child-power.ensures.stands c.take_child-power.ensures.kept n.over a (next_bytes n) in
+    let free = part_free c.requires.stands c.loop-at.invariant.stands c.loop-at.invariant.kept o (n.whole _) n.over in
+    let q = subst (IsPowerOf (children_of (tree_of c.args.product c.args.pool.now))) (sym (given_told a.gives)) (next_of n c.requires.powers) in
+    let w = product_words (tree_of c.args.product c.args.pool.now) c.requires.product in
+    let x = ready_part gs ns b e (tree_of c.args.product c.args.pool.now) n.t n.done n.rest n.reduced c.requires.product r k s n.split n.are in
+    let u : Tree = tree_of c.take_child-power.result c.take_child-power.new.pool in
+    let told = given_told a.gives in
+    let whole = ap (λ (y : Tree). is_whole_num (exponent_in y)) told ∙ x.whole in
+    passed_on c.from_residual.result c.in_err-reduced.field-0.0 _ c.from_residual.ensures.0 c.from_residual.ensures.1
+    (lacks_as c.in_err-reduced.field-0.0 (c.in_err-reduced.ensures.room gs ns (subst (IsCalmAtZero ns) (sym told) x.calm) (subst (SpansTree gs) (sym told) x.spanned) whole)
+    (λ l. omega (arith, x.lacks _ (subst (λ (y : Tree). free_of c.take_child-power.new.pool + size y < whole_power_room (base_in y) (2 ^ length gs)) told l), same, free, next_bytes n, ap size w)))
+
+pub reduce_powers-returns-in_err-reduced-clause-bits : goal.reduce_powers-returns-in_err-reduced-clause-bits
+reduce_powers-returns-in_err-reduced-clause-bits t c = λ b e n h l r q f few.
+    let o = over_product c.requires.handed c.requires.product in
+    let many = c.children-powers.ensures.value ∙ children_at o c.requires.stands c.id.ensures in
+    let next = next_power c.loop-at.invariant.part (omega (arith, many, c.loop-at-test.true)) in
+    let a = next_taken next (c.take_child-power.ensures.last next.over.root) in
+    let told = given_told a.gives in
+    let x = part_ready b e (tree_of c.args.product c.args.pool.now) next.t next.done next.rest n h l c.requires.product r next.split q f few in
+    passed_on c.from_residual.result c.in_err-reduced.field-0.0 _ c.from_residual.ensures.0 c.from_residual.ensures.1
+    (c.in_err-reduced.ensures.bits n x.p x.q (ap exponent_in told ∙ x.exponent) (subst (λ (y : Tree). IsFactorHeld (base_in y) x.p x.q) (sym told) x.held) x.few)
 
 -- ---- reduce_exponent
 
@@ -552,5 +866,31 @@ reduce_exponent-returns-in_default t c =
       kept = c.move_last-in_default.ensures.kept;
       faults = tt;
       caused = tt;
+      room = λ gs ns b e r k s. tt;
+      bits = λ b e n h l r q a few. tt;
       stands = c.move_last-in_default.ensures.stands;
     }
+
+pub reduce_exponent-returns-in_err-product-in-Mult-clause-room : goal.reduce_exponent-returns-in_err-product-in-Mult-clause-room
+reduce_exponent-returns-in_err-product-in-Mult-clause-room t c = λ gs ns b e r k s.
+    let o = over_power _ c.requires.handed refl c.requires.power in
+    let child = c.child_id-exponent.ensures in
+    let z = exponent_seen {x = c.kind.result} c.id.ensures c.requires.stands c.requires.handed c.requires.power child.expression child.plain c.kind.ensures.plain in
+    let m = product_kind _ (sym c.in-Mult.is ∙ z) in
+    let a = exponent_taken o (c.take_child-exponent.ensures.last c.requires.handed.root) in
+    let told = given_told a.gives in
+    let same = taken_free c.requires.stands c.take_child-exponent.ensures.stands c.take_child-exponent.ensures.kept o a (omega arith) in
+    let x = ready_exponent gs ns b e (tree_of c.args.power c.args.pool.now) (tree_of c.take_child-exponent.result c.take_child-exponent.new.pool) (ap is_mult c.requires.power) (ap is_mult told ∙ m) told r k s in
+    passed_on c.from_residual.result c.in_err-product-in-Mult.field-0.0 _ c.from_residual.ensures.0 c.from_residual.ensures.1
+    (lacks_as c.in_err-product-in-Mult.field-0.0 (c.in_err-product-in-Mult.ensures.room gs ns x.0 x.1) (λ l. omega (arith, x.2 _ l, same, ap size c.requires.power, ap size told)))
+
+pub reduce_exponent-returns-in_err-product-in-Mult-clause-bits : goal.reduce_exponent-returns-in_err-product-in-Mult-clause-bits
+reduce_exponent-returns-in_err-product-in-Mult-clause-bits t c = λ b e n h l r q f few.
+    let o = over_power _ c.requires.handed refl c.requires.power in
+    let child = c.child_id-exponent.ensures in
+    let z = exponent_seen {x = c.kind.result} c.id.ensures c.requires.stands c.requires.handed c.requires.power child.expression child.plain c.kind.ensures.plain in
+    let m = product_kind _ (sym c.in-Mult.is ∙ z) in
+    let a = exponent_taken o (c.take_child-exponent.ensures.last c.requires.handed.root) in
+    let told = given_told a.gives in
+    passed_on c.from_residual.result c.in_err-product-in-Mult.field-0.0 _ c.from_residual.ensures.0 c.from_residual.ensures.1
+    (c.in_err-product-in-Mult.ensures.bits 14 0 (exponent_ready b e (tree_of c.args.power c.args.pool.now) (tree_of c.take_child-exponent.result c.take_child-exponent.new.pool) n h l (ap is_mult c.requires.power) (ap is_mult told ∙ m) told r q f few) (omega arith))

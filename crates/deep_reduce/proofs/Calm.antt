@@ -1,0 +1,134 @@
+-- Calm trees, part by part, and what all parts of a tree have.
+use Rattle.std.proofs.Common.{◌≡◌, ℕ, zero, suc, ◌<◌, List, Bool, true, false, if◌then◌else◌, ap, ◌∙◌, arith}
+use Rattle.calc_algebra.specs.Meanings.{Assignment, IsAssignment}
+use Rattle.calc_algebra.specs.Numbers.{is_number, IsNumber, value}
+use Rattle.calc_algebra.specs.Reduced.{is_opaque_exponent, is_whole_num, is_half_num, num_one, base_of}
+use Rattle.calc_algebra.specs.Rewritings.{KeepsMeanings}
+use Rattle.calc_algebra.specs.Surds.{surd_of}
+use Rattle.calc_algebra.proofs.MeaningLaws.{one_meaning}
+use Rattle.calc_algebra.proofs.NumberClasses.{number_rational}
+use Rattle.calc_algebra.proofs.NumberLaws.{number_words}
+use Rattle.calc_algebra.proofs.NumberValues.{number_means}
+use Rattle.calc_algebra.proofs.SurdLaws.{Agree-Same}
+use Rattle.calc_terms.specs.Fractions.{whole_fraction, one_fraction}
+use Rattle.calc_terms.specs.Trees.{Tree, mult, power, Trees, none, more, append, count, AllParts, AllPartsOf}
+use Rattle.deep_reduce.specs.Rooms.{IsCalmAtZero}
+use Rattle.deep_reduce.specs.Unfinished.{replaced}
+use Rattle.number_forms.specs.Sums.{removed}
+use Rattle.power_reduce.proofs.Whole.{whole_is}
+use Rattle.product_reduce.specs.Joining.{exponent_of, joint}
+use Rattle.product_reduce.specs.Neighbours.{IsPairAt, joined_pair}
+use Rattle.tree_handles.specs.Expressions.{nth}
+use Rattle.tree_room.specs.Exponents.{HasCalmExponent, IsCalm, AreCalm, MeansWhole, zeros}
+use Rattle.tree_room.proofs.Calm.{no_half, sum_whole, whole_number}
+
+-- ---- parts of lists
+
+module _ (P : Tree → Type 0) where
+  pub all_nth : (n : ℕ) (ts : Trees) → n < count ts → AllPartsOf P ts → AllParts P (nth n ts)
+  all_nth n none l h = absurd (omega arith)
+  all_nth zero (more t ts) l h = h.0
+  all_nth (suc n) (more t ts) l h = all_nth n ts (omega arith) h.1
+
+  pub all_removed : (n : ℕ) (ts : Trees) → AllPartsOf P ts → AllPartsOf P (removed n ts)
+  all_removed n none h = tt
+  all_removed zero (more t ts) h = h.1
+  all_removed (suc n) (more t ts) h = (h.0, all_removed n ts h.1)
+
+  pub all_replaced : (n : ℕ) (u : Tree) (ts : Trees) → AllParts P u → AllPartsOf P ts → AllPartsOf P (replaced n u ts)
+  all_replaced n u none k h = tt
+  all_replaced zero u (more t ts) k h = (k, h.1)
+  all_replaced (suc n) u (more t ts) k h = (h.0, all_replaced n u ts k h.1)
+
+  pub all_append : (ts us : Trees) → AllPartsOf P ts → AllPartsOf P us → AllPartsOf P (append ts us)
+  all_append none us h k = k
+  all_append (more t ts) us h k = (h.0, all_append ts us h.1 k)
+
+  pub all_first : (ts us : Trees) → AllPartsOf P (append ts us) → AllPartsOf P ts
+  all_first none us h = tt
+  all_first (more t ts) us h = (h.0, all_first ts us h.1)
+
+  pub all_rest : (ts us : Trees) → AllPartsOf P (append ts us) → AllPartsOf P us
+  all_rest none us h = h
+  all_rest (more t ts) us h = all_rest ts us h.1
+
+  -- the base of a factor and its exponent
+  pub all_base : (t : Tree) → AllParts P t → AllParts P (base_of t)
+  all_base (power b e) h = by (is_opaque_exponent e)
+    where
+      by : (x : Bool) → AllParts P (if x then power b e else b)
+      by true = h
+      by false = h.1
+  all_base t h = h
+
+  pub all_exponent : (t : Tree) → P num_one → AllParts P t → AllParts P (exponent_of t)
+  all_exponent (power b e) one h = by (is_opaque_exponent e)
+    where
+      by : (x : Bool) → AllParts P (if x then num_one else e)
+      by true = one
+      by false = h.2
+  all_exponent t one h = one
+
+  -- two neighbours are joined, and the others stay
+  pub all_joined : (n : ℕ) (ts : Trees) → IsPairAt n ts → ((t u : Tree) → AllParts P t → AllParts P u → AllParts P (joint t u)) → AllPartsOf P ts → AllPartsOf P (joined_pair n (suc n) ts)
+  all_joined n none p j h = absurd (let w = p.within in omega arith)
+  all_joined zero (more t none) p j h = absurd (let w = p.within in omega arith)
+  all_joined zero (more t (more u ts)) p j h = (j t u h.0 h.1.0, h.1.1)
+  all_joined (suc n) (more t ts) p j h = (h.0, all_joined n ts (let w = p.within in record { within = omega arith; pair = p.pair }) j h.1)
+
+-- ---- calm trees
+
+pub calm_children : {ns : List (List ℕ)} {ts : Trees} → IsCalmAtZero ns (mult ts) → AreCalm (zeros ns) ts
+calm_children c = c.calm.1
+
+pub calm_product : {ns : List (List ℕ)} {ts : Trees} → IsAssignment (zeros ns) → AreCalm (zeros ns) ts → IsCalmAtZero ns (mult ts)
+calm_product o h = record { once = o; calm = (tt, h) }
+
+pub calm_base : {ns : List (List ℕ)} {b e : Tree} → IsCalmAtZero ns (power b e) → IsCalmAtZero ns b
+calm_base c = record { once = c.once; calm = c.calm.1 }
+
+pub calm_exponent : {ns : List (List ℕ)} {b e : Tree} → IsCalmAtZero ns (power b e) → IsCalmAtZero ns e
+calm_exponent c = record { once = c.once; calm = c.calm.2 }
+
+pub calm_whole : {ns : List (List ℕ)} {b e : Tree} → IsCalmAtZero ns (power b e) → MeansWhole (zeros ns) e
+calm_whole c = c.calm.0
+
+pub calm_power : {ns : List (List ℕ)} {b e : Tree} → IsCalmAtZero ns b → IsCalmAtZero ns e → MeansWhole (zeros ns) e → IsCalmAtZero ns (power b e)
+calm_power b e w = record { once = b.once; calm = (w, b.calm, e.calm) }
+
+-- no calm power has half of an odd number as its exponent
+pub calm_no_half : {ns : List (List ℕ)} {b e : Tree} → IsCalmAtZero ns (power b e) → is_half_num e ≡ false
+calm_no_half {ns} {b} {e} c = no_half (zeros ns) e (calm_whole c)
+
+-- ---- exponents
+
+pub one_whole : is_whole_num num_one ≡ true
+unfolding one_fraction
+one_whole = whole_is _
+
+pub whole_kept : (f : Assignment) (d e : Tree) → IsAssignment f → KeepsMeanings d e → MeansWhole f d → MeansWhole f e
+whole_kept f d e o k (n, h) = (n, k.means f o (surd_of (whole_fraction n)) h)
+
+-- a Number that means a whole number is one
+pub whole_of_number : (f : Assignment) (e : Tree) → IsAssignment f → is_number e ≡ true → MeansWhole f e → is_whole_num e ≡ true
+whole_of_number f e o h (n, m) =
+    let w : IsNumber e = number_words e h in
+    ap is_whole_num (number_rational e (whole_fraction n) w (Agree-Same (one_meaning f o e (value e) (surd_of (whole_fraction n)) (number_means e f w) m))) ∙ whole_is n
+
+-- the exponent of a calm factor means a whole number
+pub factor_whole : (f : Assignment) (t : Tree) → IsCalm f t → MeansWhole f (exponent_of t)
+factor_whole f (power b e) h = by (is_opaque_exponent e)
+  where
+    by : (x : Bool) → MeansWhole f (if x then num_one else e)
+    by true = whole_number f num_one one_whole
+    by false = h.0
+factor_whole f t h = whole_number f num_one one_whole
+
+-- the joint of calm factors is calm
+pub joint_calm : (f : Assignment) (t u : Tree) → IsCalm f t → IsCalm f u → IsCalm f (joint t u)
+joint_calm f t u h k =
+    let P : Tree → Type 0 = HasCalmExponent f in (
+      sum_whole f (exponent_of t) (exponent_of u) (factor_whole f t h) (factor_whole f u k),
+      all_base P t h,
+      (tt, (all_exponent P t tt h, (all_exponent P u tt k, tt))),
+    )

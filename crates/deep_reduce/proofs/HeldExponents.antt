@@ -1,0 +1,351 @@
+-- Exponents that count their bases: how often at least, and by how many bits they are held themselves.
+use Rattle.std.proofs.Common.{◌≡◌, ◌≢◌, ℕ, zero, suc, ◌+◌, ◌*◌, ◌^◌, ◌≤◌, inl, inr, List, [], ◌∷◌, max, ℤ, pos, negsuc, Bool, true, false, ◌&&◌, ◌==◌, not, if◌then◌else◌, refl, sym, ap, ◌∙◌, subst, arith}
+use Rattle.std.specs.Prelude.{nat_abs, ◌/◌}
+use Rattle.std.specs.Int.{◌∣◌}
+use Rattle.std.proofs.lemmas.Bool.{and_parts, eqb-true}
+use Rattle.std.proofs.Math.Nat.{dvd_refl}
+use Rattle.calc_terms.specs.Fractions.{Fraction, zero_fraction, one_fraction, whole_fraction, is_zero_fraction, lowest, lowest_parts}
+use Rattle.calc_terms.specs.Integers.{int_is_zero}
+use Rattle.calc_terms.proofs.FractionFacts.{zero_test, one_test, no_zero, whole_numerator, whole_denominator}
+use Rattle.calc_terms.specs.Trees.{Tree, num, symbol, add, mult, root, Trees, none, more, is_add, AllParts, AllPartsOf}
+use Rattle.calc_algebra.specs.Numbers.{IsTerm, AreTerms, is_number, is_term, value, terms_of}
+use Rattle.calc_algebra.specs.Reduced.{HasForm, NoneIs, num_one, number_terms, other_terms}
+use Rattle.calc_algebra.specs.Surds.{surd_of, surd_one}
+use Rattle.calc_algebra.proofs.NumberLaws.{number_test}
+use Rattle.calc_bits.specs.Denominators.{Parts, AreWholeOver, magnitude_over}
+use Rattle.calc_bits.specs.Masses.{mass, root_above}
+use Rattle.calc_bits.proofs.RootsAbove.{root_least}
+use Rattle.tree_bits.specs.HeldTrees.{Addend, addend, addend_of, addends, addends_of, power_high, power_low, IsTreeHeld, sum_held, AreWeighted, none_weighted, more_weighted, IsPartHeld, no_factor_held, factor_held, symbol_held}
+use Rattle.tree_bits.specs.Weighted.{Weighted, weighted, PartsAll, lows, weighted_mass, AreHeld}
+use Rattle.tree_bits.proofs.Sums.{one_counted, one_counts}
+use Rattle.tree_bits.specs.Exponents.{Counts, counts, multiple, is_counted, are_counted, counts_of, counts_of_all}
+
+clash : {A : Type 0} → true ≡ false → A
+clash e = absurd cc
+
+unclear : {A : Type 0} → false ≡ true → A
+unclear e = absurd cc
+
+-- ---- products of a rational and an exponent
+
+-- a rational other than 0 and 1 before a symbol
+pub record IsMultiple (q : Fraction) (t : Tree) : Type 0 where
+  pub whole : (q.den == 1) ≡ true
+  pub not_zero : q ≢ zero_fraction
+  pub name : List ℕ
+  pub is : t ≡ symbol name
+
+pub multiple_of : (q : Fraction) (t : Tree) → AllParts HasForm (mult (more (num q) (more t none))) → is_counted (mult (more (num q) (more t none))) ≡ true → IsMultiple q t
+unfolding is_number
+multiple_of q t f c = by t f.0 (and_parts (q.den == 1) (is_counted t) c).1
+  where
+    w : (q.den == 1) ≡ true
+    w = (and_parts (q.den == 1) (is_counted t) c).0
+
+    by : (t : Tree) → HasForm (mult (more (num q) (more t none))) → is_counted t ≡ true → IsMultiple q t
+    by (symbol x) (inl n) k = absurd n
+    by (symbol x) (inr f) k = record { whole = w; not_zero = f.front.0; name = x; is = refl }
+    by (num r) (inl n) k = absurd n
+    by (num r) (inr f) k = clash f.no_number.0
+    by (mult ts) (inl n) k = absurd n
+    by (mult ts) (inr f) k = clash f.no_product.1.0
+    by (add ts) (inl n) k = absurd n
+    by (add ts) (inr f) k = clash (sym (ap (λ (b : Bool). not b && true) (one_test q f.front.1)) ∙ f.distributed)
+    by (root a) h k = unclear k
+    by t h k = unclear k
+
+-- ---- how often at least
+
+whole_of : (q : Fraction) → (q.den == 1) ≡ true → q ≡ whole_fraction q.num
+whole_of q h = lowest_parts q ∙ ap (lowest q.num) (eqb-true q.den 1 h)
+
+not_nothing : (q : Fraction) → (q.den == 1) ≡ true → q ≢ zero_fraction → q.num ≢ pos 0
+unfolding zero_fraction
+not_nothing q w z e = z (whole_of q w ∙ ap whole_fraction e)
+
+some_magnitude : (z : ℤ) → z ≢ pos 0 → 1 ≤ nat_abs z
+some_magnitude (pos zero) h = absurd (h refl)
+some_magnitude (pos (suc n)) h = omega arith
+some_magnitude (negsuc n) h = omega arith
+
+pub multiple_counts : (z : ℤ) (c : Counts) → (multiple z c).up + (multiple z c).down ≡ nat_abs z * (c.up + c.down)
+multiple_counts (pos n) c = omega arith
+multiple_counts (negsuc n) c = omega arith
+
+some_times : (m n : ℕ) → 1 ≤ m → 1 ≤ n → 1 ≤ m * n
+some_times (suc m) (suc n) h k = omega arith
+some_times zero n h k = absurd (omega arith)
+some_times m zero h k = absurd (omega arith)
+
+multiple_some : (q : Fraction) (c : Counts) → (q.den == 1) ≡ true → q ≢ zero_fraction → 1 ≤ c.up + c.down → 1 ≤ (multiple q.num c).up + (multiple q.num c).down
+multiple_some q c w z k = omega (arith, multiple_counts q.num c, some_times (nat_abs q.num) (c.up + c.down) (some_magnitude q.num (not_nothing q w z)) k)
+
+nothing_is : is_zero_fraction zero_fraction ≡ true
+unfolding zero_fraction
+nothing_is = ap int_is_zero (whole_numerator (pos 0))
+
+-- the first term of a sum is not 0
+first_not_zero : (t : Tree) (ts : Trees) → HasForm (add (more t ts)) → t ≢ num zero_fraction
+unfolding is_number
+first_not_zero t ts (inl n) e = zero_term t n.1.0 e
+  where
+    zero_term : (t : Tree) → IsTerm t → t ≢ num zero_fraction
+    zero_term (num q) h k = h (ap value_in k)
+      where
+        value_in : Tree → Fraction
+        value_in (num q) = q
+        value_in t = zero_fraction
+    zero_term (root a) h k = cc
+    zero_term (mult us) h k = cc
+    zero_term t h k = absurd h
+first_not_zero t ts (inr f) e =
+    let z : is_term t ≡ false = ap is_term e ∙ ap (λ (b : Bool). not b) nothing_is in
+    let o : other_terms (more t ts) ≡ more t ts = ap (λ (b : Bool). if b then other_terms ts else more t ts) z in
+    clash (sym (ap is_number e) ∙ (subst (NoneIs is_number) o f.no_number).0)
+
+pub some_counts : (e : Tree) → AllParts HasForm e → is_counted e ≡ true → e ≢ num zero_fraction → 1 ≤ (counts_of e).up + (counts_of e).down
+some_counts (num q) f c z = multiple_some q (counts 1 0) c (λ e. z (ap num e)) (omega arith)
+some_counts (symbol x) f c z = omega arith
+some_counts (mult (more (num q) (more t none))) f c z = let m = multiple_of q t f c in multiple_some q (counts_of t) m.whole m.not_zero (omega (arith, ap (λ (u : Tree). (counts_of u).up) m.is))
+some_counts (add none) f c z = elim f.0 [ inl n ↦ let l : 2 ≤ 0 = n.0 in absurd (omega arith) | inr s ↦ absurd s.two ]
+some_counts (add (more t ts)) f c z =
+    let k = some_counts t f.1.0 (and_parts (is_counted t) (are_counted ts) c).0 (first_not_zero t ts f.0) in
+    omega (arith, k)
+some_counts t f c z = unclear c
+
+-- ---- held themselves, over the denominator 1
+
+-- each coefficient is whole, and the weighted mass is at most x
+record AreLight (xs : List Addend) (x : ℕ) : Type 0 where
+  terms : List Weighted
+  weighted_are : AreWeighted xs terms
+  parts : PartsAll 1 terms
+  low : lows terms ≡ 0
+  high : weighted_mass 1 terms ≤ x
+
+none_light : AreLight [] 0
+none_light = record { terms = []; weighted_are = none_weighted; parts = tt; low = refl; high = omega arith }
+
+more_light : {y : Addend} {xs : List Addend} {n x m : ℕ} → AreLight (y ∷ []) n → AreLight xs x → n + x ≤ m → AreLight (y ∷ xs) m
+more_light {y} {xs} {n} {x} {m} a b l = by a.weighted_are a.parts a.low a.high
+  where
+    by : {ws : List Weighted} → AreWeighted (y ∷ []) ws → PartsAll 1 ws → lows ws ≡ 0 → weighted_mass 1 ws ≤ n → AreLight (y ∷ xs) m
+    by (more_weighted h k p none_weighted) q i j = record {
+      terms = weighted y.coefficient h k ∷ b.terms;
+      weighted_are = more_weighted h k p b.weighted_are;
+      parts = (q.0, b.parts);
+      low = omega (arith, i, b.low);
+      high = omega (arith, j, b.high);
+    }
+
+-- a whole number and its radicand
+whole_magnitude : (q : Fraction) → (q.den == 1) ≡ true → magnitude_over 1 q ≡ nat_abs q.num
+whole_magnitude q w = omega (arith, ap (λ (n : ℕ). nat_abs q.num * (1 / n)) (eqb-true q.den 1 w))
+
+whole_parts : (q : Fraction) → (q.den == 1) ≡ true → q.den ∣ 1
+whole_parts q w = subst (λ (n : ℕ). n ∣ 1) (sym (eqb-true q.den 1 w)) (dvd_refl 1)
+
+term_light : (q : Fraction) → (q.den == 1) ≡ true → q ≢ zero_fraction → max 1 (root_above (magnitude_over 1 q * magnitude_over 1 q * 1)) ≤ nat_abs q.num
+term_light q w z =
+    let i = whole_magnitude q w in
+    let a : root_above (magnitude_over 1 q * magnitude_over 1 q * 1) ≤ nat_abs q.num = root_least _ (nat_abs q.num) (omega (arith, ap (λ (m : ℕ). m * m * 1) i)) in
+    omega (arith, a, some_magnitude q.num (not_nothing q w z))
+
+one_light : max 1 (root_above (magnitude_over 1 one_fraction * magnitude_over 1 one_fraction * 1)) ≤ 1
+unfolding one_fraction
+one_light =
+    let i : magnitude_over 1 one_fraction ≡ 1 = whole_magnitude one_fraction (ap (λ (n : ℕ). n == 1) (whole_denominator (pos 1))) ∙ ap nat_abs (whole_numerator (pos 1)) in
+    let a : root_above (magnitude_over 1 one_fraction * magnitude_over 1 one_fraction * 1) ≤ 1 = root_least _ 1 (omega (arith, ap (λ (m : ℕ). m * m * 1) i)) in
+    omega (arith, a)
+
+one_whole : (one_fraction.den == 1) ≡ true
+unfolding one_fraction
+one_whole = ap (λ (n : ℕ). n == 1) (whole_denominator (pos 1))
+
+-- a symbol
+symbol_part : (x : List ℕ) → IsPartHeld (more (symbol x) none) 1 0
+symbol_part x =
+    let e : counts_of num_one ≡ counts 1 0 = one_counts in
+    factor_held 1 0 0 0 one_counted (symbol_held (omega arith)) no_factor_held (omega (arith, ap (λ (c : Counts). power_high c 1 0) e)) (omega (arith, ap (λ (c : Counts). power_low c 1 0) e))
+
+symbol_light : (x : List ℕ) → AreLight (addend surd_one (more (symbol x) none) ∷ []) 2
+symbol_light x = record {
+  terms = weighted surd_one 1 0 ∷ [];
+  weighted_are = more_weighted 1 0 (symbol_part x) none_weighted;
+  parts = (record { positive = omega arith; whole = (whole_parts one_fraction one_whole, tt) }, tt);
+  low = refl;
+  high = omega (arith, one_light);
+}
+
+-- one before which a whole number stands
+multiple_light : (q : Fraction) (t : Tree) → IsMultiple q t → AreLight (addend_of (mult (more (num q) (more t none))) ∷ []) (2 * nat_abs q.num)
+multiple_light q t m = subst (λ (u : Tree). AreLight (addend_of (mult (more (num q) (more u none))) ∷ []) (2 * nat_abs q.num)) (sym m.is) (record {
+  terms = weighted (value (num q)) 1 0 ∷ [];
+  weighted_are = more_weighted 1 0 (symbol_part m.name) none_weighted;
+  parts = (subst (Parts 1) (sym worth) (record { positive = omega arith; whole = (whole_parts q m.whole, tt) }), tt);
+  low = refl;
+  high = omega (arith, term_light q m.whole m.not_zero, ap (mass 1) worth);
+})
+  where
+    worth : value (num q) ≡ surd_of q
+    worth = ap (λ (b : Bool). if b then [] else surd_of q) (zero_test q m.not_zero)
+
+-- a term of a sum that is no Number
+other_light : (t : Tree) → AllParts HasForm t → is_number t ≡ false → is_add t ≡ false → is_counted t ≡ true → AreLight (addend_of t ∷ []) (2 * ((counts_of t).up + (counts_of t).down))
+unfolding is_number
+other_light (num q) f n s c = clash n
+other_light (symbol x) f n s c = symbol_light x
+other_light (add ts) f n s c = clash s
+other_light (mult (more (num q) (more t none))) f n s c =
+    let m = multiple_of q t f c in
+    let a = multiple_light q t m in
+    let one : (counts_of t).up + (counts_of t).down ≡ 1 = ap (λ (u : Tree). (counts_of u).up + (counts_of u).down) m.is in
+    record { terms = a.terms; weighted_are = a.weighted_are; parts = a.parts; low = a.low; high = omega (arith, a.high, multiple_counts q.num (counts_of t), ap (λ (k : ℕ). nat_abs q.num * k) one) }
+other_light t f n s c = unclear c
+
+-- those of a sum, the Number among them as one
+record AreSplitLight (ts : Trees) (x : ℕ) : Type 0 where
+  whole : AreWholeOver 1 (terms_of (number_terms ts))
+  others : ℕ
+  light : AreLight (addends_of (other_terms ts)) others
+  high : mass 1 (terms_of (number_terms ts)) + others ≤ x
+
+rational_term : (t : Tree) → is_term t ≡ true → is_counted t ≡ true → (q : Fraction) × (t ≡ num q)
+rational_term (num q) h c = (q, refl)
+rational_term (root (num r)) h c = unclear c
+rational_term (mult (more (num q) (more (root (num r)) none))) h c = unclear (and_parts (q.den == 1) false c).1
+rational_term t h c = unclear h
+
+split_wider : {ts : Trees} {x y : ℕ} → x ≤ y → AreSplitLight ts x → AreSplitLight ts y
+split_wider l a = record { whole = a.whole; others = a.others; light = a.light; high = omega (arith, a.high, l) }
+
+number_light : (q : Fraction) (ts : Trees) (x : ℕ) → is_term (num q) ≡ true → (q.den == 1) ≡ true → AreSplitLight ts x → AreSplitLight (more (num q) ts) (2 * (multiple q.num (counts 1 0)).up + 2 * (multiple q.num (counts 1 0)).down + x)
+number_light q ts x h w a =
+    let n : number_terms (more (num q) ts) ≡ more (num q) (number_terms ts) = ap (λ (b : Bool). if b then more (num q) (number_terms ts) else none) h in
+    let o : other_terms (more (num q) ts) ≡ other_terms ts = ap (λ (b : Bool). if b then other_terms ts else more (num q) ts) h in
+    record {
+      whole = subst (λ (us : Trees). AreWholeOver 1 (terms_of us)) (sym n) (whole_parts q w, a.whole);
+      others = a.others;
+      light = subst (λ (us : Trees). AreLight (addends_of us) a.others) (sym o) a.light;
+      high = omega (arith, ap (λ (us : Trees). mass 1 (terms_of us)) n, term_light q w (no_zero q h), a.high, multiple_counts q.num (counts 1 0));
+    }
+
+kept_light : (t : Tree) (ts : Trees) (n x : ℕ) → is_term t ≡ false → AreLight (addend_of t ∷ []) n → AreLight (addends_of ts) x → AreSplitLight (more t ts) (n + x)
+kept_light t ts n x h a b =
+    let k : number_terms (more t ts) ≡ none = ap (λ (y : Bool). if y then more t (number_terms ts) else none) h in
+    let o : other_terms (more t ts) ≡ more t ts = ap (λ (y : Bool). if y then other_terms ts else more t ts) h in
+    record {
+      whole = subst (λ (us : Trees). AreWholeOver 1 (terms_of us)) (sym k) tt;
+      others = n + x;
+      light = subst (λ (us : Trees). AreLight (addends_of us) (n + x)) (sym o) (more_light a b (omega arith));
+      high = omega (arith, ap (λ (us : Trees). mass 1 (terms_of us)) k);
+    }
+
+others_light : (ts : Trees) → AllPartsOf HasForm ts → NoneIs is_number ts → NoneIs is_add ts → are_counted ts ≡ true → AreLight (addends_of ts) (2 * ((counts_of_all ts).up + (counts_of_all ts).down))
+others_light none f n s c = none_light
+others_light (more t ts) f n s c =
+    let (a, b) = and_parts (is_counted t) (are_counted ts) c in
+    more_light (other_light t f.0 n.0 s.0 a) (others_light ts f.1 n.1 s.1 b) (omega arith)
+
+split_light : (ts : Trees) → AllPartsOf HasForm ts → NoneIs is_number (other_terms ts) → NoneIs is_add ts → are_counted ts ≡ true → AreSplitLight ts (2 * ((counts_of_all ts).up + (counts_of_all ts).down))
+split_light none f n s c = record { whole = tt; others = 0; light = none_light; high = omega arith }
+split_light (more t ts) f n s c = by (λ o. split_light ts f.1 o s.1 (and_parts (is_counted t) (are_counted ts) c).1) (is_term t) refl
+  where
+    a : is_counted t ≡ true
+    a = (and_parts (is_counted t) (are_counted ts) c).0
+
+    b : are_counted ts ≡ true
+    b = (and_parts (is_counted t) (are_counted ts) c).1
+
+    first : (t : Tree) (q : Fraction) → t ≡ num q → is_term t ≡ true → is_counted t ≡ true → AreSplitLight ts (2 * ((counts_of_all ts).up + (counts_of_all ts).down))
+        → AreSplitLight (more t ts) (2 * ((counts_of t).up + (counts_of_all ts).up + ((counts_of t).down + (counts_of_all ts).down)))
+    first t q e h c r = subst (λ (u : Tree). AreSplitLight (more u ts) (2 * ((counts_of u).up + (counts_of_all ts).up + ((counts_of u).down + (counts_of_all ts).down)))) (sym e)
+        (split_wider (omega arith) (number_light q ts (2 * ((counts_of_all ts).up + (counts_of_all ts).down)) (ap is_term (sym e) ∙ h) (ap is_counted (sym e) ∙ c) r))
+
+    by : (NoneIs is_number (other_terms ts) → AreSplitLight ts (2 * ((counts_of_all ts).up + (counts_of_all ts).down))) → (x : Bool) → is_term t ≡ x → AreSplitLight (more t ts) (2 * ((counts_of t).up + (counts_of_all ts).up + ((counts_of t).down + (counts_of_all ts).down)))
+    by r true e =
+        let (q, i) = rational_term t e a in
+        first t q i e a (r (subst (NoneIs is_number) (ap (λ (x : Bool). if x then other_terms ts else more t ts) e) n))
+    by r false e =
+        let o = subst (NoneIs is_number) (ap (λ (x : Bool). if x then other_terms ts else more t ts) e) n in
+        split_wider (omega arith)
+        (kept_light t ts (2 * ((counts_of t).up + (counts_of t).down)) (2 * ((counts_of_all ts).up + (counts_of_all ts).down)) e (other_light t f.0 o.0 s.0 a) (others_light ts f.1 o.1 s.1 b))
+
+term_test : (t : Tree) → IsTerm t → is_term t ≡ true
+unfolding is_number
+term_test (num q) h = ap (λ (b : Bool). not b) (zero_test q h)
+term_test (root a) h = number_test (root a) h
+term_test (mult ts) h = number_test (mult ts) h
+term_test t h = absurd h
+
+no_sum_term : (t : Tree) → IsTerm t → is_add t ≡ false
+no_sum_term (num q) h = refl
+no_sum_term (root a) h = refl
+no_sum_term (mult ts) h = refl
+no_sum_term t h = absurd h
+
+terms_alone : (ts : Trees) → AreTerms ts → NoneIs is_number (other_terms ts) × NoneIs is_add ts
+terms_alone none a = (tt, tt)
+terms_alone (more t ts) a =
+    let r = terms_alone ts a.1 in
+    (subst (NoneIs is_number) (sym (ap (λ (x : Bool). if x then other_terms ts else more t ts) (term_test t a.0))) r.0, (no_sum_term t a.0, r.1))
+
+-- what a sum is made of
+sum_kinds : (ts : Trees) → HasForm (add ts) → NoneIs is_number (other_terms ts) × NoneIs is_add ts
+sum_kinds ts (inl n) = terms_alone ts n.1
+sum_kinds ts (inr f) = (f.no_number, f.no_sum)
+
+-- an exponent by all its addends
+exponent_light : (e : Tree) → AllParts HasForm e → is_counted e ≡ true → AreLight (addends e) (2 * ((counts_of e).up + (counts_of e).down))
+unfolding is_number
+exponent_light (num q) f c = by (is_zero_fraction q) refl
+  where
+    by : (x : Bool) → is_zero_fraction q ≡ x → AreLight (addend (if x then [] else surd_of q) none ∷ []) (2 * ((multiple q.num (counts 1 0)).up + (multiple q.num (counts 1 0)).down))
+    by true e = record { terms = weighted [] 0 0 ∷ []; weighted_are = more_weighted 0 0 no_factor_held none_weighted; parts = (record { positive = omega arith; whole = tt }, tt); low = refl; high = omega arith }
+    by false e = record {
+      terms = weighted (surd_of q) 0 0 ∷ [];
+      weighted_are = more_weighted 0 0 no_factor_held none_weighted;
+      parts = (record { positive = omega arith; whole = (whole_parts q c, tt) }, tt);
+      low = refl;
+      high = omega (arith, term_light q c (no_zero q (ap (λ (b : Bool). not b) e)), multiple_counts q.num (counts 1 0));
+    }
+exponent_light (symbol x) f c = symbol_light x
+exponent_light (mult (more (num q) (more t none))) f c = by (is_number (mult (more (num q) (more t none)))) refl
+  where
+    m : IsMultiple q t
+    m = multiple_of q t f c
+
+    by : (x : Bool) → is_number (mult (more (num q) (more t none))) ≡ x → AreLight (addends (mult (more (num q) (more t none)))) (2 * ((counts_of (mult (more (num q) (more t none)))).up + (counts_of (mult (more (num q) (more t none)))).down))
+    by true n = clash (sym n ∙ ap (λ (u : Tree). is_number (mult (more (num q) (more u none)))) m.is)
+    by false n = subst (λ (xs : List Addend). AreLight xs (2 * ((counts_of (mult (more (num q) (more t none)))).up + (counts_of (mult (more (num q) (more t none)))).down)))
+        (sym (ap (λ (b : Bool). if b then addend (value (mult (more (num q) (more t none)))) none ∷ [] else addend_of (mult (more (num q) (more t none))) ∷ []) n))
+        (other_light (mult (more (num q) (more t none))) f n refl c)
+exponent_light (add ts) f c =
+    let k = sum_kinds ts f.0 in
+    let a = split_light ts f.1 k.0 k.1 c in
+    more_light {n = mass 1 (terms_of (number_terms ts))} {x = a.others}
+    (record {
+      terms = weighted (terms_of (number_terms ts)) 0 0 ∷ [];
+      weighted_are = more_weighted 0 0 no_factor_held none_weighted;
+      parts = (record { positive = omega arith; whole = a.whole }, tt);
+      low = refl;
+      high = omega arith;
+    })
+    a.light (omega (arith, a.high))
+exponent_light t f c = unclear c
+
+light_held : {xs : List Addend} {x : ℕ} (h : ℕ) → x ≤ 2 ^ h → (a : AreLight xs x) → AreHeld a.terms h 0
+light_held h l a = record {
+  denominator = 1;
+  positive = omega arith;
+  parts = a.parts;
+  low = omega (arith, ap (λ (n : ℕ). 2 ^ n) a.low);
+  scale = 1;
+  scale_positive = omega arith;
+  scaled = a.parts;
+  high = omega (arith, a.high, l);
+}
+
+-- one that counts at most 62 is held by few bits
+pub exponent_is_held : (e : Tree) → AllParts HasForm e → is_counted e ≡ true → (counts_of e).up + (counts_of e).down ≤ 62 → IsTreeHeld e 7 0
+exponent_is_held e f c l = let a = exponent_light e f c in sum_held a.terms a.weighted_are (light_held 7 (omega (arith, l)) a)

@@ -1,0 +1,217 @@
+-- A call inside of another one fits where few bits hold what the outer one was handed.
+use Rattle.std.proofs.Common.{◌≡◌, ℕ, zero, suc, ◌+◌, ◌*◌, ◌≤◌, inl, ℤ, pos, negsuc, Bool, true, false, ◌||◌, not, Some, Result, Ok, Err, refl, sym, ap, ◌∙◌, subst, arith}
+use Rattle.std.specs.Prelude.{IfErr, IsOk, nat_abs}
+use Rattle.std.proofs.lemmas.Bool.{and_parts}
+use Rattle.std.proofs.lemmas.Nat.{mul-le}
+use Rattle.calc_algebra.specs.Reduced.{is_reduced, is_half_num, is_whole_num}
+use Rattle.calc_terms.specs.Fractions.{whole_fraction, is_one_fraction}
+use Rattle.calc_terms.specs.Integers.{int_is_zero}
+use Rattle.power_reduce.proofs.Whole.{whole_is}
+use Rattle.calc_terms.proofs.FractionFacts.{whole_numerator}
+use Rattle.calc_terms.specs.Trees.{Tree, num, undef, power, root, Trees, none, more, append, is_mult, is_undef, has_undef}
+use Rattle.coefficients.proofs.Forms.{reduced_parts, parts_reduced}
+use Rattle.deep_reduce.specs.Bits.{HasFewBits}
+use Rattle.deep_reduce.specs.Rooms.{IsJoinedFrom, IsRewritten}
+use Rattle.deep_reduce.specs.Unfinished.{AreReducedPowers, IsLifted, IsMultiplied, IsProductOfPowers, IsSummed}
+use Rattle.deep_reduce.proofs.Heavy.{exponent_reduced}
+use Rattle.deep_reduce.proofs.HeldExponents.{some_counts, exponent_is_held, multiple_counts}
+use Rattle.deep_reduce.proofs.HeldFactors.{EachHeld, more_each, parts_each, tree_factor, factor_power, no_zero_exponent}
+use Rattle.deep_reduce.proofs.HeldJoints.{reduced_at, pair_exponents_held, pair_power_held}
+use Rattle.deep_reduce.proofs.JointBytes.{joining}
+use Rattle.deep_reduce.proofs.Settled.{exponent_is_reduced}
+use Rattle.product_reduce.specs.Joining.{exponent_of, joint}
+use Rattle.calc_algebra.specs.Reduced.{base_of}
+use Rattle.tree_bits.specs.Children.{IsSumHeld, addends_of_each}
+use Rattle.deep_reduce.proofs.HeldParts.{few_most, few_magnitude, part_fits}
+use Rattle.deep_reduce.proofs.HeldPowers.{half_of, half_bits, root_argument, power_raised, factor_counted, powers_held}
+use Rattle.deep_reduce.proofs.PowerBytes.{split_at}
+use Rattle.deep_reduce.proofs.Rewritten.{IsByWay, of_root, of_power, of_product, by_way}
+use Rattle.power_reduce.specs.Bits.{HasFewBitsRaised}
+use Rattle.power_reduce.specs.PowerAnswers.{base_in, exponent_in}
+use Rattle.power_reduce.specs.PowerSteps.{half, goes_inside, is_zero_or_one, parts_of, raised, rewritten, rewritten_whole}
+use Rattle.power_reduce.proofs.Exponents.{as_whole, whole_no_half}
+use Rattle.power_reduce.proofs.Rules.{chosen}
+use Rattle.product_reduce.specs.Bits.{IsFactorHeld, AreFactorsHeld, none_held, factor_held}
+use Rattle.tree_bits.specs.Exponents.{Counts, counts, multiple, counts_of, is_counted}
+use Rattle.tree_bits.specs.Powers.{raised_high, raised_low}
+use Rattle.tree_bits.proofs.Numbers.{exponents_within}
+use Rattle.tree_handles.specs.Expressions.{nth, children_of}
+use Rattle.tree_handles.specs.Faults.{OfOverflow}
+use Rattle.tree_handles.specs.declared.fault.NumberFault.{NumberFault}
+use Rattle.tree_handles.specs.declared.fault.NumberFault.TheVariants as fault
+
+clash : {A : Type 0} → true ≡ false → A
+clash e = absurd cc
+
+-- ---- products
+
+-- an operation overflows only where no factor is Undef
+pub product_fits : {A : Type 0} (us : Trees) (r : Result A NumberFault) → (has_undef us ≡ false → IfErr r (OfOverflow (λ o. ⊥))) → IfErr r (OfOverflow (λ o. has_undef us ≡ false)) → IfErr r (OfOverflow (λ o. ⊥))
+product_fits us r fits defined = by (has_undef us) refl r fits defined
+  where
+    fault_by : (f : NumberFault) → has_undef us ≡ true → OfOverflow (λ o. has_undef us ≡ false) f → OfOverflow (λ o. ⊥) f
+    fault_by (fault.Full full) e d = tt
+    fault_by (fault.Overflow o) e d = clash (sym e ∙ d)
+
+    by : {A : Type 0} (b : Bool) → has_undef us ≡ b → (r : Result A NumberFault) → (has_undef us ≡ false → IfErr r (OfOverflow (λ o. ⊥))) → IfErr r (OfOverflow (λ o. has_undef us ≡ false)) → IfErr r (OfOverflow (λ o. ⊥))
+    by false e r fits d = fits e
+    by true e (Ok x) fits d = tt
+    by true e (Err f) fits d = fault_by f e d
+
+-- the product of reduced powers
+pub powers_ready : (b e t v : Tree) (n : ℤ) (h l : ℕ) → is_mult t ≡ true → IsRewritten b e t → IsProductOfPowers (children_of t) v → e ≡ num (whole_fraction n) → IsFactorHeld b h l → has_undef (children_of v) ≡ false
+    → AreFactorsHeld (children_of v) (raised_high n h l) (raised_low n h l)
+powers_ready b e t v n h l m w p q f d = by (by_way b e t w)
+  where
+    by : IsByWay b e t → AreFactorsHeld (children_of v) (raised_high n h l) (raised_low n h l)
+    by (of_root x z i j k) = absurd (cc (sym m ∙ ap is_mult j))
+    by (of_power c g i j) = absurd (cc (sym m ∙ ap is_mult j))
+    by (of_product fs i j k) =
+        let a = subst (λ (x : Tree). AreReducedPowers (children_of x) p.factors) j p.are in
+        subst (λ (x : Tree). AreFactorsHeld (children_of x) (raised_high n h l) (raised_low n h l)) (sym p.is)
+        (powers_held n (parts_of fs) p.factors (sym (ap (λ (x : Tree). has_undef (children_of x)) p.is) ∙ d) (subst (λ (x : Tree). AreReducedPowers (raised (parts_of fs) x) p.factors) q a) (parts_each fs (sym (ap is_reduced i) ∙ w.base) k (subst (λ (x : Tree). IsFactorHeld x h l) i f)))
+
+-- one of the powers
+record IsEachAt (t : Tree) (h l : ℕ) : Type 0 where
+  p : ℕ
+  q : ℕ
+  held : IsFactorHeld t p q
+  high : p ≤ h
+  low : q ≤ l
+
+each_at : (before : Trees) (t : Tree) (rest : Trees) {h l : ℕ} → EachHeld (append before (more t rest)) h l → IsEachAt t h l
+each_at none t rest (more_each p q i j a b x y) = record { p = p; q = q; held = a; high = omega arith; low = omega arith }
+each_at (more u us) t rest (more_each p q i j a b x y) = let r = each_at us t rest b in record { p = r.p; q = r.q; held = r.held; high = omega (arith, r.high); low = omega (arith, r.low) }
+
+pub record IsPartFitting (x : Tree) (n : ℤ) : Type 0 where
+  pub p : ℕ
+  pub q : ℕ
+  pub exponent : exponent_in x ≡ num (whole_fraction n)
+  pub held : IsFactorHeld (base_in x) p q
+  pub few : HasFewBitsRaised n p q
+
+pub part_ready : (b e t x : Tree) (done rest : Trees) (n : ℤ) (h l : ℕ) → is_mult t ≡ true → IsRewritten b e t → children_of t ≡ append done (more x rest) → e ≡ num (whole_fraction n) → IsFactorHeld b h l → HasFewBitsRaised n h l → IsPartFitting x n
+part_ready b e t x done rest n h l m w s i f few = by (by_way b e t w)
+  where
+    by : IsByWay b e t → IsPartFitting x n
+    by (of_root d z u j k) = absurd (cc (sym m ∙ ap is_mult j))
+    by (of_power d g u j) = absurd (cc (sym m ∙ ap is_mult j))
+    by (of_product fs u j k) =
+        let q = split_at (parts_of fs) e done x rest (sym (ap children_of j) ∙ s) in
+        let each = parts_each fs (sym (ap is_reduced u) ∙ w.base) k (subst (λ (y : Tree). IsFactorHeld y h l) u f) in
+        let a = each_at q.first q.part q.last (subst (λ (ys : Trees). EachHeld ys h l) q.split each) in
+        record {
+          p = a.p;
+          q = a.q;
+          exponent = ap exponent_in q.is ∙ i;
+          held = subst (λ (y : Tree). IsFactorHeld (base_in y) a.p a.q) (sym q.is) a.held;
+          few = few_most n a.high a.low few;
+        }
+
+-- ---- powers
+
+pub power_fits : {A : Type 0} (b e t v : Tree) (n : ℤ) (h l : ℕ) (r : Result A NumberFault) → is_mult t ≡ false → IsRewritten b e t → IsLifted t v → e ≡ num (whole_fraction n) → IsFactorHeld b h l → HasFewBitsRaised n h l
+    → ((m : ℤ) (i j : ℕ) → exponent_in v ≡ num (whole_fraction m) → IsFactorHeld (base_in v) i j → HasFewBitsRaised m i j → IfErr r (OfOverflow (λ o. ⊥)))
+    → (is_whole_num (exponent_in v) ≡ false → is_half_num (exponent_in v) ≡ false → IsOk r) → IfErr r (OfOverflow (λ o. ⊥))
+power_fits b e t v n h l r m w lifted q f few bits others = by (by_way b e t w)
+  where
+    by : IsByWay b e t → IfErr r (OfOverflow (λ o. ⊥))
+    by (of_product fs i j k) = absurd (cc (sym m ∙ ap is_mult j))
+    by (of_root a z i j k) =
+        let same : v ≡ t = subst (λ (y : Tree). IsLifted y v) j lifted ∙ sym j in
+        let is : rewritten_whole (root a) (num (whole_fraction n)) ≡ Some t = ap (rewritten_whole (root a)) (sym q) ∙ sym (as_whole (root a) e (whole_no_half e w.whole)) ∙ ap (λ (y : Tree). rewritten y e) (sym i) ∙ w.is in
+        let to : v ≡ power a (num (whole_fraction (half n))) = same ∙ half_of a t (whole_fraction n) is ∙ ap (λ (y : ℤ). power a (num (whole_fraction (half y)))) (whole_numerator n) in
+        let x = half_bits n h l in
+        bits (half n) h l (ap exponent_in to) (subst (λ (y : Tree). IsFactorHeld y h l) (sym (ap base_in to)) (root_argument a k (subst (λ (y : Tree). IsFactorHeld y h l) i f))) (omega (arith, x.0, x.1, few))
+    by (of_power c g i j) =
+        let k : IsMultiplied c (more g (more e none)) v = subst (λ (y : Tree). IsLifted y v) j lifted in
+        let a = subst (λ (y : Tree). IsFactorHeld y h l) i f in
+        let counts = k.product.counts g n (ap (λ (y : Tree). more g (more y none)) q) (factor_counted c g a) in
+        part_fits c k.exponent r (raised_high n h l) (raised_low n h l) (power_raised c g k.exponent n counts a) few
+        (λ z x y u a few. bits z x y (ap exponent_in k.is ∙ u) (subst (λ (d : Tree). IsFactorHeld d x y) (sym (ap base_in k.is)) a) few)
+        (λ u y. others (ap (λ (y : Tree). is_whole_num (exponent_in y)) k.is ∙ u) (ap (λ (y : Tree). is_half_num (exponent_in y)) k.is ∙ y))
+
+-- ---- exponents
+
+inside : (c f e t : Tree) → IsRewritten (power c f) e t → goes_inside e ≡ true
+inside c f e t w = chosen _ _ t (λ u. goes_inside e ≡ true) (sym (as_whole (power c f) e (whole_no_half e w.whole)) ∙ w.is) (λ k. (and_parts _ _ k).0)
+
+zero_is_one : is_zero_or_one (num (whole_fraction (pos 0))) ≡ true
+zero_is_one = ap (λ (b : Bool). b || is_one_fraction (whole_fraction (pos 0))) (ap int_is_zero (whole_numerator (pos 0)))
+
+not_nothing : (n : ℤ) → is_zero_or_one (num (whole_fraction n)) ≡ false → 1 ≤ nat_abs n
+not_nothing (pos zero) h = clash (sym zero_is_one ∙ h)
+not_nothing (pos (suc n)) h = omega arith
+not_nothing (negsuc n) h = omega arith
+
+magnitude : (n : ℤ) → (multiple n (counts 1 0)).up + (multiple n (counts 1 0)).down ≡ nat_abs n
+magnitude n = omega (arith, multiple_counts n (counts 1 0))
+
+whole_held : (n : ℤ) → nat_abs n ≤ 62 → IsFactorHeld (num (whole_fraction n)) 7 0
+whole_held n k =
+    let c : counts_of (num (whole_fraction n)) ≡ multiple n (counts 1 0) = ap (λ (z : ℤ). multiple z (counts 1 0)) (whole_numerator n) in
+    tree_factor (num (whole_fraction n)) (parts_reduced (num (whole_fraction n)) (inl tt)) refl (exponent_is_held (num (whole_fraction n)) (inl tt) (whole_is n) (omega (arith, ap (λ (x : Counts). x.up + x.down) c, magnitude n, k)))
+
+counted_defined : (f : Tree) → is_counted f ≡ true → is_undef f ≡ false
+counted_defined f c = by f c
+  where
+    by : (f : Tree) → is_counted f ≡ true → is_undef f ≡ false
+    by undef c = absurd cc
+    by f c = refl
+
+few_both : (m u h : ℕ) → 1 ≤ m → 1 ≤ u → u ≤ h → m * h ≤ 62 → (m ≤ 62) × (u ≤ 62)
+few_both m u h a b c d =
+    let x : 1 * h ≤ m * h = mul-le 1 h m h a (omega arith) in
+    let y : m * 1 ≤ m * h = mul-le m 1 m h (omega arith) (omega arith) in
+    (omega (arith, y), omega (arith, x))
+
+is_false : (b : Bool) → not b ≡ true → b ≡ false
+is_false true h = cc
+is_false false h = refl
+
+no_one : (e : Tree) → goes_inside e ≡ true → is_zero_or_one e ≡ false
+no_one e g = is_false (is_zero_or_one e) (and_parts _ _ g).1
+
+two_exponents : (c f e t : Tree) (n : ℤ) (h l : ℕ) → is_reduced (power c f) ≡ true → IsRewritten (power c f) e t → e ≡ num (whole_fraction n) → IsFactorHeld (power c f) h l → HasFewBitsRaised n h l → AreFactorsHeld (more f (more e none)) 14 0
+two_exponents c f e t n h l r w q a few =
+    let k : is_counted f ≡ true = factor_counted c f a in
+    let d : is_undef f ≡ false = counted_defined f k in
+    let parts = reduced_parts f (exponent_reduced c f r) d in
+    let some = some_counts f parts k (no_zero_exponent c f (reduced_parts (power c f) r refl).0) in
+    let most = exponents_within {t = power c f} {ts = none} (factor_power c f a) in
+    let nonzero = not_nothing n (ap is_zero_or_one (sym q) ∙ no_one e (inside c f e t w)) in
+    let (x, y) = few_both (nat_abs n) ((counts_of f).up + (counts_of f).down) h nonzero some most (few_magnitude n h l few) in
+    factor_held 7 0 7 0 (tree_factor f (exponent_reduced c f r) d (exponent_is_held f parts k y)) (factor_held 7 0 0 0 (subst (λ (z : Tree). IsFactorHeld z 7 0) (sym q) (whole_held n x)) none_held (omega arith) (omega arith)) (omega arith) (omega arith)
+
+pub exponent_ready : (b e t x : Tree) (n : ℤ) (h l : ℕ) → is_mult t ≡ false → is_mult x ≡ true → x ≡ exponent_in t → IsRewritten b e t → e ≡ num (whole_fraction n) → IsFactorHeld b h l → HasFewBitsRaised n h l → AreFactorsHeld (children_of x) 14 0
+exponent_ready b e t x n h l m k is w q f few = by (by_way b e t w)
+  where
+    by : IsByWay b e t → AreFactorsHeld (children_of x) 14 0
+    by (of_root a z i j u) = absurd (cc (sym k ∙ ap is_mult (is ∙ ap exponent_in j)))
+    by (of_power c g i j) =
+        subst (λ (y : Tree). AreFactorsHeld (children_of y) 14 0) (sym (is ∙ ap exponent_in j))
+        (two_exponents c g e t n h l (sym (ap is_reduced i) ∙ w.base) (subst (λ (y : Tree). IsRewritten y e t) i w) q (subst (λ (y : Tree). IsFactorHeld y h l) i f) few)
+    by (of_product fs i j u) = absurd (cc (sym m ∙ ap is_mult j))
+
+-- ---- joints
+
+-- the exponents of the two, and the base to their sum
+module _ (at : ℕ) (ts us : Trees) (k : IsJoinedFrom at ts us) (x : Tree) (is : x ≡ nth at us) where
+  words : x ≡ joint (nth at ts) (nth (suc at) ts)
+  words = is ∙ (joining at ts us k).is
+
+  pub joint_exponents : (h l : ℕ) → AreFactorsHeld ts h l → HasFewBits h l → IsSumHeld (addends_of_each (children_of (exponent_in x))) 8 0
+  joint_exponents h l a few =
+      let w = k.pair.within in
+      subst (λ (y : Tree). IsSumHeld (addends_of_each (children_of (exponent_in y))) 8 0) (sym words)
+      (pair_exponents_held at ts us k.pair k.reduced k.is (exponent_is_reduced (nth at ts) (reduced_at at ts k.reduced (omega arith))) (exponent_is_reduced (nth (suc at) ts) (reduced_at (suc at) ts k.reduced (omega arith))) h l few a)
+
+  pub joint_fits : {A : Type 0} (v : Tree) (h l : ℕ) (r : Result A NumberFault) → IsSummed (base_in x) (children_of (exponent_in x)) v → AreFactorsHeld ts h l → HasFewBits h l
+      → ((m : ℤ) (i j : ℕ) → exponent_in v ≡ num (whole_fraction m) → IsFactorHeld (base_in v) i j → HasFewBitsRaised m i j → IfErr r (OfOverflow (λ o. ⊥)))
+      → (is_whole_num (exponent_in v) ≡ false → is_half_num (exponent_in v) ≡ false → IsOk r) → IfErr r (OfOverflow (λ o. ⊥))
+  joint_fits v h l r s a few bits others =
+      let t : IsSummed (base_of (nth at ts)) (more (exponent_of (nth at ts)) (more (exponent_of (nth (suc at) ts)) none)) v = subst (λ (y : Tree). IsSummed (base_in y) (children_of (exponent_in y)) v) words s in
+      let (p, q, i, j, held) = pair_power_held at ts us k.pair k.reduced k.is t.exponent t.counts h l a in
+      part_fits (base_of (nth at ts)) t.exponent r p q held (omega (arith, i, j, few))
+      (λ m c d e f g. bits m c d (ap exponent_in t.is ∙ e) (subst (λ (y : Tree). IsFactorHeld y c d) (sym (ap base_in t.is)) f) g)
+      (λ e f. others (ap (λ (y : Tree). is_whole_num (exponent_in y)) t.is ∙ e) (ap (λ (y : Tree). is_half_num (exponent_in y)) t.is ∙ f))

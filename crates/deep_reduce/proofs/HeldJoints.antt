@@ -1,0 +1,192 @@
+-- What holds factors holds them with two of one base joined, and the exponents of these are added within few bits.
+use Rattle.std.proofs.Common.{◌≡◌, ℕ, zero, suc, ◌+◌, ◌≤◌, ◌<◌, [], ◌∷◌, Bool, true, false, ◌&&◌, not, if◌then◌else◌, refl, sym, ap, ◌∙◌, subst, arith}
+use Rattle.std.proofs.lemmas.Bool.{and_parts, and_from}
+use Rattle.calc_algebra.specs.Numbers.{is_number}
+use Rattle.calc_algebra.specs.Reduced.{is_reduced, are_reduced, is_whole_num, is_opaque_exponent, num_one, base_of}
+use Rattle.calc_algebra.proofs.NumberLaws.{number_words}
+use Rattle.calc_measures.specs.Measures.{HighLow}
+use Rattle.calc_terms.specs.Trees.{Tree, undef, power, Trees, none, more, count, is_undef}
+use Rattle.coefficients.proofs.Forms.{reduced_parts}
+use Rattle.deep_reduce.specs.Answers.{IsReducedPower}
+use Rattle.deep_reduce.specs.Bits.{HasFewBits, AddsCounts, IsCountedWithin}
+use Rattle.deep_reduce.specs.Unfinished.{replaced}
+use Rattle.deep_reduce.proofs.HeldExponents.{exponent_is_held}
+use Rattle.deep_reduce.proofs.HeldFactors.{undef_factor, first_counted, part_high}
+use Rattle.deep_reduce.proofs.HeldParts.{part_answer}
+use Rattle.deep_reduce.proofs.Joints.{same_base}
+use Rattle.number_forms.specs.Sums.{removed}
+use Rattle.power_reduce.proofs.Whole.{whole_is}
+use Rattle.product_reduce.specs.Bits.{IsFactorHeld, AreFactorsHeld}
+use Rattle.product_reduce.specs.Joining.{exponent_of, is_partner, joint}
+use Rattle.product_reduce.specs.Neighbours.{IsPairAt, joined_pair}
+use Rattle.product_reduce.proofs.HeldPairs.{neighbours_held}
+use Rattle.product_reduce.proofs.Neighbours.{partners_of_pair}
+use Rattle.sum_reduce.proofs.CollectedExponents.{whole_number}
+use Rattle.tree_bits.specs.Children.{IsSumHeld, addends_of_each}
+use Rattle.tree_bits.specs.Exponents.{Counts, counts, counts_of, counts_of_all, is_counted}
+use Rattle.tree_bits.specs.HeldTrees.{IsPartHeld, factor_held}
+use Rattle.tree_bits.specs.HeldTrees as part
+use Rattle.tree_bits.specs.Joined.{IsJoint}
+use Rattle.tree_bits.proofs.Children.{trees_together}
+use Rattle.tree_bits.proofs.Joined.{factors_joined, factor_left_out}
+use Rattle.tree_bits.proofs.Numbers.{exponents_within}
+use Rattle.tree_bits.proofs.Sums.{one_counts}
+use Rattle.tree_handles.specs.Expressions.{nth, inserted}
+
+clash : {A : Type 0} → true ≡ false → A
+clash e = absurd cc
+
+-- ---- one factor
+
+-- an exponent that counts is transparent
+counted_transparent : (e : Tree) → is_counted e ≡ true → is_opaque_exponent e ≡ false
+counted_transparent e c = by (is_number e) refl
+  where
+    by : (b : Bool) → is_number e ≡ b → (b && not (is_whole_num e)) ≡ false
+    by false n = refl
+    by true n = let w = whole_number e (number_words e n) c in ap (λ (t : Tree). true && not (is_whole_num t)) w.is ∙ ap (λ (b : Bool). true && not b) (whole_is w.z)
+
+-- so it is that of the factor over its base
+base_same : (t : Tree) → is_counted (part.exponent_in t) ≡ true → base_of t ≡ part.base_in t
+base_same (power b e) c = ap (λ (x : Bool). if x then power b e else b) (counted_transparent e c)
+base_same t c = refl
+
+exponent_same : (t : Tree) → is_counted (part.exponent_in t) ≡ true → exponent_of t ≡ part.exponent_in t
+exponent_same (power b e) c = ap (λ (x : Bool). if x then num_one else e) (counted_transparent e c)
+exponent_same t c = refl
+
+some_high : (t : Tree) (ts : Trees) {h l : ℕ} → is_reduced t ≡ true → IsPartHeld (more t ts) h l → 1 ≤ h
+some_high t ts {h} {l} r a = by (is_undef t) refl
+  where
+    undef_is : (t : Tree) → is_undef t ≡ true → t ≡ undef
+    undef_is undef e = refl
+    undef_is t e = cc
+
+    by : (b : Bool) → is_undef t ≡ b → 1 ≤ h
+    by true e =
+        let one : counts_of num_one ≡ counts 1 0 = one_counts in
+        let k : counts_of (part.exponent_in t) ≡ counts 1 0 = ap (λ (u : Tree). counts_of (part.exponent_in u)) (undef_is t e) ∙ one in
+        omega (arith, ap (λ (c : Counts). c.up) k, exponents_within {t = t} {ts = ts} a)
+    by false e = part_high t ts (reduced_parts t r e) a
+
+-- ---- two factors
+
+counted_both : {t u : Tree} {h l : ℕ} → IsPartHeld (more t (more u none)) h l → (is_counted (part.exponent_in t) ≡ true) × (is_counted (part.exponent_in u) ≡ true)
+counted_both {t} {u} {h} {l} a = (first_counted a, first_counted (factor_left_out t (more u none) h l a))
+
+-- the base to the sum of their exponents
+joint_held : (t u g : Tree) {h l : ℕ} → is_partner t u ≡ true → AddsCounts (more (exponent_of t) (more (exponent_of u) none)) g → IsPartHeld (more t (more u none)) h l → IsPartHeld (more (power (base_of t) g) none) h l
+joint_held t u g {h} {l} p k a = factors_joined t u (power (base_of t) g) none h l j a
+  where
+    c : (is_counted (part.exponent_in t) ≡ true) × (is_counted (part.exponent_in u) ≡ true)
+    c = counted_both a
+
+    e : exponent_of t ≡ part.exponent_in t
+    e = exponent_same t c.0
+
+    f : exponent_of u ≡ part.exponent_in u
+    f = exponent_same u c.1
+
+    w : IsCountedWithin (counts_of_all (more (exponent_of t) (more (exponent_of u) none))) g
+    w = k (and_from _ _ (ap is_counted e ∙ c.0) (and_from _ _ (ap is_counted f ∙ c.1) refl))
+
+    j : IsJoint t u (power (base_of t) g)
+    j = record {
+      same = sym (base_same u c.1) ∙ sym (same_base t u p) ∙ base_same t c.0;
+      base = base_same t c.0;
+      counted = w.counted;
+      within = record {
+        up = omega (arith, w.within.up, ap (λ (x : Tree). (counts_of x).up) e, ap (λ (x : Tree). (counts_of x).up) f);
+        down = omega (arith, w.within.down, ap (λ (x : Tree). (counts_of x).down) e, ap (λ (x : Tree). (counts_of x).down) f);
+      };
+    }
+
+-- what is answered for it
+joint_answer : (t u g r : Tree) {h l : ℕ} → is_reduced t ≡ true → is_reduced (base_of t) ≡ true → is_reduced g ≡ true → is_partner t u ≡ true → AddsCounts (more (exponent_of t) (more (exponent_of u) none)) g → IsReducedPower (base_of t) g r
+    → IsPartHeld (more t (more u none)) h l → IsFactorHeld r h l
+joint_answer t u g r {h} {l} x y z p k a b = by (is_undef r) refl
+  where
+    undef_is : (t : Tree) → is_undef t ≡ true → t ≡ undef
+    undef_is undef e = refl
+    undef_is t e = cc
+
+    by : (d : Bool) → is_undef r ≡ d → IsFactorHeld r h l
+    by true e = subst (λ (v : Tree). IsFactorHeld v h l) (sym (undef_is r e)) (undef_factor (some_high t (more u none) x b))
+    by false e = part_answer (base_of t) g r y z a (joint_held t u g p k b) e
+
+-- the exponents together
+counted_defined : (e : Tree) → is_counted e ≡ true → is_undef e ≡ false
+counted_defined undef c = cc
+counted_defined e c = refl
+
+exponent_few : (e : Tree) → is_reduced e ≡ true → is_counted e ≡ true → (counts_of e).up + (counts_of e).down ≤ 62 → part.IsTreeHeld e 7 0
+exponent_few e r c l = exponent_is_held e (reduced_parts e r (counted_defined e c)) c l
+
+seven : HighLow
+seven = record { high = 7; low = 0 }
+
+exponents_held : (t u : Tree) {h l : ℕ} → is_reduced (exponent_of t) ≡ true → is_reduced (exponent_of u) ≡ true → h ≤ 62 → IsPartHeld (more t (more u none)) h l → IsSumHeld (addends_of_each (more (exponent_of t) (more (exponent_of u) none))) 8 0
+unfolding seven
+exponents_held t u {h} {l} x y m a =
+    let c = counted_both a in
+    let e = exponent_same t c.0 in
+    let f = exponent_same u c.1 in
+    let i = exponents_within {t = t} {ts = more u none} a in
+    let j = exponents_within {t = u} {ts = none} (factor_left_out t (more u none) h l a) in
+    let p : is_counted (exponent_of t) ≡ true = ap is_counted e ∙ c.0 in
+    let q : is_counted (exponent_of u) ≡ true = ap is_counted f ∙ c.1 in
+    trees_together (more (exponent_of t) (more (exponent_of u) none)) (seven ∷ seven ∷ []) 8 0 (
+      counted_defined (exponent_of t) p,
+      exponent_few (exponent_of t) x p (omega (arith, i, m, ap (λ (v : Tree). (counts_of v).up + (counts_of v).down) e)),
+      (counted_defined (exponent_of u) q, exponent_few (exponent_of u) y q (omega (arith, j, m, ap (λ (v : Tree). (counts_of v).up + (counts_of v).down) f)), tt),
+    ) (omega arith) (omega arith)
+
+-- ---- in their place
+
+replaced_inserted : (n : ℕ) (x r : Tree) (ts : Trees) → n ≤ count ts → replaced n r (inserted n (more x none) ts) ≡ inserted n (more r none) ts
+replaced_inserted zero x r ts l = refl
+replaced_inserted (suc n) x r none l = absurd (omega arith)
+replaced_inserted (suc n) x r (more t ts) l = ap (more t) (replaced_inserted n x r ts (omega arith))
+
+removed_count : (n : ℕ) (ts : Trees) → n < count ts → suc (count (removed n ts)) ≡ count ts
+removed_count n none l = absurd (omega arith)
+removed_count zero (more t ts) l = refl
+removed_count (suc n) (more t ts) l = ap suc (removed_count n ts (omega arith))
+
+pub reduced_at : (n : ℕ) (ts : Trees) → are_reduced ts ≡ true → n < count ts → is_reduced (nth n ts) ≡ true
+reduced_at n none r l = absurd (omega arith)
+reduced_at zero (more t ts) r l = (and_parts (is_reduced t) (are_reduced ts) r).0
+reduced_at (suc n) (more t ts) r l = reduced_at n ts (and_parts (is_reduced t) (are_reduced ts) r).1 (omega arith)
+
+module _ (at : ℕ) (ts us : Trees) (pair : IsPairAt at ts) (reduced : are_reduced ts ≡ true) (joined-is : us ≡ joined_pair at (suc at) ts) where
+  partners : is_partner (nth at ts) (nth (suc at) ts) ≡ true
+  partners = partners_of_pair (nth at ts) (nth (suc at) ts) pair.pair
+
+  pub first_reduced : is_reduced (nth at ts) ≡ true
+  first_reduced = let w = pair.within in reduced_at at ts reduced (omega arith)
+
+  in_place : (r : Tree) → inserted at (more r none) (removed at (removed (suc at) ts)) ≡ replaced at r us
+  in_place r =
+      let w = pair.within in
+      let m = removed_count (suc at) ts (omega arith) in
+      let n = removed_count at (removed (suc at) ts) (omega (arith, m)) in
+      sym (replaced_inserted at (joint (nth at ts) (nth (suc at) ts)) r (removed at (removed (suc at) ts)) (omega (arith, m, n))) ∙ ap (replaced at r) (sym joined-is)
+
+  pub settled_held : (g r : Tree) → is_reduced (base_of (nth at ts)) ≡ true → is_reduced g ≡ true → AddsCounts (more (exponent_of (nth at ts)) (more (exponent_of (nth (suc at) ts)) none)) g → IsReducedPower (base_of (nth at ts)) g r
+      → (h l : ℕ) → AreFactorsHeld ts h l → AreFactorsHeld (replaced at r us) h l
+  settled_held g r x y k a h l b =
+      let (p, q, i, j, c, f) = neighbours_held at ts h l pair reduced b in
+      subst (λ (vs : Trees). AreFactorsHeld vs h l) (in_place r) (f r (joint_answer (nth at ts) (nth (suc at) ts) g r first_reduced x y partners k a c))
+
+  -- the exponents, and the power of their sum
+  pub pair_exponents_held : is_reduced (exponent_of (nth at ts)) ≡ true → is_reduced (exponent_of (nth (suc at) ts)) ≡ true → (h l : ℕ) → HasFewBits h l → AreFactorsHeld ts h l
+      → IsSumHeld (addends_of_each (more (exponent_of (nth at ts)) (more (exponent_of (nth (suc at) ts)) none))) 8 0
+  pair_exponents_held x y h l m b =
+      let (p, q, i, j, c, f) = neighbours_held at ts h l pair reduced b in
+      exponents_held (nth at ts) (nth (suc at) ts) x y (omega (arith, m, i)) c
+
+  pub pair_power_held : (g : Tree) → AddsCounts (more (exponent_of (nth at ts)) (more (exponent_of (nth (suc at) ts)) none)) g → (h l : ℕ) → AreFactorsHeld ts h l
+      → (p q : ℕ) × (p ≤ h) × (q ≤ l) × IsPartHeld (more (power (base_of (nth at ts)) g) none) p q
+  pair_power_held g k h l b =
+      let (p, q, i, j, c, f) = neighbours_held at ts h l pair reduced b in
+      (p, q, i, j, joint_held (nth at ts) (nth (suc at) ts) g partners k c)

@@ -1,0 +1,125 @@
+-- Exponents that are written as a whole number or as half of an odd one are reduced to that number.
+use Rattle.std.proofs.Common.{◌≡◌, ℕ, zero, suc, ℤ, pos, neg_ℤ, ◌*ℤ◌, [], Bool, true, false, ◌&&◌, ◌==◌, not, if◌then◌else◌, Option, Some, None, refl, sym, ap, ◌∙◌, subst, arith}
+use Rattle.std.proofs.lemmas.Bool.{and_parts, eqb-true}
+use Rattle.std.proofs.lemmas.Int.{ints}
+use Rattle.calc_algebra.specs.Reduced.{is_half_num}
+use Rattle.calc_algebra.proofs.HalfLaws.{half_of, half_of_is}
+use Rattle.calc_measures.specs.Literals.{whole_literal, whole_value, half_literal, half_value, half_quotient, int_is_two, opposite}
+use Rattle.calc_measures.specs.PlainTrees.{IsPlainAnswer}
+use Rattle.calc_measures.specs.PlainValues.{PlainValue, exactly, undefined, overflow, nothing, calculated, plain_value, divided, gather, values, on_one}
+use Rattle.calc_terms.specs.Fits.{mul_op, result_of, operation_fits}
+use Rattle.calc_terms.specs.Fractions.{Fraction, lowest, times, negative, inverse, inverse_of, whole_fraction, lowest_parts, times_lowest}
+use Rattle.calc_terms.specs.Integers.{int_is_even, int_is_zero}
+use Rattle.calc_terms.specs.Trees.{Tree, num, neg, div}
+use Rattle.number_forms.specs.Readers.{numerator}
+use Rattle.rational128.proofs.Reciprocals.{negative_parts}
+
+chosen : (b : Bool) (m n : ℤ) → (if b then Some m else None) ≡ Some n → (b ≡ true) × (m ≡ n)
+chosen true m n e = (refl, value_in e)
+  where
+    value_in : Some m ≡ Some n → m ≡ n
+    value_in e = cc
+chosen false m n e = cc
+
+turned : (o : Option ℤ) (n : ℤ) → opposite o ≡ Some n → (m : ℤ) × (o ≡ Some m) × (neg_ℤ m ≡ n)
+turned (Some m) n e = (m, refl, value_in e)
+  where
+    value_in : Some (neg_ℤ m) ≡ Some n → neg_ℤ m ≡ n
+    value_in e = cc
+turned None n e = cc
+
+-- ---- whole numbers
+
+whole_of : (q : Fraction) → (q.den == 1) ≡ true → q ≡ whole_fraction q.num
+whole_of q h = lowest_parts q ∙ ap (lowest q.num) (eqb-true q.den 1 h)
+
+negative_whole : (q : Fraction) → (q.den == 1) ≡ true → negative q ≡ whole_fraction (neg_ℤ q.num)
+negative_whole q h =
+    let p = negative_parts q q.num q.den refl refl in
+    lowest_parts (negative q) ∙ (λ i. lowest (p.num i) (p.den i)) ∙ ap (lowest (neg_ℤ q.num)) (eqb-true q.den 1 h)
+
+pub whole_answer : (e f : Tree) (n : ℤ) → whole_literal e ≡ Some n → IsPlainAnswer (plain_value e) f → f ≡ num (whole_fraction n)
+whole_answer (num q) f n h a = let (w, i) = chosen (q.den == 1) q.num n h in a ∙ ap num (whole_of q w ∙ ap whole_fraction i)
+whole_answer (neg (num q)) f n h a =
+    let (m, o, i) = turned (whole_value q) n h in
+    let (w, j) = chosen (q.den == 1) q.num m o in
+    a ∙ ap num (negative_whole q w ∙ ap (λ (z : ℤ). whole_fraction (neg_ℤ z)) j ∙ ap whole_fraction i)
+whole_answer e f n h a = cc
+
+-- ---- halves
+
+-- v is n/2, or it overflows
+abbrev IsHalfOf : ℤ → PlainValue → Type 0
+IsHalfOf n (exactly q) = ((q.den == 2) ≡ true) × (q.num ≡ n)
+IsHalfOf n (overflow op a b) = Unit {0}
+IsHalfOf n v = ⊥
+
+is_two : (z : ℤ) → int_is_two z ≡ true → z ≡ pos 2
+is_two (pos (suc (suc zero))) h = refl
+is_two z h = cc
+
+is_false : (x : Bool) → not x ≡ true → x ≡ false
+is_false true h = cc
+is_false false h = refl
+
+one_times : (z : ℤ) → z *ℤ pos 1 ≡ z
+one_times z = omega (arith, ints)
+
+odd_half : (n d : Fraction) → n.den ≡ 1 → (o : int_is_even n.num ≡ false) → d.num ≡ pos 2 → d.den ≡ 1 → times n (inverse d) ≡ half_of n.num o
+odd_half n d e o f g =
+    let i : inverse d ≡ lowest (pos 1) 2 = ap (λ (z : ℤ). inverse_of z d.den) f ∙ ap (λ (m : ℕ). inverse_of (pos 2) m) g in
+    let w : n ≡ lowest n.num 1 = lowest_parts n ∙ ap (lowest n.num) e in
+    (λ z. times (w z) (i z)) ∙ times_lowest n.num (pos 1) 1 2 (omega arith) (omega arith) ∙ ap (λ (z : ℤ). lowest z 2) (one_times n.num) ∙ sym (half_of_is n.num o)
+
+half_words : (q : Fraction) (n : ℤ) (o : int_is_even n ≡ false) → q ≡ half_of n o → IsHalfOf n (exactly q)
+half_words q n o e = (ap (λ (x : Fraction). x.den == 2) e, ap (λ (x : Fraction). x.num) e)
+
+calculated_half : (n d : Fraction) → n.den ≡ 1 → int_is_even n.num ≡ false → d.num ≡ pos 2 → d.den ≡ 1 → IsHalfOf n.num (calculated mul_op n (inverse d))
+calculated_half n d e o f g = by (operation_fits mul_op n (inverse d))
+  where
+    by : (b : Bool) → IsHalfOf n.num (if b then exactly (result_of mul_op n (inverse d)) else overflow mul_op n (inverse d))
+    by true = half_words (result_of mul_op n (inverse d)) n.num o (odd_half n d e o f g)
+    by false = tt
+
+divided_half : (n d : Fraction) → n.den ≡ 1 → int_is_even n.num ≡ false → d.num ≡ pos 2 → d.den ≡ 1 → IsHalfOf n.num (divided n d)
+divided_half n d e o f g = subst (λ (b : Bool). IsHalfOf n.num (if b then undefined else calculated mul_op n (inverse d))) (sym (ap int_is_zero f)) (calculated_half n d e o f g)
+
+quotient_half : (n d : Fraction) → ((n.den == 1) && not (int_is_even n.num) && int_is_two d.num && (d.den == 1)) ≡ true → IsHalfOf n.num (divided n d)
+quotient_half n d h =
+    let (abc, z) = and_parts _ _ h in
+    let (ab, y) = and_parts _ _ abc in
+    let (a, b) = and_parts _ _ ab in
+    divided_half n d (eqb-true n.den 1 a) (is_false _ b) (is_two d.num y) (eqb-true d.den 1 z)
+
+negative_half : (q : Fraction) (n : ℤ) → IsHalfOf n (exactly q) → IsHalfOf (neg_ℤ n) (exactly (negative q))
+negative_half q n h = let p = negative_parts q q.num q.den refl refl in (ap (λ (m : ℕ). m == 2) p.den ∙ h.0, p.num ∙ ap neg_ℤ h.1)
+
+negated_half : (n : ℤ) (v : PlainValue) → IsHalfOf n v → IsHalfOf (neg_ℤ n) (on_one (λ q. exactly (negative q)) (gather v (values [])))
+negated_half n (exactly q) h = negative_half q n h
+negated_half n (overflow op a b) h = tt
+negated_half n undefined h = absurd h
+negated_half n nothing h = absurd h
+
+half_value_is : (e : Tree) (n : ℤ) → half_literal e ≡ Some n → IsHalfOf n (plain_value e)
+half_value_is (num q) n h = let (w, i) = chosen (q.den == 2) q.num n h in (w, i)
+half_value_is (div (num p) (num d)) n h =
+    let (w, i) = chosen ((p.den == 1) && not (int_is_even p.num) && int_is_two d.num && (d.den == 1)) p.num n h in
+    subst (λ (z : ℤ). IsHalfOf z (divided p d)) i (quotient_half p d w)
+half_value_is (neg (num q)) n h =
+    let (m, o, i) = turned (half_value q) n h in
+    let (w, j) = chosen (q.den == 2) q.num m o in
+    subst (λ (z : ℤ). IsHalfOf z (exactly (negative q))) i (negative_half q m (w, j))
+half_value_is (neg (div (num p) (num d))) n h =
+    let (m, o, i) = turned (half_quotient p d) n h in
+    let (w, j) = chosen ((p.den == 1) && not (int_is_even p.num) && int_is_two d.num && (d.den == 1)) p.num m o in
+    subst (λ (z : ℤ). IsHalfOf z (plain_value (neg (div (num p) (num d))))) i (negated_half m (divided p d) (subst (λ (z : ℤ). IsHalfOf z (divided p d)) j (quotient_half p d w)))
+half_value_is e n h = cc
+
+answer_half : (n : ℤ) (v : PlainValue) (r : Tree) → IsHalfOf n v → IsPlainAnswer v r → (is_half_num r ≡ true) × (numerator r ≡ n)
+answer_half n (exactly q) r h a = (ap is_half_num a ∙ h.0, ap numerator a ∙ h.1)
+answer_half n (overflow op x y) r h a = absurd a
+answer_half n undefined r h a = absurd h
+answer_half n nothing r h a = absurd h
+
+pub half_literal_answer : (e f : Tree) (n : ℤ) → half_literal e ≡ Some n → IsPlainAnswer (plain_value e) f → (is_half_num f ≡ true) × (numerator f ≡ n)
+half_literal_answer e f n h a = answer_half n (plain_value e) f (half_value_is e n h) a

@@ -1,0 +1,146 @@
+-- A power as a factor: what holds it holds its answer, and within few bits it fits.
+use Rattle.std.proofs.Common.{◌||◌, ◌≡◌, ℕ, suc, ◌+◌, ◌*◌, ◌≤◌, ℤ, pos, negsuc, Bool, true, false, ◌==◌, Option, Some, None, Result, Ok, Err, refl, sym, ap, ◌∙◌, subst, arith}
+use Rattle.std.specs.Prelude.{IfErr, IsOk, nat_abs}
+use Rattle.std.proofs.lemmas.Bool.{eqb-true}
+use Rattle.std.proofs.lemmas.Nat.{mul-le}
+use Rattle.calc_terms.specs.Fractions.{whole_fraction, lowest, lowest_parts}
+use Rattle.calc_terms.proofs.FractionFacts.{whole_numerator}
+use Rattle.calc_terms.specs.Trees.{Tree, num, undef, power, none, more, is_undef}
+use Rattle.calc_algebra.specs.Reduced.{is_reduced, is_half_num, is_whole_num}
+use Rattle.deep_reduce.specs.Answers.{IsReducedPower, lacks_power}
+use Rattle.deep_reduce.specs.Bits.{HasFewBits}
+use Rattle.deep_reduce.proofs.HeldFactors.{factor_wider, power_factor, base_factor}
+use Rattle.deep_reduce.proofs.Wholes.{is_rewritten}
+use Rattle.power_reduce.specs.Bits.{HasFewBitsRaised}
+use Rattle.power_reduce.specs.PowerAnswers.{has_number_power}
+use Rattle.power_reduce.specs.PowerSteps.{is_zero_or_one, rewritten}
+use Rattle.product_reduce.specs.Bits.{IsFactorHeld}
+use Rattle.tree_bits.specs.Exponents.{counts, multiple, counts_of, is_counted}
+use Rattle.tree_bits.specs.HeldTrees.{power_high, power_low, IsPartHeld, factor_held}
+use Rattle.tree_bits.specs.Powers.{raised_high, raised_low}
+use Rattle.tree_handles.specs.Faults.{OfOverflow}
+use Rattle.tree_handles.specs.declared.fault.NumberFault.{NumberFault}
+
+clash : {A : Type 0} → true ≡ false → A
+clash e = absurd cc
+
+or_fails : (a b : Bool) → (a || b) ≡ false → (a ≡ false) × (b ≡ false)
+or_fails true b h = cc
+or_fails false b h = (refl, h)
+
+-- ---- bits of powers
+
+times_most : (n p h : ℕ) → p ≤ h → n * p ≤ n * h
+times_most n p h l = mul-le n p n h (omega arith) l
+
+-- of fewer bits they are fewer
+pub raised_most : (n : ℤ) {p q h l : ℕ} → p ≤ h → q ≤ l → (raised_high n p q ≤ raised_high n h l) × (raised_low n p q ≤ raised_low n h l)
+raised_most (pos n) {p} {q} {h} {l} x y = (times_most n p h x, times_most n q l y)
+raised_most (negsuc n) {p} {q} {h} {l} x y = (times_most (suc n) (p + 2 * q) (h + 2 * l) (omega (arith, x, y)), times_most (suc n) (2 * p + 2 * q) (2 * h + 2 * l) (omega (arith, x, y)))
+
+pub few_most : (n : ℤ) {p q h l : ℕ} → p ≤ h → q ≤ l → HasFewBitsRaised n h l → HasFewBitsRaised n p q
+few_most n {p} {q} {h} {l} x y f = let r = raised_most n x y in omega (arith, r.0, r.1, f)
+
+-- of two together they add up
+pub raised_both : (n : ℤ) (p q k i : ℕ) → (raised_high n p q + raised_high n k i ≡ raised_high n (p + k) (q + i)) × (raised_low n p q + raised_low n k i ≡ raised_low n (p + k) (q + i))
+raised_both (pos n) p q k i = (omega arith, omega arith)
+raised_both (negsuc n) p q k i = (omega arith, omega arith)
+
+-- as a power counts them
+counted_bits : (n : ℤ) (h l : ℕ) → (power_high (counts_of (num (whole_fraction n))) h l ≡ raised_high n h l) × (power_low (counts_of (num (whole_fraction n))) h l ≡ raised_low n h l)
+counted_bits n h l = (ap (λ (z : ℤ). power_high (multiple z (counts 1 0)) h l) (whole_numerator n) ∙ by n, ap (λ (z : ℤ). power_low (multiple z (counts 1 0)) h l) (whole_numerator n) ∙ below n)
+  where
+    by : (n : ℤ) → power_high (multiple n (counts 1 0)) h l ≡ raised_high n h l
+    by (pos n) = omega arith
+    by (negsuc n) = omega arith
+
+    below : (n : ℤ) → power_low (multiple n (counts 1 0)) h l ≡ raised_low n h l
+    below (pos n) = omega arith
+    below (negsuc n) = omega arith
+
+-- a power of few bits is not a high one
+pub few_magnitude : (n : ℤ) (h l : ℕ) → HasFewBitsRaised n h l → nat_abs n * h ≤ 62
+few_magnitude (pos n) h l f = omega (arith, f)
+few_magnitude (negsuc n) h l f = let x : suc n * h ≤ suc n * (h + 2 * l) = times_most (suc n) h (h + 2 * l) (omega arith) in omega (arith, f, x)
+
+-- ---- a power as a part
+
+-- a whole exponent by its number
+pub record IsWholeExponent (e : Tree) : Type 0 where
+  pub n : ℤ
+  pub is : e ≡ num (whole_fraction n)
+
+pub whole_exponent : (e : Tree) → is_whole_num e ≡ true → IsWholeExponent e
+whole_exponent (num q) h = record { n = q.num; is = ap num (lowest_parts q ∙ ap (lowest q.num) (eqb-true q.den 1 h)) }
+whole_exponent e h = cc
+
+-- the base as a factor
+record IsBaseOfPart (c : Tree) (n : ℤ) (h l : ℕ) : Type 0 where
+  i : ℕ
+  j : ℕ
+  base : IsFactorHeld c i j
+  high : raised_high n i j ≤ h
+  low : raised_low n i j ≤ l
+
+base_of_part : (c p : Tree) (n : ℤ) {h l : ℕ} → p ≡ num (whole_fraction n) → IsPartHeld (more (power c p) none) h l → IsBaseOfPart c n h l
+base_of_part c p n {h} {l} e a = by (subst (λ (x : Tree). IsPartHeld (more (power c x) none) h l) e a)
+  where
+    by : IsPartHeld (more (power c (num (whole_fraction n))) none) h l → IsBaseOfPart c n h l
+    by (factor_held i j k m x b r y z) = let w = counted_bits n i j in record { i = i; j = j; base = base_factor c b; high = omega (arith, y, w.0); low = omega (arith, z, w.1) }
+
+pub counted_exponent : {c p : Tree} {h l : ℕ} → IsPartHeld (more (power c p) none) h l → is_counted p ≡ true
+counted_exponent (factor_held i j k m x b r y z) = x
+
+counted_no_half : (p : Tree) → is_counted p ≡ true → is_half_num p ≡ false
+counted_no_half (num q) c = ap (λ (n : ℕ). n == 2) (eqb-true q.den 1 c)
+counted_no_half p c = refl
+
+other_exponent : (p : Tree) → is_counted p ≡ true → is_whole_num p ≡ false → (is_zero_or_one p ≡ false) × ((c : Tree) → has_number_power c p ≡ false)
+other_exponent (num q) c w = clash (sym c ∙ w)
+other_exponent p c w = (refl, λ c. refl)
+
+not_rewritten : (c p : Tree) → is_reduced c ≡ true → is_reduced p ≡ true → is_counted p ≡ true → is_whole_num p ≡ false → rewritten c p ≡ None
+not_rewritten c p r s k w = by (rewritten c p) refl
+  where
+    by : (o : Option Tree) → rewritten c p ≡ o → o ≡ None
+    by None e = refl
+    by (Some u) e = clash (sym (is_rewritten c p u (counted_no_half p k) r s e).whole ∙ w)
+
+pub undef_is : (t : Tree) → is_undef t ≡ true → t ≡ undef
+undef_is undef h = refl
+undef_is t h = cc
+
+-- what holds the part holds its answer
+pub part_answer : (c p r : Tree) {h l : ℕ} → is_reduced c ≡ true → is_reduced p ≡ true → IsReducedPower c p r → IsPartHeld (more (power c p) none) h l → is_undef r ≡ false → IsFactorHeld r h l
+part_answer c p r {h} {l} x y a k d = by (is_whole_num p) refl
+  where
+    kept : (w : is_whole_num p ≡ false) → (b : Bool) → lacks_power c p ≡ b → IsFactorHeld r h l
+    kept w true e = clash (sym (ap is_undef (a.undefined e)) ∙ d)
+    kept w false e =
+        let o = other_exponent p (counted_exponent k) w in
+        subst (λ (t : Tree). IsFactorHeld t h l) (sym ((a.written e).kept (record { other = o.0; no_number = o.1 c; not_rewritten = not_rewritten c p x y (counted_exponent k) w })))
+        (power_factor c p k)
+
+    by : (b : Bool) → is_whole_num p ≡ b → IsFactorHeld r h l
+    by true w =
+        let z = whole_exponent p w in
+        let m = base_of_part c p z.n z.is k in
+        factor_wider r m.high m.low (a.held z.n z.is d m.i m.j m.base)
+    by false w = kept w (lacks_power c p) refl
+
+pub fine : {A : Type 0} (r : Result A NumberFault) → IsOk r → IfErr r (OfOverflow (λ o. ⊥))
+fine (Ok x) o = tt
+fine (Err e) o = absurd (let no : false ≡ true = o in cc)
+
+-- and of few bits the power fits
+pub part_fits : {A : Type 0} (c p : Tree) (r : Result A NumberFault) (h l : ℕ) → IsPartHeld (more (power c p) none) h l → HasFewBits h l
+    → ((n : ℤ) (i j : ℕ) → p ≡ num (whole_fraction n) → IsFactorHeld c i j → HasFewBitsRaised n i j → IfErr r (OfOverflow (λ o. ⊥)))
+    → (is_whole_num p ≡ false → is_half_num p ≡ false → IsOk r) → IfErr r (OfOverflow (λ o. ⊥))
+part_fits c p r h l k f bits others = by (is_whole_num p) refl
+  where
+    by : (b : Bool) → is_whole_num p ≡ b → IfErr r (OfOverflow (λ o. ⊥))
+    by true w =
+        let z = whole_exponent p w in
+        let m = base_of_part c p z.n z.is k in
+        bits z.n m.i m.j z.is m.base (omega (arith, m.high, m.low, f))
+    by false w = fine r (others w (counted_no_half p (counted_exponent k)))

@@ -1,0 +1,140 @@
+-- Powers are held by the bits of their bases, also those that are rewritten.
+use Rattle.std.proofs.Common.{neg_ℤ, ◌||◌, ◌≡◌, ℕ, zero, suc, ◌+◌, ◌*◌, ◌≤◌, inr, ℤ, pos, negsuc, Bool, true, false, not, Some, refl, sym, ap, ◌∙◌, subst, arith}
+use Rattle.std.specs.Prelude.{◌/◌}
+use Rattle.std.proofs.lemmas.Nat.{mul-le}
+use Rattle.calc_terms.specs.Fractions.{Fraction, whole_fraction}
+use Rattle.calc_terms.proofs.FractionFacts.{whole_numerator}
+use Rattle.calc_terms.specs.Trees.{Tree, num, mult, power, root, Trees, none, more, is_mult, is_undef, has_undef}
+use Rattle.calc_algebra.specs.Numbers.{is_number}
+use Rattle.calc_algebra.specs.Reduced.{is_reduced, num_one}
+use Rattle.deep_reduce.specs.Answers.{IsReducedProduct, IsReducedPower}
+use Rattle.deep_reduce.specs.Bits.{IsCountedWithin}
+use Rattle.deep_reduce.specs.Rooms.{IsRewritten}
+use Rattle.deep_reduce.specs.Unfinished.{AreReducedPowers, IsLifted, IsMultiplied, IsProductOfPowers}
+use Rattle.deep_reduce.proofs.Heavy.{base_reduced}
+use Rattle.deep_reduce.proofs.HeldFactors.{parts_each, factor_wider, factor_power, base_factor, EachHeld, more_each}
+use Rattle.deep_reduce.proofs.Rewritten.{IsByWay, of_root, of_power, of_product, by_way}
+use Rattle.power_reduce.specs.Bits.{IsHeldAsPowerOf}
+use Rattle.power_reduce.specs.PowerAnswers.{base_in, exponent_in}
+use Rattle.power_reduce.specs.PowerSteps.{half, parts_of, raised, rewritten_whole}
+use Rattle.power_reduce.proofs.Exponents.{as_whole, whole_no_half}
+use Rattle.power_reduce.proofs.Rules.{chosen}
+use Rattle.product_reduce.specs.Bits.{IsFactorHeld, AreFactorsHeld, none_held, factor_held as factors_held}
+use Rattle.tree_bits.specs.Exponents.{Counts, counts, multiple, counts_of, is_counted}
+use Rattle.tree_bits.specs.HeldTrees.{power_high, power_low, IsPartHeld, factor_held, IsBaseHeld, root_held, tree_held}
+use Rattle.tree_bits.specs.Powers.{IsFactorPower, raised_high, raised_low}
+use Rattle.product_reduce.proofs.HeldFactors.{single_part}
+use Rattle.tree_bits.proofs.Factors.{tree_as_base}
+use Rattle.tree_bits.proofs.Sums.{one_counts}
+use Rattle.tree_bits.proofs.Powers.{part_raised, part_turned}
+use Rattle.tree_handles.specs.Expressions.{children_of}
+use Rattle.deep_reduce.proofs.HeldParts.{raised_most, raised_both, counted_exponent, part_answer}
+
+clash : {A : Type 0} → true ≡ false → A
+clash e = absurd cc
+
+or_fails : (a b : Bool) → (a || b) ≡ false → (a ≡ false) × (b ≡ false)
+or_fails true b h = cc
+or_fails false b h = (refl, h)
+
+-- ---- even powers of roots
+
+pub half_of : (a t : Tree) (q : Fraction) → rewritten_whole (root a) (num q) ≡ Some t → t ≡ power a (num (whole_fraction (half q.num)))
+half_of a t q h = chosen _ _ t (λ (u : Tree). u ≡ power a (num (whole_fraction (half q.num)))) h (λ k. refl)
+
+pub half_bits : (n : ℤ) (h l : ℕ) → (raised_high (half n) h l ≤ raised_high n h l) × (raised_low (half n) h l ≤ raised_low n h l)
+half_bits (pos n) h l = (omega (arith, mul-le (n / 2) h n h (omega arith) (omega arith)), omega (arith, mul-le (n / 2) l n l (omega arith) (omega arith)))
+half_bits (negsuc n) h l = by (suc n / 2) (omega arith)
+  where
+    by : (m : ℕ) → m ≤ suc n → (raised_high (neg_ℤ (pos m)) h l ≤ suc n * (h + 2 * l)) × (raised_low (neg_ℤ (pos m)) h l ≤ suc n * (2 * h + 2 * l))
+    by zero k = (omega arith, omega arith)
+    by (suc m) k = (mul-le (suc m) (h + 2 * l) (suc n) (h + 2 * l) k (omega arith), mul-le (suc m) (2 * h + 2 * l) (suc n) (2 * h + 2 * l) k (omega arith))
+
+-- the argument of a root
+pub root_argument : (a : Tree) {h l : ℕ} → is_number (root a) ≡ false → IsFactorHeld (root a) h l → IsFactorHeld a h l
+root_argument a {h} {l} n k = by (single_part (root a) n refl k)
+  where
+    one : counts_of num_one ≡ counts 1 0
+    one = one_counts
+
+    of_base : {i j : ℕ} → IsBaseHeld (root a) i j → i ≤ h → j ≤ l → IsFactorHeld a h l
+    of_base {i} {j} (root_held o m t) x y = factor_wider a x y (base_factor a (tree_as_base a i j o t))
+    of_base (tree_held o m t) x y = clash (sym (ap not n) ∙ m)
+
+    by : IsPartHeld (more (root a) none) h l → IsFactorHeld a h l
+    by (factor_held i j p q x b r y z) = of_base b (omega (arith, y, ap (λ (c : Counts). power_high c i j) one)) (omega (arith, z, ap (λ (c : Counts). power_low c i j) one))
+
+root_way : (a r : Tree) (n : ℤ) → is_number (root a) ≡ false → IsHeldAsPowerOf (half n) a r → IsHeldAsPowerOf n (root a) r
+root_way a r n m k d h l f = let x = half_bits n h l in factor_wider r x.0 x.1 (k d h l (root_argument a m f))
+
+-- ---- powers of powers
+
+pub power_raised : (c f g : Tree) (n : ℤ) {h l : ℕ} → IsCountedWithin (multiple n (counts_of f)) g → IsFactorHeld (power c f) h l → IsPartHeld (more (power c g) none) (raised_high n h l) (raised_low n h l)
+power_raised c f g n {h} {l} w k = by n (record { base = refl; counted = w.counted; within = w.within })
+  where
+    by : (n : ℤ) → IsFactorPower n (power c f) (power c g) → IsPartHeld (more (power c g) none) (raised_high n h l) (raised_low n h l)
+    by (pos n) p = part_raised n (more (power c f) none) (more (power c g) none) h l (p, inr refl) (factor_power c f k)
+    by (negsuc n) p = part_turned n (more (power c f) none) (more (power c g) none) h l (p, inr refl) (factor_power c f k)
+
+pub factor_counted : (c f : Tree) {h l : ℕ} → IsFactorHeld (power c f) h l → is_counted f ≡ true
+factor_counted c f k = counted_exponent (factor_power c f k)
+
+power_way : (c f e g r : Tree) (n : ℤ) → is_reduced c ≡ true → e ≡ num (whole_fraction n) → IsReducedProduct (more f (more e none)) g → IsReducedPower c g r → IsHeldAsPowerOf n (power c f) r
+power_way c f e g r n x i p a d h l k =
+    let w = p.counts f n (ap (λ (y : Tree). more f (more y none)) i) (factor_counted c f k) in
+    part_answer c g r x p.reduces.reduced a (power_raised c f g n w k) d
+
+-- ---- powers of products
+
+module _ (n : ℤ) where
+  pub powers_held : (gs us : Trees) {h l : ℕ} → has_undef us ≡ false → AreReducedPowers (raised gs (num (whole_fraction n))) us → EachHeld gs h l → AreFactorsHeld us (raised_high n h l) (raised_low n h l)
+  powers_held none none d a k = none_held
+  powers_held none (more u us) d a k = absurd a
+  powers_held (more g gs) none d a k = absurd a
+  powers_held (more g gs) (more u us) {h} {l} d a (more_each p q i j f k x y) =
+      let (y0, y1) = or_fails (is_undef u) (has_undef us) d in
+      let s = raised_both n p q i j in
+      let m = raised_most n x y in
+      factors_held (raised_high n p q) (raised_low n p q) (raised_high n i j) (raised_low n i j) (a.0.held n refl y0 p q f) (powers_held gs us y1 a.1 k) (omega (arith, s.0, m.0)) (omega (arith, s.1, m.1))
+
+defined_factors : (us : Trees) (r : Tree) → IsReducedProduct us r → is_undef r ≡ false → has_undef us ≡ false
+defined_factors us r a d = by (has_undef us) refl
+  where
+    by : (b : Bool) → has_undef us ≡ b → b ≡ false
+    by false e = refl
+    by true e = clash (sym (ap is_undef (a.undefined e)) ∙ d)
+
+product_way : (fs us : Trees) (e r : Tree) (n : ℤ) → is_reduced (mult fs) ≡ true → is_number (mult fs) ≡ false → e ≡ num (whole_fraction n) → AreReducedPowers (raised (parts_of fs) e) us → IsReducedProduct us r → IsHeldAsPowerOf n (mult fs) r
+product_way fs us e r n x m i a p d h l k =
+    p.held d (raised_high n h l) (raised_low n h l) (powers_held n (parts_of fs) us (defined_factors us r p d) (subst (λ (y : Tree). AreReducedPowers (raised (parts_of fs) y) us) i a) (parts_each fs x m k))
+
+-- ---- what is answered for the tree
+
+pub product_holds : (t v r b e : Tree) (n : ℤ) → is_mult t ≡ true → IsProductOfPowers (children_of t) v → IsReducedProduct (children_of v) r → IsRewritten b e t → e ≡ num (whole_fraction n) → IsHeldAsPowerOf n b r
+product_holds t v r b e n m p a w q = by (by_way b e t w)
+  where
+    by : IsByWay b e t → IsHeldAsPowerOf n b r
+    by (of_root x z i j k) = absurd (cc (sym m ∙ ap is_mult j))
+    by (of_power c f i j) = absurd (cc (sym m ∙ ap is_mult j))
+    by (of_product fs i j k) =
+        subst (λ (x : Tree). IsHeldAsPowerOf n x r) (sym i)
+        (product_way fs p.factors e r n (sym (ap is_reduced i) ∙ w.base) k q (subst (λ (x : Tree). AreReducedPowers (children_of x) p.factors) j p.are) (subst (λ (x : Tree). IsReducedProduct (children_of x) r) p.is a))
+
+even_way : (a e t v r : Tree) (n : ℤ) → is_number (root a) ≡ false → IsRewritten (root a) e t → e ≡ num (whole_fraction n) → v ≡ t → IsReducedPower (base_in v) (exponent_in v) r → IsHeldAsPowerOf n (root a) r
+even_way a e t v r n k w q l p =
+    let i : rewritten_whole (root a) (num (whole_fraction n)) ≡ Some t = ap (rewritten_whole (root a)) (sym q) ∙ sym (as_whole (root a) e (whole_no_half e w.whole)) ∙ w.is in
+    let j : v ≡ power a (num (whole_fraction (half n))) = l ∙ half_of a t (whole_fraction n) i ∙ ap (λ (z : ℤ). power a (num (whole_fraction (half z)))) (whole_numerator n) in
+    root_way a r n k ((subst (λ (y : Tree). IsReducedPower (base_in y) (exponent_in y) r) j p).held (half n) refl)
+
+pub power_holds : (t v r b e : Tree) (n : ℤ) → is_mult t ≡ false → IsLifted t v → IsReducedPower (base_in v) (exponent_in v) r → IsRewritten b e t → e ≡ num (whole_fraction n) → IsHeldAsPowerOf n b r
+power_holds t v r b e n m l a w q = by (by_way b e t w)
+  where
+    by : IsByWay b e t → IsHeldAsPowerOf n b r
+    by (of_root x z i j k) =
+        let same : v ≡ t = subst (λ (y : Tree). IsLifted y v) j l ∙ sym j in
+        subst (λ (y : Tree). IsHeldAsPowerOf n y r) (sym i) (even_way x e t v r n k (subst (λ (y : Tree). IsRewritten y e t) i w) q same a)
+    by (of_power c f i j) =
+        let k : IsMultiplied c (more f (more e none)) v = subst (λ (y : Tree). IsLifted y v) j l in
+        subst (λ (y : Tree). IsHeldAsPowerOf n y r) (sym i)
+        (power_way c f e k.exponent r n (base_reduced c f (sym (ap is_reduced i) ∙ w.base)) q k.product (subst (λ (y : Tree). IsReducedPower (base_in y) (exponent_in y) r) k.is a))
+    by (of_product fs i j k) = absurd (cc (sym m ∙ ap is_mult j))

@@ -1,0 +1,178 @@
+-- Roots, and powers with half of an odd number as the exponent, are held by the bits of their bases.
+use Rattle.std.proofs.Common.{◌≡◌, ◌≢◌, ℕ, zero, suc, ◌*◌, ◌^◌, ◌≤◌, ◌<◌, [], ◌∷◌, length, ℤ, Bool, true, false, ◌&&◌, ◌==◌, Result, Ok, Err, refl, sym, ap, ◌∙◌, subst, arith}
+use Rattle.std.specs.Prelude.{IfOk}
+use Rattle.std.proofs.lemmas.Bool.{and_parts, eqb-true}
+use Rattle.std.proofs.lemmas.Nat.{mul-le}
+use Rattle.calc_terms.specs.Fractions.{Fraction, zero_fraction, whole_fraction}
+use Rattle.calc_terms.specs.Integers.{int_is_negative}
+use Rattle.calc_terms.specs.Trees.{Tree, num, undef, add, mult, root, none, more, is_num, is_undef}
+use Rattle.calc_algebra.specs.Numbers.{IsNumber, IsRadicand, is_number, value, natural_of, terms_of, term_of}
+use Rattle.calc_algebra.specs.Reduced.{is_reduced, is_half_num}
+use Rattle.calc_algebra.specs.Surds.{Term, Surd}
+use Rattle.calc_algebra.proofs.NumberClasses.{one_not_zero}
+use Rattle.calc_algebra.proofs.NumberLaws.{number_words, number_test}
+use Rattle.calc_bits.specs.Denominators.{Parts, magnitude_over}
+use Rattle.calc_bits.specs.Masses.{mass, IsHeld}
+use Rattle.calc_bits.proofs.Parts.{term_held}
+use Rattle.coefficients.proofs.Forms.{reduced_parts}
+use Rattle.calc_bits.specs.Bounds as few
+use Rattle.deep_reduce.specs.Bits.{HasFewBits, IsHeldAsRootPower}
+use Rattle.deep_reduce.proofs.HeldFactors.{tree_high, factor_tree}
+use Rattle.number_forms.specs.Readers.{numerator}
+use Rattle.power_reduce.specs.Bits.{IsHeldAsPowerOf}
+use Rattle.power_reduce.specs.PowerAnswers.{has_no_power, has_number_power, IsPowerAnswer}
+use Rattle.power_reduce.specs.Misfits.{IsPowerMisfit}
+use Rattle.power_reduce.proofs.Exponents.{whole_no_half}
+use Rattle.power_reduce.proofs.Whole.{whole_is}
+use Rattle.product_reduce.specs.Bits.{IsFactorHeld}
+use Rattle.product_reduce.proofs.HeldNumbers.{value_held, number_as_factor}
+use Rattle.radical_forms.specs.RootAnswers.{IfRational, IsRootAnswer, has_no_root}
+use Rattle.radical_forms.specs.Refusals.{HasWideRoot, IsOverflow}
+use Rattle.rational128.specs.declared.overflow.Overflow.{Overflow}
+use Rattle.tree_handles.specs.Faults.{OfOverflow}
+use Rattle.tree_handles.specs.declared.fault.NumberFault.{NumberFault}
+use Rattle.tree_handles.specs.declared.fault.NumberFault.TheVariants as fault
+use Rattle.surd_bits.specs.Rooted.{IsNoLargerThanRoot}
+use Rattle.surd_bits.proofs.Bounds.{magnitude_positive}
+use Rattle.tree_bits.proofs.Factors.{factor_is_held}
+use Rattle.tree_bits.proofs.Sums.{root_is_held}
+
+clash : {A : Type 0} → true ≡ false → A
+clash e = absurd cc
+
+-- ---- Numbers that no bits hold are rationals
+
+one_denominator : (d : ℕ) → 0 < d → d ≤ 2 ^ 0 → d ≡ 1
+one_denominator d o l = omega arith
+
+small_square : (m r : ℕ) → 0 < m → 2 ≤ r → m * m * r ≤ (1 * 2 ^ 0) * (1 * 2 ^ 0) → ⊥
+small_square m r o k l =
+    let a : 1 * 1 ≤ m * m = mul-le 1 1 m m o o in
+    let b : 1 * 2 ≤ (m * m) * r = mul-le 1 2 (m * m) r (omega (arith, a)) k in
+    omega (arith, b)
+
+term_without : (c : Fraction) (r : ℕ) (t : Term) → t.coefficient ≡ c → t.radicand ≡ r → c ≢ zero_fraction → 2 ≤ r → IsHeld (t ∷ []) 0 0 → ⊥
+term_without c r t i j z k a =
+    let one : a.denominator ≡ 1 = one_denominator a.denominator a.parts.positive a.low in
+    let p : Parts 1 (t ∷ []) = subst (λ (d : ℕ). Parts d (t ∷ [])) one a.parts in
+    let m : 0 < magnitude_over 1 t.coefficient = magnitude_positive t.coefficient 1 (λ e. z (sym i ∙ e)) (omega arith) p.whole.0 in
+    small_square (magnitude_over 1 t.coefficient) t.radicand m (omega (arith, k, j)) (term_held t 0 0 a 1 p)
+
+two_masses : (e : ℕ) (v : Surd) → 2 ≤ length v → 2 * e ≤ mass e v
+two_masses e [] l = absurd (omega arith)
+two_masses e (t ∷ []) l = absurd (omega arith)
+two_masses e (t ∷ (u ∷ v)) l = omega arith
+
+sum_without : (v : Surd) → 2 ≤ length v → IsHeld v 0 0 → ⊥
+sum_without v l a = omega (arith, two_masses a.scale v l, a.high, a.scaled.positive)
+
+radicand_two : (r : Fraction) → IsRadicand r → 2 ≤ natural_of r.num
+radicand_two r (w, n, i, l, c) = omega (arith, l, ap natural_of i)
+
+rational_number : (q : Fraction) → is_number (num q) ≡ true
+rational_number q = number_test (num q) tt
+
+rational_without : (b : Tree) → IsNumber b → IsHeld (value b) 0 0 → is_num b ≡ true
+rational_without (num q) n a = refl
+rational_without (add ts) n a = absurd (sum_without (terms_of ts) n.0 a)
+rational_without (root (num r)) n a = absurd (term_without (term_of (root (num r))).coefficient (term_of (root (num r))).radicand (term_of (root (num r))) refl refl one_not_zero (radicand_two r n) a)
+rational_without (mult (more (num q) (more (root (num r)) none))) n a = absurd (term_without q (term_of (mult (more (num q) (more (root (num r)) none)))).radicand (term_of (mult (more (num q) (more (root (num r)) none)))) refl refl n.0 (radicand_two r n.2) a)
+rational_without t n a = absurd n
+
+-- ---- roots
+
+root_no_number : (b : Tree) → is_num b ≡ false → is_number (root b) ≡ false
+unfolding is_number
+root_no_number (num q) n = cc
+root_no_number b n = refl
+
+some_high : (b : Tree) {h l : ℕ} → is_reduced b ≡ true → is_undef b ≡ false → is_num b ≡ false → (h ≡ 0 → l ≡ 0) → IsFactorHeld b h l → 1 ≤ h
+some_high b {h = suc h} r d n z a = omega arith
+some_high b {h = zero} {l = l} r d n z a = by (is_number b) refl
+  where
+    by : (x : Bool) → is_number b ≡ x → 1 ≤ 0
+    by true m = clash (sym (rational_without b (number_words b m) (subst (IsHeld (value b) 0) (z refl) (value_held b 0 l m a))) ∙ n)
+    by false m = tree_high b (reduced_parts b r d) m (factor_tree b a)
+
+has_root_defined : (b : Tree) → has_no_root b ≡ false → is_undef b ≡ false
+has_root_defined undef h = cc
+has_root_defined b h = refl
+
+pub root_answer_held : (b r : Tree) {h l : ℕ} → is_reduced b ≡ true → IsRootAnswer b r → IfRational b (λ q. int_is_negative q.num ≡ false → IsNoLargerThanRoot q (value r)) → (h ≡ 0 → l ≡ 0) → is_undef r ≡ false → IsFactorHeld b h l → IsFactorHeld r h l
+root_answer_held b r {h} {l} x k m z d a = by (is_num b) refl
+  where
+    none : has_no_root b ≡ false
+    none = sym k.undefined ∙ d
+
+    rational : (b : Tree) → is_num b ≡ true → has_no_root b ≡ false → IfRational b (λ q. int_is_negative q.num ≡ false → IsNoLargerThanRoot q (value r)) → IsFactorHeld b h l → is_number r ≡ true → IsFactorHeld r h l
+    rational (num q) n e m a i = number_as_factor r h l i ((m e).held h l (value_held (num q) h l (rational_number q) a))
+    rational b n e m a i = cc
+
+    by : (y : Bool) → is_num b ≡ y → IsFactorHeld r h l
+    by true n = rational b n none m a (k.number n none)
+    by false n =
+        let o = some_high b x (has_root_defined b none) n z a in
+        subst (λ (t : Tree). IsFactorHeld t h l) (sym (k.kept n none)) (factor_is_held (root b) h l refl o (root_is_held b h l (root_no_number b n) o (factor_tree b a)))
+
+-- ---- their powers
+
+undef_none : (r e : Tree) → is_undef r ≡ true → has_no_power r e ≡ true
+undef_none undef e h = refl
+undef_none r e h = cc
+
+pub half_held : (b e r u : Tree) → is_reduced b ≡ true → IsRootAnswer b r → IfRational b (λ q. int_is_negative q.num ≡ false → IsNoLargerThanRoot q (value r)) → IsPowerAnswer r (num (whole_fraction (numerator e))) u → IsHeldAsPowerOf (numerator e) r u
+    → IsHeldAsRootPower (numerator e) b u
+half_held b e r u x k m a p d h l z f = p d h l (root_answer_held b r x k m z (defined (is_undef r) refl) f)
+  where
+    defined : (y : Bool) → is_undef r ≡ y → is_undef r ≡ false
+    defined false i = i
+    defined true i = clash (sym (a.undefined ∙ undef_none r (num (whole_fraction (numerator e))) i) ∙ d)
+
+-- ---- faults
+
+pub half_no_whole : {A : Type 0} (e : Tree) (n : ℤ) → is_half_num e ≡ true → e ≡ num (whole_fraction n) → A
+half_no_whole e n h q = clash (sym h ∙ ap is_half_num q ∙ whole_no_half (num (whole_fraction n)) (whole_is n))
+
+no_fault : (f : NumberFault) (P : Overflow → Type 0) → ((o : Overflow) → P o → ⊥) → OfOverflow P f → OfOverflow (λ o. ⊥) f
+no_fault (fault.Full full) P never p = tt
+no_fault (fault.Overflow o) P never p = never o p
+
+half_no_number : (b e : Tree) → is_half_num e ≡ true → has_number_power b e ≡ true → ⊥
+half_no_number b (num q) h n = by q.den h (and_parts (is_number b) (q.den == 1) (and_parts (is_number b && q.den == 1) _ n).0).1
+  where
+    by : (d : ℕ) → (d == 2) ≡ true → (d == 1) ≡ true → ⊥
+    by d h k = absurd (omega (arith, eqb-true d 2 h, eqb-true d 1 k))
+half_no_number b e h n = cc
+
+-- half of an odd number is no whole power of a Number
+pub half_fits : (b e : Tree) (f : NumberFault) → is_half_num e ≡ true → OfOverflow (IsPowerMisfit b e) f → OfOverflow (λ o. ⊥) f
+half_fits b e f h m = no_fault f (IsPowerMisfit b e) (λ o p. half_no_number b e h p.number) m
+
+number_defined : (b e : Tree) → has_number_power b e ≡ true → is_undef b ≡ false
+number_defined undef (num q) n = absurd (undef_number (and_parts (is_number undef) (q.den == 1) (and_parts (is_number undef && q.den == 1) _ n).0).0)
+  where
+    undef_number : is_number undef ≡ true → ⊥
+    undef_number k = number_words undef k
+number_defined undef e n = cc
+number_defined b e n = refl
+
+-- Undef has no powers that overflow
+pub last_fits : (b e : Tree) (f : NumberFault) → (is_undef b ≡ false → OfOverflow (λ o. ⊥) f) → OfOverflow (IsPowerMisfit b e) f → OfOverflow (λ o. ⊥) f
+last_fits b e f fits m = by (is_undef b) refl
+  where
+    by : (x : Bool) → is_undef b ≡ x → OfOverflow (λ o. ⊥) f
+    by false d = fits d
+    by true d = no_fault f (IsPowerMisfit b e) (λ o p. clash (sym d ∙ number_defined b e p.number)) m
+
+-- only the root of a rational overflows
+pub root_fits : (a : Tree) (f : NumberFault) {h l : ℕ} → (few.HasFewBits (value a) → OfOverflow (λ o. ⊥) f) → (IsOverflow {A = ℕ} (Err f) → HasWideRoot a) → IsFactorHeld a h l → HasFewBits h l → OfOverflow (λ o. ⊥) f
+root_fits (num q) f {h} {l} fits wide a few = fits (record { high = h; low = l; held = value_held (num q) h l (rational_number q) a; few = few })
+root_fits b f fits wide a few = by f wide
+  where
+    by : (f : NumberFault) → (IsOverflow {A = ℕ} (Err f) → HasWideRoot b) → OfOverflow (λ o. ⊥) f
+    by (fault.Full full) w = tt
+    by (fault.Overflow o) w = w tt
+
+pub if_two : {E : Type 0} (r : Result ℕ E) (P Q R : ℕ → Type 0) → IfOk r P → IfOk r Q → ((h : ℕ) → P h → Q h → R h) → IfOk r R
+if_two (Ok h) P Q R p q f = f h p q
+if_two (Err e) P Q R p q f = tt

@@ -1,0 +1,207 @@
+-- How many bytes suffice where two factors of a product are joined and their joint is reduced.
+use Rattle.std.proofs.Common.{◌≡◌, ℕ, zero, suc, ◌+◌, ◌*◌, ◌^◌, ◌≤◌, ◌<◌, List, length, inl, inr, Bool, true, false, not, ◌&&◌, if◌then◌else◌, refl, sym, ap, ◌∙◌, subst, arith}
+use Rattle.std.specs.Prelude.{◌-◌, max}
+use Rattle.std.proofs.lemmas.Bool.{and_parts, eqb-true}
+use Rattle.std.proofs.lemmas.Nat.{pow_pos}
+use Rattle.calc_algebra.specs.Numbers.{is_number}
+use Rattle.calc_algebra.specs.Reduced.{is_reduced, are_reduced, is_opaque_exponent, is_whole_num, base_of}
+use Rattle.calc_algebra.proofs.NumberLaws.{number_words}
+use Rattle.calc_algebra.proofs.ReducedLaws.{reduced_words}
+use Rattle.calc_room.specs.Counts.{counted, counted_among}
+use Rattle.calc_room.specs.Spans.{SpansRoot, SpansTree, SpansTrees}
+use Rattle.calc_room.proofs.NumberBytes.{number_bytes}
+use Rattle.calc_room.proofs.NumberSpans.{value_spanned}
+use Rattle.calc_room.proofs.TreeBytes.{tree_bytes, counted_number, counted_other}
+use Rattle.calc_terms.specs.Trees.{Tree, num, mult, power, Trees, none, more, count, is_mult, size, sizes}
+use Rattle.coefficients.proofs.Forms.{reduced_parts}
+use Rattle.deep_reduce.specs.Rooms.{IsJoinedFrom, whole_power_room}
+use Rattle.deep_reduce.proofs.Calm.{all_nth, all_removed, all_base}
+use Rattle.deep_reduce.proofs.JointCounts.{joint_count, pair_joined_count, sizes_removed, numbers_one, numbers_other}
+use Rattle.deep_reduce.proofs.JointRooms.{joined_spans}
+use Rattle.deep_reduce.proofs.Settled.{IsJoint, joint_at, pair_joined}
+use Rattle.number_forms.specs.Sums.{removed}
+use Rattle.power_reduce.specs.PowerAnswers.{base_in}
+use Rattle.product_reduce.specs.Joining.{exponent_of, joint}
+use Rattle.product_reduce.specs.Neighbours.{is_single, joined_pair}
+use Rattle.tree_handles.specs.Expressions.{nth}
+use Rattle.tree_room.specs.Handed.{exponent_count, numbers_among, product_count, sum_count}
+use Rattle.tree_room.specs.Needs.{sum_room, product_room, power_room, product_power_room}
+use Rattle.tree_room.proofs.Counts.{counts_one}
+use Rattle.tree_room.proofs.Handed.{product_bytes}
+use Rattle.tree_room.proofs.Multiples.{scaled}
+use Rattle.tree_room.proofs.PowerCounts.{exponents_added}
+
+-- ---- the other factors
+
+module _ (gs : List ℕ) where
+  one_number : (t : Tree) → is_number t ≡ true → SpansTree gs t → size t + 48 ≤ 96 * 2 ^ length gs
+  one_number t h s = number_bytes gs t (number_words t h) (value_spanned gs t (number_words t h) s)
+
+  factors_bytes : (ts : Trees) → are_reduced ts ≡ true → SpansTrees gs ts → sizes ts + 48 * numbers_among ts ≤ 204 * counted_among ts * 2 ^ length gs + 96 * numbers_among ts * 2 ^ length gs
+  factors_bytes none h s = omega arith
+  factors_bytes (more t ts) h (s, ss) = by (is_number t) refl (factors_bytes ts parts.1 ss)
+    where
+      parts : (is_reduced t ≡ true) × (are_reduced ts ≡ true)
+      parts = and_parts (is_reduced t) (are_reduced ts) h
+
+      by : (z : Bool) → is_number t ≡ z → sizes ts + 48 * numbers_among ts ≤ 204 * counted_among ts * 2 ^ length gs + 96 * numbers_among ts * 2 ^ length gs
+          → sizes (more t ts) + 48 * numbers_among (more t ts) ≤ 204 * counted_among (more t ts) * 2 ^ length gs + 96 * numbers_among (more t ts) * 2 ^ length gs
+      by true e rest = rw (counted_number t ts e, numbers_one t ts e) (omega (arith, one_number t e s, rest))
+      by false e rest = rw (counted_other t ts e, numbers_other t ts e) (omega (arith, tree_bytes gs t (reduced_words t parts.0) s, rest))
+
+  -- with the node of their product
+  pub others_bytes : (ts : Trees) → are_reduced ts ≡ true → SpansTrees gs ts → size (mult ts) ≤ 204 * counted_among ts * 2 ^ length gs + 96 * (1 + max 1 (numbers_among ts - 1)) * 2 ^ length gs
+  others_bytes ts h s = by (numbers_among ts) refl
+    where
+      most : sizes ts + 48 * numbers_among ts ≤ 204 * counted_among ts * 2 ^ length gs + 96 * numbers_among ts * 2 ^ length gs
+      most = factors_bytes ts h s
+
+      by : (n : ℕ) → numbers_among ts ≡ n → size (mult ts) ≤ 204 * counted_among ts * 2 ^ length gs + 96 * (1 + max 1 (numbers_among ts - 1)) * 2 ^ length gs
+      by zero e = omega (arith, most, pow_pos (length gs), ap (λ (n : ℕ). n * 2 ^ length gs) e, scaled 1 (1 + max 1 (numbers_among ts - 1)) (2 ^ length gs) (omega arith))
+      by (suc n) e = omega (arith, most, scaled (numbers_among ts) (1 + max 1 (numbers_among ts - 1)) (2 ^ length gs) (omega arith))
+
+-- ---- the joint
+
+-- the two factors at a place and behind it, joined
+pub record IsJoining (at : ℕ) (ts us : Trees) : Type 0 where
+  pub within : at < count us
+  pub is : nth at us ≡ joint (nth at ts) (nth (suc at) ts)
+  pub base_reduced : is_reduced (base_of (nth at ts)) ≡ true
+  pub others : are_reduced (removed at us) ≡ true
+  pub count-is : 2 * counted (base_of (nth at ts)) + exponent_count (exponent_of (nth at ts)) + exponent_count (exponent_of (nth (suc at) ts)) + product_count (removed at us) ≤ product_count ts
+  pub apart : (is_mult (base_of (nth at ts)) && not (is_number (base_of (nth at ts)))) ≡ true → 1 ≤ exponent_count (exponent_of (nth at ts))
+
+-- of a power that is reduced only another exponent than a whole number stands over a product
+pub product_base : (b e : Tree) → is_reduced (power b e) ≡ true → is_mult b ≡ true → 1 ≤ exponent_count e
+product_base b (num q) r m = by (is_whole_num (num q)) refl
+  where
+    product_clash : is_mult b ≡ false → ⊥
+    product_clash h = cc
+
+    by : (z : Bool) → is_whole_num (num q) ≡ z → 1 ≤ (if z then 0 else 2)
+    by true h = elim (reduced_parts (power b (num q)) r refl).0 [ inl n ↦ absurd n | inr f ↦ absurd (product_clash (f.1 (eqb-true q.den 1 h)).no_product) ]
+    by false h = omega arith
+product_base b e r m = omega arith
+
+single_apart : (t : Tree) → is_reduced t ≡ true → is_mult t ≡ false → (is_mult (base_of t) && not (is_number (base_of t))) ≡ true → 1 ≤ exponent_count (exponent_of t)
+single_apart (power b e) r n h = by (is_opaque_exponent e) refl
+  where
+    by : (x : Bool) → is_opaque_exponent e ≡ x → 1 ≤ exponent_count (exponent_of (power b e))
+    by true o = absurd (cc (sym h ∙ ap (λ (x : Bool). is_mult (if x then power b e else b) && not (is_number (if x then power b e else b))) o))
+    by false o = rw o (product_base b e r (and_parts (is_mult b) (not (is_number b)) (sym (ap (λ (x : Bool). is_mult (if x then power b e else b) && not (is_number (if x then power b e else b))) o) ∙ h)).0)
+single_apart (mult ts) r n h = cc
+single_apart t r n h = cc
+
+is_false : (x : Bool) → not x ≡ true → x ≡ false
+is_false true h = cc
+is_false false h = refl
+
+reduced_at : (n : ℕ) (ts : Trees) → n < count ts → are_reduced ts ≡ true → is_reduced (nth n ts) ≡ true
+reduced_at n none l h = absurd (omega arith)
+reduced_at zero (more t ts) l h = (and_parts (is_reduced t) (are_reduced ts) h).0
+reduced_at (suc n) (more t ts) l h = reduced_at n ts (omega arith) (and_parts (is_reduced t) (are_reduced ts) h).1
+
+base_of_joint : (t : Tree) → IsJoint t → is_reduced (base_in t) ≡ true
+base_of_joint t j = ap (λ (x : Tree). is_reduced (base_in x)) j.is ∙ j.base_reduced
+
+pub joining : (at : ℕ) (ts us : Trees) → IsJoinedFrom at ts us → IsJoining at ts us
+joining at ts us j =
+    let p = pair_joined at ts (mult us) j.reduced j.pair (ap mult j.is ∙ ap (λ (n : ℕ). mult (joined_pair at n ts)) (omega arith)) in
+    let w = j.pair.within in
+    let (both, partner) = and_parts (is_single (nth at ts) && is_single (nth (suc at) ts)) _ j.pair.pair in
+    let (a, b) = and_parts (is_single (nth at ts)) (is_single (nth (suc at) ts)) both in
+    let first : is_reduced (nth at ts) ≡ true = reduced_at at ts (omega arith) j.reduced in
+    record {
+      within = p.joint.within;
+      is = p.joint-is;
+      base_reduced = sym (ap (λ (x : Tree). is_reduced (base_in x)) p.joint-is) ∙ base_of_joint (nth at us) (joint_at p.joint);
+      others = p.joint.others;
+      count-is = omega (arith, ap (λ (xs : Trees). joint_count (nth at xs) + product_count (removed at xs)) j.is, pair_joined_count at ts j.pair, ap joint_count p.joint-is);
+      apart = single_apart (nth at ts) first (is_false _ (and_parts _ _ a).1);
+    }
+
+-- ---- bytes at hand
+
+-- c counts in the base, to which the exponents add x and y, and r in the other factors, of which q are Numbers but one
+exponents_fit : (m c x y q r h z s w : ℕ) → 1 ≤ m → 1 ≤ c → 1 ≤ q → 2 * c + x + y + suc (q + r) ≤ h → z ≤ 3 + x + y → s ≤ 204 * r * m + 96 * (1 + q) * m → w ≤ 204 * c * m → 8 + w + sum_room z m + s ≤ product_room h m
+exponents_fit m c x y q r h z s w hm hc hq k l u v =
+    let all : (2 * c + x + y + suc (q + r)) * m ≤ h * m = scaled (2 * c + x + y + suc (q + r)) h m k in
+    let sum : z * m ≤ (3 + x + y) * m = scaled z (3 + x + y) m l in
+    let base : 1 * m ≤ c * m = scaled 1 c m hc in
+    let numbers : 1 * m ≤ q * m = scaled 1 q m hq in
+    omega (arith, all, sum, base, numbers)
+
+power_fits : (m c x y q r h s : ℕ) → 1 ≤ m → 1 ≤ c → 1 ≤ q → 2 * c + x + y + suc (q + r) ≤ h → s ≤ 204 * r * m + 96 * (1 + q) * m → power_room c m + s ≤ product_room h m
+power_fits m c x y q r h s hm hc hq k u =
+    let all : (2 * c + x + y + suc (q + r)) * m ≤ h * m = scaled (2 * c + x + y + suc (q + r)) h m k in
+    let base : 1 * m ≤ c * m = scaled 1 c m hc in
+    let numbers : 1 * m ≤ q * m = scaled 1 q m hq in
+    omega (arith, all, base, numbers)
+
+product_power_fits : (m c x y q r h s : ℕ) → 1 ≤ m → 1 ≤ c → 1 ≤ q → 1 ≤ x → 2 * c + x + y + suc (q + r) ≤ h → s ≤ 204 * r * m + 96 * (1 + q) * m → product_power_room c m + s ≤ product_room h m
+product_power_fits m c x y q r h s hm hc hq hx k u =
+    let all : (2 * c + x + y + suc (q + r)) * m ≤ h * m = scaled (2 * c + x + y + suc (q + r)) h m k in
+    let base : 1 * m ≤ c * m = scaled 1 c m hc in
+    let numbers : 1 * m ≤ q * m = scaled 1 q m hq in
+    let exponent : 1 * m ≤ x * m = scaled 1 x m hx in
+    omega (arith, all, base, numbers, exponent)
+
+joint_fits : (m p s : ℕ) → 1 ≤ m → s ≤ 204 * p * m → s + 96 ≤ product_room p m
+joint_fits m p s hm h = omega arith
+
+module _ (gs : List ℕ) (at : ℕ) (ts us : Trees) (k : IsJoinedFrom at ts us) (spans : SpansTrees gs ts) where
+  abbrev j : IsJoining at ts us
+  j = joining at ts us k
+
+  abbrev pub b : Tree
+  b = base_of (nth at ts)
+
+  abbrev pub others : Trees
+  others = removed at us
+
+  beside : size (mult others) ≤ 204 * counted_among others * 2 ^ length gs + 96 * (1 + max 1 (numbers_among others - 1)) * 2 ^ length gs
+  beside = others_bytes gs others j.others (all_removed (SpansRoot gs) at us (subst (SpansTrees gs) (sym k.is) (joined_spans gs at ts k.pair spans)))
+
+  base_bytes : size b ≤ 204 * counted b * 2 ^ length gs
+  base_bytes = tree_bytes gs b (reduced_words b j.base_reduced) (all_base (SpansRoot gs) (nth at ts) (all_nth (SpansRoot gs) at ts (let w = k.pair.within in omega arith) spans))
+
+  -- where the sum of the exponents finds no bytes
+  pub exponents_lack : (bytes : ℕ) → bytes < 8 + size b + sum_room (sum_count (more (exponent_of (nth at ts)) (more (exponent_of (nth (suc at) ts)) none))) (2 ^ length gs)
+      → bytes + size (mult others) < product_room (product_count ts) (2 ^ length gs)
+  exponents_lack bytes l =
+      let e : Tree = exponent_of (nth at ts) in
+      let f : Tree = exponent_of (nth (suc at) ts) in
+      omega (
+        arith,
+        l,
+        exponents_fit (2 ^ length gs) (counted b) (exponent_count e) (exponent_count f) (max 1 (numbers_among others - 1)) (counted_among others) (product_count ts) (sum_count (more e (more f none))) (size (mult others)) (size b)
+            (pow_pos (length gs)) (counts_one b) (omega arith) j.count-is (exponents_added e f) beside base_bytes,
+      )
+
+  -- where the power of that sum, which is whole, finds none
+  pub power_lacks : (bytes : ℕ) → bytes < whole_power_room b (2 ^ length gs) → bytes + size (mult others) < product_room (product_count ts) (2 ^ length gs)
+  power_lacks bytes l = by (is_mult b && not (is_number b)) refl l
+    where
+      by : (z : Bool) → (is_mult b && not (is_number b)) ≡ z → bytes < (if z then product_power_room (counted b) (2 ^ length gs) else power_room (counted b) (2 ^ length gs)) → bytes + size (mult others) < product_room (product_count ts) (2 ^ length gs)
+      by true e l =
+          omega (
+            arith,
+            l,
+            product_power_fits (2 ^ length gs) (counted b) (exponent_count (exponent_of (nth at ts))) (exponent_count (exponent_of (nth (suc at) ts))) (max 1 (numbers_among others - 1)) (counted_among others) (product_count ts) (size (mult others))
+                (pow_pos (length gs)) (counts_one b) (omega arith) (j.apart e) j.count-is beside,
+          )
+      by false e l =
+          omega (
+            arith,
+            l,
+            power_fits (2 ^ length gs) (counted b) (exponent_count (exponent_of (nth at ts))) (exponent_count (exponent_of (nth (suc at) ts))) (max 1 (numbers_among others - 1)) (counted_among others) (product_count ts) (size (mult others))
+                (pow_pos (length gs)) (counts_one b) (omega arith) j.count-is beside,
+          )
+
+  -- the bytes of the product are those of the joint and of the others
+  pub split_bytes : size (mult us) ≡ size (nth at us) + size (mult others)
+  split_bytes = omega (arith, sizes_removed at us j.within)
+
+-- where two factors cannot be joined
+pub joint_lacks : (gs : List ℕ) (ts : Trees) (free : ℕ) → are_reduced ts ≡ true → SpansTrees gs ts → free < 96 → free + size (mult ts) < product_room (product_count ts) (2 ^ length gs)
+joint_lacks gs ts free r s l = omega (arith, l, joint_fits (2 ^ length gs) (product_count ts) (size (mult ts)) (pow_pos (length gs)) (product_bytes gs ts r s))

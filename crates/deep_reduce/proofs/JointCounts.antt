@@ -1,0 +1,106 @@
+-- What counts in a product while two of its factors are joined and their joint is reduced, and how many bytes stand beside it.
+use Rattle.std.proofs.Common.{◌≡◌, ℕ, zero, suc, ◌+◌, ◌*◌, ◌≤◌, ◌<◌, Bool, true, false, not, ◌&&◌, if◌then◌else◌, refl, sym, ap, ◌∙◌, arith}
+use Rattle.std.proofs.lemmas.Bool.{and_parts}
+use Rattle.calc_algebra.specs.Numbers.{is_number}
+use Rattle.calc_algebra.specs.Reduced.{is_opaque_exponent, num_one, base_of}
+use Rattle.calc_room.specs.Counts.{counted, counted_among}
+use Rattle.calc_room.proofs.TreeBytes.{counted_number, counted_other}
+use Rattle.calc_terms.specs.Trees.{Tree, add, power, Trees, none, more, count, size, sizes}
+use Rattle.deep_reduce.specs.Unfinished.{replaced}
+use Rattle.deep_reduce.proofs.Calm.{one_whole}
+use Rattle.deep_reduce.proofs.Joints.{same_base}
+use Rattle.number_forms.specs.Sums.{removed}
+use Rattle.product_reduce.specs.Joining.{exponent_of, is_partner, joint}
+use Rattle.product_reduce.specs.Neighbours.{is_single, IsPairAt, joined_pair}
+use Rattle.tree_handles.specs.Expressions.{nth}
+use Rattle.tree_room.specs.Handed.{exponent_count, numbers_among, product_count}
+use Rattle.tree_room.proofs.Counts.{counts_one}
+use Rattle.tree_room.proofs.PowerCounts.{power_counts}
+
+-- ---- among factors
+
+pub numbers_one : (t : Tree) (ts : Trees) → is_number t ≡ true → numbers_among (more t ts) ≡ suc (numbers_among ts)
+numbers_one t ts h = omega (arith, ap (λ (z : Bool). (if z then 1 else 0) + numbers_among ts) h)
+
+pub numbers_other : (t : Tree) (ts : Trees) → is_number t ≡ false → numbers_among (more t ts) ≡ numbers_among ts
+numbers_other t ts h = omega (arith, ap (λ (z : Bool). (if z then 1 else 0) + numbers_among ts) h)
+
+-- a factor counts as its base and its exponent do
+pub factor_counts : (t : Tree) → counted (base_of t) + exponent_count (exponent_of t) ≡ counted t
+factor_counts (power b e) = by (is_opaque_exponent e)
+  where
+    by : (x : Bool) → counted (if x then power b e else b) + exponent_count (if x then num_one else e) ≡ counted (power b e)
+    by true = alone (power b e)
+      where
+        alone : (t : Tree) → counted t + exponent_count num_one ≡ counted t
+        alone t = rw one_whole (omega arith)
+    by false = sym (power_counts b e)
+factor_counts t = rw one_whole (omega arith)
+
+is_false : (x : Bool) → not x ≡ true → x ≡ false
+is_false true h = cc
+is_false false h = refl
+
+-- the joint of two powers of b, whose exponents are not yet added, counts what these counted
+abbrev pub joint_count : Tree → ℕ
+joint_count (power b (add (more e (more f none)))) = 2 * counted b + exponent_count e + exponent_count f
+joint_count t = counted t
+
+pub joint_counts : (t u : Tree) → is_partner t u ≡ true → joint_count (joint t u) ≡ counted t + counted u
+joint_counts t u h = omega (arith, factor_counts t, factor_counts u, ap counted (same_base t u h))
+
+-- ---- two neighbours joined
+
+-- what is left of ts beside the joint at a place, and the joint, count what ts counted
+pub record CountsJoined (n : ℕ) (ts us : Trees) : Type 0 where
+  pub numbers : numbers_among (removed n us) ≡ numbers_among ts
+  pub others : counted_among (removed n us) + joint_count (nth n us) ≡ counted_among ts
+
+pub pair_counts : (n : ℕ) (ts : Trees) → IsPairAt n ts → CountsJoined n ts (joined_pair n (suc n) ts)
+pair_counts n none p = absurd (let w = p.within in omega arith)
+pair_counts zero (more t none) p = absurd (let w = p.within in omega arith)
+pair_counts zero (more t (more u ts)) p =
+    let (both, partner) = and_parts (is_single t && is_single u) (is_partner t u) p.pair in
+    let (a, b) = and_parts (is_single t) (is_single u) both in
+    let first : is_number t ≡ false = is_false _ (and_parts _ _ a).0 in
+    let second : is_number u ≡ false = is_false _ (and_parts _ _ b).0 in
+    record {
+      numbers = sym (numbers_other t (more u ts) first ∙ numbers_other u ts second);
+      others = omega (arith, joint_counts t u partner, counted_other t (more u ts) first, counted_other u ts second);
+    }
+pair_counts (suc n) (more t ts) p =
+    let w = p.within in
+    let c = pair_counts n ts (record { within = omega arith; pair = p.pair }) in
+    record { numbers = omega (arith, c.numbers); others = omega (arith, c.others) }
+
+pub pair_joined_count : (n : ℕ) (ts : Trees) → IsPairAt n ts → (let us = joined_pair n (suc n) ts in joint_count (nth n us) + product_count (removed n us) ≤ product_count ts)
+pair_joined_count n ts p = let c = pair_counts n ts p in omega (arith, c.numbers, c.others)
+
+-- ---- another tree in its place
+
+pub record CountsReplaced (n : ℕ) (r : Tree) (us : Trees) : Type 0 where
+  pub product : product_count (replaced n r us) ≤ counted r + product_count (removed n us)
+  pub others : counted_among (replaced n r us) ≤ counted r + counted_among (removed n us)
+
+replaced_counts : (n : ℕ) (r : Tree) (us : Trees) → n < count us
+    → (numbers_among (replaced n r us) + counted_among (replaced n r us) ≤ counted r + (numbers_among (removed n us) + counted_among (removed n us)))
+    × (counted_among (replaced n r us) ≤ counted r + counted_among (removed n us))
+    × (numbers_among (removed n us) ≤ numbers_among (replaced n r us))
+replaced_counts n r none l = absurd (omega arith)
+replaced_counts zero r (more t ts) l = by (is_number r) refl
+  where
+    by : (z : Bool) → is_number r ≡ z → (numbers_among (more r ts) + counted_among (more r ts) ≤ counted r + (numbers_among ts + counted_among ts)) × (counted_among (more r ts) ≤ counted r + counted_among ts)
+        × (numbers_among ts ≤ numbers_among (more r ts))
+    by true e = (omega (arith, numbers_one r ts e, counted_number r ts e, counts_one r), omega (arith, counted_number r ts e), omega (arith, numbers_one r ts e))
+    by false e = (omega (arith, numbers_other r ts e, counted_other r ts e), omega (arith, counted_other r ts e), omega (arith, numbers_other r ts e))
+replaced_counts (suc n) r (more t ts) l = let (a, b, c) = replaced_counts n r ts (omega arith) in (omega (arith, a), omega (arith, b), omega (arith, c))
+
+pub replaced_count_is : (n : ℕ) (r : Tree) (us : Trees) → n < count us → CountsReplaced n r us
+replaced_count_is n r us l = let (a, b, c) = replaced_counts n r us l in record { product = omega (arith, a, b, c, counts_one r); others = b }
+
+-- ---- bytes
+
+pub sizes_removed : (n : ℕ) (ts : Trees) → n < count ts → sizes ts ≡ size (nth n ts) + sizes (removed n ts)
+sizes_removed n none l = absurd (omega arith)
+sizes_removed zero (more t ts) l = refl
+sizes_removed (suc n) (more t ts) l = omega (arith, sizes_removed n ts (omega arith))

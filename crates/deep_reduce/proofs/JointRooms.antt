@@ -1,0 +1,148 @@
+-- Two factors joined, and their joint reduced: what counts, what is calm and spanned, and how many bytes suffice.
+use Rattle.std.proofs.Common.{◌≡◌, ℕ, suc, ◌+◌, ◌*◌, ◌≤◌, ◌<◌, List, Bool, true, false, not, ◌&&◌, if◌then◌else◌, refl, sym, ap, subst, arith}
+use Rattle.calc_algebra.specs.Numbers.{is_number}
+use Rattle.calc_algebra.specs.Reduced.{is_whole_num}
+use Rattle.calc_algebra.proofs.NumberLaws.{number_test}
+use Rattle.calc_room.specs.Counts.{counted, counted_among}
+use Rattle.calc_room.specs.Powers.{HasPowersOf}
+use Rattle.calc_room.specs.Spans.{SpansRoot, SpansTree, SpansTrees}
+use Rattle.calc_terms.specs.Trees.{Tree, num, add, mult, power, Trees, none, more, count, is_mult}
+use Rattle.deep_reduce.specs.Rooms.{IsCalmAtZero, KeepsRoom, KeepsSumRoom, whole_power_count, power_count}
+use Rattle.deep_reduce.specs.Unfinished.{replaced, HandsOn}
+use Rattle.deep_reduce.proofs.Calm.{all_nth, all_replaced, all_base, all_exponent, all_joined, calm_children, calm_product, joint_calm, whole_kept, whole_of_number}
+use Rattle.deep_reduce.proofs.JointCounts.{joint_count, pair_counts, pair_joined_count, replaced_count_is}
+use Rattle.number_forms.specs.Sums.{removed}
+use Rattle.product_reduce.specs.Bits.{AreFactorsHeld}
+use Rattle.product_reduce.specs.Joining.{joint}
+use Rattle.product_reduce.specs.Neighbours.{IsPairAt, joined_pair}
+use Rattle.sum_reduce.specs.SumAnswers.{IsSumAnswer}
+use Rattle.tree_handles.specs.Expressions.{nth, children_of}
+use Rattle.tree_room.specs.Exponents.{HasCalmExponent, IsCalm, zeros}
+use Rattle.tree_room.specs.Handed.{exponent_count, numbers_among, product_count}
+use Rattle.tree_room.proofs.Calm.{parts_calm}
+use Rattle.tree_room.proofs.Counts.{counts_one}
+use Rattle.tree_room.proofs.PowerCounts.{joined}
+
+-- ---- from tree to tree
+
+pub keeps_next : {c : ℕ} (t u : Tree) {v : Tree} → KeepsRoom c t u → KeepsRoom (counted u) u v → KeepsRoom c t v
+keeps_next t u k l = record {
+  counts = λ ns c. omega (arith, k.counts ns c, l.counts ns (k.calm ns c));
+  calm = λ ns c. l.calm ns (k.calm ns c);
+  spanned = λ gs ns c s. l.spanned gs ns (k.calm ns c) (k.spanned gs ns c s);
+}
+
+pub hands_on_next : (ts us vs : Trees) → HandsOn ts us → HandsOn us vs → HandsOn ts vs
+hands_on_next ts us vs h k = record {
+  counts = λ ns c. omega (arith, h.counts ns c, k.counts ns (h.room.calm ns c));
+  room = keeps_next (mult ts) (mult us) h.room k.room;
+  held = λ m l a. k.held m l (h.held m l a);
+}
+
+calm_by_powers : {ns : List (List ℕ)} (ts : Trees) (t : Tree) → HasPowersOf ts t → IsCalmAtZero ns (mult ts) → IsCalmAtZero ns t
+calm_by_powers {ns} ts t h c = record { once = c.once; calm = parts_calm (zeros ns) ts t h (calm_children c) }
+
+pub sum_calm : {ns : List (List ℕ)} (ts : Trees) (t : Tree) → KeepsSumRoom ts t → IsCalmAtZero ns (add ts) → IsCalmAtZero ns t
+sum_calm {ns} ts t k c = record { once = c.once; calm = parts_calm (zeros ns) ts t k.powers c.calm.1 }
+
+-- what is answered at once for the factors, and what is gathered of them
+pub finished_keeps : (ts : Trees) (t : Tree) → counted t ≤ counted (mult ts) → HasPowersOf ts t → ((gs : List ℕ) → SpansTree gs (mult ts) → SpansTree gs t) → KeepsRoom (counted (mult ts)) (mult ts) t
+finished_keeps ts t l p s = record { counts = λ ns c. l; calm = λ ns c. calm_by_powers ts t p c; spanned = λ gs ns c h. s gs h }
+
+gathered_product : (ts us : Trees) → counted_among us ≤ counted_among ts → numbers_among us ≤ 2 → HasPowersOf ts (mult us) → ((gs : List ℕ) → SpansTree gs (mult ts) → SpansTree gs (mult us)) → ((h l : ℕ) → AreFactorsHeld ts h l → AreFactorsHeld us h l) → HandsOn ts us
+gathered_product ts us l n p s k = record { counts = λ ns c. omega (arith, l, n); room = finished_keeps ts (mult us) (omega (arith, l)) p s; held = k }
+
+pub gathered_hands_on : (ts : Trees) (u : Tree) → u ≡ mult (children_of u) → counted_among (children_of u) ≤ counted_among ts → numbers_among (children_of u) ≤ 2 → HasPowersOf ts u → ((gs : List ℕ) → SpansTree gs (mult ts) → SpansTree gs u)
+    → ((h l : ℕ) → AreFactorsHeld ts h l → AreFactorsHeld (children_of u) h l) → HandsOn ts (children_of u)
+gathered_hands_on ts u e l n p s k = gathered_product ts (children_of u) l n (subst (HasPowersOf ts) e p) (λ gs h. subst (SpansTree gs) e (s gs h)) k
+
+-- ---- the factors joined
+
+pub joined_calm : {ns : List (List ℕ)} (n : ℕ) (ts : Trees) → IsPairAt n ts → IsCalmAtZero ns (mult ts) → IsCalmAtZero ns (mult (joined_pair n (suc n) ts))
+joined_calm {ns} n ts p c = calm_product c.once (all_joined (HasCalmExponent (zeros ns)) n ts p (λ t u h k. joint_calm (zeros ns) t u h k) (calm_children c))
+
+joint_spans : (gs : List ℕ) (t u : Tree) → SpansTree gs t → SpansTree gs u → SpansTree gs (joint t u)
+joint_spans gs t u h k =
+    let P : Tree → Type 0 = SpansRoot gs in
+    (tt, all_base P t h, (tt, (all_exponent P t tt h, (all_exponent P u tt k, tt))))
+
+pub joined_spans : (gs : List ℕ) (n : ℕ) (ts : Trees) → IsPairAt n ts → SpansTrees gs ts → SpansTrees gs (joined_pair n (suc n) ts)
+joined_spans gs n ts p s = all_joined (SpansRoot gs) n ts p (joint_spans gs) s
+
+-- ---- the joint, with its exponents added
+
+pub sum_keeps : (u : Tree) (ts : Trees) (t : Tree) → u ≡ add ts → counted t ≤ 1 + counted_among (children_of u) → HasPowersOf (children_of u) t → ((gs : List ℕ) → SpansTree gs u → SpansTree gs t) → KeepsSumRoom ts t
+sum_keeps u ts t e l p s = record {
+  counts = omega (arith, l, ap (λ (x : Tree). counted_among (children_of x)) e);
+  powers = subst (λ (x : Tree). HasPowersOf (children_of x) t) e p;
+  spanned = λ gs h. s gs (subst (SpansTree gs) (sym e) (tt, h));
+}
+
+-- the sum of exponents that mean whole numbers does, and it is calm
+pub summed_calm : {ns : List (List ℕ)} (b e f g : Tree) → IsCalmAtZero ns (power b (add (more e (more f none)))) → IsSumAnswer (more e (more f none)) g → KeepsSumRoom (more e (more f none)) g → IsCalmAtZero ns (power b g)
+summed_calm {ns} b e f g c a k =
+    let (w, h, s) = c.calm in
+    record {
+      once = c.once;
+      calm = (whole_kept (zeros ns) (add (more e (more f none))) g c.once a.reduces.meanings w, h, parts_calm (zeros ns) (more e (more f none)) g k.powers s.1);
+    }
+
+pub summed_spans : (gs : List ℕ) (b e f g : Tree) → SpansTree gs (power b (add (more e (more f none)))) → KeepsSumRoom (more e (more f none)) g → SpansTree gs (power b g)
+summed_spans gs b e f g (q, h, s) k = (tt, h, k.spanned gs s.1)
+
+pub whole_numbers : (e : Tree) → is_whole_num e ≡ true → is_number e ≡ true
+whole_numbers (num q) h = number_test (num q) tt
+whole_numbers e h = cc
+
+-- whole exponents have a whole sum
+pub summed_whole : {ns : List (List ℕ)} (b e f g : Tree) → IsCalmAtZero ns (power b g) → IsSumAnswer (more e (more f none)) g → is_whole_num e ≡ true → is_whole_num f ≡ true → is_whole_num g ≡ true
+summed_whole {ns} b e f g c a h k = whole_of_number (zeros ns) g c.once (a.number (rw (whole_numbers e h, whole_numbers f k) refl)) c.calm.0
+
+pub whole_count_most : (b : Tree) → whole_power_count b ≤ 1 + counted b
+whole_count_most b = by (is_mult b && not (is_number b))
+  where
+    by : (z : Bool) → (if z then 1 + counted b else counted b) ≤ 1 + counted b
+    by true = omega arith
+    by false = omega arith
+
+-- the power of the sum counts no more than both powers
+pub summed_counts : {ns : List (List ℕ)} (b e f g : Tree) → IsCalmAtZero ns (power b g) → IsSumAnswer (more e (more f none)) g → KeepsSumRoom (more e (more f none)) g → power_count b g ≤ 2 * counted b + exponent_count e + exponent_count f
+summed_counts b e f g c a k = by (is_whole_num g)
+  where
+    by : (z : Bool) → (if z then whole_power_count b else counted (power b g)) ≤ 2 * counted b + exponent_count e + exponent_count f
+    by true = omega (arith, whole_count_most b, counts_one b)
+    by false = omega (arith, joined b e f g (summed_whole b e f g c a) k.counts)
+
+-- ---- the joint reduced in its place
+
+pub settled_hands_on : (at : ℕ) (ts us : Trees) (b e f g r : Tree) → IsPairAt at ts → us ≡ joined_pair at (suc at) ts → at < count us → nth at us ≡ power b (add (more e (more f none)))
+    → IsSumAnswer (more e (more f none)) g → KeepsSumRoom (more e (more f none)) g → KeepsRoom (power_count b g) (power b g) r
+    → ((h l : ℕ) → AreFactorsHeld ts h l → AreFactorsHeld (replaced at r us) h l) → HandsOn ts (replaced at r us)
+settled_hands_on at ts us b e f g r p w l is a k keeps holds = record {
+  counts = λ ns c. omega (arith, (replaced_count_is at r us l).product, ap (λ (xs : Trees). joint_count (nth at xs) + product_count (removed at xs)) w, pair_joined_count at ts p, fewer ns c);
+  room = record {
+    counts = λ ns c. omega (arith, (replaced_count_is at r us l).others, ap (λ (xs : Trees). counted_among (removed at xs) + joint_count (nth at xs)) w, (pair_counts at ts p).others, fewer ns c);
+    calm = λ ns c. calm_product c.once (all_replaced (HasCalmExponent (zeros ns)) at r us (keeps.calm ns (under ns c)).calm (calm_children (whole ns c)));
+    spanned = λ gs ns c s. (
+      tt,
+      all_replaced (SpansRoot gs) at r us
+          (keeps.spanned gs ns (under ns c) (summed_spans gs b e f g (subst (SpansTree gs) is (all_nth (SpansRoot gs) at us l (spans gs s.1))) k)) (spans gs s.1),
+    );
+  };
+  held = holds;
+}
+  where
+    whole : (ns : List (List ℕ)) → IsCalmAtZero ns (mult ts) → IsCalmAtZero ns (mult us)
+    whole ns c = subst (λ (xs : Trees). IsCalmAtZero ns (mult xs)) (sym w) (joined_calm at ts p c)
+
+    spans : (gs : List ℕ) → SpansTrees gs ts → SpansTrees gs us
+    spans gs s = subst (SpansTrees gs) (sym w) (joined_spans gs at ts p s)
+
+    there : (ns : List (List ℕ)) → IsCalmAtZero ns (mult ts) → IsCalmAtZero ns (power b (add (more e (more f none))))
+    there ns c = record { once = c.once; calm = subst (IsCalm (zeros ns)) is (all_nth (HasCalmExponent (zeros ns)) at us l (calm_children (whole ns c))) }
+
+    under : (ns : List (List ℕ)) → IsCalmAtZero ns (mult ts) → IsCalmAtZero ns (power b g)
+    under ns c = summed_calm b e f g (there ns c) a k
+
+    fewer : (ns : List (List ℕ)) → IsCalmAtZero ns (mult ts) → counted r ≤ joint_count (nth at us)
+    fewer ns c = omega (arith, keeps.counts ns (under ns c), summed_counts b e f g (under ns c) a k, ap joint_count is)

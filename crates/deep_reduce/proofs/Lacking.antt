@@ -1,0 +1,312 @@
+-- Where a call inside of another one finds no bytes, the outer one has fewer than it needs.
+use Rattle.std.proofs.Common.{◌≡◌, ℕ, ℤ, suc, ◌+◌, ◌^◌, ◌≤◌, ◌<◌, List, length, Bool, true, false, not, ◌&&◌, if◌then◌else◌, Result, Ok, Err, refl, sym, ap, ◌∙◌, subst, arith}
+use Rattle.std.specs.Prelude.{IfErr, IsOk}
+use Rattle.calc_algebra.specs.Numbers.{is_number}
+use Rattle.calc_algebra.specs.Reduced.{is_reduced, is_whole_num, is_half_num}
+use Rattle.calc_room.specs.Counts.{counted}
+use Rattle.calc_room.specs.Spans.{SpansRoot, SpansTree, SpansTrees}
+use Rattle.calc_terms.specs.Fractions.{whole_fraction}
+use Rattle.calc_terms.specs.Trees.{Tree, num, add, mult, power, root, Trees, none, more, append, is_mult, size, sizes}
+use Rattle.calc_terms.specs.declared.kind.Kind.TheVariants as kind
+use Rattle.coefficients.proofs.Bytes.{bytes_put}
+use Rattle.coefficients.proofs.Places.{IsOver}
+use Rattle.deep_reduce.specs.Answers.{IsReducedProduct}
+use Rattle.deep_reduce.specs.Rooms.{IsCalmAtZero, IsJoinedFrom, IsRewritten, whole_power_room}
+use Rattle.deep_reduce.specs.Unfinished.{HandsOn, IsSummed, AreReducedPowers, IsLifted, IsMultiplied, IsProductOfPowers}
+use Rattle.deep_reduce.proofs.Children.{IsPlaced}
+use Rattle.deep_reduce.proofs.Rows.{IsNext}
+use Rattle.deep_reduce.proofs.JointRooms.{joined_calm, joined_spans, summed_calm, summed_spans}
+use Rattle.deep_reduce.proofs.Calm.{all_nth, calm_exponent, calm_no_half, calm_product, calm_power}
+use Rattle.deep_reduce.proofs.JointBytes.{IsJoining, joining, exponents_lack as sum_lacks, power_lacks as joint_power_lacks, split_bytes}
+use Rattle.deep_reduce.proofs.PowerBytes.{argument_needs, inner_needs, exponents_lack, part_lacks, product_lacks, IsSplitAt, split_at, all_first, sizes_append}
+use Rattle.deep_reduce.proofs.Rewritten.{IsByWay, of_root, of_power, of_product, by_way, parts_calm, parts_single, powers_raised, exponents_calm, exponents_span, raised_calm}
+use Rattle.node_pool.specs.State.{State, free_of}
+use Rattle.number_forms.specs.Lacks.{LacksBelow}
+use Rattle.number_forms.proofs.Rooms.{full_as, refusal_as}
+use Rattle.power_reduce.specs.PowerAnswers.{base_in, exponent_in}
+use Rattle.power_reduce.specs.PowerSteps.{parts_of, raised}
+use Rattle.power_reduce.specs.Rooms.{LacksStep}
+use Rattle.power_reduce.proofs.Spanned.{parts_span}
+use Rattle.power_reduce.proofs.Whole.{whole_is}
+use Rattle.product_reduce.specs.Joining.{exponent_of, joint}
+use Rattle.calc_algebra.specs.Reduced.{base_of}
+use Rattle.tree_handles.specs.Expressions.{nth, children_of}
+use Rattle.tree_handles.specs.Forest.{Forest, empty, bytes_in, kids}
+use Rattle.tree_handles.specs.Roots.{root_tree, put}
+use Rattle.tree_handles.specs.Standing.{Stands, forest, KeepsRefusals}
+use Rattle.tree_handles.specs.declared.fault.NumberFault.{NumberFault}
+use Rattle.tree_handles.proofs.Places.{used_forest}
+use Rattle.tree_handles.proofs.Plains.{sizes-plains}
+use Rattle.tree_room.specs.Exponents.{HasCalmExponent, IsCalm, AreCalm, zeros}
+use Rattle.tree_room.specs.Handed.{product_count, sum_count}
+use Rattle.tree_room.specs.Needs.{sum_room, product_room, power_step_room, power_room, product_power_room}
+use Rattle.tree_room.proofs.Calm.{whole_number}
+use Rattle.tree_room.proofs.Multiples.{scaled}
+
+-- ---- refusals
+
+pub lacks_as : {n m a b : ℕ} (f : NumberFault) → LacksBelow n a f → (a < n → b < m) → LacksBelow m b f
+lacks_as f k h = full_as f k (λ full l. h l)
+
+pub result_lacks : {A : Type 0} {n m a b : ℕ} (r : Result A NumberFault) → IfErr r (LacksBelow n a) → (a < n → b < m) → IfErr r (LacksBelow m b)
+result_lacks r k h = refusal_as r k (λ f l. lacks_as f l h)
+
+-- a product by its children
+pub product_words : (t : Tree) → is_mult t ≡ true → t ≡ mult (children_of t)
+product_words (mult ts) h = refl
+product_words t h = cc
+
+-- a product that counts less needs less
+pub fewer_needs : (h k m : ℕ) → h ≤ k → product_room h m ≤ product_room k m
+fewer_needs h k m l = omega (arith, scaled h k m l)
+
+-- what is handed on in a product's place
+pub record IsHandedOn (gs : List ℕ) (ns : List (List ℕ)) (t u : Tree) : Type 0 where
+  pub calm : IsCalmAtZero ns u
+  pub spanned : SpansTree gs u
+  pub needs : product_room (product_count (children_of u)) (2 ^ length gs) ≤ product_room (product_count (children_of t)) (2 ^ length gs)
+
+pub handed_on : (t u : Tree) → is_mult t ≡ true → u ≡ mult (children_of u) → HandsOn (children_of t) (children_of u) → (gs : List ℕ) (ns : List (List ℕ)) → IsCalmAtZero ns t → SpansTree gs t → IsHandedOn gs ns t u
+handed_on t u m e h gs ns c s =
+    let w = product_words t m in
+    let k = subst (IsCalmAtZero ns) w c in
+    record {
+      calm = subst (IsCalmAtZero ns) (sym e) (h.room.calm ns k);
+      spanned = subst (SpansTree gs) (sym e) (h.room.spanned gs ns k (subst (SpansTree gs) w s));
+      needs = fewer_needs (product_count (children_of u)) (product_count (children_of t)) (2 ^ length gs) (h.counts ns k);
+    }
+
+-- ---- sums of exponents
+
+pub exponent_spans : (gs : List ℕ) (t : Tree) → t ≡ power (base_in t) (add (children_of (exponent_in t))) → SpansTree gs t → SpansTree gs (exponent_in t)
+exponent_spans gs (power b e) p s = s.2
+exponent_spans gs t p s = cc
+
+-- the exponent alone was handed on
+pub exponent_lacks : (gs : List ℕ) (t x : Tree) (free old : ℕ) (f : NumberFault) → t ≡ power (base_in t) (add (children_of (exponent_in t))) → x ≡ exponent_in t → free ≡ old
+    → LacksBelow (sum_room (sum_count (children_of x)) (2 ^ length gs)) (free + size x) f → LacksBelow (8 + size (base_in t) + sum_room (sum_count (children_of (exponent_in t))) (2 ^ length gs)) (old + size t) f
+exponent_lacks gs t x free old f p e same k =
+    lacks_as f (subst (λ (y : Tree). LacksBelow (sum_room (sum_count (children_of y)) (2 ^ length gs)) (free + size y) f) e k)
+    (λ l. omega (arith, l, same, ap size p, ap size (ap exponent_in p)))
+
+-- ---- joints
+
+module _ (gs : List ℕ) (at : ℕ) (ts us : Trees) (k : IsJoinedFrom at ts us) (s : SpansTrees gs ts) where
+  -- the joint x was handed on
+  pub joint_sum_lacks : (x : Tree) (free old : ℕ) → x ≡ nth at us → free ≡ old → free + size x < 8 + size (base_in x) + sum_room (sum_count (children_of (exponent_in x))) (2 ^ length gs) → old + size (mult us) < product_room (product_count ts) (2 ^ length gs)
+  joint_sum_lacks x free old e same l =
+      let j : IsJoining at ts us = joining at ts us k in
+      let is : x ≡ joint (nth at ts) (nth (suc at) ts) = e ∙ j.is in
+      omega (
+        arith,
+        sum_lacks gs at ts us k s (free + size x) (subst (λ (y : Tree). free + size x < 8 + size (base_in y) + sum_room (sum_count (children_of (exponent_in y))) (2 ^ length gs)) is l),
+        split_bytes gs at ts us k s,
+        ap size e,
+        same,
+      )
+
+  -- and then the power v of its base
+  pub joint_power_short : (x v : Tree) (free old : ℕ) → x ≡ nth at us → base_in v ≡ base_in x → free ≡ old + size x → free < whole_power_room (base_in v) (2 ^ length gs) → old + size (mult us) < product_room (product_count ts) (2 ^ length gs)
+  joint_power_short x v free old e b same l =
+      let j : IsJoining at ts us = joining at ts us k in
+      let base : base_in v ≡ base_of (nth at ts) = b ∙ ap base_in (e ∙ j.is) in
+      omega (arith, joint_power_lacks gs at ts us k s free (subst (λ (y : Tree). free < whole_power_room y (2 ^ length gs)) base l), split_bytes gs at ts us k s, ap size e, same)
+
+pub joint_at_spans : (gs : List ℕ) (at : ℕ) (ts us : Trees) → IsJoinedFrom at ts us → SpansTrees gs ts → SpansTree gs (nth at us)
+joint_at_spans gs at ts us k s = all_nth (SpansRoot gs) at us (joining at ts us k).within (subst (SpansTrees gs) (sym k.is) (joined_spans gs at ts k.pair s))
+
+-- the power whose exponent is the sum
+pub record IsReadyJoint (gs : List ℕ) (ns : List (List ℕ)) (v : Tree) : Type 0 where
+  pub is : v ≡ power (base_in v) (exponent_in v)
+  pub calm : IsCalmAtZero ns v
+  pub spanned : SpansTree gs v
+
+pub joint_ready : (gs : List ℕ) (ns : List (List ℕ)) (at : ℕ) (ts us : Trees) (v : Tree) → IsJoinedFrom at ts us → IsCalmAtZero ns (mult ts) → SpansTree gs (mult ts)
+    → IsSummed (base_in (nth at us)) (children_of (exponent_in (nth at us))) v → IsReadyJoint gs ns v
+joint_ready gs ns at ts us v k c s m =
+    let j : IsJoining at ts us = joining at ts us k in
+    let n : IsSummed (base_of (nth at ts)) (more (exponent_of (nth at ts)) (more (exponent_of (nth (suc at) ts)) none)) v = subst (λ (y : Tree). IsSummed (base_in y) (children_of (exponent_in y)) v) j.is m in
+    let calm = all_nth (HasCalmExponent (zeros ns)) at us j.within (subst (AreCalm (zeros ns)) (sym k.is) (joined_calm at ts k.pair c).calm.1) in
+    subst (IsReadyJoint gs ns) (sym n.is) (record {
+      is = refl;
+      calm = summed_calm _ _ _ n.exponent (record { once = c.once; calm = subst (IsCalm (zeros ns)) j.is calm }) n.sum n.room;
+      spanned = summed_spans gs _ _ _ n.exponent (subst (SpansTree gs) j.is (joint_at_spans gs at ts us k s.1)) n.room;
+    })
+
+-- ---- bytes of children
+
+pub placed_bytes : {n : ℕ} {ts : Trees} (p : IsPlaced n ts) → sizes ts ≡ size (nth n ts) + sizes (append p.before p.after)
+placed_bytes {n} {ts} p = omega (arith, ap sizes p.split, sizes_append p.before (more (nth n ts) p.after), sizes_append p.before p.after)
+
+pub next_bytes : {i at : ℕ} {ts : Trees} {old new : Forest} (n : IsNext i at ts old new) → sizes (append n.reduced (more n.t n.rest)) ≡ size n.t + sizes (append n.reduced n.rest)
+next_bytes n = omega (arith, sizes_append n.reduced (more n.t n.rest), sizes_append n.reduced n.rest)
+
+-- other children stand in a product
+pub part_free : {i : ℕ} {ts us : Trees} {s t : State} → Stands s → Stands t → KeepsRefusals s t → IsOver kind.Mult i ts (forest s) → put i empty (forest t) ≡ put i empty (forest s) → IsOver kind.Mult i us (forest t)
+    → free_of t + sizes us ≡ free_of s + sizes ts
+part_free {i} {s = s} {t = t} st su r o w p =
+    omega (
+      arith,
+      used_forest s st,
+      used_forest t su,
+      r.size,
+      st.pool.fits,
+      su.pool.fits,
+      ap bytes_in w,
+      bytes_put i empty (forest s) o.root,
+      bytes_put i empty (forest t) p.root,
+      sizes-plains (kids (root_tree i (forest s))) o.kids.whole,
+      ap sizes o.kids.plain_trees,
+      sizes-plains (kids (root_tree i (forest t))) p.kids.whole,
+      ap sizes p.kids.plain_trees,
+    )
+
+-- ---- whole powers
+
+-- a step needs less than the power
+pub step_lacks : (gs : List ℕ) (t : Tree) (free : ℕ) (f : NumberFault) → LacksStep gs t free f → LacksBelow (whole_power_room (base_in t) (2 ^ length gs)) (free + size t) f
+step_lacks gs t free f k = full_as f k (λ full l. by (is_mult (base_in t) && not (is_number (base_in t))) l)
+  where
+    by : (z : Bool) → free + size t < power_step_room (counted (base_in t)) (2 ^ length gs)
+        → free + size t < (if z then product_power_room (counted (base_in t)) (2 ^ length gs) else power_room (counted (base_in t)) (2 ^ length gs))
+    by true l = omega (arith, l)
+    by false l = omega (arith, l)
+
+-- a calm power that is refused is whole
+pub power_refused : {ns : List (List ℕ)} (n m : ℕ) (t : Tree) (f : NumberFault) → t ≡ power (base_in t) (exponent_in t) → IsCalmAtZero ns t → (is_whole_num (exponent_in t) ≡ true → LacksBelow n m f)
+    → (is_whole_num (exponent_in t) ≡ false → is_half_num (exponent_in t) ≡ false → false ≡ true) → LacksBelow n m f
+power_refused {ns} n m t f p c room others = by (is_whole_num (exponent_in t)) refl
+  where
+    by : (z : Bool) → is_whole_num (exponent_in t) ≡ z → LacksBelow n m f
+    by true w = room w
+    by false w = let no : false ≡ true = others w (calm_no_half (subst (IsCalmAtZero ns) p c)) in cc
+
+pub power_result : {ns : List (List ℕ)} {A : Type 0} (n m : ℕ) (t : Tree) (r : Result A NumberFault) → t ≡ power (base_in t) (exponent_in t) → IsCalmAtZero ns t → (is_whole_num (exponent_in t) ≡ true → IfErr r (LacksBelow n m))
+    → (is_whole_num (exponent_in t) ≡ false → is_half_num (exponent_in t) ≡ false → IsOk r) → IfErr r (LacksBelow n m)
+power_result n m t (Ok h) p c room others = tt
+power_result n m t (Err f) p c room others = power_refused n m t f p c room others
+
+-- ---- rewritten powers
+
+whole_spans : (gs : List ℕ) (e : Tree) → is_whole_num e ≡ true → SpansTree gs e
+whole_spans gs (num q) w = tt
+whole_spans gs e w = cc
+
+whole_calm : {ns : List (List ℕ)} {t : Tree} (e : Tree) → is_whole_num e ≡ true → IsCalmAtZero ns t → IsCalmAtZero ns e
+whole_calm (num q) w c = record { once = c.once; calm = tt }
+whole_calm e w c = cc
+
+-- what is handed on, and where bytes are lacking for it
+pub record IsReadyFor (gs : List ℕ) (ns : List (List ℕ)) (need own : ℕ) (v : Tree) : Type 0 where
+  pub calm : IsCalmAtZero ns v
+  pub spanned : SpansTree gs v
+  pub lacks : (bytes : ℕ) → bytes < need → bytes < own
+
+-- a product of powers
+pub ready_product : (gs : List ℕ) (ns : List (List ℕ)) (b e t v : Tree) → is_mult t ≡ true → IsRewritten b e t → IsCalmAtZero ns (power b e) → SpansTree gs (power b e) → IsProductOfPowers (children_of t) v
+    → IsReadyFor gs ns (product_room (product_count (children_of v)) (2 ^ length gs)) (whole_power_room b (2 ^ length gs)) v
+ready_product gs ns b e t v m w c s p = by (by_way b e t w)
+  where
+    of : (fs : Trees) → is_reduced (mult fs) ≡ true → is_number (mult fs) ≡ false → IsCalmAtZero ns (power (mult fs) e) → SpansTree gs (power (mult fs) e) → AreReducedPowers (raised (parts_of fs) e) p.factors
+        → IsReadyFor gs ns (product_room (product_count p.factors) (2 ^ length gs)) (whole_power_room (mult fs) (2 ^ length gs)) (mult p.factors)
+    of fs r n c s a =
+        let x = powers_raised ns (parts_of fs) e p.factors w.whole (calm_exponent c) (parts_calm (zeros ns) fs c.calm.1.1) (parts_single fs r n) a in
+        record {
+          calm = calm_product c.once x.calm;
+          spanned = (tt, x.spanned gs (parts_span gs fs s.1.1));
+          lacks = λ bytes l. product_lacks gs ns fs e r n w.whole c s.1.1 p.factors bytes a l;
+        }
+
+    by : IsByWay b e t → IsReadyFor gs ns (product_room (product_count (children_of v)) (2 ^ length gs)) (whole_power_room b (2 ^ length gs)) v
+    by (of_root a z i j n) = absurd (cc (sym m ∙ ap is_mult j))
+    by (of_power d f i j) = absurd (cc (sym m ∙ ap is_mult j))
+    by (of_product fs i j n) =
+        let here = of fs (sym (ap is_reduced i) ∙ w.base) n (subst (λ (x : Tree). IsCalmAtZero ns (power x e)) i c) (subst (λ (x : Tree). SpansTree gs (power x e)) i s) (subst (λ (x : Tree). AreReducedPowers (children_of x) p.factors) j p.are) in
+        subst (λ (x : Tree). IsReadyFor gs ns (product_room (product_count (children_of v)) (2 ^ length gs)) (whole_power_room x (2 ^ length gs)) v) (sym i)
+        (subst (λ (y : Tree). IsReadyFor gs ns (product_room (product_count (children_of y)) (2 ^ length gs)) (whole_power_room (mult fs) (2 ^ length gs)) y) (sym p.is) here)
+
+-- a power whose exponent is lifted
+pub ready_power : (gs : List ℕ) (ns : List (List ℕ)) (b e t v : Tree) → is_mult t ≡ false → IsRewritten b e t → IsCalmAtZero ns (power b e) → SpansTree gs (power b e) → IsLifted t v
+    → IsReadyFor gs ns (whole_power_room (base_in v) (2 ^ length gs)) (whole_power_room b (2 ^ length gs)) v
+ready_power gs ns b e t v m w c s l = by (by_way b e t w)
+  where
+    as_base : (x : Tree) → b ≡ x → IsReadyFor gs ns (whole_power_room (base_in v) (2 ^ length gs)) (whole_power_room x (2 ^ length gs)) v → IsReadyFor gs ns (whole_power_room (base_in v) (2 ^ length gs)) (whole_power_room b (2 ^ length gs)) v
+    as_base x i h = subst (λ (y : Tree). IsReadyFor gs ns (whole_power_room (base_in v) (2 ^ length gs)) (whole_power_room y (2 ^ length gs)) v) (sym i) h
+
+    as_tree : (x own : Tree) → v ≡ x → IsReadyFor gs ns (whole_power_room (base_in x) (2 ^ length gs)) (whole_power_room own (2 ^ length gs)) x → IsReadyFor gs ns (whole_power_room (base_in v) (2 ^ length gs)) (whole_power_room own (2 ^ length gs)) v
+    as_tree x own i h = subst (λ (y : Tree). IsReadyFor gs ns (whole_power_room (base_in y) (2 ^ length gs)) (whole_power_room own (2 ^ length gs)) y) (sym i) h
+
+    in_root : (a : Tree) (z : ℤ) → is_reduced (root a) ≡ true → is_number (root a) ≡ false → IsCalmAtZero ns (power (root a) e) → SpansTree gs (power (root a) e)
+        → IsReadyFor gs ns (whole_power_room a (2 ^ length gs)) (whole_power_room (root a) (2 ^ length gs)) (power a (num (whole_fraction z)))
+    in_root a z r n c s = record {
+      calm = calm_power (record { once = c.once; calm = c.calm.1.1 }) (record { once = c.once; calm = tt }) (whole_number (zeros ns) (num (whole_fraction z)) (whole_is z));
+      spanned = (tt, s.1.1, tt);
+      lacks = λ bytes l. omega (arith, l, argument_needs a (2 ^ length gs) r n);
+    }
+
+    in_power : (d f g : Tree) → is_reduced (power d f) ≡ true → IsCalmAtZero ns (power (power d f) e) → SpansTree gs (power (power d f) e) → IsReducedProduct (more f (more e none)) g
+        → IsReadyFor gs ns (whole_power_room d (2 ^ length gs)) (whole_power_room (power d f) (2 ^ length gs)) (power d g)
+    in_power d f g r c s a = record {
+      calm = raised_calm d f e g w.whole c a;
+      spanned = (tt, s.1.1, a.room.spanned gs ns (exponents_calm d f e w.whole c) (exponents_span gs d f e s));
+      lacks = λ bytes l. omega (arith, l, inner_needs d f (2 ^ length gs) r);
+    }
+
+    lifted : (d f : Tree) → b ≡ power d f → IsMultiplied d (more f (more e none)) v → IsReadyFor gs ns (whole_power_room (base_in v) (2 ^ length gs)) (whole_power_room (power d f) (2 ^ length gs)) v
+    lifted d f i x = as_tree (power d x.exponent) (power d f) x.is (in_power d f x.exponent (sym (ap is_reduced i) ∙ w.base) (subst (λ (y : Tree). IsCalmAtZero ns (power y e)) i c) (subst (λ (y : Tree). SpansTree gs (power y e)) i s) x.product)
+
+    by : IsByWay b e t → IsReadyFor gs ns (whole_power_room (base_in v) (2 ^ length gs)) (whole_power_room b (2 ^ length gs)) v
+    by (of_root a z i j n) =
+        as_base (root a) i (as_tree (power a (num (whole_fraction z))) (root a) (subst (λ (y : Tree). IsLifted y v) j l)
+        (in_root a z (sym (ap is_reduced i) ∙ w.base) n (subst (λ (y : Tree). IsCalmAtZero ns (power y e)) i c) (subst (λ (y : Tree). SpansTree gs (power y e)) i s)))
+    by (of_power d f i j) = as_base (power d f) i (lifted d f i (subst (λ (y : Tree). IsLifted y v) j l))
+    by (of_product fs i j n) = absurd (cc (sym m ∙ ap is_mult j))
+
+-- the exponent x of a power, a product of exponents
+pub ready_exponent : (gs : List ℕ) (ns : List (List ℕ)) (b e t x : Tree) → is_mult t ≡ false → is_mult x ≡ true → x ≡ exponent_in t → IsRewritten b e t → IsCalmAtZero ns (power b e) → SpansTree gs (power b e)
+    → IsCalmAtZero ns x × SpansTree gs x × ((bytes : ℕ) → bytes < product_room (product_count (children_of x)) (2 ^ length gs) → bytes + 8 + size (base_in t) < whole_power_room b (2 ^ length gs))
+ready_exponent gs ns b e t x m k h w c s = by (by_way b e t w)
+  where
+    Ready : Tree → Tree → Tree → Type 0
+    Ready y u d = IsCalmAtZero ns y × SpansTree gs y × ((bytes : ℕ) → bytes < product_room (product_count (children_of y)) (2 ^ length gs) → bytes + 8 + size (base_in u) < whole_power_room d (2 ^ length gs))
+
+    in_power : (d f : Tree) → is_reduced (power d f) ≡ true → IsCalmAtZero ns (power (power d f) e) → SpansTree gs (power (power d f) e) → Ready (mult (more f (more e none))) (power d (mult (more f (more e none)))) (power d f)
+    in_power d f r c s = (exponents_calm d f e w.whole c, exponents_span gs d f e s, λ bytes l. exponents_lack gs d f e bytes r w.whole s.1.1 l)
+
+    by : IsByWay b e t → Ready x t b
+    by (of_root a z i j n) = absurd (cc (sym k ∙ ap is_mult (h ∙ ap exponent_in j)))
+    by (of_power d f i j) =
+        subst (λ (y : Tree). Ready x t y) (sym i) (subst (λ (y : Tree). Ready x y (power d f)) (sym j) (subst (λ (y : Tree). Ready y (power d (mult (more f (more e none)))) (power d f)) (sym (h ∙ ap exponent_in j))
+        (in_power d f (sym (ap is_reduced i) ∙ w.base) (subst (λ (y : Tree). IsCalmAtZero ns (power y e)) i c) (subst (λ (y : Tree). SpansTree gs (power y e)) i s))))
+    by (of_product fs i j n) = absurd (cc (sym m ∙ ap is_mult j))
+
+-- the next power x of a product, the first of which are reduced
+pub record IsReadyPart (gs : List ℕ) (ns : List (List ℕ)) (b x : Tree) (others : Trees) : Type 0 where
+  pub calm : IsCalmAtZero ns x
+  pub spanned : SpansTree gs x
+  pub whole : is_whole_num (exponent_in x) ≡ true
+  pub lacks : (bytes : ℕ) → bytes < whole_power_room (base_in x) (2 ^ length gs) → bytes + size (mult others) < whole_power_room b (2 ^ length gs)
+
+pub ready_part : (gs : List ℕ) (ns : List (List ℕ)) (b e t x : Tree) (done rest reduced : Trees) → is_mult t ≡ true → IsRewritten b e t → IsCalmAtZero ns (power b e) → SpansTree gs (power b e)
+    → children_of t ≡ append done (more x rest) → AreReducedPowers done reduced → IsReadyPart gs ns b x (append reduced rest)
+ready_part gs ns b e t x done rest reduced m w c s p a = by (by_way b e t w)
+  where
+    part : (fs : Trees) → is_reduced (mult fs) ≡ true → is_number (mult fs) ≡ false → IsCalmAtZero ns (power (mult fs) e) → SpansTree gs (power (mult fs) e) → (q : IsSplitAt (parts_of fs) e done x rest)
+        → IsReadyPart gs ns (mult fs) (power q.part e) (append reduced (raised q.last e))
+    part fs r n c s q =
+        let calm = all_first (HasCalmExponent (zeros ns)) q.first (more q.part q.last) (subst (AreCalm (zeros ns)) q.split (parts_calm (zeros ns) fs c.calm.1.1)) in
+        let spanned = all_first (SpansRoot gs) q.first (more q.part q.last) (subst (SpansTrees gs) q.split (parts_span gs fs s.1.1)) in
+        record {
+          calm = calm_power (record { once = c.once; calm = calm.1.0 }) (calm_exponent c) (whole_number (zeros ns) e w.whole);
+          spanned = (tt, spanned.1.0, s.2);
+          whole = w.whole;
+          lacks = λ bytes l. part_lacks gs ns fs e r n w.whole c s.1.1 q.first q.part q.last reduced bytes q.split (subst (λ (y : Trees). AreReducedPowers y reduced) q.before-is a) l;
+        }
+
+    by : IsByWay b e t → IsReadyPart gs ns b x (append reduced rest)
+    by (of_root d z i j n) = absurd (cc (sym m ∙ ap is_mult j))
+    by (of_power d f i j) = absurd (cc (sym m ∙ ap is_mult j))
+    by (of_product fs i j n) =
+        let q = split_at (parts_of fs) e done x rest (sym (ap children_of j) ∙ p) in
+        subst (λ (y : Tree). IsReadyPart gs ns y x (append reduced rest)) (sym i) (subst (λ (y : Tree). IsReadyPart gs ns (mult fs) y (append reduced rest)) (sym q.is) (subst (λ (y : Trees). IsReadyPart gs ns (mult fs) (power q.part e) (append reduced y)) (sym q.rest-is)
+        (part fs (sym (ap is_reduced i) ∙ w.base) n (subst (λ (y : Tree). IsCalmAtZero ns (power y e)) i c) (subst (λ (y : Tree). SpansTree gs (power y e)) i s) q)))

@@ -1,0 +1,247 @@
+-- What holds a node over reduced children holds its answer.
+use Rattle.std.proofs.Common.{◌≡◌, ◌≢◌, ℕ, zero, suc, ◌+◌, ◌*◌, ◌^◌, ◌≤◌, [], ◌∷◌, ℤ, pos, negsuc, Bool, true, false, ◌||◌, if◌then◌else◌, Option, Some, None, Result, Ok, Err, refl, sym, ap, ◌∙◌, subst, arith}
+use Rattle.std.proofs.lemmas.Nat.{pow_pos, pow-add}
+use Rattle.std.proofs.Math.Nat.{pow-le-pow_right}
+use Rattle.std.specs.Prelude.{IfOk, IfErr, IsOk}
+use Rattle.calc_algebra.specs.Numbers.{is_number, value}
+use Rattle.calc_algebra.specs.Reduced.{is_half_num, is_whole_num, num_one}
+use Rattle.calc_algebra.specs.Surds.{Surd, surd_of}
+use Rattle.calc_algebra.proofs.NumberLaws.{number_test}
+use Rattle.calc_algebra.proofs.NumberClasses.{one_not_zero}
+use Rattle.calc_bits.specs.Masses.{IsHeld}
+use Rattle.calc_measures.specs.Measures.{HighLow}
+use Rattle.calc_terms.specs.Fractions.{Fraction, zero_fraction, one_fraction, minus_one_fraction, whole_fraction, is_zero_fraction}
+use Rattle.calc_terms.specs.Integers.{int_is_zero}
+use Rattle.calc_terms.proofs.FractionFacts.{zero_test, whole_numerator}
+use Rattle.calc_terms.specs.Trees.{Tree, num, symbol, undef, add, mult, power, root, neg, sub, div, Trees, none, more, is_num, is_add, is_mult, is_root, is_sub, is_div, is_undef, has_undef}
+use Rattle.deep_reduce.specs.Answers.{IsReducedPower, lacks_power}
+use Rattle.deep_reduce.specs.Bits.{HasFewBits}
+use Rattle.deep_reduce.specs.Leaves.{is_leaf}
+use Rattle.deep_reduce.specs.NodeBits.{HoldsPower, holds_whole, holds_half, holds_kept, HoldsDifference, HoldsQuotient, HoldsNode}
+use Rattle.deep_reduce.specs.Nodes.{IsNodeOverflow, is_neg}
+use Rattle.deep_reduce.proofs.HeldFactors.{factor_wider, factor_tree}
+use Rattle.deep_reduce.proofs.HeldParts.{fine}
+use Rattle.deep_reduce.proofs.HeldRoots.{root_fits}
+use Rattle.deep_reduce.proofs.Wholes.{whole_rewriting}
+use Rattle.number_forms.specs.Readers.{numerator}
+use Rattle.power_reduce.specs.PowerAnswers.{base_in, exponent_in, has_number_power}
+use Rattle.power_reduce.specs.Bits.{HasFewBitsRaised}
+use Rattle.radical_forms.specs.Refusals.{HasWideRoot, IsOverflow}
+use Rattle.radical_forms.specs.RootAnswers.{argument_of, IfRational}
+use Rattle.surd_bits.specs.Rooted.{IsNoLargerThanRoot}
+use Rattle.calc_terms.specs.Integers.{int_is_negative}
+use Rattle.calc_bits.specs.Bounds as few
+use Rattle.power_reduce.specs.PowerSteps.{is_zero_or_one, rewritten}
+use Rattle.power_reduce.proofs.Exponents.{as_whole}
+use Rattle.product_reduce.specs.Bits.{IsFactorHeld, AreFactorsHeld, none_held, factor_held}
+use Rattle.product_reduce.proofs.HeldNumbers.{number_as_factor, no_factors_held}
+use Rattle.tree_bits.specs.Children.{IsSumHeld, addends_of_each}
+use Rattle.tree_bits.proofs.Children.{trees_together}
+use Rattle.tree_bits.proofs.Factors.{minus_one_held}
+use Rattle.tree_bits.proofs.Numbers.{nothing_held}
+use Rattle.tree_handles.specs.Expressions.{nth, children_of}
+use Rattle.tree_handles.specs.Faults.{IfOverflow, OfOverflow}
+use Rattle.tree_handles.specs.declared.fault.NumberFault.{NumberFault}
+use Rattle.tree_handles.specs.declared.fault.NumberFault.TheVariants as fault
+
+clash : {A : Type 0} → true ≡ false → A
+clash e = absurd cc
+
+rational_number : (q : Fraction) → is_number (num q) ≡ true
+rational_number q = number_test (num q) tt
+
+-- ---- rationals
+
+pub zero_held : (h l : ℕ) → IsFactorHeld (num zero_fraction) h l
+unfolding zero_fraction
+zero_held h l =
+    let z : is_zero_fraction zero_fraction ≡ true = ap int_is_zero (whole_numerator (pos 0)) in
+    number_as_factor (num zero_fraction) h l (rational_number zero_fraction) (subst (λ (v : Surd). IsHeld v h l) (sym (ap (λ (b : Bool). if b then [] else surd_of zero_fraction) z)) (nothing_held h l))
+
+pub one_held : (h l : ℕ) → IsFactorHeld (num one_fraction) h l
+one_held h l = number_as_factor (num one_fraction) h l (rational_number one_fraction) (no_factors_held (value num_one) h l (ap (λ (b : Bool). if b then [] else surd_of one_fraction) (zero_test one_fraction one_not_zero)))
+
+minus_one_not_zero : minus_one_fraction ≢ zero_fraction
+unfolding zero_fraction
+minus_one_not_zero e = by (sym (whole_numerator (negsuc 0)) ∙ ap (λ (q : Fraction). q.num) e ∙ whole_numerator (pos 0))
+  where
+    by : negsuc 0 ≡ pos 0 → ⊥
+    by k = cc
+
+minus_one : IsFactorHeld (num minus_one_fraction) 0 0
+minus_one = number_as_factor (num minus_one_fraction) 0 0 (rational_number minus_one_fraction) (subst (λ (v : Surd). IsHeld v 0 0) (sym (ap (λ (b : Bool). if b then [] else surd_of minus_one_fraction) (zero_test minus_one_fraction minus_one_not_zero))) minus_one_held)
+
+-- ---- two sides
+
+pub opposite_factors : (a : Tree) {h l : ℕ} → IsFactorHeld a h l → AreFactorsHeld (more (num minus_one_fraction) (more a none)) h l
+opposite_factors a {h} {l} k = factor_held 0 0 h l minus_one (factor_held h l 0 0 k none_held (omega arith) (omega arith)) (omega arith) (omega arith)
+
+pub two_factors : (a b : Tree) {p q k n h l : ℕ} → IsFactorHeld a p q → IsFactorHeld b k n → p + k ≤ h → q + n ≤ l → AreFactorsHeld (more a (more b none)) h l
+two_factors a b {p} {q} {k} {n} x y i j = factor_held p q k n x (factor_held k n 0 0 y none_held (omega arith) (omega arith)) i j
+
+or_first : (a b : Bool) → (a || b) ≡ false → a ≡ false
+or_first true b h = cc
+or_first false b h = refl
+
+or_second : (a b : Bool) → (a || b) ≡ false → b ≡ false
+or_second true b h = cc
+or_second false b h = h
+
+pub first_side : (a b : Tree) → has_undef (more a (more b none)) ≡ false → is_undef a ≡ false
+first_side a b h = or_first (is_undef a) (is_undef b || false) h
+
+pub second_side : (a b : Tree) → has_undef (more a (more b none)) ≡ false → is_undef b ≡ false
+second_side a b h = or_first (is_undef b) false (or_second (is_undef a) (is_undef b || false) h)
+
+abbrev of : ℕ → ℕ → HighLow
+of x y = record { high = x; low = y }
+
+pub two_terms : (a b : Tree) {p q k n h l : ℕ} → has_undef (more a (more b none)) ≡ false → IsFactorHeld a p q → IsFactorHeld b k n → 2 ^ p + 2 ^ k ≤ 2 ^ h → q + n ≤ l → IsSumHeld (addends_of_each (more a (more b none))) h l
+two_terms a b {p} {q} {k} {n} {h} {l} d x y i j =
+    trees_together (more a (more b none)) (of p q ∷ of k n ∷ []) h l (first_side a b d, factor_tree a x, (second_side a b d, factor_tree b y, tt)) (omega (arith, i)) (omega (arith, j))
+
+-- an answer that is not Undef has no Undef sides
+pub answer_defined : (ts : Trees) (r : Tree) → (has_undef ts ≡ true → r ≡ undef) → is_undef r ≡ false → has_undef ts ≡ false
+answer_defined ts r u d = by (has_undef ts) refl
+  where
+    by : (b : Bool) → has_undef ts ≡ b → b ≡ false
+    by false e = refl
+    by true e = clash (sym (ap is_undef (u e)) ∙ d)
+
+pub only_undef : (a : Tree) → is_undef a ≡ false → has_undef (more a none) ≡ false
+only_undef a d = ap (λ (b : Bool). b || false) d
+
+-- ---- powers
+
+-- no rule changes a power whose exponent is no rational
+kept_power : (b e r : Tree) → is_num e ≡ false → IsReducedPower b e r → is_undef r ≡ false → r ≡ power b e
+kept_power b e r n a d = by (lacks_power b e) refl
+  where
+    none_of : (e : Tree) → is_num e ≡ false → (is_zero_or_one e ≡ false) × (has_number_power b e ≡ false) × (is_half_num e ≡ false)
+    none_of (num q) n = cc
+    none_of e n = (refl, refl, refl)
+
+    no_whole : (e : Tree) → is_num e ≡ false → is_whole_num e ≡ true → ⊥
+    no_whole (num q) n w = cc
+    no_whole e n w = cc
+
+    not_rewritten : (o : Option Tree) → rewritten b e ≡ o → o ≡ None
+    not_rewritten None k = refl
+    not_rewritten (Some t) k = absurd (no_whole e n (whole_rewriting b e t (sym (as_whole b e (none_of e n).2) ∙ k)))
+
+    by : (x : Bool) → lacks_power b e ≡ x → r ≡ power b e
+    by true l = clash (sym (ap is_undef (a.undefined l)) ∙ d)
+    by false l = (a.written l).kept (record { other = (none_of e n).0; no_number = (none_of e n).1; not_rewritten = not_rewritten (rewritten b e) refl })
+
+pub power_answer_held : (b e r : Tree) → IsReducedPower b e r → is_undef r ≡ false → (h l : ℕ) → HoldsPower b e h l → IsFactorHeld r h l
+power_answer_held b e r a d h l (holds_whole n p q i k x y) = factor_wider r x y (a.held n i d p q k)
+power_answer_held b e r a d h l (holds_half p q i z k u v x y) = factor_wider r x y (a.root_held i d p q z k)
+power_answer_held b e r a d h l (holds_kept n k) = subst (λ (t : Tree). IsFactorHeld t h l) (sym (kept_power b e r n a d)) k
+
+-- ---- leaves
+
+pub leaf_no_children : {A : Type 0} (u : Tree) → has_undef (children_of u) ≡ true → is_leaf u ≡ true → A
+leaf_no_children (num q) h k = cc
+leaf_no_children (symbol x) h k = cc
+leaf_no_children undef h k = cc
+leaf_no_children u h k = cc
+
+-- ---- overflows
+
+-- an overflow is of a node without Undef children
+pub node_fits : (t : Tree) (r : Result ℕ NumberFault) → IfOverflow r (IsNodeOverflow t) → (has_undef (children_of t) ≡ false → IfOverflow r (λ o. ⊥)) → IfOverflow r (λ o. ⊥)
+node_fits t (Ok h) k f = tt
+node_fits t (Err (fault.Full full)) k f = tt
+node_fits t (Err (fault.Overflow o)) k f = f k.defined
+
+pub as_overflow : (r : Result ℕ NumberFault) → IfErr r (OfOverflow (λ o. ⊥)) → IfOverflow r (λ o. ⊥)
+as_overflow (Ok h) k = tt
+as_overflow (Err (fault.Full full)) k = tt
+as_overflow (Err (fault.Overflow o)) k = k
+
+pub as_fault : (r : Result ℕ NumberFault) → IfOverflow r (λ o. ⊥) → IfErr r (OfOverflow (λ o. ⊥))
+as_fault (Ok h) k = tt
+as_fault (Err (fault.Full full)) k = tt
+as_fault (Err (fault.Overflow o)) k = k
+
+-- ---- what is said of a sum beside
+
+pub held_facts : (ts : Trees) (P : Tree → ℕ → ℕ → Type 0) (s : ℕ → Tree) (r : Result ℕ NumberFault) → ((h l : ℕ) → has_undef ts ≡ false → IsSumHeld (addends_of_each ts) h l → IfOk r (λ t. P (s t) h l))
+    → IfOk r (λ t. (h l : ℕ) → has_undef ts ≡ false → IsSumHeld (addends_of_each ts) h l → P (s t) h l)
+held_facts ts P s (Ok x) k = k
+held_facts ts P s (Err f) k = tt
+
+-- ---- by the kind of the node
+
+pub sum_holds : (t : Tree) {h l : ℕ} → is_add t ≡ true → HoldsNode t h l → IsSumHeld (addends_of_each (children_of t)) h l
+sum_holds (add ts) e k = k
+sum_holds t e k = cc
+
+pub product_holds : (t : Tree) {h l : ℕ} → is_mult t ≡ true → HoldsNode t h l → AreFactorsHeld (children_of t) h l
+product_holds (mult ts) e k = k
+product_holds t e k = cc
+
+pub opposite_holds : (t : Tree) {h l : ℕ} → is_neg t ≡ true → HoldsNode t h l → IsFactorHeld (nth 0 (children_of t)) h l
+opposite_holds (neg a) e k = k
+opposite_holds t e k = cc
+
+pub difference_holds : (t : Tree) {h l : ℕ} → is_sub t ≡ true → HoldsNode t h l → HoldsDifference (nth 0 (children_of t)) (nth 1 (children_of t)) h l
+difference_holds (sub a b) e k = k
+difference_holds t e k = cc
+
+pub quotient_holds : (t : Tree) {h l : ℕ} → is_div t ≡ true → HoldsNode t h l → HoldsQuotient (nth 0 (children_of t)) (nth 1 (children_of t)) h l
+quotient_holds (div a b) e k = k
+quotient_holds t e k = cc
+
+pub root_holds : (t : Tree) {h l : ℕ} → is_root t ≡ true → HoldsNode t h l → IsFactorHeld (argument_of t) h l
+root_holds (root a) e k = k.0
+root_holds t e k = cc
+
+pub power_holds : (t : Tree) {h l : ℕ} → t ≡ power (base_in t) (exponent_in t) → HoldsNode t h l → HoldsPower (base_in t) (exponent_in t) h l
+power_holds (power b e) p k = k
+power_holds t p k = cc
+
+-- the power fits
+pub power_node_fits : (b e : Tree) (r : Result ℕ NumberFault) (h l : ℕ) → HoldsPower b e h l → HasFewBits h l
+    → ((n : ℤ) (p q : ℕ) → e ≡ num (whole_fraction n) → IsFactorHeld b p q → HasFewBitsRaised n p q → IfErr r (OfOverflow (λ o. ⊥)))
+    → ((p q : ℕ) → is_half_num e ≡ true → (p ≡ 0 → q ≡ 0) → IsFactorHeld b p q → HasFewBits p q → HasFewBitsRaised (numerator e) p q → IfErr r (OfOverflow (λ o. ⊥)))
+    → (is_whole_num e ≡ false → is_half_num e ≡ false → IsOk r) → IfErr r (OfOverflow (λ o. ⊥))
+power_node_fits b e r h l (holds_whole n p q i k x y) few bits root_bits others = bits n p q i k (omega (arith, x, y, few))
+power_node_fits b e r h l (holds_half p q i z k u v x y) few bits root_bits others = root_bits p q i z k (omega (arith, u, v, few)) (omega (arith, x, y, few))
+power_node_fits b e r h l (holds_kept n k) few bits root_bits others = fine r (others (no_whole e n) (no_half e n))
+  where
+    no_whole : (e : Tree) → is_num e ≡ false → is_whole_num e ≡ false
+    no_whole (num q) n = cc
+    no_whole e n = refl
+
+    no_half : (e : Tree) → is_num e ≡ false → is_half_num e ≡ false
+    no_half (num q) n = cc
+    no_half e n = refl
+
+-- the root fits
+pub root_node_fits : (a : Tree) (r : Result ℕ NumberFault) {h l : ℕ} → (few.HasFewBits (value a) → IfErr r (OfOverflow (λ o. ⊥))) → (IsOverflow r → HasWideRoot a) → IsFactorHeld a h l → HasFewBits h l → IfErr r (OfOverflow (λ o. ⊥))
+root_node_fits a (Ok x) fits wide k l = tt
+root_node_fits a (Err f) fits wide k l = root_fits a f fits wide k l
+
+pub measured_facts : (a : Tree) (s : ℕ → Tree) (r : Result ℕ NumberFault) → IfRational a (λ q. int_is_negative q.num ≡ false → IfOk r (λ h. IsNoLargerThanRoot q (value (s h)))) → IfOk r (λ h. IfRational a (λ q. int_is_negative q.num ≡ false → IsNoLargerThanRoot q (value (s h))))
+measured_facts a s (Ok h) k = k
+measured_facts a s (Err f) k = tt
+
+-- ---- sides
+
+twice : (k : ℕ) → 2 ^ suc k ≡ 2 ^ 1 * 2 ^ k
+twice k = let e : suc k ≡ 1 + k = omega arith in ap (λ (n : ℕ). 2 ^ n) e ∙ pow-add 2 1 k
+
+-- a power of 2 that is less
+below : (k h x : ℕ) → 1 ≤ x → x + 2 ^ k ≤ 2 ^ h → k ≤ h
+below zero h x o l = omega arith
+below (suc k) zero x o l =
+    let a : 2 ^ 1 ≤ 2 ^ suc k = pow-le-pow_right {n = 2} (omega arith) {i = 1} {j = suc k} (omega arith) in
+    absurd (omega (arith, l, a))
+below (suc k) (suc h) x o l =
+    let i : 2 ^ suc k ≡ 2 ^ 1 * 2 ^ k = twice k in
+    let j : 2 ^ suc h ≡ 2 ^ 1 * 2 ^ h = twice h in
+    omega (arith, below k h 1 (omega arith) (omega (arith, l, i, j, o)))
+
+pub difference_right : (a b : Tree) {h l : ℕ} → HasFewBits h l → (d : HoldsDifference a b h l) → HasFewBits d.k d.n
+difference_right a b {h} {l} few d = omega (arith, few, below d.k h (2 ^ d.p) (pow_pos d.p) d.high, d.low)

@@ -1,0 +1,278 @@
+-- How many bytes suffice for the node of a tree over reduced children.
+use Rattle.std.proofs.Common.{◌≡◌, ℕ, negsuc, ◌+◌, ◌*◌, ◌^◌, ◌≤◌, ◌<◌, List, length, Bool, true, false, Result, Ok, Err, refl, sym, ap, arith}
+use Rattle.std.specs.Prelude.{IfErr}
+use Rattle.std.proofs.lemmas.Nat.{pow_pos}
+use Rattle.calc_algebra.specs.Meanings.{IsAssignment}
+use Rattle.calc_algebra.specs.Numbers.{is_number}
+use Rattle.calc_algebra.specs.Reduced.{is_reduced, are_reduced, is_half_num}
+use Rattle.calc_algebra.proofs.ReducedLaws.{reduced_words}
+use Rattle.calc_room.specs.Counts.{counted}
+use Rattle.calc_room.specs.Spans.{SpansTree, SpansTrees}
+use Rattle.calc_room.proofs.NumberBytes.{num_bytes}
+use Rattle.calc_room.proofs.TreeBytes.{tree_bytes, counted_number, counted_other}
+use Rattle.calc_algebra.proofs.NumberLaws.{number_test}
+use Rattle.calc_terms.specs.Fractions.{minus_one_fraction}
+use Rattle.calc_terms.specs.Trees.{Tree, num, add, mult, power, root, neg, sub, div, Trees, none, more, count, is_add, is_mult, is_root, is_num, is_sub, is_div, root_kind, size, sizes}
+use Rattle.calc_terms.specs.declared.kind.Kind.{Kind}
+use Rattle.calc_terms.specs.declared.kind.Kind.TheVariants as kind
+use Rattle.deep_reduce.specs.NodeRooms.{HasNodesFor, KeepsNodeRoom, SpansNode, factors_room}
+use Rattle.deep_reduce.specs.Nodes.{is_neg}
+use Rattle.deep_reduce.specs.Pairs.{GivesSides}
+use Rattle.deep_reduce.specs.Rooms.{IsCalmAtZero, whole_power_room, power_count}
+use Rattle.deep_reduce.proofs.Calm.{calm_power}
+use Rattle.deep_reduce.proofs.JointCounts.{numbers_one, numbers_other}
+use Rattle.deep_reduce.proofs.NodeRooms.{inverse_count}
+use Rattle.deep_reduce.proofs.PowerBytes.{needs_most}
+use Rattle.node_pool.specs.State.{State, free_of}
+use Rattle.power_reduce.specs.PowerAnswers.{base_in, exponent_in}
+use Rattle.power_reduce.proofs.Whole.{whole_is}
+use Rattle.radical_forms.specs.Refusals.{IsFull}
+use Rattle.radical_forms.specs.RootAnswers.{argument_of}
+use Rattle.number_forms.specs.Lacks.{LacksBelow}
+use Rattle.power_reduce.proofs.RaisedBytes.{handed_bytes}
+use Rattle.tree_handles.specs.Expressions.{nth, plain, children_of}
+use Rattle.tree_handles.specs.Forest.{Forest, bytes_in}
+use Rattle.tree_handles.specs.Handed.{tree_of, IsHanded, Gives}
+use Rattle.tree_handles.specs.Roots.{root_tree, without_root}
+use Rattle.tree_handles.specs.Standing.{Stands, forest, KeepsRefusals}
+use Rattle.tree_handles.specs.declared.fault.NumberFault.{NumberFault}
+use Rattle.tree_handles.specs.declared.fault.NumberFault.TheVariants as fault
+use Rattle.tree_handles.proofs.Forests.{bytes_in-join}
+use Rattle.tree_handles.proofs.Given.{given_told}
+use Rattle.tree_handles.proofs.Lasts.{last_tree}
+use Rattle.tree_handles.proofs.Places.{used_forest}
+use Rattle.tree_handles.proofs.Plains.{size-plain}
+use Rattle.tree_room.specs.Exponents.{IsCalm, zeros}
+use Rattle.tree_room.specs.Handed.{product_count, sum_count}
+use Rattle.tree_room.specs.Needs.{sum_room, product_room, power_room, product_power_room, simple_room}
+use Rattle.tree_room.proofs.Calm.{whole_number}
+use Rattle.tree_room.proofs.Counts.{counts_one, product_at_most}
+use Rattle.tree_room.proofs.Handed.{sum_bytes, product_bytes}
+use Rattle.tree_room.proofs.Multiples.{scaled}
+
+-- ---- sums and products
+
+pub sum_fits : (t : Tree) (n m : ℕ) → is_add t ≡ true → HasNodesFor n t → sum_room (sum_count (children_of t)) m ≤ simple_room n m
+sum_fits (add ts) n m e h = omega (arith, scaled (sum_count ts) n m h, scaled 1 (sum_count ts) m (omega arith))
+sum_fits t n m e h = cc
+
+product_fits : (ts : Trees) (n m : ℕ) → 1 ≤ m → (product_count ts ≤ n + 1) × (1 ≤ n) × (1 ≤ count ts → 2 ≤ n) → factors_room ts m ≤ simple_room n m
+product_fits none n m hm (h, k, l) = omega (arith, hm, scaled 1 n m k)
+product_fits (more t ts) n m hm (h, k, l) = omega (arith, scaled (product_count (more t ts)) (n + 1) m h, scaled 2 n m (l (omega arith)))
+
+pub factors_fit : (t : Tree) (n m : ℕ) → 1 ≤ m → is_mult t ≡ true → HasNodesFor n t → factors_room (children_of t) m ≤ simple_room n m
+factors_fit (mult ts) n m hm e h = product_fits ts n m hm h
+factors_fit t n m hm e h = cc
+
+pub some_factors : (ts : Trees) (m : ℕ) → 1 ≤ count ts → factors_room ts m ≡ product_room (product_count ts) m
+some_factors none m h = absurd (omega arith)
+some_factors (more t ts) m h = refl
+
+pub no_factors : (ts : Trees) (m : ℕ) → count ts ≡ 0 → factors_room ts m ≡ 40
+no_factors none m h = refl
+no_factors (more t ts) m h = absurd (omega arith)
+
+pub number_fits_sum : (ts : Trees) (m : ℕ) → 1 ≤ m → 40 ≤ sum_room (sum_count ts) m
+number_fits_sum ts m h = omega (arith, h)
+
+-- ---- powers and roots
+
+pub power_fits : (t : Tree) (n m : ℕ) → t ≡ power (base_in t) (exponent_in t) → HasNodesFor n t → whole_power_room (base_in t) m ≤ simple_room n m
+power_fits (power b e) n m p h = omega (arith, needs_most b m, scaled (2 + counted b) n m h, counts_one b)
+power_fits t n m p h = cc
+
+pub half_fits : (t : Tree) (n m : ℕ) → t ≡ power (base_in t) (exponent_in t) → HasNodesFor n t → power_room (1 + counted (base_in t)) m ≤ simple_room n m
+half_fits (power b e) n m p h = omega (arith, scaled (2 + counted b) n m h, scaled 1 (counted b) m (counts_one b))
+half_fits t n m p h = cc
+
+root_fits : (t : Tree) (free n m : ℕ) → 1 ≤ m → is_root t ≡ true → is_num (argument_of t) ≡ true → HasNodesFor n t → free < 96 → free + size t < simple_room n m
+root_fits (root (num q)) free n m hm e a h l = omega (arith, num_bytes q, scaled 2 n m h)
+root_fits (root b) free n m hm e a h l = cc
+root_fits t free n m hm e a h l = cc
+
+pub root_lacks : (gs : List ℕ) (t : Tree) (free n : ℕ) (f : NumberFault) → is_root t ≡ true → HasNodesFor n t → (IsFull {A = ℕ} (Err f) → is_num (argument_of t) ≡ true) → (IsFull {A = ℕ} (Err f) → free < 96) → LacksBelow (simple_room n (2 ^ length gs)) (free + size t) f
+root_lacks gs t free n (fault.Full full) e h a l = root_fits t free n (2 ^ length gs) (pow_pos (length gs)) e (a tt) h (l tt)
+root_lacks gs t free n (fault.Overflow o) e h a l = tt
+
+pub root_result : (gs : List ℕ) (t : Tree) (free n : ℕ) (r : Result ℕ NumberFault) → is_root t ≡ true → HasNodesFor n t → (IsFull r → is_num (argument_of t) ≡ true) → (IsFull r → free < 96) → IfErr r (LacksBelow (simple_room n (2 ^ length gs)) (free + size t))
+root_result gs t free n (Ok x) e h a l = tt
+root_result gs t free n (Err f) e h a l = root_lacks gs t free n f e h a l
+
+-- only a power has half of an odd number as its exponent
+pub no_half_power : {A : Type 0} {k : Kind} (t : Tree) → k ≡ root_kind t → (kind.Pow ≡ k → ⊥) → is_half_num (exponent_in t) ≡ true → A
+no_half_power (power b e) k n h = absurd (n (sym k))
+no_half_power t k n h = cc
+
+-- what spans a node that is no root
+pub node_spans : {k : Kind} (gs : List ℕ) (t : Tree) → k ≡ root_kind t → (kind.Root ≡ k → ⊥) → SpansNode gs t → SpansTree gs t
+node_spans gs (root a) k n s = absurd (n (sym k))
+node_spans gs t k n s = s
+
+-- ---- opposites
+
+one_tree : (gs : List ℕ) (a : Tree) → is_reduced a ≡ true → SpansTree gs a → size a ≤ 204 * counted a * 2 ^ length gs
+one_tree gs a r s = tree_bytes gs a (reduced_words a r) s
+
+-- -1 or the node finds no bytes
+pub opposite_lacks : (gs : List ℕ) (a : Tree) (free : ℕ) → is_reduced a ≡ true → SpansTree gs a → free < 48 → free + size a < product_room (2 + counted a) (2 ^ length gs)
+opposite_lacks gs a free r s l = omega (arith, l, one_tree gs a r s, pow_pos (length gs))
+
+opposite_count : (a : Tree) → product_count (more (num minus_one_fraction) (more a none)) ≤ 2 + counted a
+opposite_count a = by (is_number a) refl
+  where
+    one : is_number (num minus_one_fraction) ≡ true
+    one = number_test (num minus_one_fraction) tt
+
+    by : (z : Bool) → is_number a ≡ z → product_count (more (num minus_one_fraction) (more a none)) ≤ 2 + counted a
+    by true e =
+        omega (
+          arith,
+          numbers_one (num minus_one_fraction) (more a none) one,
+          numbers_one a none e,
+          counted_number (num minus_one_fraction) (more a none) one,
+          counted_number a none e,
+        )
+    by false e =
+        omega (
+          arith,
+          numbers_one (num minus_one_fraction) (more a none) one,
+          numbers_other a none e,
+          counted_number (num minus_one_fraction) (more a none) one,
+          counted_other a none e,
+        )
+
+pub opposite_fits : (a : Tree) (m : ℕ) → product_room (product_count (more (num minus_one_fraction) (more a none))) m ≤ product_room (2 + counted a) m
+opposite_fits a m = omega (arith, scaled (product_count (more (num minus_one_fraction) (more a none))) (2 + counted a) m (opposite_count a))
+
+pub opposite_calm : {ns : List (List ℕ)} (a : Tree) → IsCalmAtZero ns a → IsCalmAtZero ns (mult (more (num minus_one_fraction) (more a none)))
+opposite_calm a c = record { once = c.once; calm = (tt, (tt, (c.calm, tt))) }
+
+pub opposite_spans : (gs : List ℕ) (a : Tree) → SpansTree gs a → SpansTree gs (mult (more (num minus_one_fraction) (more a none)))
+opposite_spans gs a s = (tt, (tt, (s, tt)))
+
+pub negated_calm : {ns : List (List ℕ)} (t : Tree) → is_neg t ≡ true → IsCalmAtZero ns t → IsCalmAtZero ns (nth 0 (children_of t))
+negated_calm (neg a) e c = record { once = c.once; calm = c.calm.1 }
+negated_calm t e c = cc
+
+pub negated_spans : (gs : List ℕ) (t : Tree) → is_neg t ≡ true → SpansTree gs t → SpansTree gs (nth 0 (children_of t))
+negated_spans gs (neg a) e s = s.1
+negated_spans gs t e s = cc
+
+-- the node of the opposite
+pub negated_fits : (t : Tree) (n m : ℕ) → is_neg t ≡ true → HasNodesFor n t → product_room (2 + counted (nth 0 (children_of t))) m ≤ simple_room n m
+negated_fits (neg a) n m e h = omega (arith, scaled (1 + counted a) n m h, scaled 1 (counted a) m (counts_one a))
+negated_fits t n m e h = cc
+
+-- ---- inverses
+
+pub inverse_lacks : (gs : List ℕ) (b : Tree) (free : ℕ) → is_reduced b ≡ true → SpansTree gs b → free < 48 → free + size b < product_power_room (counted b) (2 ^ length gs)
+inverse_lacks gs b free r s l = omega (arith, l, one_tree gs b r s, pow_pos (length gs))
+
+pub inverse_calm : {ns : List (List ℕ)} (b : Tree) → IsCalmAtZero ns b → IsCalmAtZero ns (power b (num minus_one_fraction))
+inverse_calm {ns} b c = calm_power c (record { once = c.once; calm = tt }) (whole_number (zeros ns) (num minus_one_fraction) (whole_is (negsuc 0)))
+
+pub inverse_spans : (gs : List ℕ) (b : Tree) → SpansTree gs b → SpansTree gs (power b (num minus_one_fraction))
+inverse_spans gs b s = (tt, s, tt)
+
+-- ---- two sides
+
+-- both are calm and spanned where their node is, and there are nodes for both
+pub record AreSides (gs : List ℕ) (ns : List (List ℕ)) (n : ℕ) (a b : Tree) : Type 0 where
+  pub once : IsAssignment (zeros ns)
+  pub left_calm : IsCalm (zeros ns) a
+  pub right_calm : IsCalm (zeros ns) b
+  pub left_spanned : SpansTree gs a
+  pub right_spanned : SpansTree gs b
+  pub nodes : 1 + counted a + counted b ≤ n
+
+pub difference_sides : (gs : List ℕ) (ns : List (List ℕ)) (n : ℕ) (t : Tree) → is_sub t ≡ true → HasNodesFor n t → IsCalmAtZero ns t → SpansTree gs t → AreSides gs ns n (nth 0 (children_of t)) (nth 1 (children_of t))
+difference_sides gs ns n (sub a b) e h c s = record { once = c.once; left_calm = c.calm.1; right_calm = c.calm.2; left_spanned = s.1; right_spanned = s.2; nodes = h }
+difference_sides gs ns n t e h c s = cc
+
+pub quotient_sides : (gs : List ℕ) (ns : List (List ℕ)) (n : ℕ) (t : Tree) → is_div t ≡ true → HasNodesFor n t → IsCalmAtZero ns t → SpansTree gs t → AreSides gs ns n (nth 0 (children_of t)) (nth 1 (children_of t))
+quotient_sides gs ns n (div a b) e h c s = record { once = c.once; left_calm = c.calm.1; right_calm = c.calm.2; left_spanned = s.1; right_spanned = s.2; nodes = h }
+quotient_sides gs ns n t e h c s = cc
+
+-- the left side with what is made of the right
+pub record AreJoined (gs : List ℕ) (ns : List (List ℕ)) (most : ℕ) (c t : Tree) : Type 0 where
+  pub calm : IsCalmAtZero ns t
+  pub spanned : SpansTree gs t
+  pub counts : counted c ≤ most
+
+pub difference_keeps : (gs : List ℕ) (ns : List (List ℕ)) (n : ℕ) (a b c : Tree) → AreSides gs ns n a b → KeepsNodeRoom (counted b) (neg b) c → AreJoined gs ns (counted b) c (add (more a (more c none)))
+difference_keeps gs ns n a b c x k =
+    let right : IsCalmAtZero ns (neg b) = record { once = x.once; calm = (tt, x.right_calm) } in
+    record {
+      calm = record { once = x.once; calm = (tt, (x.left_calm, ((k.calm ns right).calm, tt))) };
+      spanned = (tt, (x.left_spanned, (k.spanned gs ns right (tt, x.right_spanned), tt)));
+      counts = k.counts ns right;
+    }
+
+pub quotient_keeps : (gs : List ℕ) (ns : List (List ℕ)) (n : ℕ) (a b c : Tree) → AreSides gs ns n a b → KeepsNodeRoom (power_count b (num minus_one_fraction)) (power b (num minus_one_fraction)) c
+    → AreJoined gs ns (1 + counted b) c (mult (more a (more c none)))
+quotient_keeps gs ns n a b c x k =
+    let right : IsCalmAtZero ns (power b (num minus_one_fraction)) = inverse_calm b (record { once = x.once; calm = x.right_calm }) in
+    record {
+      calm = record { once = x.once; calm = (tt, (x.left_calm, ((k.calm ns right).calm, tt))) };
+      spanned = (tt, (x.left_spanned, (k.spanned gs ns right (inverse_spans gs b x.right_spanned), tt)));
+      counts = omega (arith, k.counts ns right, inverse_count b);
+    }
+
+-- the node finds no bytes
+pub sum_node_lacks : (gs : List ℕ) (ts : Trees) (free : ℕ) → are_reduced ts ≡ true → SpansTrees gs ts → free < 8 → free + sizes ts < sum_room (sum_count ts) (2 ^ length gs)
+sum_node_lacks gs ts free r s l = omega (arith, l, sum_bytes gs ts r s, pow_pos (length gs))
+
+pub product_node_lacks : (gs : List ℕ) (ts : Trees) (free : ℕ) → are_reduced ts ≡ true → SpansTrees gs ts → free < 8 → free + sizes ts < product_room (product_count ts) (2 ^ length gs)
+product_node_lacks gs ts free r s l = omega (arith, l, product_bytes gs ts r s, pow_pos (length gs))
+
+given_bytes : {g f : Forest} {i : ℕ} {Told : Tree → Type 0} → Gives g f i Told → bytes_in f ≡ bytes_in g + size (plain (root_tree i f))
+given_bytes {g = g} e = omega (arith, ap bytes_in e.ends.whole, bytes_in-join g e.tree, size-plain e.tree e.ends.alone e.whole, ap (λ (x : Forest). size (plain x)) (last_tree e.ends))
+
+-- both sides stand by themselves
+pub sides_free : {s t : State} {i h j : ℕ} {ts : Trees} → Stands s → Stands t → KeepsRefusals s t → IsHanded i (forest s) → GivesSides ts (without_root i (forest s)) (forest t) h j
+    → free_of t + size (nth 0 ts) + size (nth 1 ts) ≡ free_of s + size (tree_of i s)
+sides_free {s = s} {t = t} {i = i} st su k h g =
+    omega (
+      arith,
+      used_forest s st,
+      used_forest t su,
+      k.size,
+      st.pool.fits,
+      su.pool.fits,
+      handed_bytes i (forest s) h,
+      given_bytes g.left-given,
+      given_bytes g.right-given,
+      ap size (given_told g.left-given),
+      ap size (given_told g.right-given),
+    )
+
+module _ (gs : List ℕ) (a b : Tree) (n : ℕ) (l : 1 + counted a + counted b ≤ n) where
+  left_bytes : is_reduced a ≡ true → SpansTree gs a → size a ≤ 204 * counted a * 2 ^ length gs
+  left_bytes r s = one_tree gs a r s
+
+  all_nodes : (1 + counted a + counted b) * 2 ^ length gs ≤ n * 2 ^ length gs
+  all_nodes = scaled (1 + counted a + counted b) n (2 ^ length gs) l
+
+  some_left : 1 * 2 ^ length gs ≤ counted a * 2 ^ length gs
+  some_left = scaled 1 (counted a) (2 ^ length gs) (counts_one a)
+
+  some_right : 1 * 2 ^ length gs ≤ counted b * 2 ^ length gs
+  some_right = scaled 1 (counted b) (2 ^ length gs) (counts_one b)
+
+  -- beside the left side, the opposite of the right or its inverse
+  pub right_opposite_lacks : (bytes : ℕ) → is_reduced a ≡ true → SpansTree gs a → bytes < product_room (2 + counted b) (2 ^ length gs) → bytes + size a < simple_room n (2 ^ length gs)
+  right_opposite_lacks bytes r s k = omega (arith, k, left_bytes r s, all_nodes, some_left, some_right)
+
+  pub right_inverse_lacks : (bytes : ℕ) → is_reduced a ≡ true → SpansTree gs a → bytes < product_power_room (counted b) (2 ^ length gs) → bytes + size a < simple_room n (2 ^ length gs)
+  right_inverse_lacks bytes r s k = omega (arith, k, left_bytes r s, all_nodes, some_left, some_right)
+
+  -- then both sides, the right of which counts no more, or 1 more
+  pub difference_fits : (c : Tree) → counted c ≤ counted b → sum_room (sum_count (more a (more c none))) (2 ^ length gs) ≤ simple_room n (2 ^ length gs)
+  difference_fits c h =
+      let few : sum_count (more a (more c none)) ≤ n = omega (arith, h, l) in
+      omega (arith, scaled (sum_count (more a (more c none))) n (2 ^ length gs) few, scaled 1 (sum_count (more a (more c none))) (2 ^ length gs) (omega arith))
+
+  pub quotient_fits : (c : Tree) → counted c ≤ 1 + counted b → product_room (product_count (more a (more c none))) (2 ^ length gs) ≤ simple_room n (2 ^ length gs)
+  quotient_fits c h =
+      let few : product_count (more a (more c none)) ≤ 3 + counted a + counted b = omega (arith, product_at_most (more a (more c none)), h) in
+      omega (arith, scaled (product_count (more a (more c none))) (3 + counted a + counted b) (2 ^ length gs) few, all_nodes, some_left, some_right)

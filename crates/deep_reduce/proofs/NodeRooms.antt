@@ -1,0 +1,107 @@
+-- What the answer for a node counts, and that it is calm and spanned as the node is.
+use Rattle.std.proofs.Common.{ℕ, ◌+◌, ◌≤◌, negsuc, List, Bool, if◌then◌else◌, ap, arith}
+use Rattle.calc_algebra.proofs.NumberLaws.{number_test}
+use Rattle.calc_room.specs.Counts.{counted, counted_among}
+use Rattle.calc_room.specs.Spans.{SpansTree}
+use Rattle.calc_terms.specs.Fractions.{Fraction, minus_one_fraction}
+use Rattle.calc_terms.specs.Trees.{Tree, num, symbol, undef, add, mult, power, root, neg, sub, div, Trees, none, more}
+use Rattle.deep_reduce.specs.NodeRooms.{KeepsNodeRoom, SpansNode, node_count}
+use Rattle.deep_reduce.specs.Rooms.{IsCalmAtZero, KeepsRoom, KeepsSumRoom, power_count}
+use Rattle.deep_reduce.proofs.Calm.{calm_power}
+use Rattle.deep_reduce.proofs.JointRooms.{whole_count_most, sum_calm}
+use Rattle.deep_reduce.proofs.PowerRooms.{root_room, root_answer_counts, root_answer_calm, power_counts_most}
+use Rattle.deep_reduce.proofs.Rewritten.{whole_count_is}
+use Rattle.power_reduce.proofs.Whole.{whole_is}
+use Rattle.radical_forms.specs.RootAnswers.{IsRootAnswer}
+use Rattle.tree_room.specs.Exponents.{zeros}
+use Rattle.tree_room.proofs.Calm.{whole_number}
+use Rattle.tree_room.proofs.Counts.{counts_one, at_most_itself}
+
+-- ---- leaves
+
+some_count : (t : Tree) → 1 ≤ node_count t
+some_count (num q) = omega arith
+some_count (symbol x) = omega arith
+some_count undef = omega arith
+some_count (add ts) = counts_one (add ts)
+some_count (mult ts) = counts_one (mult ts)
+some_count (power b e) = omega (arith, counts_one (power b e), power_counts_most b e)
+some_count (root a) = counts_one (root a)
+some_count (neg a) = counts_one a
+some_count (sub a b) = omega arith
+some_count (div a b) = omega arith
+
+pub number_room : (t : Tree) (q : Fraction) → KeepsNodeRoom (node_count t) t (num q)
+number_room t q = record { counts = λ ns c. some_count t; calm = λ ns c. record { once = c.once; calm = tt }; spanned = λ gs ns c s. tt }
+
+pub undef_room : (t : Tree) → KeepsNodeRoom (node_count t) t undef
+undef_room t = record { counts = λ ns c. some_count t; calm = λ ns c. record { once = c.once; calm = tt }; spanned = λ gs ns c s. tt }
+
+-- a leaf is its own answer
+pub same_room : (t : Tree) → ((gs : List ℕ) → SpansNode gs t → SpansTree gs t) → KeepsNodeRoom (counted t) t t
+same_room t h = record { counts = λ ns c. omega arith; calm = λ ns c. c; spanned = λ gs ns c s. h gs s }
+
+-- ---- sums and roots
+
+pub sum_room : (ts : Trees) (r : Tree) → KeepsSumRoom ts r → KeepsNodeRoom (counted (add ts)) (add ts) r
+sum_room ts r k = record {
+  counts = λ ns c. omega (arith, k.counts);
+  calm = λ ns c. sum_calm ts r k c;
+  spanned = λ gs ns c s. k.spanned gs s.1;
+}
+
+pub root_node_room : (a r : Tree) → IsRootAnswer a r → ((gs : List ℕ) → SpansTree gs (root a) → SpansTree gs r) → KeepsNodeRoom (counted (root a)) (root a) r
+root_node_room a r h s = record {
+  counts = λ ns c. root_answer_counts a r h;
+  calm = λ ns c. root_answer_calm ns a r h (record { once = c.once; calm = c.calm.1 });
+  spanned = λ gs ns c k. (root_room a r h s).spanned gs k;
+}
+
+pub product_node_room : (ts : Trees) (r : Tree) → KeepsRoom (counted (mult ts)) (mult ts) r → KeepsNodeRoom (counted (mult ts)) (mult ts) r
+product_node_room ts r k = record { counts = k.counts; calm = k.calm; spanned = k.spanned }
+
+pub power_node_room : (b e r : Tree) → KeepsRoom (power_count b e) (power b e) r → KeepsNodeRoom (power_count b e) (power b e) r
+power_node_room b e r k = record { counts = k.counts; calm = k.calm; spanned = k.spanned }
+
+-- ---- opposites, differences and quotients
+
+module _ (a r : Tree) where
+  pub opposite_room : KeepsNodeRoom (counted (mult (more (num minus_one_fraction) (more a none)))) (mult (more (num minus_one_fraction) (more a none))) r → KeepsNodeRoom (counted a) (neg a) r
+  opposite_room k = record {
+    counts = λ ns c. omega (arith, k.counts ns (under ns c), counts_one a, at_most_itself a none, ap (λ (z : Bool). (if z then 0 else 1) + counted_among (more a none)) (number_test (num minus_one_fraction) tt));
+    calm = λ ns c. k.calm ns (under ns c);
+    spanned = λ gs ns c s. k.spanned gs ns (under ns c) (tt, (tt, (s.1, tt)));
+  }
+    where
+      under : (ns : List (List ℕ)) → IsCalmAtZero ns (neg a) → IsCalmAtZero ns (mult (more (num minus_one_fraction) (more a none)))
+      under ns c = record { once = c.once; calm = (tt, (tt, (c.calm.1, tt))) }
+
+pub inverse_count : (b : Tree) → power_count b (num minus_one_fraction) ≤ 1 + counted b
+inverse_count b = omega (arith, whole_count_is b (num minus_one_fraction) (whole_is (negsuc 0)), whole_count_most b)
+
+module _ (a b c r : Tree) where
+  pub difference_room : KeepsNodeRoom (counted b) (neg b) c → KeepsNodeRoom (counted (add (more a (more c none)))) (add (more a (more c none))) r → KeepsNodeRoom (1 + counted a + counted b) (sub a b) r
+  difference_room known k = record {
+    counts = λ ns d. omega (arith, k.counts ns (both ns d), known.counts ns (right ns d), at_most_itself a (more c none), at_most_itself c none);
+    calm = λ ns d. k.calm ns (both ns d);
+    spanned = λ gs ns d s. k.spanned gs ns (both ns d) (tt, (s.1, (known.spanned gs ns (right ns d) (tt, s.2), tt)));
+  }
+    where
+      right : (ns : List (List ℕ)) → IsCalmAtZero ns (sub a b) → IsCalmAtZero ns (neg b)
+      right ns d = record { once = d.once; calm = (tt, d.calm.2) }
+
+      both : (ns : List (List ℕ)) → IsCalmAtZero ns (sub a b) → IsCalmAtZero ns (add (more a (more c none)))
+      both ns d = record { once = d.once; calm = (tt, (d.calm.1, ((known.calm ns (right ns d)).calm, tt))) }
+
+  pub quotient_room : KeepsNodeRoom (power_count b (num minus_one_fraction)) (power b (num minus_one_fraction)) c → KeepsNodeRoom (counted (mult (more a (more c none)))) (mult (more a (more c none))) r → KeepsNodeRoom (1 + counted a + counted b) (div a b) r
+  quotient_room known k = record {
+    counts = λ ns d. omega (arith, k.counts ns (both ns d), known.counts ns (right ns d), inverse_count b, at_most_itself a (more c none), at_most_itself c none);
+    calm = λ ns d. k.calm ns (both ns d);
+    spanned = λ gs ns d s. k.spanned gs ns (both ns d) (tt, (s.1, (known.spanned gs ns (right ns d) (tt, s.2, tt), tt)));
+  }
+    where
+      right : (ns : List (List ℕ)) → IsCalmAtZero ns (div a b) → IsCalmAtZero ns (power b (num minus_one_fraction))
+      right ns d = calm_power (record { once = d.once; calm = d.calm.2 }) (record { once = d.once; calm = tt }) (whole_number (zeros ns) (num minus_one_fraction) (whole_is (negsuc 0)))
+
+      both : (ns : List (List ℕ)) → IsCalmAtZero ns (div a b) → IsCalmAtZero ns (mult (more a (more c none)))
+      both ns d = record { once = d.once; calm = (tt, (d.calm.1, ((known.calm ns (right ns d)).calm, tt))) }

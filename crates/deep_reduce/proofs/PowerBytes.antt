@@ -1,0 +1,282 @@
+-- How many bytes suffice for the calls on a whole power that is rewritten.
+use Rattle.std.proofs.Common.{◌≡◌, ℕ, ◌+◌, ◌*◌, ◌^◌, ◌≤◌, ◌<◌, List, length, Bool, true, false, not, ◌&&◌, if◌then◌else◌, refl, sym, ap, ◌∙◌, subst, arith}
+use Rattle.std.proofs.lemmas.Bool.{and_parts}
+use Rattle.std.proofs.lemmas.Nat.{pow_pos}
+use Rattle.calc_algebra.specs.Numbers.{is_number}
+use Rattle.calc_algebra.specs.Reduced.{is_reduced, are_reduced, is_num_one, is_whole_num, split_product, NoneIs, HasForm}
+use Rattle.calc_algebra.proofs.ReducedLaws.{reduced_words}
+use Rattle.calc_room.specs.Counts.{counted, counted_among}
+use Rattle.calc_room.specs.Spans.{SpansRoot, SpansTree, SpansTrees}
+use Rattle.calc_room.proofs.TreeBytes.{tree_bytes, counted_number, counted_other}
+use Rattle.calc_terms.specs.Trees.{Tree, mult, power, root, Trees, none, more, append, is_mult, size, sizes, AllPartsOf}
+use Rattle.coefficients.proofs.Forms.{reduced_parts, parts_reduced}
+use Rattle.deep_reduce.specs.Rooms.{IsCalmAtZero, whole_power_room}
+use Rattle.deep_reduce.specs.Unfinished.{AreReducedPowers}
+use Rattle.deep_reduce.proofs.Calm.{calm_exponent}
+use Rattle.deep_reduce.proofs.JointBytes.{product_base}
+use Rattle.deep_reduce.proofs.JointCounts.{numbers_one, numbers_other}
+use Rattle.deep_reduce.proofs.Rewritten.{AreSingle, parts_calm, parts_single, powers_raised, root_counts}
+use Rattle.number_forms.specs.Sums.{removed}
+use Rattle.power_reduce.specs.PowerSteps.{parts_of, raised}
+use Rattle.power_reduce.proofs.Counted.{parts_counted}
+use Rattle.power_reduce.proofs.Rooms.{HasFactors, product_factors}
+use Rattle.power_reduce.proofs.Spanned.{parts_span}
+use Rattle.power_reduce.proofs.Weights.{product_parts}
+use Rattle.tree_handles.specs.Expressions.{nth}
+use Rattle.tree_room.specs.Exponents.{HasCalmExponent, AreCalm, zeros}
+use Rattle.tree_room.specs.Handed.{counted_in_all, numbers_among, product_count, exponent_count}
+use Rattle.tree_room.specs.Needs.{product_room, power_room, product_power_room}
+use Rattle.tree_room.proofs.Coefficients.{split_counts}
+use Rattle.tree_room.proofs.Counts.{counts_one, number_counts_one, product_at_most}
+use Rattle.tree_room.proofs.Handed.{raised_factor, raised_number}
+use Rattle.tree_room.proofs.Multiples.{scaled}
+use Rattle.tree_room.proofs.PowerCounts.{power_counts, exponents_multiplied}
+
+-- ---- what a whole power of each base needs
+
+pub product_needs : (b : Tree) (m : ℕ) → (is_mult b && not (is_number b)) ≡ true → whole_power_room b m ≡ product_power_room (counted b) m
+product_needs b m h = ap (λ (z : Bool). if z then product_power_room (counted b) m else power_room (counted b) m) h
+
+pub other_needs : (b : Tree) (m : ℕ) → (is_mult b && not (is_number b)) ≡ false → whole_power_room b m ≡ power_room (counted b) m
+other_needs b m h = ap (λ (z : Bool). if z then product_power_room (counted b) m else power_room (counted b) m) h
+
+-- at most as a product
+pub needs_most : (b : Tree) (m : ℕ) → whole_power_room b m ≤ product_power_room (counted b) m
+needs_most b m = by (is_mult b && not (is_number b))
+  where
+    by : (z : Bool) → (if z then product_power_room (counted b) m else power_room (counted b) m) ≤ product_power_room (counted b) m
+    by true = omega arith
+    by false = omega arith
+
+-- an even power of a root is one of its argument
+pub argument_needs : (a : Tree) (m : ℕ) → is_reduced (root a) ≡ true → is_number (root a) ≡ false → whole_power_room a m ≤ whole_power_room (root a) m
+argument_needs a m r n = rw (other_needs (root a) m refl, root_counts a r n) (omega (arith, needs_most a m))
+
+-- a power of a power is one of the inner base
+pub inner_needs : (c f : Tree) (m : ℕ) → is_reduced (power c f) ≡ true → whole_power_room c m ≤ whole_power_room (power c f) m
+inner_needs c f m r = rw (other_needs (power c f) m refl, power_counts c f) (by (is_mult c && not (is_number c)) refl)
+  where
+    by : (z : Bool) → (is_mult c && not (is_number c)) ≡ z → (if z then product_power_room (counted c) m else power_room (counted c) m) ≤ power_room (counted c + exponent_count f) m
+    by true e = omega (arith, scaled 1 (exponent_count f) m (product_base c f r (and_parts _ _ e).0))
+    by false e = omega arith
+
+-- beside its base the product of the exponents
+exponents_fit : (c x h m s : ℕ) → 1 ≤ m → 1 ≤ c → h ≤ 2 + x → s ≤ 204 * c * m → 8 + s + product_room h m ≤ power_room (c + x) m
+exponents_fit c x h m s hm hc l u = let p : h * m ≤ (2 + x) * m = scaled h (2 + x) m l in let q : 1 * m ≤ c * m = scaled 1 c m hc in omega (arith, p, q, u)
+
+pub exponents_lack : (gs : List ℕ) (c f e : Tree) (bytes : ℕ) → is_reduced (power c f) ≡ true → is_whole_num e ≡ true → SpansTree gs c → bytes < product_room (product_count (more f (more e none))) (2 ^ length gs)
+    → bytes + 8 + size c < whole_power_room (power c f) (2 ^ length gs)
+exponents_lack gs c f e bytes r w s l =
+    rw (other_needs (power c f) (2 ^ length gs) refl, power_counts c f)
+    (omega (arith, l, exponents_fit (counted c) (exponent_count f) (product_count (more f (more e none))) (2 ^ length gs) (size c) (pow_pos (length gs)) (counts_one c) (exponents_multiplied e f w) (tree_bytes gs c (reduced_words c (base r)) s)))
+  where
+    base : is_reduced (power c f) ≡ true → is_reduced c ≡ true
+    base r = parts_reduced c (reduced_parts (power c f) r refl).1
+
+-- ---- the powers of a product's parts
+
+all_counted : (ts : Trees) → counted_in_all ts ≡ numbers_among ts + counted_among ts
+all_counted none = refl
+all_counted (more t ts) = by (is_number t) refl (all_counted ts)
+  where
+    by : (z : Bool) → is_number t ≡ z → counted_in_all ts ≡ numbers_among ts + counted_among ts → counted_in_all (more t ts) ≡ numbers_among (more t ts) + counted_among (more t ts)
+    by true e h = omega (arith, h, number_counts_one t e, numbers_one t ts e, counted_number t ts e)
+    by false e h = omega (arith, h, numbers_other t ts e, counted_other t ts e)
+
+no_numbers : (ts : Trees) → NoneIs is_number ts → numbers_among ts ≡ 0
+no_numbers none h = refl
+no_numbers (more t ts) h = numbers_other t ts h.0 ∙ no_numbers ts h.1
+
+-- one of the parts at most is a Number, and the others count what the product does
+record CountsParts (fs : Trees) : Type 0 where
+  numbers : numbers_among (parts_of fs) ≤ 1
+  others : counted_among (parts_of fs) ≤ counted (mult fs)
+
+counts_parts : (fs : Trees) → is_reduced (mult fs) ≡ true → is_number (mult fs) ≡ false → CountsParts fs
+counts_parts fs r n = by (is_num_one (split_product fs).coefficient) refl
+  where
+    f : HasFactors fs
+    f = product_factors fs r n
+
+    us : Trees
+    us = (split_product fs).factors
+
+    c : Tree
+    c = (split_product fs).coefficient
+
+    by : (z : Bool) → is_num_one c ≡ z → CountsParts fs
+    by true e =
+        let is : parts_of fs ≡ us = ap (λ (z : Bool). if z then us else more c us) e in
+        record { numbers = omega (arith, ap numbers_among is, no_numbers us f.no_number); others = omega (arith, ap counted_among is, split_counts fs) }
+    by false e =
+        let is : parts_of fs ≡ more c us = ap (λ (z : Bool). if z then us else more c us) e in
+        record {
+          numbers = omega (arith, ap numbers_among is, numbers_one c us f.number, no_numbers us f.no_number);
+          others = omega (arith, ap counted_among is, counted_number c us f.number, split_counts fs);
+        }
+
+numbers_append : (ts us : Trees) → numbers_among (append ts us) ≡ numbers_among ts + numbers_among us
+numbers_append none us = omega arith
+numbers_append (more t ts) us = omega (arith, numbers_append ts us)
+
+counted_append : (ts us : Trees) → counted_among (append ts us) ≡ counted_among ts + counted_among us
+counted_append none us = omega arith
+counted_append (more t ts) us = omega (arith, counted_append ts us)
+
+pub sizes_append : (ts us : Trees) → sizes (append ts us) ≡ sizes ts + sizes us
+sizes_append none us = omega arith
+sizes_append (more t ts) us = omega (arith, sizes_append ts us)
+
+-- the parts before one and behind it
+pub record IsSplitAt (gs : Trees) (e : Tree) (before : Trees) (t : Tree) (rest : Trees) : Type 0 where
+  pub first : Trees
+  pub part : Tree
+  pub last : Trees
+  pub split : gs ≡ append first (more part last)
+  pub before-is : before ≡ raised first e
+  pub is : t ≡ power part e
+  pub rest-is : rest ≡ raised last e
+
+pub split_at : (gs : Trees) (e : Tree) (before : Trees) (t : Tree) (rest : Trees) → raised gs e ≡ append before (more t rest) → IsSplitAt gs e before t rest
+split_at none e none t rest h = cc
+split_at none e (more u before) t rest h = cc
+split_at (more g gs) e none t rest h = record { first = none; part = g; last = gs; split = refl; before-is = refl; is = sym (ap (nth 0) h); rest-is = sym (ap (removed 0) h) }
+split_at (more g gs) e (more u before) t rest h =
+    let s = split_at gs e before t rest (ap (removed 0) h) in
+    record {
+      first = more g s.first;
+      part = s.part;
+      last = s.last;
+      split = ap (more g) s.split;
+      before-is = (λ z. more (sym (ap (nth 0) h) z) (s.before-is z));
+      is = s.is;
+      rest-is = s.rest-is;
+    }
+
+pub all_first : (P : Tree → Type 0) (ts us : Trees) → AllPartsOf P (append ts us) → AllPartsOf P ts × AllPartsOf P us
+all_first P none us h = (tt, h)
+all_first P (more t ts) us h = let r = all_first P ts us h.1 in ((h.0, r.0), r.1)
+
+single_first : (ts us : Trees) → AreSingle (append ts us) → AreSingle ts × AreSingle us
+single_first none us h = (tt, h)
+single_first (more t ts) us h = let r = single_first ts us h.1 in ((h.0, r.0), r.1)
+
+reduced_first : (ts us : Trees) → are_reduced (append ts us) ≡ true → (are_reduced ts ≡ true) × (are_reduced us ≡ true)
+reduced_first none us h = (refl, h)
+reduced_first (more t ts) us h = let (a, b) = and_parts (is_reduced t) (are_reduced (append ts us)) h in let r = reduced_first ts us b in (rw (a, r.0) refl, r.1)
+
+single_product : (t : Tree) → (is_mult t && not (is_number t)) ≡ false → is_number t ≡ false → is_mult t ≡ false
+single_product t h n = by (is_mult t) (is_number t) h n
+  where
+    by : (x y : Bool) → (x && not y) ≡ false → y ≡ false → x ≡ false
+    by true true h n = cc
+    by false y h n = refl
+    by true false h n = cc
+
+module _ (gs : List ℕ) where
+  -- powers that are not yet reduced
+  one_raised : (t e : Tree) → is_reduced t ≡ true → SpansTree gs t → (is_mult t && not (is_number t)) ≡ false → is_whole_num e ≡ true → size (power t e) ≤ 204 * counted t * 2 ^ length gs
+  one_raised t e r s p w = by (is_number t) refl
+    where
+      by : (z : Bool) → is_number t ≡ z → size (power t e) ≤ 204 * counted t * 2 ^ length gs
+      by true n = rw (number_counts_one t n) (omega (arith, raised_number gs t e n s w))
+      by false n = raised_factor gs t e r s (single_product t p n) w
+
+  raised_bytes : (ts : Trees) (e : Tree) → are_reduced ts ≡ true → SpansTrees gs ts → AreSingle ts → is_whole_num e ≡ true → sizes (raised ts e) ≤ 204 * counted_in_all ts * 2 ^ length gs
+  raised_bytes none e r s p w = omega arith
+  raised_bytes (more t ts) e r s p w = let (a, b) = and_parts (is_reduced t) (are_reduced ts) r in omega (arith, one_raised t e a s.0 p.0 w, raised_bytes ts e b s.1 p.1 w)
+
+  -- and those that are
+  answers_bytes : (us : Trees) → are_reduced us ≡ true → SpansTrees gs us → sizes us ≤ 204 * counted_in_all us * 2 ^ length gs
+  answers_bytes none r s = omega arith
+  answers_bytes (more u us) r s = let (a, b) = and_parts (is_reduced u) (are_reduced us) r in omega (arith, tree_bytes gs u (reduced_words u a) s.0, answers_bytes us b s.1)
+
+answers_reduced : (ts us : Trees) → AreReducedPowers ts us → are_reduced us ≡ true
+answers_reduced none none a = refl
+answers_reduced (more t ts) (more u us) a = rw (a.0.reduces.reduced, answers_reduced ts us a.1) refl
+answers_reduced none (more u us) a = absurd a
+answers_reduced (more t ts) none a = absurd a
+
+-- g counts in the part that is raised, o in the other parts that are no Numbers, and k of the others are Numbers
+part_fits : (c g o k m s : ℕ) → 1 ≤ m → k ≤ 1 → g + o ≤ c → s ≤ 204 * (k + o) * m → 8 + s + power_room g m ≤ product_power_room c m
+part_fits c g o k m s hm hk l u = let p : (g + o) * m ≤ c * m = scaled (g + o) c m l in let q : k * m ≤ 1 * m = scaled k 1 m hk in omega (arith, p, q, u)
+
+number_fits : (c o m s : ℕ) → 1 ≤ m → 1 ≤ c → o ≤ c → s ≤ 204 * o * m → 8 + s + power_room 1 m ≤ product_power_room c m
+number_fits c o m s hm hc l u = let p : o * m ≤ c * m = scaled o c m l in let q : 1 * m ≤ c * m = scaled 1 c m hc in omega (arith, p, q, u)
+
+formed_reduced : (ts : Trees) → AllPartsOf HasForm ts → are_reduced ts ≡ true
+formed_reduced none h = refl
+formed_reduced (more t ts) h = rw (parts_reduced t h.0, formed_reduced ts h.1) refl
+
+module _ (gs : List ℕ) (ns : List (List ℕ)) (fs : Trees) (e : Tree) (h : is_reduced (mult fs) ≡ true) (n : is_number (mult fs) ≡ false) (w : is_whole_num e ≡ true) (c : IsCalmAtZero ns (power (mult fs) e)) (spans : SpansTrees gs fs) where
+  pr : are_reduced (parts_of fs) ≡ true
+  pr = let p = (product_parts fs h n).are in ap are_reduced p.are ∙ formed_reduced (product_parts fs h n).parts p.formed
+
+  others_bytes : (first : Trees) (part : Tree) (last reduced : Trees) → parts_of fs ≡ append first (more part last) → AreReducedPowers (raised first e) reduced
+      → sizes (append reduced (raised last e)) ≤ 204 * (counted_in_all first + counted_in_all last) * 2 ^ length gs
+  others_bytes first part last reduced p a =
+      let calm = all_first (HasCalmExponent (zeros ns)) first (more part last) (subst (AreCalm (zeros ns)) p (parts_calm (zeros ns) fs c.calm.1.1)) in
+      let single = single_first first (more part last) (subst AreSingle p (parts_single fs h n)) in
+      let spanned = all_first (SpansRoot gs) first (more part last) (subst (SpansTrees gs) p (parts_span gs fs spans)) in
+      let red = reduced_first first (more part last) (sym (ap are_reduced p) ∙ pr) in
+      let r = powers_raised ns first e reduced w (calm_exponent c) calm.0 single.0 a in
+      let some = scaled (counted_in_all reduced) (counted_in_all first) (2 ^ length gs) r.counts in
+      omega (
+        arith,
+        sizes_append reduced (raised last e),
+        answers_bytes gs reduced (answers_reduced (raised first e) reduced a) (r.spanned gs spanned.0),
+        raised_bytes gs last e (and_parts (is_reduced part) (are_reduced last) red.1).1 spanned.1.1 single.1.1 w,
+        some,
+      )
+
+  -- where the power of one part finds no bytes
+  pub part_lacks : (first : Trees) (part : Tree) (last reduced : Trees) (bytes : ℕ) → parts_of fs ≡ append first (more part last) → AreReducedPowers (raised first e) reduced → bytes < whole_power_room part (2 ^ length gs)
+      → bytes + size (mult (append reduced (raised last e))) < whole_power_room (mult fs) (2 ^ length gs)
+  part_lacks first part last reduced bytes p a l =
+      rw (product_needs (mult fs) (2 ^ length gs) (ap not n))
+      (omega (arith, l, other_needs part (2 ^ length gs) (single_first first (more part last) (subst AreSingle p (parts_single fs h n))).1.0, by (is_number part) refl))
+    where
+      few : CountsParts fs
+      few = counts_parts fs h n
+
+      by : (z : Bool) → is_number part ≡ z → size (mult (append reduced (raised last e))) + power_room (counted part) (2 ^ length gs) ≤ product_power_room (counted (mult fs)) (2 ^ length gs)
+      by true k =
+          rw (number_counts_one part k)
+          (omega (
+            arith,
+            number_fits (counted (mult fs)) (counted_in_all first + counted_in_all last) (2 ^ length gs) (sizes (append reduced (raised last e))) (pow_pos (length gs)) (counts_one (mult fs))
+                (omega (
+                  arith,
+                  all_counted first,
+                  all_counted last,
+                  few.numbers,
+                  few.others,
+                  ap numbers_among p,
+                  ap counted_among p,
+                  numbers_append first (more part last),
+                  counted_append first (more part last),
+                  numbers_one part last k,
+                  counted_number part last k,
+                ))
+                (others_bytes first part last reduced p a),
+          ))
+      by false k =
+          omega (
+            arith,
+            part_fits (counted (mult fs)) (counted part) (counted_among first + counted_among last) (numbers_among first + numbers_among last) (2 ^ length gs) (sizes (append reduced (raised last e))) (pow_pos (length gs))
+                (omega (arith, few.numbers, ap numbers_among p, numbers_append first (more part last), numbers_other part last k))
+                (omega (arith, few.others, ap counted_among p, counted_append first (more part last), counted_other part last k))
+                (omega (
+                  arith,
+                  others_bytes first part last reduced p a,
+                  ap (λ (x : ℕ). 204 * x * 2 ^ length gs) (all_counted first),
+                  ap (λ (x : ℕ). 204 * x * 2 ^ length gs) (all_counted last),
+                )),
+          )
+
+  -- where their product finds none
+  pub product_lacks : (us : Trees) (bytes : ℕ) → AreReducedPowers (raised (parts_of fs) e) us → bytes < product_room (product_count us) (2 ^ length gs) → bytes < whole_power_room (mult fs) (2 ^ length gs)
+  product_lacks us bytes a l =
+      let r = powers_raised ns (parts_of fs) e us w (calm_exponent c) (parts_calm (zeros ns) fs c.calm.1.1) (parts_single fs h n) a in
+      let most : product_count us ≤ 3 + counted (mult fs) = omega (arith, product_at_most us, r.counts, parts_counted fs h n) in
+      rw (product_needs (mult fs) (2 ^ length gs) (ap not n)) (omega (arith, l, scaled (product_count us) (3 + counted (mult fs)) (2 ^ length gs) most))

@@ -1,0 +1,153 @@
+-- What reduced powers count, and that they are calm and spanned.
+use Rattle.std.proofs.Common.{◌≡◌, ℕ, ℤ, zero, suc, ◌+◌, ◌≤◌, pos, negsuc, List, Bool, true, false, not, ◌&&◌, ◌||◌, if◌then◌else◌, None, refl, sym, ap, ◌∙◌, subst, arith}
+use Rattle.calc_algebra.specs.Numbers.{is_number, natural_of}
+use Rattle.calc_algebra.specs.Reduced.{is_whole_num}
+use Rattle.calc_algebra.proofs.NumberLaws.{number_words}
+use Rattle.calc_room.specs.Counts.{counted}
+use Rattle.calc_room.specs.Spans.{SpansTree}
+use Rattle.calc_terms.specs.Fractions.{Fraction, whole_fraction, is_zero_fraction, is_one_fraction}
+use Rattle.calc_terms.specs.Integers.{int_is_negative, int_is_zero}
+use Rattle.calc_terms.specs.Trees.{Tree, num, undef, power, root, is_mult, is_num, is_undef}
+use Rattle.calc_terms.proofs.FractionFacts.{zero_is, one_is}
+use Rattle.deep_reduce.specs.Rooms.{IsCalmAtZero, KeepsRoom, KeepsRootRoom, SpansRootOf, whole_power_count, power_count}
+use Rattle.deep_reduce.proofs.Calm.{calm_base, calm_power}
+use Rattle.deep_reduce.proofs.RootValues.{root_of_zero}
+use Rattle.power_reduce.specs.PowerAnswers.{has_no_power, has_number_power, IsPowerAnswer, IsWrittenPower}
+use Rattle.power_reduce.specs.PowerSteps.{is_zero_or_one, rewritten}
+use Rattle.power_reduce.proofs.Counted.{answer_counts, whole_power_counts}
+use Rattle.power_reduce.proofs.Spanned.{answer_spans}
+use Rattle.power_reduce.proofs.Whole.{whole_is}
+use Rattle.radical_forms.specs.RootAnswers.{has_no_root, IsRootAnswer}
+use Rattle.tree_room.specs.Exponents.{zeros}
+use Rattle.tree_room.proofs.Calm.{number_calm, whole_number}
+use Rattle.tree_room.proofs.Counts.{counts_one, number_counts_one}
+
+-- ---- counts
+
+-- a power as it stands counts no more than what is said of its answer
+pub power_counts_most : (b e : Tree) → counted (power b e) ≤ power_count b e
+power_counts_most b e = by (is_whole_num e) refl
+  where
+    most : (z : Bool) → counted b ≤ (if z then 1 + counted b else counted b)
+    most true = omega arith
+    most false = omega arith
+
+    by : (z : Bool) → is_whole_num e ≡ z → counted (power b e) ≤ (if z then whole_power_count b else counted (power b e))
+    by true h = omega (arith, whole_power_counts b e h, most (is_mult b && not (is_number b)))
+    by false h = omega arith
+
+-- ---- answers that no rule rewrites
+
+undef_is : (t : Tree) → is_undef t ≡ true → t ≡ undef
+undef_is undef h = refl
+undef_is t h = cc
+
+module _ (ns : List (List ℕ)) where
+  undef_calm : (b t : Tree) → is_undef t ≡ true → IsCalmAtZero ns b → IsCalmAtZero ns t
+  undef_calm b t h c = subst (IsCalmAtZero ns) (sym (undef_is t h)) (record { once = c.once; calm = tt })
+
+  trivial_calm : (b e t : Tree) → is_zero_or_one e ≡ true → IsWrittenPower b e t → IsCalmAtZero ns b → IsCalmAtZero ns t
+  trivial_calm b (num q) t h w c = by (is_zero_fraction q) refl h
+    where
+      by : (z : Bool) → is_zero_fraction q ≡ z → (z || is_one_fraction q) ≡ true → IsCalmAtZero ns t
+      by true z k = subst (IsCalmAtZero ns) (sym (w.zero (ap num (zero_is q z)))) (record { once = c.once; calm = tt })
+      by false z k = subst (IsCalmAtZero ns) (sym (w.one (ap num (one_is q k)))) c
+  trivial_calm b e t h w c = absurd cc
+
+  pub number_is_calm : (b t : Tree) → is_number t ≡ true → IsCalmAtZero ns b → IsCalmAtZero ns t
+  number_is_calm b t h c = record { once = c.once; calm = number_calm (zeros ns) t (number_words t h) }
+
+  pub answer_calm : (b e t : Tree) → rewritten b e ≡ None → IsPowerAnswer b e t → IsCalmAtZero ns (power b e) → IsCalmAtZero ns t
+  answer_calm b e t r a c = by (has_no_power b e) (is_zero_or_one e) (has_number_power b e) refl refl refl
+    where
+      by : (d z n : Bool) → has_no_power b e ≡ d → is_zero_or_one e ≡ z → has_number_power b e ≡ n → IsCalmAtZero ns t
+      by true z n d o m = undef_calm b t (a.undefined ∙ d) (calm_base c)
+      by false true n d o m = trivial_calm b e t o (a.written d) (calm_base c)
+      by false false true d o m = number_is_calm b t (a.number m d) (calm_base c)
+      by false false false d o m = subst (IsCalmAtZero ns) (sym ((a.written d).kept (record { other = o; no_number = m; not_rewritten = r }))) c
+
+pub finished_room : (b e t : Tree) → rewritten b e ≡ None → IsPowerAnswer b e t → KeepsRoom (power_count b e) (power b e) t
+finished_room b e t r a = record {
+  counts = λ ns c. omega (arith, answer_counts b e t r a, power_counts_most b e);
+  calm = λ ns c. answer_calm ns b e t r a c;
+  spanned = λ gs ns c s. answer_spans gs b e t r a s;
+}
+
+-- ---- powers of roots
+
+pub undef_root_room : (b t : Tree) → t ≡ undef → KeepsRootRoom b t
+undef_root_room b t e = subst (KeepsRootRoom b) (sym e) (record { counts = omega arith; calm = λ ns c. record { once = c.once; calm = tt }; spanned = λ gs s. tt })
+
+-- the reduced root itself
+pub record IsRootRoom (b r : Tree) : Type 0 where
+  pub counts : counted r ≤ 1 + counted b
+  pub calm : (ns : List (List ℕ)) → IsCalmAtZero ns b → IsCalmAtZero ns r
+  pub spanned : (gs : List ℕ) → SpansRootOf gs b → SpansTree gs r
+
+pub kept_counts : (b : Tree) → counted (root b) ≤ 1 + counted b
+kept_counts b = by (is_num b)
+  where
+    by : (z : Bool) → (if z then 1 else suc (counted b)) ≤ 1 + counted b
+    by true = omega arith
+    by false = omega arith
+
+kept_spans : (gs : List ℕ) (b : Tree) → is_num b ≡ false → SpansRootOf gs b → SpansTree gs (root b)
+kept_spans gs (num q) n s = cc
+kept_spans gs b n s = (tt, s)
+
+-- a rational that has a root is above 0, or it is 0
+number_spans : (gs : List ℕ) (q : Fraction) (r : Tree) → int_is_negative q.num ≡ false → IsRootAnswer (num q) r → (SpansTree gs (root (num q)) → SpansTree gs r) → SpansRootOf gs (num q) → SpansTree gs r
+number_spans gs q r k a s h = by q.num refl
+  where
+    by : (i : ℤ) → q.num ≡ i → SpansTree gs r
+    by (pos zero) e = subst (SpansTree gs) (sym (root_of_zero q r k a (ap int_is_zero e))) tt
+    by (pos (suc n)) e = s (h (omega (arith, ap natural_of e)))
+    by (negsuc n) e = absurd (cc (sym k ∙ ap int_is_negative e))
+
+rooted_spans : (gs : List ℕ) (b r : Tree) → is_num b ≡ true → has_no_root b ≡ false → IsRootAnswer b r → (SpansTree gs (root b) → SpansTree gs r) → SpansRootOf gs b → SpansTree gs r
+rooted_spans gs (num q) r n k a s h = number_spans gs q r k a s h
+rooted_spans gs b r n k a s h = cc
+
+pub root_room : (b r : Tree) → IsRootAnswer b r → ((gs : List ℕ) → SpansTree gs (root b) → SpansTree gs r) → IsRootRoom b r
+root_room b r a s = by (has_no_root b) (is_num b) refl refl
+  where
+    by : (x n : Bool) → has_no_root b ≡ x → is_num b ≡ n → IsRootRoom b r
+    by true n d m = subst (IsRootRoom b) (sym (undef_is r (a.undefined ∙ d))) (record { counts = omega arith; calm = λ ns c. record { once = c.once; calm = tt }; spanned = λ gs h. tt })
+    by false true d m = record {
+      counts = omega (arith, number_counts_one r (a.number m d));
+      calm = λ ns c. number_is_calm ns b r (a.number m d) c;
+      spanned = λ gs h. rooted_spans gs b r m d a (s gs) h;
+    }
+    by false false d m = subst (IsRootRoom b) (sym (a.kept m d)) (record {
+      counts = kept_counts b;
+      calm = λ ns c. record { once = c.once; calm = (tt, c.calm) };
+      spanned = λ gs h. kept_spans gs b m h;
+    })
+
+-- a whole power of it is the last step
+pub half_room : (b r u : Tree) (z : ℤ) → IsRootAnswer b r → ((gs : List ℕ) → SpansTree gs (root b) → SpansTree gs r) → rewritten r (num (whole_fraction z)) ≡ None → IsPowerAnswer r (num (whole_fraction z)) u → KeepsRootRoom b u
+half_room b r u z a s n p =
+    let k = root_room b r a s in
+    let e : Tree = num (whole_fraction z) in record {
+      counts = omega (arith, answer_counts r e u n p, whole_power_counts r e (whole_is z), k.counts);
+      calm = λ ns c. answer_calm ns r e u n p (calm_power (k.calm ns c) (record { once = c.once; calm = tt }) (whole_number (zeros ns) e (whole_is z)));
+      spanned = λ gs h. answer_spans gs r e u n p (tt, k.spanned gs h, tt);
+    }
+
+-- ---- roots
+
+pub root_answer_counts : (a r : Tree) → IsRootAnswer a r → counted r ≤ counted (root a)
+root_answer_counts a r h = by (has_no_root a) (is_num a) refl refl
+  where
+    by : (x n : Bool) → has_no_root a ≡ x → is_num a ≡ n → counted r ≤ counted (root a)
+    by true n d m = omega (arith, ap counted (undef_is r (h.undefined ∙ d)), counts_one (root a))
+    by false true d m = omega (arith, number_counts_one r (h.number m d), counts_one (root a))
+    by false false d m = omega (arith, ap counted (h.kept m d))
+
+pub root_answer_calm : (ns : List (List ℕ)) (a r : Tree) → IsRootAnswer a r → IsCalmAtZero ns a → IsCalmAtZero ns r
+root_answer_calm ns a r h c = by (has_no_root a) (is_num a) refl refl
+  where
+    by : (x n : Bool) → has_no_root a ≡ x → is_num a ≡ n → IsCalmAtZero ns r
+    by true n d m = undef_calm ns a r (h.undefined ∙ d) c
+    by false true d m = number_is_calm ns a r (h.number m d) c
+    by false false d m = subst (IsCalmAtZero ns) (sym (h.kept m d)) (record { once = c.once; calm = (tt, c.calm) })

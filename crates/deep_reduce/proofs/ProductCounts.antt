@@ -1,0 +1,182 @@
+-- The product of an exponent that counts its base and of a whole number counts it as often as both together.
+use Rattle.std.proofs.Common.{◌≡◌, ℕ, ℤ, pos, negsuc, neg_ℤ, suc, ◌*◌, ◌*ℤ◌, inr, Bool, true, false, ◌||◌, ◌==◌, List, if◌then◌else◌, refl, sym, ap, ◌∙◌, subst, arith}
+use Rattle.std.proofs.lemmas.Bool.{and_parts, eqb-true}
+use Rattle.std.proofs.Math.IntN.{*ℤ_comm}
+use Rattle.calc_algebra.specs.Numbers.{is_number, value}
+use Rattle.calc_algebra.specs.Reduced.{are_reduced, is_reduced, product_tree}
+use Rattle.calc_algebra.specs.SquareClasses.{Same}
+use Rattle.calc_algebra.specs.Surds.{surd_of, surd_one}
+use Rattle.calc_algebra.proofs.ExponentLaws.{whole_times}
+use Rattle.calc_algebra.proofs.MeaningRewrites.{Permuted, permuted_none, permuted_more, permuted_swap, permuted_trans}
+use Rattle.calc_algebra.proofs.NumberLaws.{number_words, number_test}
+use Rattle.calc_algebra.proofs.SquareClassLaws.{Same-trans}
+use Rattle.calc_algebra.proofs.TermLaws.{Same-refl, Same-eq, Same-surd_times}
+use Rattle.calc_terms.specs.Fractions.{Fraction, whole_fraction, lowest, lowest_parts, zero_fraction, one_fraction}
+use Rattle.calc_terms.proofs.FractionFacts.{zero_is}
+use Rattle.calc_terms.specs.Trees.{Tree, num, symbol, undef, add, mult, Trees, none, more, is_undef, has_undef}
+use Rattle.coefficients.specs.Coefficients.{with_coefficient, IsMonic}
+use Rattle.coefficients.proofs.Forms.{reduced_parts, parts_reduced}
+use Rattle.deep_reduce.specs.Bits.{IsCountedWithin, MultipliesCounts}
+use Rattle.deep_reduce.proofs.HeldExponents.{multiple_of}
+use Rattle.number_forms.specs.Readers.{is_zero}
+use Rattle.product_reduce.specs.Answers.{IsFinished, IsWrittenProduct}
+use Rattle.product_reduce.specs.Factors.{opened, numbers_in, others_in, product_of_values, coefficient_times}
+use Rattle.product_reduce.specs.Joining.{have_partners}
+use Rattle.product_reduce.proofs.Misfits.{permuted_one_is}
+use Rattle.product_reduce.proofs.Sorted.{permuted_lists}
+use Rattle.sum_reduce.proofs.CollectedExponents.{IsCountedIn, whole_number, as_whole, num_value, num_counted, zero_counted, put_counted}
+use Rattle.sum_reduce.proofs.CountedMultiples.{within_after, product_within}
+use Rattle.tree_bits.specs.Exponents.{Counts, counts, multiple, counts_of, is_counted}
+use Rattle.tree_bits.specs.Powers.{IsWithin}
+
+clash : {A : Type 0} → true ≡ false → A
+clash e = absurd cc
+
+unclear : {A : Type 0} → false ≡ true → A
+unclear e = absurd cc
+
+-- ---- the factors
+
+-- a whole number, with a factor that counts behind it or none
+data IsParted (c : Counts) (n : ℤ) (ts : Trees) : Type 0 where
+  number_alone : (z : ℤ) → Same (product_of_values (numbers_in (opened ts))) (surd_of (whole_fraction z)) → others_in (opened ts) ≡ none → IsWithin (multiple z (counts 1 0)) (multiple n c) → IsParted c n ts
+  one_factor : (z : ℤ) (w : Tree) → Same (product_of_values (numbers_in (opened ts))) (surd_of (whole_fraction z)) → others_in (opened ts) ≡ more w none → IsMonic w → is_counted w ≡ true → IsWithin (multiple z (counts_of w)) (multiple n c) → IsParted c n ts
+
+rational_number : (q : Fraction) → is_number (num q) ≡ true
+rational_number q = number_test (num q) tt
+
+-- products of whole numbers
+one_product : (n : ℤ) → Same (product_of_values (more (num (whole_fraction n)) none)) (surd_of (whole_fraction n))
+unfolding one_fraction
+one_product n =
+    Same-trans (Same-surd_times (num_value (whole_fraction n)) (Same-refl surd_one)) (Same-eq (ap surd_of (whole_times n (pos 1) ∙ ap whole_fraction (once n))))
+  where
+    once : (n : ℤ) → n *ℤ pos 1 ≡ n
+    once (pos n) = ap pos (omega arith)
+    once (negsuc n) = let e : suc n * 1 ≡ suc n = omega arith in ap (λ (m : ℕ). neg_ℤ (pos m)) e
+
+two_product : (q : Fraction) (n : ℤ) → (q.den == 1) ≡ true → Same (product_of_values (more (num q) (more (num (whole_fraction n)) none))) (surd_of (whole_fraction (q.num *ℤ n)))
+two_product q n w =
+    let i : q ≡ whole_fraction q.num = lowest_parts q ∙ ap (lowest q.num) (eqb-true q.den 1 w) in
+    Same-trans (Same-surd_times (subst (λ (r : Fraction). Same (value (num q)) (surd_of r)) i (num_value q)) (one_product n)) (Same-eq (ap surd_of (whole_times q.num n)))
+
+with_number : (q : Fraction) (ts : Trees) → (numbers_in (more (num q) ts) ≡ more (num q) (numbers_in ts)) × (others_in (more (num q) ts) ≡ others_in ts)
+with_number q ts = (
+  ap (λ (b : Bool). if b then more (num q) (numbers_in ts) else numbers_in ts) (rational_number q),
+  ap (λ (b : Bool). if b then others_in ts else more (num q) (others_in ts)) (rational_number q),
+)
+
+with_other : (t : Tree) (ts : Trees) → is_number t ≡ false → (numbers_in (more t ts) ≡ numbers_in ts) × (others_in (more t ts) ≡ more t (others_in ts))
+with_other t ts n = (
+  ap (λ (b : Bool). if b then more t (numbers_in ts) else numbers_in ts) n,
+  ap (λ (b : Bool). if b then others_in ts else more t (others_in ts)) n,
+)
+
+turned_within : (q : Fraction) (n : ℤ) (c : Counts) → IsWithin (multiple (q.num *ℤ n) c) (multiple n (multiple q.num c))
+turned_within q n c = subst (λ (z : ℤ). IsWithin (multiple z c) (multiple n (multiple q.num c))) (*ℤ_comm n q.num) (product_within n q.num c)
+
+symbol_number : (x : List ℕ) → is_number (symbol x) ≡ false
+unfolding is_number
+symbol_number x = refl
+
+symbol_monic : (x : List ℕ) → IsMonic (symbol x)
+symbol_monic x = record { reduced = parts_reduced (symbol x) (inr tt); defined = refl; no_coefficient = symbol_number x }
+
+-- one factor other than a Number, and the whole number
+single_parted : (w : Tree) (n : ℤ) (ts : Trees) → opened ts ≡ more w (more (num (whole_fraction n)) none) → is_number w ≡ false → IsMonic w → is_counted w ≡ true → IsParted (counts_of w) n ts
+single_parted w n ts e k m c =
+    let (a, b) = with_other w (more (num (whole_fraction n)) none) k in
+    let (i, j) = with_number (whole_fraction n) none in
+    one_factor n w (subst (λ (us : Trees). Same (product_of_values us) (surd_of (whole_fraction n))) (sym (ap numbers_in e ∙ a ∙ i)) (one_product n)) (ap others_in e ∙ b ∙ ap (more w) j) m c (record { up = omega arith; down = omega arith })
+
+same_within : (c d : Counts) → c ≡ d → IsWithin c d
+same_within c d e = subst (IsWithin c) e (record { up = omega arith; down = omega arith })
+
+parted : (f : Tree) (n : ℤ) → is_reduced f ≡ true → is_counted f ≡ true → IsParted (counts_of f) n (more f (more (num (whole_fraction n)) none))
+parted (num q) n r c =
+    let (a, b) = with_number q (more (num (whole_fraction n)) none) in
+    let (i, j) = with_number (whole_fraction n) none in
+    number_alone (q.num *ℤ n) (subst (λ (us : Trees). Same (product_of_values us) (surd_of (whole_fraction (q.num *ℤ n)))) (sym (a ∙ ap (more (num q)) i)) (two_product q n c)) (b ∙ j) (turned_within q n (counts 1 0))
+parted (symbol x) n r c = single_parted (symbol x) n (more (symbol x) (more (num (whole_fraction n)) none)) refl (symbol_number x) (symbol_monic x) c
+parted (add ts) n r c = by (is_number (add ts)) refl
+  where
+    by : (b : Bool) → is_number (add ts) ≡ b → IsParted (counts_of (add ts)) n (more (add ts) (more (num (whole_fraction n)) none))
+    by true k = let w = whole_number (add ts) (number_words (add ts) k) c in absurd (cc w.is)
+    by false k = single_parted (add ts) n (more (add ts) (more (num (whole_fraction n)) none)) refl k (record { reduced = r; defined = refl; no_coefficient = k }) c
+parted (mult (more (num q) (more t none))) n r c =
+    let m = multiple_of q t (reduced_parts (mult (more (num q) (more t none))) r refl) c in
+    let e : opened (more (mult (more (num q) (more t none))) (more (num (whole_fraction n)) none)) ≡ more (num q) (more (symbol m.name) (more (num (whole_fraction n)) none)) = ap (λ (u : Tree). more (num q) (more u (more (num (whole_fraction n)) none))) m.is in
+    let (a, b) = with_number q (more (symbol m.name) (more (num (whole_fraction n)) none)) in
+    let (g, h) = with_other (symbol m.name) (more (num (whole_fraction n)) none) (symbol_number m.name) in
+    let (i, j) = with_number (whole_fraction n) none in
+    one_factor (q.num *ℤ n) (symbol m.name)
+    (subst (λ (us : Trees). Same (product_of_values us) (surd_of (whole_fraction (q.num *ℤ n)))) (sym (ap numbers_in e ∙ a ∙ ap (more (num q)) (g ∙ i))) (two_product q n m.whole))
+    (ap others_in e ∙ b ∙ h ∙ ap (more (symbol m.name)) j) (symbol_monic m.name) refl
+    (within_after (turned_within q n (counts 1 0)) (same_within (multiple n (multiple q.num (counts 1 0))) (multiple n (multiple q.num (counts_of t))) (ap (λ (u : Tree). multiple n (multiple q.num (counts_of u))) (sym m.is))))
+parted t n r c = unclear c
+
+-- ---- what is written of them
+
+none_moved : {ts us : Trees} → Permuted ts us → ts ≡ none → us ≡ none
+none_moved permuted_none e = e
+none_moved (permuted_more k) e = cc
+none_moved permuted_swap e = cc
+none_moved (permuted_trans k l) e = none_moved l (none_moved k e)
+
+-- as the deep reducer says it
+told : {t : Tree} {c : Counts} → IsCountedIn t c → IsCountedWithin c t
+told a = record { counted = a.counted; within = a.within }
+
+told_within : {t : Tree} {c d : Counts} → IsCountedIn t c → IsWithin c d → IsCountedWithin d t
+told_within a w = record { counted = a.counted; within = within_after a.within w }
+
+zero_words : (c : Tree) → is_zero c ≡ true → c ≡ num zero_fraction
+zero_words (num q) h = ap num (zero_is q h)
+zero_words c h = unclear h
+
+written_counts : (ts : Trees) (t : Tree) (c : Counts) (n : ℤ) → IsWrittenProduct ts t → IsParted c n ts → IsCountedWithin (multiple n c) t
+written_counts ts t c n w (number_alone z same none_else fits) = by (is_zero w.coefficient) refl
+  where
+    i : w.coefficient ≡ num (whole_fraction z)
+    i = as_whole w.coefficient z w.is_coefficient.number (Same-trans w.is_coefficient.same same)
+
+    counts_as : t ≡ w.coefficient → IsCountedWithin (multiple n c) t
+    counts_as e = subst (IsCountedWithin (multiple n c)) (sym (e ∙ i)) (told_within (num_counted z) fits)
+
+    by : (b : Bool) → is_zero w.coefficient ≡ b → IsCountedWithin (multiple n c) t
+    by true e = counts_as (w.zero e)
+    by false e =
+        let x = w.written e in
+        counts_as (x.is ∙ ap (coefficient_times w.coefficient) (none_moved (permuted_lists (others_in (opened ts)) x.us x.sorted.moved) none_else))
+written_counts ts t c n w (one_factor z p same one_else monic counted fits) = by (is_zero w.coefficient) refl
+  where
+    i : w.coefficient ≡ num (whole_fraction z)
+    i = as_whole w.coefficient z w.is_coefficient.number (Same-trans w.is_coefficient.same same)
+
+    by : (b : Bool) → is_zero w.coefficient ≡ b → IsCountedWithin (multiple n c) t
+    by true e = subst (IsCountedWithin (multiple n c)) (sym (w.zero e ∙ zero_words w.coefficient e)) (told (zero_counted (multiple n c)))
+    by false e =
+        let x = w.written e in
+        let u : x.us ≡ more p none = permuted_one_is p (permuted_lists (others_in (opened ts)) x.us x.sorted.moved) one_else in
+        subst (IsCountedWithin (multiple n c)) (sym (x.is ∙ ap (coefficient_times w.coefficient) u ∙ ap (λ (d : Tree). with_coefficient d (product_tree (more p none))) i))
+        (told_within (put_counted z p monic counted) fits)
+
+counted_defined : (e : Tree) → is_counted e ≡ true → is_undef e ≡ false
+counted_defined undef c = unclear c
+counted_defined e c = refl
+
+pair_defined : (f : Tree) (n : ℤ) → is_counted f ≡ true → has_undef (more f (more (num (whole_fraction n)) none)) ≡ false
+pair_defined f n c = ap (λ (b : Bool). b || (false || false)) (counted_defined f c)
+
+pub product_counts : (ts : Trees) (t : Tree) → are_reduced ts ≡ true → IsFinished ts t → MultipliesCounts ts t
+product_counts ts t r k f n e c =
+    written_counts ts t (counts_of f) n (k.written (ap has_undef e ∙ pair_defined f n c))
+    (subst (IsParted (counts_of f) n) (sym e) (parted f n (and_parts (is_reduced f) _ (sym (ap are_reduced e) ∙ r)).0 c))
+
+-- no two of them have one base
+no_partners : (c : Counts) (n : ℤ) (ts : Trees) → IsParted c n ts → have_partners (others_in (opened ts)) ≡ false
+no_partners c n ts (number_alone z a b d) = ap have_partners b
+no_partners c n ts (one_factor z w a b d e f) = ap have_partners b
+
+pub product_joins_none : (ts : Trees) (t : Tree) → are_reduced ts ≡ true → have_partners (others_in (opened ts)) ≡ true → MultipliesCounts ts t
+product_joins_none ts t r p f n e c = clash (sym p ∙ no_partners (counts_of f) n ts (subst (IsParted (counts_of f) n) (sym e) (parted f n (and_parts (is_reduced f) _ (sym (ap are_reduced e) ∙ r)).0 c)))

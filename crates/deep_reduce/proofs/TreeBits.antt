@@ -1,0 +1,211 @@
+-- What holds the answers of children holds the node over them, by the bounds of the tree.
+use Rattle.std.proofs.Common.{◌≡◌, ℕ, suc, ◌+◌, ◌*◌, ◌^◌, ◌≤◌, max, ℤ, pos, negsuc, Bool, true, false, ◌&&◌, ◌||◌, Option, Some, None, refl, sym, ap, ◌∙◌, subst, arith}
+use Rattle.std.proofs.lemmas.Bool.{and_parts}
+use Rattle.std.proofs.lemmas.Nat.{mul-le, pow-add}
+use Rattle.std.proofs.Math.Nat.{pow-le-pow_right}
+use Rattle.calc_measures.specs.Literals.{whole_literal, half_literal, or_literal, is_whole_literal, is_half_literal}
+use Rattle.calc_measures.specs.Measures.{HighLow, all_simple, are_all_simple, is_simple_power, power_bounds, bounds, bounds_of_terms, bounds_of_factors, high, low}
+use Rattle.calc_terms.specs.Trees.{Tree, num, symbol, undef, add, mult, power, root, neg, sub, div, Trees, none, more, is_num, is_symbol, is_undef, has_undef}
+use Rattle.deep_reduce.specs.Leaves.{is_leaf}
+use Rattle.deep_reduce.specs.NodeBits.{HoldsPower, holds_whole, holds_half, holds_kept, HoldsNode}
+use Rattle.deep_reduce.specs.Nodes.{IsNodeAnswer}
+use Rattle.deep_reduce.specs.Reductions.{IsReducedFrom}
+use Rattle.deep_reduce.proofs.HeldFactors.{factor_tree, tree_factor, undef_factor}
+use Rattle.deep_reduce.proofs.HeldLiterals.{whole_answer, half_literal_answer}
+use Rattle.deep_reduce.proofs.NodeBits.{first_side, second_side}
+use Rattle.deep_reduce.proofs.NodeRewrites.{AreReducedFrom, IsOver, over_number, over_symbol, over_undef, over_sum, over_product, over_power, over_root, over_neg, over_sub, over_div}
+use Rattle.deep_reduce.proofs.PlainNodes.{undef_has_no_value}
+use Rattle.deep_reduce.proofs.Steps.{number_reduced}
+use Rattle.product_reduce.specs.Bits.{IsFactorHeld, AreFactorsHeld, none_held, factor_held}
+use Rattle.tree_bits.specs.Children.{AreTreesHeld}
+use Rattle.tree_bits.specs.Powers.{raised_high, raised_low}
+use Rattle.tree_bits.specs.Rows.{bounds_of_each}
+use Rattle.tree_bits.proofs.Factors.{factor_is_held}
+use Rattle.tree_bits.proofs.Rows.{rational_row, sum_row, rational_to_symbol, symbol_to_symbol}
+use Rattle.tree_bits.proofs.Sums.{symbol_is_held}
+use Rattle.tree_handles.specs.Expressions.{children_of}
+
+or_first : (a b : Bool) → (a || b) ≡ false → a ≡ false
+or_first true b h = cc
+or_first false b h = refl
+
+or_second : (a b : Bool) → (a || b) ≡ false → b ≡ false
+or_second true b h = cc
+or_second false b h = h
+
+clash : {A : Type 0} → true ≡ false → A
+clash e = absurd cc
+
+-- ---- where high is 0
+
+zero_power : (m : Option ℤ) (b : HighLow) → (b.high ≡ 0 → b.low ≡ 0) → (power_bounds m b).high ≡ 0 → (power_bounds m b).low ≡ 0
+zero_power (Some (pos n)) b k e =
+    let l : 1 * b.high ≤ max 1 n * b.high = mul-le 1 b.high (max 1 n) b.high (omega arith) (omega arith) in
+    omega (arith, ap (λ (x : ℕ). max 1 n * x) (k (omega (arith, l, e))))
+zero_power (Some (negsuc n)) b k e =
+    let l : 1 * (b.high + 2 * b.low) ≤ suc n * (b.high + 2 * b.low) = mul-le 1 (b.high + 2 * b.low) (suc n) (b.high + 2 * b.low) (omega arith) (omega arith) in
+    let h : b.high ≡ 0 = omega (arith, l, e) in
+    let z : 2 * b.high + 2 * b.low ≡ 0 = omega (arith, h, k h) in
+    omega (arith, ap (λ (x : ℕ). suc n * x) z)
+zero_power None b k e = k e
+
+mutual
+  pub zero_high : (t : Tree) → high t ≡ 0 → low t ≡ 0
+  zero_high (num q) e = absurd (omega (arith, e))
+  zero_high (symbol x) e = absurd (omega (arith, e))
+  zero_high undef e = absurd (omega (arith, e))
+  zero_high (add ts) e = zero_terms ts (omega (arith, e))
+  zero_high (mult ts) e = zero_factors ts e
+  zero_high (power b f) e = zero_power (or_literal (whole_literal f) (half_literal f)) (bounds b) (zero_high b) e
+  zero_high (root a) e = zero_high a e
+  zero_high (neg a) e = zero_high a e
+  zero_high (sub a b) e = absurd (omega (arith, e))
+  zero_high (div a b) e = omega (arith, e, zero_high a (omega (arith, e)))
+
+  zero_terms : (ts : Trees) → (bounds_of_terms ts).high ≡ 0 → (bounds_of_terms ts).low ≡ 0
+  zero_terms none e = refl
+  zero_terms (more t ts) e = omega (arith, zero_high t (omega (arith, e)), zero_terms ts (omega (arith, e)))
+
+  zero_factors : (ts : Trees) → (bounds_of_factors ts).high ≡ 0 → (bounds_of_factors ts).low ≡ 0
+  zero_factors none e = refl
+  zero_factors (more t ts) e = omega (arith, zero_high t (omega (arith, e)), zero_factors ts (omega (arith, e)))
+
+-- ---- children
+
+terms_held : (ts us : Trees) → are_all_simple ts ≡ true → AreReducedFrom ts us → has_undef us ≡ false → AreTreesHeld us (bounds_of_each ts)
+terms_held none none s h d = tt
+terms_held none (more u us) s h d = absurd h
+terms_held (more t ts) none s h d = absurd h
+terms_held (more t ts) (more u us) s h d =
+    let (p, q) = and_parts (all_simple t) (are_all_simple ts) s in
+    let e = or_first (is_undef u) (has_undef us) d in
+    (e, factor_tree u (h.0.held p e), terms_held ts us q h.1 (or_second (is_undef u) (has_undef us) d))
+
+factors_held : (ts us : Trees) → are_all_simple ts ≡ true → AreReducedFrom ts us → has_undef us ≡ false → AreFactorsHeld us (bounds_of_factors ts).high (bounds_of_factors ts).low
+factors_held none none s h d = none_held
+factors_held none (more u us) s h d = absurd h
+factors_held (more t ts) none s h d = absurd h
+factors_held (more t ts) (more u us) s h d =
+    let (p, q) = and_parts (all_simple t) (are_all_simple ts) s in
+    factor_held (high t) (low t) (bounds_of_factors ts).high (bounds_of_factors ts).low (h.0.held p (or_first (is_undef u) (has_undef us) d)) (factors_held ts us q h.1 (or_second (is_undef u) (has_undef us) d)) (omega arith) (omega arith)
+
+-- ---- powers
+
+row_most : (n : ℤ) (b : HighLow) → (raised_high n b.high b.low ≤ (power_bounds (Some n) b).high) × (raised_low n b.high b.low ≤ (power_bounds (Some n) b).low)
+row_most (pos n) b = (mul-le n b.high (max 1 n) b.high (omega arith) (omega arith), mul-le n b.low (max 1 n) b.low (omega arith) (omega arith))
+row_most (negsuc n) b = (omega arith, omega arith)
+
+base_most : (n : ℤ) (b : HighLow) → (b.high ≤ (power_bounds (Some n) b).high) × (b.low ≤ (power_bounds (Some n) b).low)
+base_most (pos n) b =
+    let x : 1 * b.high ≤ max 1 n * b.high = mul-le 1 b.high (max 1 n) b.high (omega arith) (omega arith) in
+    let y : 1 * b.low ≤ max 1 n * b.low = mul-le 1 b.low (max 1 n) b.low (omega arith) (omega arith) in
+    (omega (arith, x), omega (arith, y))
+base_most (negsuc n) b =
+    let x : 1 * (b.high + 2 * b.low) ≤ suc n * (b.high + 2 * b.low) = mul-le 1 (b.high + 2 * b.low) (suc n) (b.high + 2 * b.low) (omega arith) (omega arith) in
+    let y : 1 * (2 * b.high + 2 * b.low) ≤ suc n * (2 * b.high + 2 * b.low) = mul-le 1 (2 * b.high + 2 * b.low) (suc n) (2 * b.high + 2 * b.low) (omega arith) (omega arith) in
+    (omega (arith, x), omega (arith, y))
+
+-- the row is by the exponent n
+record IsRow (b e : Tree) (n : ℤ) : Type 0 where
+  high : (power_bounds (Some n) (bounds b)).high ≤ high (power b e)
+  low : (power_bounds (Some n) (bounds b)).low ≤ low (power b e)
+
+row_is : (b e : Tree) (n : ℤ) → or_literal (whole_literal e) (half_literal e) ≡ Some n → IsRow b e n
+row_is b e n o = record { high = omega (arith, ap (λ (m : Option ℤ). (power_bounds m (bounds b)).high) o); low = omega (arith, ap (λ (m : Option ℤ). (power_bounds m (bounds b)).low) o) }
+
+-- a symbol as the exponent of a rational or of a symbol
+symbol_power : (b e : Tree) → (is_num b || is_symbol b) ≡ true → is_symbol e ≡ true → IsFactorHeld (power b e) (high (power b e)) (low (power b e))
+symbol_power (num q) (symbol x) h k = factor_is_held (power (num q) (symbol x)) (high (power (num q) (symbol x))) (low (power (num q) (symbol x))) refl (omega arith) (rational_to_symbol q x)
+symbol_power (symbol y) (symbol x) h k = factor_is_held (power (symbol y) (symbol x)) (high (power (symbol y) (symbol x))) (low (power (symbol y) (symbol x))) refl (omega arith) (symbol_to_symbol y x)
+symbol_power (num q) e h k = cc
+symbol_power (symbol y) e h k = cc
+symbol_power b e h k = cc
+
+leaf_of : (b : Tree) → (is_num b || is_symbol b) ≡ true → is_leaf b ≡ true
+leaf_of (num q) h = refl
+leaf_of (symbol x) h = refl
+leaf_of b h = cc
+
+symbol_leaf : (e : Tree) → is_symbol e ≡ true → (is_leaf e ≡ true) × (is_num e ≡ false)
+symbol_leaf (symbol x) h = (refl, refl)
+symbol_leaf e h = cc
+
+no_literal : (o : Option ℤ) → o ≡ None → (elim o [ Some n ↦ true | None ↦ false ]) ≡ false
+no_literal None e = refl
+no_literal (Some n) e = cc
+
+power_holds : (b c e f : Tree) → is_simple_power b e ≡ true → all_simple b ≡ true → IsReducedFrom b c → IsReducedFrom e f → is_undef c ≡ false → HoldsPower c f (high (power b e)) (low (power b e))
+power_holds b c e f s p h k d = by (whole_literal e) (half_literal e) refl refl
+  where
+    by : (x y : Option ℤ) → whole_literal e ≡ x → half_literal e ≡ y → HoldsPower c f (high (power b e)) (low (power b e))
+    by (Some n) y i j =
+        let r = row_is b e n (ap (λ (o : Option ℤ). or_literal o (half_literal e)) i) in
+        let m = row_most n (bounds b) in
+        holds_whole n (high b) (low b) (whole_answer e f n i k.plain) (h.held p d) (omega (arith, m.0, r.high)) (omega (arith, m.1, r.low))
+    by None (Some n) i j =
+        let r = row_is b e n (ap (λ (o : Option ℤ). or_literal o (half_literal e)) i ∙ j) in
+        let a = half_literal_answer e f n j k.plain in
+        let m = row_most n (bounds b) in
+        let w = base_most n (bounds b) in
+        holds_half (high b) (low b) a.0 (zero_high b) (h.held p d) (omega (arith, w.0, r.high)) (omega (arith, w.1, r.low))
+        (omega (arith, m.0, r.high, ap (λ (z : ℤ). raised_high z (high b) (low b)) a.1)) (omega (arith, m.1, r.low, ap (λ (z : ℤ). raised_low z (high b) (low b)) a.1))
+    by None None i j =
+        let t = and_parts (is_num b || is_symbol b) (is_symbol e) (last (is_whole_literal e) (is_half_literal e) _ (no_literal (whole_literal e) i) (no_literal (half_literal e) j) s) in
+        let l = symbol_leaf e t.1 in
+        let c-is : c ≡ b = h.leaf (leaf_of b t.0) in
+        let f-is : f ≡ e = k.leaf l.0 in
+        holds_kept (ap is_num f-is ∙ l.1) (subst (λ (x : Tree). IsFactorHeld (power x f) (high (power b e)) (low (power b e))) (sym c-is) (subst (λ (x : Tree). IsFactorHeld (power b x) (high (power b e)) (low (power b e))) (sym f-is) (symbol_power b e t.0 t.1)))
+      where
+        last : (x y z : Bool) → x ≡ false → y ≡ false → (x || y || z) ≡ true → z ≡ true
+        last true y z a b h = cc
+        last false true z a b h = cc
+        last false false z a b h = h
+
+-- ---- the node
+
+two_powers : (h k : ℕ) → 2 ^ h + 2 ^ k ≤ 2 ^ (max h k + 1)
+two_powers h k =
+    let a : 2 ^ h ≤ 2 ^ max h k = pow-le-pow_right {n = 2} (omega arith) (omega arith) in
+    let b : 2 ^ k ≤ 2 ^ max h k = pow-le-pow_right {n = 2} (omega arith) (omega arith) in
+    omega (arith, pow-add 2 (max h k) 1)
+
+pub holds_over : (t u : Tree) → all_simple t ≡ true → IsOver t u → has_undef (children_of u) ≡ false → HoldsNode u (high t) (low t)
+holds_over t u s (over_number q) d = tree_factor (num q) (number_reduced q) refl (rational_row q)
+holds_over t u s (over_symbol x) d = factor_is_held (symbol x) 1 0 refl (omega arith) (symbol_is_held x)
+holds_over t u s over_undef d = undef_factor (omega arith)
+holds_over t u s (over_sum ts us h) d = sum_row ts us (terms_held ts us s h d)
+holds_over t u s (over_product ts us h) d = factors_held ts us s h d
+holds_over t u s (over_power b c e f h k) d =
+    let (xy, q) = and_parts (is_simple_power b e && all_simple b) (all_simple e) s in
+    let (x, p) = and_parts (is_simple_power b e) (all_simple b) xy in
+    power_holds b c e f x p h k (first_side c f d)
+holds_over t u s (over_root a c h) d = (h.held s (or_first (is_undef c) false d), zero_high a)
+holds_over t u s (over_neg a c h) d = h.held s (or_first (is_undef c) false d)
+holds_over t u s (over_sub a c b e h k) d =
+    let (p, q) = and_parts (all_simple a) (all_simple b) s in
+    record { p = high a; q = low a; k = high b; n = low b; left = h.held p (first_side c e d); right = k.held q (second_side c e d); high = two_powers (high a) (high b); low = omega arith }
+holds_over t u s (over_div a c b e h k) d =
+    let (p, q) = and_parts (all_simple a) (all_simple b) s in
+    record { p = high a; q = low a; k = high b; n = low b; dividend = h.held p (first_side c e d); divisor = k.held q (second_side c e d); high = omega arith; low = omega arith }
+
+defined_node : (u r : Tree) → IsNodeAnswer u r → is_undef r ≡ false → has_undef (children_of u) ≡ false
+defined_node u r a d = by (has_undef (children_of u)) refl
+  where
+    by : (b : Bool) → has_undef (children_of u) ≡ b → b ≡ false
+    by false e = refl
+    by true e = clash (sym (ap is_undef (a.undefined (undef_has_no_value u e))) ∙ d)
+
+pub node_held : (t u r : Tree) → IsOver t u → IsNodeAnswer u r → all_simple t ≡ true → is_undef r ≡ false → IsFactorHeld r (high t) (low t)
+node_held t u r h a s d = a.held d (high t) (low t) (holds_over t u s h (defined_node u r a d))
+
+pub node_leaf : (t u r : Tree) → IsOver t u → IsNodeAnswer u r → is_leaf t ≡ true → r ≡ t
+node_leaf t u r (over_number q) a l = a.leaf refl
+node_leaf t u r (over_symbol x) a l = a.leaf refl
+node_leaf t u r over_undef a l = a.leaf refl
+node_leaf t u r (over_sum ts us h) a l = cc
+node_leaf t u r (over_product ts us h) a l = cc
+node_leaf t u r (over_power b c e f h k) a l = cc
+node_leaf t u r (over_root x c h) a l = cc
+node_leaf t u r (over_neg x c h) a l = cc
+node_leaf t u r (over_sub x c b e h k) a l = cc
+node_leaf t u r (over_div x c b e h k) a l = cc

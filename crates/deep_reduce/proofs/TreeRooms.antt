@@ -1,0 +1,289 @@
+-- A tree whose powers are simple, and the answers of its children: what they count, that they are calm, and what spans them.
+use Rattle.std.proofs.Common.{◌≡◌, ℕ, suc, ◌+◌, ◌*◌, ◌≤◌, ◌<◌, ◌⊎◌, inl, inr, ◌<ℤ◌, pos, negsuc, ℤ, List, [], ◌∷◌, ◌++◌, length, Bool, true, false, ◌&&◌, ◌||◌, if◌then◌else◌, refl, ap, ◌∙◌, arith}
+use Rattle.std.specs.Prelude.{Contains}
+use Rattle.std.proofs.lemmas.Bool.{and_parts}
+use Rattle.std.proofs.lemmas.Int.{ints}
+use Rattle.std.proofs.lemmas.List.{length-append}
+use Rattle.std.proofs.lemmas.List.Elements.{Contains-append_left, Contains-append_right}
+use Rattle.calc_algebra.specs.Meanings.{IsAssignment}
+use Rattle.calc_algebra.specs.Numbers.{natural_of}
+use Rattle.calc_algebra.specs.Reduced.{is_half_num, is_whole_num}
+use Rattle.calc_measures.specs.Literals.{is_whole_literal, is_half_literal}
+use Rattle.calc_measures.specs.Measures.{all_simple, are_all_simple, is_simple_power, roots, roots_of}
+use Rattle.calc_room.specs.Counts.{counted}
+use Rattle.calc_room.specs.Spans.{SpansTree, SpansTrees}
+use Rattle.calc_terms.specs.Trees.{Tree, num, symbol, add, mult, power, root, neg, Trees, none, more, count, nodes, names, names_of, is_num, is_symbol}
+use Rattle.deep_reduce.specs.NodeRooms.{HasNodesFor, SpansNode, node_count}
+use Rattle.deep_reduce.specs.Nodes.{IsNodeAnswer}
+use Rattle.deep_reduce.specs.Reductions.{IsReducedFrom, IsWithinTree}
+use Rattle.deep_reduce.specs.Rooms.{IsCalmAtZero, SpansRootOf, whole_power_count, power_count}
+use Rattle.deep_reduce.proofs.Calm.{whole_kept}
+use Rattle.deep_reduce.proofs.HalfLiterals.{half_answer}
+use Rattle.deep_reduce.proofs.JointRooms.{whole_count_most}
+use Rattle.deep_reduce.proofs.NodeRewrites.{AreReducedFrom, IsOver, over_number, over_symbol, over_undef, over_sum, over_product, over_power, over_root, over_neg, over_sub, over_div}
+use Rattle.deep_reduce.proofs.PowerRooms.{kept_counts}
+use Rattle.power_reduce.specs.PowerAnswers.{base_in, exponent_in}
+use Rattle.radical_forms.proofs.Spanned.{spans_root_of}
+use Rattle.tree_room.specs.Children.{CountWithin}
+use Rattle.tree_room.specs.Exponents.{IsCalm, AreCalm, MeansWhole, zeros}
+use Rattle.tree_room.specs.Handed.{counted_in_all}
+use Rattle.tree_room.proofs.Calm.{literal_whole}
+use Rattle.tree_room.proofs.Counts.{counts_one, numbers_and_others}
+use Rattle.tree_room.proofs.JoinedSpans.{tree_first, tree_second, trees_second}
+use Rattle.tree_room.proofs.NodeCounts.{all_within}
+use Rattle.tree_room.proofs.Zeros.{symbol_zero, each_once}
+
+-- ---- the answers of children
+
+pub record AreWithin (ts us : Trees) : Type 0 where
+  pub counts : CountWithin us ts
+  pub radicands : List ℕ
+  pub few : length radicands ≤ roots_of ts
+  pub spanned : SpansTrees radicands us
+  pub calm : (ns : List (List ℕ)) → IsAssignment (zeros ns) → ((x : List ℕ) → Contains (names_of ts) x → Contains ns x) → AreCalm (zeros ns) us
+
+pub are_within : (ts us : Trees) → are_all_simple ts ≡ true → AreReducedFrom ts us → AreWithin ts us
+are_within none none s h = record { counts = tt; radicands = []; few = omega arith; spanned = tt; calm = λ ns o a. tt }
+are_within none (more u us) s h = absurd h
+are_within (more t ts) none s h = absurd h
+are_within (more t ts) (more u us) s h =
+    let (p, q) = and_parts (all_simple t) (are_all_simple ts) s in
+    let x = h.0.room p in
+    let xs = are_within ts us q h.1 in
+    record {
+      counts = (x.counts, xs.counts);
+      radicands = x.radicands ++ xs.radicands;
+      few = omega (arith, x.few, xs.few, length-append x.radicands xs.radicands);
+      spanned = (tree_first x.radicands xs.radicands u x.spanned, trees_second x.radicands xs.radicands us xs.spanned);
+      calm = λ ns o a. (x.calm ns o (λ y c. a y (Contains-append_left (names t) (names_of ts) y c)), xs.calm ns o (λ y c. a y (Contains-append_right (names t) (names_of ts) y c)));
+    }
+
+-- two of them
+record AreBothWithin (a b c d : Tree) : Type 0 where
+  left : counted c ≤ nodes a
+  right : counted d ≤ nodes b
+  radicands : List ℕ
+  few : length radicands ≤ roots a + roots b
+  left_spanned : SpansTree radicands c
+  right_spanned : SpansTree radicands d
+  calm : (ns : List (List ℕ)) → IsAssignment (zeros ns) → ((x : List ℕ) → Contains (names a ++ names b) x → Contains ns x) → IsCalm (zeros ns) c × IsCalm (zeros ns) d
+
+both_within : (a b c d : Tree) → all_simple a ≡ true → all_simple b ≡ true → IsReducedFrom a c → IsReducedFrom b d → AreBothWithin a b c d
+both_within a b c d p q h k =
+    let x = h.room p in
+    let y = k.room q in
+    record {
+      left = x.counts;
+      right = y.counts;
+      radicands = x.radicands ++ y.radicands;
+      few = omega (arith, x.few, y.few, length-append x.radicands y.radicands);
+      left_spanned = tree_first x.radicands y.radicands c x.spanned;
+      right_spanned = tree_second x.radicands y.radicands d y.spanned;
+      calm = λ ns o all. (x.calm ns o (λ z c. all z (Contains-append_left (names a) (names b) z c)), y.calm ns o (λ z c. all z (Contains-append_right (names a) (names b) z c)));
+    }
+
+-- what spans the root of a tree as well
+record SpansRootToo (gs : List ℕ) (c : Tree) : Type 0 where
+  radicands : List ℕ
+  few : length radicands ≤ suc (length gs)
+  spanned : SpansRootOf radicands c
+
+root_too : (gs : List ℕ) (c : Tree) → SpansTree gs c → SpansRootToo gs c
+root_too gs (num q) s = record { radicands = natural_of q.num * q.den ∷ []; few = omega arith; spanned = λ l. spans_root_of q (num q) refl (above q.num l) }
+  where
+    above : (z : ℤ) → 0 < natural_of z → pos 0 <ℤ z
+    above (pos n) l = omega (arith, ints)
+    above (negsuc n) l = absurd (omega arith)
+root_too gs c s = record { radicands = gs; few = omega arith; spanned = s }
+
+-- ---- the node over them
+
+-- what is needed of the node u
+pub record IsReadyNode (t u : Tree) : Type 0 where
+  pub fits : HasNodesFor (nodes t) u
+  pub counts : node_count u ≤ nodes t
+  pub radicands : List ℕ
+  pub few : length radicands ≤ roots t
+  pub spanned : SpansNode radicands u
+  pub calm : (ns : List (List ℕ)) → IsAssignment (zeros ns) → ((x : List ℕ) → Contains (names t) x → Contains ns x) → IsCalm (zeros ns) u
+
+-- and where it is half of an odd number as a power
+pub record IsReadyHalf (t u : Tree) : Type 0 where
+  pub fits : HasNodesFor (nodes t) u
+  pub half : is_half_num (exponent_in u) ≡ true
+  pub counts : 1 + counted (base_in u) ≤ nodes t
+  pub radicands : List ℕ
+  pub few : length radicands ≤ roots t
+  pub spanned : SpansRootOf radicands (base_in u)
+  pub calm : (ns : List (List ℕ)) → IsAssignment (zeros ns) → ((x : List ℕ) → Contains (names t) x → Contains ns x) → IsCalm (zeros ns) (base_in u)
+
+ready_sum : (ts us : Trees) → are_all_simple ts ≡ true → AreReducedFrom ts us → IsReadyNode (add ts) (add us)
+ready_sum ts us s h =
+    let x = are_within ts us s h in
+    let n = all_within us ts x.counts in
+    record {
+      fits = omega (arith, n);
+      counts = omega (arith, n, numbers_and_others us);
+      radicands = x.radicands;
+      few = x.few;
+      spanned = (tt, x.spanned);
+      calm = λ ns o a. (tt, x.calm ns o a);
+    }
+
+some_counted : (us : Trees) → 1 ≤ count us → 1 ≤ counted_in_all us
+some_counted none l = absurd (omega arith)
+some_counted (more u us) l = omega (arith, counts_one u)
+
+ready_product : (ts us : Trees) → are_all_simple ts ≡ true → AreReducedFrom ts us → IsReadyNode (mult ts) (mult us)
+ready_product ts us s h =
+    let x = are_within ts us s h in
+    let n = all_within us ts x.counts in
+    record {
+      fits = (omega (arith, n, numbers_and_others us), omega arith, λ l. omega (arith, n, some_counted us l));
+      counts = omega (arith, n, numbers_and_others us);
+      radicands = x.radicands;
+      few = x.few;
+      spanned = (tt, x.spanned);
+      calm = λ ns o a. (tt, x.calm ns o a);
+    }
+
+power_counted : (c f : Tree) (n : ℕ) → 1 + counted c + counted f ≤ n → power_count c f ≤ n
+power_counted c f n h = by (is_whole_num f) refl
+  where
+    other : is_whole_num f ≡ false → counted (power c f) ≡ suc (counted c + counted f)
+    other e = ap (λ (z : Bool). if z then counted c else suc (counted c + counted f)) e
+
+    by : (z : Bool) → is_whole_num f ≡ z → (if z then whole_power_count c else counted (power c f)) ≤ n
+    by true e = omega (arith, h, whole_count_most c, counts_one f)
+    by false e = omega (arith, h, other e)
+
+-- an exponent that means a whole number where the names are 0
+ready_power : (b c e f : Tree) → all_simple b ≡ true → all_simple e ≡ true → IsReducedFrom b c → IsReducedFrom e f
+    → ((ns : List (List ℕ)) → IsAssignment (zeros ns) → ((x : List ℕ) → Contains (names (power b e)) x → Contains ns x) → MeansWhole (zeros ns) e) → IsReadyNode (power b e) (power c f)
+ready_power b c e f p q h k w =
+    let x = both_within b e c f p q h k in
+    record {
+      fits = omega (arith, x.left, x.right, counts_one f);
+      counts = power_counted c f (nodes (power b e)) (omega (arith, x.left, x.right));
+      radicands = x.radicands;
+      few = omega (arith, x.few);
+      spanned = (tt, x.left_spanned, x.right_spanned);
+      calm = λ ns o a. (whole_kept (zeros ns) e f o k.reduces.meanings (w ns o a), (x.calm ns o a).0, (x.calm ns o a).1);
+    }
+
+half_roots : (b e : Tree) → is_half_literal e ≡ true → roots (power b e) ≡ suc (roots b + roots e)
+half_roots b e h = ap (λ (z : Bool). (if z then 1 else 0) + roots b + roots e) h ∙ omega arith
+
+ready_half : (b c e f : Tree) → all_simple b ≡ true → all_simple e ≡ true → is_half_literal e ≡ true → IsReducedFrom b c → IsReducedFrom e f → IsReadyHalf (power b e) (power c f)
+ready_half b c e f p q l h k =
+    let x = both_within b e c f p q h k in
+    let r = root_too x.radicands c x.left_spanned in
+    record {
+      fits = omega (arith, x.left, x.right, counts_one f);
+      half = half_answer e f l k.plain;
+      counts = omega (arith, x.left, x.right, counts_one f);
+      radicands = r.radicands;
+      few = omega (arith, r.few, x.few, half_roots b e l);
+      spanned = r.spanned;
+      calm = λ ns o a. (x.calm ns o a).0;
+    }
+
+symbol_whole : (e : Tree) (ns : List (List ℕ)) → is_symbol e ≡ true → ((x : List ℕ) → Contains (names e) x → Contains ns x) → MeansWhole (zeros ns) e
+symbol_whole (symbol x) ns h a = symbol_zero ns x (a x (0, omega arith, refl))
+symbol_whole e ns h a = cc
+
+simple_power : (b c e f : Tree) → is_simple_power b e ≡ true → all_simple b ≡ true → all_simple e ≡ true → IsReducedFrom b c → IsReducedFrom e f → IsReadyNode (power b e) (power c f) ⊎ IsReadyHalf (power b e) (power c f)
+simple_power b c e f s p q h k = by (is_whole_literal e) (is_half_literal e) refl refl s
+  where
+    by : (x y : Bool) → is_whole_literal e ≡ x → is_half_literal e ≡ y → (x || y || ((is_num b || is_symbol b) && is_symbol e)) ≡ true → IsReadyNode (power b e) (power c f) ⊎ IsReadyHalf (power b e) (power c f)
+    by true y w l t = inl (ready_power b c e f p q h k (λ ns o a. literal_whole (zeros ns) e w))
+    by false true w l t = inr (ready_half b c e f p q l h k)
+    by false false w l t = inl (ready_power b c e f p q h k (λ ns o a. symbol_whole e ns (and_parts _ _ t).1 (λ x i. a x (Contains-append_right (names b) (names e) x i))))
+
+ready_root : (a c : Tree) → all_simple a ≡ true → IsReducedFrom a c → IsReadyNode (root a) (root c)
+ready_root a c s h =
+    let x = h.room s in
+    let r = root_too x.radicands c x.spanned in
+    record {
+      fits = omega (arith, x.counts);
+      counts = omega (arith, x.counts, kept_counts c);
+      radicands = r.radicands;
+      few = omega (arith, r.few, x.few);
+      spanned = r.spanned;
+      calm = λ ns o k. (tt, x.calm ns o k);
+    }
+
+ready_neg : (a c : Tree) → all_simple a ≡ true → IsReducedFrom a c → IsReadyNode (neg a) (neg c)
+ready_neg a c s h =
+    let x = h.room s in
+    record {
+      fits = omega (arith, x.counts);
+      counts = omega (arith, x.counts);
+      radicands = x.radicands;
+      few = x.few;
+      spanned = (tt, x.spanned);
+      calm = λ ns o k. (tt, x.calm ns o k);
+    }
+
+pub ready : (t u : Tree) → all_simple t ≡ true → IsOver t u → IsReadyNode t u ⊎ IsReadyHalf t u
+ready t u s (over_number q) = inl (record { fits = omega arith; counts = omega arith; radicands = []; few = omega arith; spanned = tt; calm = λ ns o a. tt })
+ready t u s (over_symbol x) = inl (record { fits = omega arith; counts = omega arith; radicands = []; few = omega arith; spanned = tt; calm = λ ns o a. tt })
+ready t u s over_undef = inl (record { fits = omega arith; counts = omega arith; radicands = []; few = omega arith; spanned = tt; calm = λ ns o a. tt })
+ready t u s (over_sum ts us h) = inl (ready_sum ts us s h)
+ready t u s (over_product ts us h) = inl (ready_product ts us s h)
+ready t u s (over_power b c e f h k) =
+    let (xy, q) = and_parts (is_simple_power b e && all_simple b) (all_simple e) s in
+    let (x, p) = and_parts (is_simple_power b e) (all_simple b) xy in
+    simple_power b c e f x p q h k
+ready t u s (over_root a c h) = inl (ready_root a c s h)
+ready t u s (over_neg a c h) = inl (ready_neg a c s h)
+ready t u s (over_sub a c b d h k) =
+    let (p, q) = and_parts (all_simple a) (all_simple b) s in
+    let x = both_within a b c d p q h k in
+    inl (record {
+      fits = omega (arith, x.left, x.right);
+      counts = omega (arith, x.left, x.right);
+      radicands = x.radicands;
+      few = x.few;
+      spanned = (tt, x.left_spanned, x.right_spanned);
+      calm = λ ns o l. (tt, (x.calm ns o l).0, (x.calm ns o l).1);
+    })
+ready t u s (over_div a c b d h k) =
+    let (p, q) = and_parts (all_simple a) (all_simple b) s in
+    let x = both_within a b c d p q h k in
+    inl (record {
+      fits = omega (arith, x.left, x.right);
+      counts = omega (arith, x.left, x.right);
+      radicands = x.radicands;
+      few = x.few;
+      spanned = (tt, x.left_spanned, x.right_spanned);
+      calm = λ ns o l. (tt, (x.calm ns o l).0, (x.calm ns o l).1);
+    })
+
+-- ---- its answer
+
+node_answer_within : (t u r : Tree) → IsReadyNode t u → IsNodeAnswer u r → IsWithinTree t r
+node_answer_within t u r p a =
+    let o = each_once (names t) in
+    let here : IsCalmAtZero o.names u = record { once = o.once; calm = p.calm o.names o.once o.all } in
+    record {
+      counts = omega (arith, a.room.counts o.names here, p.counts);
+      radicands = p.radicands;
+      few = p.few;
+      spanned = a.room.spanned p.radicands o.names here p.spanned;
+      calm = λ ns once all. (a.room.calm ns (record { once = once; calm = p.calm ns once all })).calm;
+    }
+
+half_answer_within : (t u r : Tree) → IsReadyHalf t u → IsNodeAnswer u r → IsWithinTree t r
+half_answer_within t u r p a =
+    let k = a.root_room p.half in
+    record {
+      counts = omega (arith, k.counts, p.counts);
+      radicands = p.radicands;
+      few = p.few;
+      spanned = k.spanned p.radicands p.spanned;
+      calm = λ ns once all. (k.calm ns (record { once = once; calm = p.calm ns once all })).calm;
+    }
+
+pub node_within : (t u r : Tree) → IsOver t u → IsNodeAnswer u r → all_simple t ≡ true → IsWithinTree t r
+node_within t u r h a s = elim (ready t u s h) [ inl p ↦ node_answer_within t u r p a | inr p ↦ half_answer_within t u r p a ]
