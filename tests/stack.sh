@@ -1,6 +1,6 @@
 #!/bin/sh
 # Runs the program on the lines that take most of the machine's stack, with little of it: 128 KiB for the default pool,
-# 384 KiB for the greatest. Its argument is the program. Each row has to be answered as it is with all the stack there is.
+# 384 KiB for the greatest; a deep line that is to be differentiated or solved takes more. Its argument is the program. Each row has to be answered as it is with all the stack there is.
 # The last line says how many rows passed and failed; the status is 1 where one failed.
 program=${1:?usage: tests/stack.sh PROGRAM}
 folder=$(mktemp -d) || exit 1
@@ -63,6 +63,13 @@ echo "1/(√(2)+√(3)+√(5)+√(7)+√(11))" >"$folder/input"
 tried "the inverse of a sum of roots"
 echo ":dump" >"$folder/input"
 tried "a dump"
+
+{ printf ":diff x "; repeat 61 "(1+"; printf x; repeat 61 ")"; echo; } >"$folder/input"
+row 160 "a deep line that is differentiated"
+row 384 "a deep line that is differentiated" --pool 524280
+{ printf ":solve "; repeat 61 "(1+"; printf x; repeat 61 ")"; echo "=1"; } >"$folder/input"
+row 352 "a deep equation"
+row 384 "a deep equation" --pool 524280
 
 echo "$passed passed, $failed failed"
 [ "$failed" = 0 ]
