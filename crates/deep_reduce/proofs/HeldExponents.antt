@@ -4,10 +4,10 @@ use Rattle.std.specs.Prelude.{nat_abs, ◌/◌}
 use Rattle.std.specs.Int.{◌∣◌}
 use Rattle.std.proofs.lemmas.Bool.{and_parts, eqb-true}
 use Rattle.std.proofs.Math.Nat.{dvd_refl}
-use Rattle.calc_terms.specs.Fractions.{Fraction, zero_fraction, one_fraction, whole_fraction, is_zero_fraction, lowest, lowest_parts}
+use Rattle.calc_terms.specs.Fractions.{Fraction, zero_fraction, one_fraction, whole_fraction, is_zero_fraction}
 use Rattle.calc_terms.specs.Integers.{int_is_zero}
 use Rattle.calc_terms.proofs.FractionFacts.{zero_test, one_test, no_zero, whole_numerator, whole_denominator}
-use Rattle.calc_terms.specs.Trees.{Tree, num, symbol, add, mult, root, Trees, none, more, is_add, AllParts, AllPartsOf}
+use Rattle.calc_terms.specs.Trees.{Tree, num, undef, symbol, add, mult, root, Trees, none, more, is_add, is_undef, AllParts, AllPartsOf}
 use Rattle.calc_algebra.specs.Numbers.{IsTerm, AreTerms, is_number, is_term, value, terms_of}
 use Rattle.calc_algebra.specs.Reduced.{HasForm, NoneIs, num_one, number_terms, other_terms}
 use Rattle.calc_algebra.specs.Surds.{surd_of, surd_one}
@@ -18,6 +18,7 @@ use Rattle.calc_bits.proofs.RootsAbove.{root_least}
 use Rattle.tree_bits.specs.HeldTrees.{Addend, addend, addend_of, addends, addends_of, power_high, power_low, IsTreeHeld, sum_held, AreWeighted, none_weighted, more_weighted, IsPartHeld, no_factor_held, factor_held, symbol_held}
 use Rattle.tree_bits.specs.Weighted.{Weighted, weighted, PartsAll, lows, weighted_mass, AreHeld}
 use Rattle.tree_bits.proofs.Sums.{one_counted, one_counts}
+use Rattle.sum_reduce.proofs.CollectedExponents.{whole_of}
 use Rattle.tree_bits.specs.Exponents.{Counts, counts, multiple, is_counted, are_counted, counts_of, counts_of_all}
 
 clash : {A : Type 0} → true ≡ false → A
@@ -25,6 +26,11 @@ clash e = absurd cc
 
 unclear : {A : Type 0} → false ≡ true → A
 unclear e = absurd cc
+
+-- an exponent that counts is not Undef
+pub counted_defined : (e : Tree) → is_counted e ≡ true → is_undef e ≡ false
+counted_defined undef c = unclear c
+counted_defined e c = refl
 
 -- ---- products of a rational and an exponent
 
@@ -55,9 +61,6 @@ multiple_of q t f c = by t f.0 (and_parts (q.den == 1) (is_counted t) c).1
     by t h k = unclear k
 
 -- ---- how often at least
-
-whole_of : (q : Fraction) → (q.den == 1) ≡ true → q ≡ whole_fraction q.num
-whole_of q h = lowest_parts q ∙ ap (lowest q.num) (eqb-true q.den 1 h)
 
 not_nothing : (q : Fraction) → (q.den == 1) ≡ true → q ≢ zero_fraction → q.num ≢ pos 0
 unfolding zero_fraction

@@ -17,6 +17,7 @@ use Rattle.coefficients.proofs.Factors.{no_split}
 use Rattle.coefficients.proofs.Forms.{reduced_parts, parts_reduced}
 use Rattle.coefficients.proofs.Lengths.{some_factors}
 use Rattle.coefficients.proofs.Splits.{Leads, in_front}
+use Rattle.deep_reduce.proofs.EasyNodes.{undef_words}
 use Rattle.deep_reduce.proofs.HeldExponents.{some_counts}
 use Rattle.power_reduce.specs.PowerSteps.{parts_of}
 use Rattle.power_reduce.proofs.Rooms.{HasFactors, product_factors}
@@ -76,12 +77,8 @@ base_tree (tree_held o s t) = t
 pub base_factor : (b : Tree) {h l : ℕ} → IsBaseHeld b h l → IsFactorHeld b h l
 base_factor b {h} {l} a = by (is_undef b) refl
   where
-    undef_is : (t : Tree) → is_undef t ≡ true → t ≡ undef
-    undef_is undef e = refl
-    undef_is t e = cc
-
     by : (x : Bool) → is_undef b ≡ x → IsFactorHeld b h l
-    by true e = subst (λ (t : Tree). IsFactorHeld t h l) (sym (undef_is b e)) (undef_factor (base_high a))
+    by true e = subst (λ (t : Tree). IsFactorHeld t h l) (sym (undef_words b e)) (undef_factor (base_high a))
     by false e = factor_is_held b h l e (base_high a) (base_tree a)
 
 -- ---- how high at least

@@ -8,13 +8,13 @@ use Rattle.calc_terms.specs.Fractions.{whole_fraction, is_one_fraction}
 use Rattle.calc_terms.specs.Integers.{int_is_zero}
 use Rattle.power_reduce.proofs.Whole.{whole_is}
 use Rattle.calc_terms.proofs.FractionFacts.{whole_numerator}
-use Rattle.calc_terms.specs.Trees.{Tree, num, undef, power, root, Trees, none, more, append, is_mult, is_undef, has_undef}
+use Rattle.calc_terms.specs.Trees.{Tree, num, power, root, Trees, none, more, append, is_mult, is_undef, has_undef}
 use Rattle.coefficients.proofs.Forms.{reduced_parts, parts_reduced}
 use Rattle.deep_reduce.specs.Bits.{HasFewBits}
 use Rattle.deep_reduce.specs.Rooms.{IsJoinedFrom, IsRewritten}
 use Rattle.deep_reduce.specs.Unfinished.{AreReducedPowers, IsLifted, IsMultiplied, IsProductOfPowers, IsSummed}
 use Rattle.deep_reduce.proofs.Heavy.{exponent_reduced}
-use Rattle.deep_reduce.proofs.HeldExponents.{some_counts, exponent_is_held, multiple_counts}
+use Rattle.deep_reduce.proofs.HeldExponents.{counted_defined, some_counts, exponent_is_held, multiple_counts}
 use Rattle.deep_reduce.proofs.HeldFactors.{EachHeld, more_each, parts_each, tree_factor, factor_power, no_zero_exponent}
 use Rattle.deep_reduce.proofs.HeldJoints.{reduced_at, pair_exponents_held, pair_power_held}
 use Rattle.deep_reduce.proofs.JointBytes.{joining}
@@ -151,13 +151,6 @@ whole_held : (n : ℤ) → nat_abs n ≤ 62 → IsFactorHeld (num (whole_fractio
 whole_held n k =
     let c : counts_of (num (whole_fraction n)) ≡ multiple n (counts 1 0) = ap (λ (z : ℤ). multiple z (counts 1 0)) (whole_numerator n) in
     tree_factor (num (whole_fraction n)) (parts_reduced (num (whole_fraction n)) (inl tt)) refl (exponent_is_held (num (whole_fraction n)) (inl tt) (whole_is n) (omega (arith, ap (λ (x : Counts). x.up + x.down) c, magnitude n, k)))
-
-counted_defined : (f : Tree) → is_counted f ≡ true → is_undef f ≡ false
-counted_defined f c = by f c
-  where
-    by : (f : Tree) → is_counted f ≡ true → is_undef f ≡ false
-    by undef c = absurd cc
-    by f c = refl
 
 few_both : (m u h : ℕ) → 1 ≤ m → 1 ≤ u → u ≤ h → m * h ≤ 62 → (m ≤ 62) × (u ≤ 62)
 few_both m u h a b c d =

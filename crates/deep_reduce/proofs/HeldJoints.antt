@@ -5,12 +5,13 @@ use Rattle.calc_algebra.specs.Numbers.{is_number}
 use Rattle.calc_algebra.specs.Reduced.{is_reduced, are_reduced, is_whole_num, is_opaque_exponent, num_one, base_of}
 use Rattle.calc_algebra.proofs.NumberLaws.{number_words}
 use Rattle.calc_measures.specs.Measures.{HighLow}
-use Rattle.calc_terms.specs.Trees.{Tree, undef, power, Trees, none, more, count, is_undef}
+use Rattle.calc_terms.specs.Trees.{Tree, power, Trees, none, more, count, is_undef}
 use Rattle.coefficients.proofs.Forms.{reduced_parts}
 use Rattle.deep_reduce.specs.Answers.{IsReducedPower}
 use Rattle.deep_reduce.specs.Bits.{HasFewBits, AddsCounts, IsCountedWithin}
 use Rattle.deep_reduce.specs.Unfinished.{replaced}
-use Rattle.deep_reduce.proofs.HeldExponents.{exponent_is_held}
+use Rattle.deep_reduce.proofs.EasyNodes.{undef_words}
+use Rattle.deep_reduce.proofs.HeldExponents.{counted_defined, exponent_is_held}
 use Rattle.deep_reduce.proofs.HeldFactors.{undef_factor, first_counted, part_high}
 use Rattle.deep_reduce.proofs.HeldParts.{part_answer}
 use Rattle.deep_reduce.proofs.Joints.{same_base}
@@ -58,14 +59,10 @@ exponent_same t c = refl
 some_high : (t : Tree) (ts : Trees) {h l : ℕ} → is_reduced t ≡ true → IsPartHeld (more t ts) h l → 1 ≤ h
 some_high t ts {h} {l} r a = by (is_undef t) refl
   where
-    undef_is : (t : Tree) → is_undef t ≡ true → t ≡ undef
-    undef_is undef e = refl
-    undef_is t e = cc
-
     by : (b : Bool) → is_undef t ≡ b → 1 ≤ h
     by true e =
         let one : counts_of num_one ≡ counts 1 0 = one_counts in
-        let k : counts_of (part.exponent_in t) ≡ counts 1 0 = ap (λ (u : Tree). counts_of (part.exponent_in u)) (undef_is t e) ∙ one in
+        let k : counts_of (part.exponent_in t) ≡ counts 1 0 = ap (λ (u : Tree). counts_of (part.exponent_in u)) (undef_words t e) ∙ one in
         omega (arith, ap (λ (c : Counts). c.up) k, exponents_within {t = t} {ts = ts} a)
     by false e = part_high t ts (reduced_parts t r e) a
 
@@ -106,19 +103,11 @@ joint_answer : (t u g r : Tree) {h l : ℕ} → is_reduced t ≡ true → is_red
     → IsPartHeld (more t (more u none)) h l → IsFactorHeld r h l
 joint_answer t u g r {h} {l} x y z p k a b = by (is_undef r) refl
   where
-    undef_is : (t : Tree) → is_undef t ≡ true → t ≡ undef
-    undef_is undef e = refl
-    undef_is t e = cc
-
     by : (d : Bool) → is_undef r ≡ d → IsFactorHeld r h l
-    by true e = subst (λ (v : Tree). IsFactorHeld v h l) (sym (undef_is r e)) (undef_factor (some_high t (more u none) x b))
+    by true e = subst (λ (v : Tree). IsFactorHeld v h l) (sym (undef_words r e)) (undef_factor (some_high t (more u none) x b))
     by false e = part_answer (base_of t) g r y z a (joint_held t u g p k b) e
 
 -- the exponents together
-counted_defined : (e : Tree) → is_counted e ≡ true → is_undef e ≡ false
-counted_defined undef c = cc
-counted_defined e c = refl
-
 exponent_few : (e : Tree) → is_reduced e ≡ true → is_counted e ≡ true → (counts_of e).up + (counts_of e).down ≤ 62 → part.IsTreeHeld e 7 0
 exponent_few e r c l = exponent_is_held e (reduced_parts e r (counted_defined e c)) c l
 

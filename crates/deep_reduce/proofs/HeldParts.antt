@@ -3,9 +3,9 @@ use Rattle.std.proofs.Common.{◌||◌, ◌≡◌, ℕ, suc, ◌+◌, ◌*◌, �
 use Rattle.std.specs.Prelude.{IfErr, IsOk, nat_abs}
 use Rattle.std.proofs.lemmas.Bool.{eqb-true}
 use Rattle.std.proofs.lemmas.Nat.{mul-le}
-use Rattle.calc_terms.specs.Fractions.{whole_fraction, lowest, lowest_parts}
+use Rattle.calc_terms.specs.Fractions.{whole_fraction}
 use Rattle.calc_terms.proofs.FractionFacts.{whole_numerator}
-use Rattle.calc_terms.specs.Trees.{Tree, num, undef, power, none, more, is_undef}
+use Rattle.calc_terms.specs.Trees.{Tree, num, power, none, more, is_undef}
 use Rattle.calc_algebra.specs.Reduced.{is_reduced, is_half_num, is_whole_num}
 use Rattle.deep_reduce.specs.Answers.{IsReducedPower, lacks_power}
 use Rattle.deep_reduce.specs.Bits.{HasFewBits}
@@ -15,6 +15,7 @@ use Rattle.power_reduce.specs.Bits.{HasFewBitsRaised}
 use Rattle.power_reduce.specs.PowerAnswers.{has_number_power}
 use Rattle.power_reduce.specs.PowerSteps.{is_zero_or_one, rewritten}
 use Rattle.product_reduce.specs.Bits.{IsFactorHeld}
+use Rattle.sum_reduce.proofs.CollectedExponents.{whole_of}
 use Rattle.tree_bits.specs.Exponents.{counts, multiple, counts_of, is_counted}
 use Rattle.tree_bits.specs.HeldTrees.{power_high, power_low, IsPartHeld, factor_held}
 use Rattle.tree_bits.specs.Powers.{raised_high, raised_low}
@@ -71,7 +72,7 @@ pub record IsWholeExponent (e : Tree) : Type 0 where
   pub is : e ≡ num (whole_fraction n)
 
 pub whole_exponent : (e : Tree) → is_whole_num e ≡ true → IsWholeExponent e
-whole_exponent (num q) h = record { n = q.num; is = ap num (lowest_parts q ∙ ap (lowest q.num) (eqb-true q.den 1 h)) }
+whole_exponent (num q) h = record { n = q.num; is = ap num (whole_of q h) }
 whole_exponent e h = cc
 
 -- the base as a factor
@@ -105,10 +106,6 @@ not_rewritten c p r s k w = by (rewritten c p) refl
     by : (o : Option Tree) → rewritten c p ≡ o → o ≡ None
     by None e = refl
     by (Some u) e = clash (sym (is_rewritten c p u (counted_no_half p k) r s e).whole ∙ w)
-
-pub undef_is : (t : Tree) → is_undef t ≡ true → t ≡ undef
-undef_is undef h = refl
-undef_is t h = cc
 
 -- what holds the part holds its answer
 pub part_answer : (c p r : Tree) {h l : ℕ} → is_reduced c ≡ true → is_reduced p ≡ true → IsReducedPower c p r → IsPartHeld (more (power c p) none) h l → is_undef r ≡ false → IsFactorHeld r h l

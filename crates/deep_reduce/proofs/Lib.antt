@@ -31,7 +31,7 @@ mod Arms
 pub mod NodeRooms
 pub mod NodeBytes
 pub mod NodeRewrites
-pub mod HalfLiterals
+pub mod Literals
 pub mod TreeRooms
 pub mod PlainNodes
 pub mod Overflowing
@@ -60,6 +60,5 @@ pub mod ProductCounts
 pub mod HeldRoots
 pub mod HeldFits
 pub mod NodeBits
-pub mod HeldLiterals
 pub mod TreeBits
 pub mod BitsBeyond

@@ -1,6 +1,6 @@
 -- The product of an exponent that counts its base and of a whole number counts it as often as both together.
 use Rattle.std.proofs.Common.{◌≡◌, ℕ, ℤ, pos, negsuc, neg_ℤ, suc, ◌*◌, ◌*ℤ◌, inr, Bool, true, false, ◌||◌, ◌==◌, List, if◌then◌else◌, refl, sym, ap, ◌∙◌, subst, arith}
-use Rattle.std.proofs.lemmas.Bool.{and_parts, eqb-true}
+use Rattle.std.proofs.lemmas.Bool.{and_parts}
 use Rattle.std.proofs.Math.IntN.{*ℤ_comm}
 use Rattle.calc_algebra.specs.Numbers.{is_number, value}
 use Rattle.calc_algebra.specs.Reduced.{are_reduced, is_reduced, product_tree}
@@ -11,20 +11,20 @@ use Rattle.calc_algebra.proofs.MeaningRewrites.{Permuted, permuted_none, permute
 use Rattle.calc_algebra.proofs.NumberLaws.{number_words, number_test}
 use Rattle.calc_algebra.proofs.SquareClassLaws.{Same-trans}
 use Rattle.calc_algebra.proofs.TermLaws.{Same-refl, Same-eq, Same-surd_times}
-use Rattle.calc_terms.specs.Fractions.{Fraction, whole_fraction, lowest, lowest_parts, zero_fraction, one_fraction}
+use Rattle.calc_terms.specs.Fractions.{Fraction, whole_fraction, zero_fraction, one_fraction}
 use Rattle.calc_terms.proofs.FractionFacts.{zero_is}
-use Rattle.calc_terms.specs.Trees.{Tree, num, symbol, undef, add, mult, Trees, none, more, is_undef, has_undef}
+use Rattle.calc_terms.specs.Trees.{Tree, num, symbol, add, mult, Trees, none, more, has_undef}
 use Rattle.coefficients.specs.Coefficients.{with_coefficient, IsMonic}
 use Rattle.coefficients.proofs.Forms.{reduced_parts, parts_reduced}
 use Rattle.deep_reduce.specs.Bits.{IsCountedWithin, MultipliesCounts}
-use Rattle.deep_reduce.proofs.HeldExponents.{multiple_of}
+use Rattle.deep_reduce.proofs.HeldExponents.{counted_defined, multiple_of}
 use Rattle.number_forms.specs.Readers.{is_zero}
 use Rattle.product_reduce.specs.Answers.{IsFinished, IsWrittenProduct}
 use Rattle.product_reduce.specs.Factors.{opened, numbers_in, others_in, product_of_values, coefficient_times}
 use Rattle.product_reduce.specs.Joining.{have_partners}
 use Rattle.product_reduce.proofs.Misfits.{permuted_one_is}
 use Rattle.product_reduce.proofs.Sorted.{permuted_lists}
-use Rattle.sum_reduce.proofs.CollectedExponents.{IsCountedIn, whole_number, as_whole, num_value, num_counted, zero_counted, put_counted}
+use Rattle.sum_reduce.proofs.CollectedExponents.{whole_of, IsCountedIn, whole_number, as_whole, num_value, num_counted, zero_counted, put_counted}
 use Rattle.sum_reduce.proofs.CountedMultiples.{within_after, product_within}
 use Rattle.tree_bits.specs.Exponents.{Counts, counts, multiple, counts_of, is_counted}
 use Rattle.tree_bits.specs.Powers.{IsWithin}
@@ -57,7 +57,7 @@ one_product n =
 
 two_product : (q : Fraction) (n : ℤ) → (q.den == 1) ≡ true → Same (product_of_values (more (num q) (more (num (whole_fraction n)) none))) (surd_of (whole_fraction (q.num *ℤ n)))
 two_product q n w =
-    let i : q ≡ whole_fraction q.num = lowest_parts q ∙ ap (lowest q.num) (eqb-true q.den 1 w) in
+    let i : q ≡ whole_fraction q.num = whole_of q w in
     Same-trans (Same-surd_times (subst (λ (r : Fraction). Same (value (num q)) (surd_of r)) i (num_value q)) (one_product n)) (Same-eq (ap surd_of (whole_times q.num n)))
 
 with_number : (q : Fraction) (ts : Trees) → (numbers_in (more (num q) ts) ≡ more (num q) (numbers_in ts)) × (others_in (more (num q) ts) ≡ others_in ts)
@@ -160,10 +160,6 @@ written_counts ts t c n w (one_factor z p same one_else monic counted fits) = by
         let u : x.us ≡ more p none = permuted_one_is p (permuted_lists (others_in (opened ts)) x.us x.sorted.moved) one_else in
         subst (IsCountedWithin (multiple n c)) (sym (x.is ∙ ap (coefficient_times w.coefficient) u ∙ ap (λ (d : Tree). with_coefficient d (product_tree (more p none))) i))
         (told_within (put_counted z p monic counted) fits)
-
-counted_defined : (e : Tree) → is_counted e ≡ true → is_undef e ≡ false
-counted_defined undef c = unclear c
-counted_defined e c = refl
 
 pair_defined : (f : Tree) (n : ℤ) → is_counted f ≡ true → has_undef (more f (more (num (whole_fraction n)) none)) ≡ false
 pair_defined f n c = ap (λ (b : Bool). b || (false || false)) (counted_defined f c)

@@ -11,7 +11,7 @@ use Rattle.deep_reduce.specs.NodeBits.{HoldsPower, holds_whole, holds_half, hold
 use Rattle.deep_reduce.specs.Nodes.{IsNodeAnswer}
 use Rattle.deep_reduce.specs.Reductions.{IsReducedFrom}
 use Rattle.deep_reduce.proofs.HeldFactors.{factor_tree, tree_factor, undef_factor}
-use Rattle.deep_reduce.proofs.HeldLiterals.{whole_answer, half_literal_answer}
+use Rattle.deep_reduce.proofs.Literals.{whole_answer, half_literal_answer}
 use Rattle.deep_reduce.proofs.NodeBits.{first_side, second_side}
 use Rattle.deep_reduce.proofs.NodeRewrites.{AreReducedFrom, IsOver, over_number, over_symbol, over_undef, over_sum, over_product, over_power, over_root, over_neg, over_sub, over_div}
 use Rattle.deep_reduce.proofs.PlainNodes.{undef_has_no_value}

@@ -18,7 +18,7 @@ use Rattle.deep_reduce.specs.Nodes.{IsNodeAnswer}
 use Rattle.deep_reduce.specs.Reductions.{IsReducedFrom, IsWithinTree}
 use Rattle.deep_reduce.specs.Rooms.{IsCalmAtZero, SpansRootOf, whole_power_count, power_count}
 use Rattle.deep_reduce.proofs.Calm.{whole_kept}
-use Rattle.deep_reduce.proofs.HalfLiterals.{half_answer}
+use Rattle.deep_reduce.proofs.Literals.{half_answer}
 use Rattle.deep_reduce.proofs.JointRooms.{whole_count_most}
 use Rattle.deep_reduce.proofs.NodeRewrites.{AreReducedFrom, IsOver, over_number, over_symbol, over_undef, over_sum, over_product, over_power, over_root, over_neg, over_sub, over_div}
 use Rattle.deep_reduce.proofs.PowerRooms.{kept_counts}

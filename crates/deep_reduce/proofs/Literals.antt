@@ -4,7 +4,7 @@ use Rattle.std.proofs.lemmas.Bool.{and_parts, eqb-true}
 use Rattle.std.proofs.lemmas.Int.{ints}
 use Rattle.calc_algebra.specs.Reduced.{is_half_num}
 use Rattle.calc_algebra.proofs.HalfLaws.{half_of, half_of_is}
-use Rattle.calc_measures.specs.Literals.{whole_literal, whole_value, half_literal, half_value, half_quotient, int_is_two, opposite}
+use Rattle.calc_measures.specs.Literals.{whole_literal, whole_value, half_literal, half_value, half_quotient, int_is_two, is_half_literal, is_some, opposite}
 use Rattle.calc_measures.specs.PlainTrees.{IsPlainAnswer}
 use Rattle.calc_measures.specs.PlainValues.{PlainValue, exactly, undefined, overflow, nothing, calculated, plain_value, divided, gather, values, on_one}
 use Rattle.calc_terms.specs.Fits.{mul_op, result_of, operation_fits}
@@ -13,6 +13,7 @@ use Rattle.calc_terms.specs.Integers.{int_is_even, int_is_zero}
 use Rattle.calc_terms.specs.Trees.{Tree, num, neg, div}
 use Rattle.number_forms.specs.Readers.{numerator}
 use Rattle.rational128.proofs.Reciprocals.{negative_parts}
+use Rattle.sum_reduce.proofs.CollectedExponents.{whole_of}
 
 chosen : (b : Bool) (m n : ℤ) → (if b then Some m else None) ≡ Some n → (b ≡ true) × (m ≡ n)
 chosen true m n e = (refl, value_in e)
@@ -29,9 +30,6 @@ turned (Some m) n e = (m, refl, value_in e)
 turned None n e = cc
 
 -- ---- whole numbers
-
-whole_of : (q : Fraction) → (q.den == 1) ≡ true → q ≡ whole_fraction q.num
-whole_of q h = lowest_parts q ∙ ap (lowest q.num) (eqb-true q.den 1 h)
 
 negative_whole : (q : Fraction) → (q.den == 1) ≡ true → negative q ≡ whole_fraction (neg_ℤ q.num)
 negative_whole q h =
@@ -123,3 +121,10 @@ answer_half n nothing r h a = absurd h
 
 pub half_literal_answer : (e f : Tree) (n : ℤ) → half_literal e ≡ Some n → IsPlainAnswer (plain_value e) f → (is_half_num f ≡ true) × (numerator f ≡ n)
 half_literal_answer e f n h a = answer_half n (plain_value e) f (half_value_is e n h) a
+
+literal_is : (o : Option ℤ) → is_some o ≡ true → (n : ℤ) × (o ≡ Some n)
+literal_is (Some n) h = (n, refl)
+literal_is None h = cc
+
+pub half_answer : (e f : Tree) → is_half_literal e ≡ true → IsPlainAnswer (plain_value e) f → is_half_num f ≡ true
+half_answer e f h a = let (n, i) = literal_is (half_literal e) h in (half_literal_answer e f n i a).0
