@@ -1,57 +1,22 @@
--- A term of a sum that stands last, known by its identifier: another comes before it, or in its place.
-use Rattle.std.proofs.Common.{◌≡◌, ℕ, zero, suc, ◌<◌, ◌≤◌, [], ◌∷◌, true, refl, sym, ap, ◌∙◌, subst, arith}
+-- A term of a sum that stands last, known by its identifier: another comes in its place.
+use Rattle.std.proofs.Common.{◌≡◌, ℕ, zero, suc, ◌<◌, ◌≤◌, ◌∷◌, true, refl, sym, ap, ◌∙◌, subst, arith}
 use Rattle.calc_algebra.specs.Numbers.{is_term, term_of, terms_of}
 use Rattle.calc_algebra.specs.Surds.{Term}
 use Rattle.calc_terms.specs.Trees.{Tree, Trees, none, more, add, count}
 use Rattle.calc_algebra.proofs.NumberLaws.{term_words}
-use Rattle.node_pool.specs.State.{State}
-use Rattle.number_forms.specs.Listings.{IsTermAt}
 use Rattle.number_forms.specs.Sums.{IsSum, IsSumOf, IsApart, IsPlace, removed}
 use Rattle.number_forms.proofs.Joined.{are_removed, rises_removed}
 use Rattle.number_forms.proofs.LastSums.{kids_represented, represents_without, sum_is, resum, gives_at}
 use Rattle.number_forms.proofs.SquareFreeSums.{rises_in_sum}
 use Rattle.number_forms.proofs.SumChanges.{inserted_of}
-use Rattle.tree_handles.specs.Children.{IsChildAt}
 use Rattle.tree_handles.specs.Expressions.{nth, plain, children_of, inserted}
-use Rattle.tree_handles.specs.Forest.{Forest, arity, kids, root_id, with_nth, set_nth, tree_nth}
-use Rattle.tree_handles.specs.Handed.{Represents, Ends, Gives}
-use Rattle.tree_handles.specs.Inside.{kids_of}
-use Rattle.tree_handles.specs.Roots.{root_tree, without_root, put, adopted}
-use Rattle.tree_handles.specs.Standing.{Stands, forest}
-use Rattle.tree_handles.proofs.Adopting.{next_adopted}
-use Rattle.tree_handles.proofs.Given.{represents_as, represents_with, given_root, given_handed, given_told, given_same, given_rest}
-use Rattle.tree_handles.proofs.Joins.{kids_of-join_left}
-use Rattle.tree_handles.proofs.Lasts.{last_root, last_tree, last_rest, other_root, other_tree, kids_of_root}
+use Rattle.tree_handles.specs.Forest.{Forest, arity, kids, set_nth}
+use Rattle.tree_handles.specs.Handed.{Represents, Gives}
+use Rattle.tree_handles.specs.Roots.{root_tree, put}
+use Rattle.tree_handles.proofs.Given.{represents_as, represents_with, given_handed, given_told}
+use Rattle.tree_handles.proofs.Lasts.{last_tree}
 use Rattle.tree_handles.proofs.Nths.{with_nth-without_nth}
 use Rattle.tree_handles.proofs.Plains.{alone, count-plains}
-use Rattle.tree_handles.proofs.Roots.{root_held}
-
--- ---- another term comes before it
-
--- a tree stands behind a sum that stood last
-pub kept_kids : {i j : ℕ} {u g t f h : Forest} → Ends i u g f → Ends j t f h → kids_of i h ≡ kids_of i f
-kept_kids {i = i} {t = t} {f = f} a b = ap (kids_of i) b.whole ∙ kids_of-join_left i f t (root_held i f (last_root a))
-
-pub kept_child : {i j : ℕ} {u g t f h : Forest} (n x : ℕ) → Ends i u g f → Ends j t f h → IsChildAt n i x f → IsChildAt n i x h
-kept_child n x a b c =
-    let same = kept_kids a b in
-    record { within = subst (λ (k : Forest). n < arity k) (sym same) c.within; id-is = c.id-is ∙ ap (λ (k : Forest). root_id (tree_nth n k)) (sym same) }
-
-pub put_next : {i j : ℕ} {u g t f h new : Forest} (n : ℕ) → Ends i u g f → Ends j t f h → new ≡ put i (with_nth n (root_tree j h) (kids (root_tree i h))) (without_root j h) → new ≡ put i (with_nth n t (kids (root_tree i f))) f
-put_next {i = i} n a b e = e ∙ (λ k. put i (with_nth n (last_tree b k) (kids (other_tree i b (last_root a) k))) (last_rest b k))
-
--- behind all terms
-pub put_last : {i j : ℕ} {u g t f new : Forest} (n : ℕ) (s : State) → Stands s → Ends i u g f → Ends j t f (forest s) → n ≡ arity (kids_of i f) → new ≡ adopted i 1 (forest s) → new ≡ put i (with_nth n t (kids (root_tree i f))) f
-put_last {i} {j} {u} {g} {t} {f} n s st a b c e =
-    let same : kids_of i f ≡ kids u = sym (kept_kids a b) ∙ kids_of_root i st (other_root i b (last_root a)) ∙ ap kids (other_tree i b (last_root a) ∙ last_tree a) in
-    let many : arity (kids u) ≡ n = sym (c ∙ ap arity same) in
-    e ∙ (next_adopted a b).forest ∙ ap (λ (m : ℕ). put i (with_nth m t (kids u)) f) many ∙ ap (λ (x : Forest). put i (with_nth n t (kids x)) f) (sym (last_tree a))
-
--- in the words of the roots
-pub put_as : {i h : ℕ} {g f new f2 : Forest} {P Q : Tree → Type 0} (at : ℕ) (e : Gives g f i P) (p : Gives f new h Q) → f2 ≡ put i (with_nth at p.tree (kids (root_tree i f))) f → f2 ≡ put i (with_nth at (root_tree h new) (kids (root_tree i new))) (without_root h new)
-put_as {i} at e p q = q ∙ sym (λ k. put i (with_nth at (last_tree p.ends k) (kids (given_same i p (given_root e) k))) (given_rest p k))
-
--- ---- another term comes in its place
 
 count_removed : (n : ℕ) (ts : Trees) → n < count ts → count ts ≡ suc (count (removed n ts))
 count_removed n none l = absurd (omega arith)

@@ -19,7 +19,6 @@ pub mod Recognized
 pub mod SquareFreeSums
 pub mod Overflows
 pub mod Placings
-pub mod ListedTerms
 pub mod Exchanged
 pub mod FreeBytes
 pub mod Rooms

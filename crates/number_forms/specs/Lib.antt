@@ -9,4 +9,3 @@ pub mod Inverses
 pub mod Overflows
 pub mod Lacks
 pub mod Rooms
-pub mod Listings

@@ -9,9 +9,9 @@ ghost use Rattle.calc_room.specs.Needs.{sum_need};
 ghost use Rattle.calc_room.specs.Spans.{Spans, SpansTree};
 ghost use Rattle.calc_terms.specs.Trees.{num, is_num, is_add, size};
 ghost use Rattle.node_pool.specs.State.{free_of};
+ghost use Rattle.child_lists.specs.Lists.{Lists};
 ghost use Rattle.number_forms.specs.Answers.{IsNumberOf, AnswersRationals, IsNumberOver};
 ghost use Rattle.number_forms.specs.Kept.{AnswersItself};
-ghost use Rattle.number_forms.specs.Listings.{Lists};
 ghost use Rattle.number_forms.specs.Overflows.{SumOverflows};
 ghost use Rattle.number_forms.specs.Readers.{is_zero};
 ghost use Rattle.number_forms.specs.Rooms.{LacksRoom, joining_need};
@@ -23,11 +23,11 @@ ghost use Rattle.tree_handles.specs.Faults.{Faults, OfOverflow};
 ghost use Rattle.tree_handles.specs.Roots.{without_root};
 
 use crate::joining::{NOWHERE, join_term};
-use crate::listing::{FEW, Listing, MANY, NONE};
 use crate::rationals::{is_rational, keep_other, take_rationals};
 use crate::read::{is_zero, term_count};
 use crate::term::listed_term;
 use calc_terms::{Kind, Rat};
+use child_lists::{ChildList, FEW, MANY, NONE};
 use node_pool::{Full, Id, Pool};
 use rational128::add;
 use tree_handles::{
@@ -164,7 +164,7 @@ fn add_within<const N: usize>(pool: &mut Pool, a: Handle, b: Handle) -> Result<H
     ensures stands { Stands pool.new }
 {
     let sum = sum_over(pool, a)?;
-    let mut list: Listing<N> = Listing::of(pool, sum.id());
+    let mut list: ChildList<N> = ChildList::of(pool, sum.id());
     join_terms(pool, &sum, &mut list, b.id())?;
     release(pool, b);
     Ok(number_of(pool, sum)?)
@@ -220,7 +220,7 @@ fn sum_over_term(pool: &mut Pool, a: Handle) -> Result<Handle, Full>
 pub(crate) fn join_terms<const N: usize>(
     pool: &mut Pool,
     sum: &Handle,
-    list: &mut Listing<N>,
+    list: &mut ChildList<N>,
     number: Id,
 ) -> Result<(), NumberFault>
     requires stands { Stands pool.old }
@@ -238,7 +238,7 @@ pub(crate) fn join_terms<const N: usize>(
     ensures room { (gs : List ℕ) → Spans gs (value (tree_of sum.now pool.old)) → Spans gs (value (tree_of number pool.old)) → IfErr result (LacksRoom joining_need (free_of pool.old + size (tree_of sum.now pool.old)) gs) }
     ensures stands { Stands pool.new }
 {
-    let terms: Listing<N> = Listing::of(pool, number);
+    let terms: ChildList<N> = ChildList::of(pool, number);
     for at in 0..term_count(pool, number) {
         let term = listed_term(pool, number, &terms, at);
         join_term(pool, sum, list, term, NOWHERE)?;

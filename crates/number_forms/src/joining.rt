@@ -4,10 +4,10 @@ ghost use Rattle.calc_algebra.specs.Clean.{IsClean};
 ghost use Rattle.calc_algebra.specs.Numbers.{value, term_of as term_of_tree, terms_of};
 ghost use Rattle.calc_terms.specs.Trees.{add, count};
 ghost use Rattle.node_pool.specs.State.{free_of};
+ghost use Rattle.child_lists.specs.Lists.{Lists};
 ghost use Rattle.number_forms.specs.Sums.{IsSum, IsSumOf, IsApart, IsPlace, AreBelow, removed};
 ghost use Rattle.number_forms.specs.Joins.{IsMatch};
 ghost use Rattle.number_forms.specs.Lacks.{OfFull};
-ghost use Rattle.number_forms.specs.Listings.{Lists, IsTermAt};
 ghost use Rattle.number_forms.specs.Overflows.{JoinOverflows};
 ghost use Rattle.tree_handles.specs.Standing.{LacksBytes, Stands, forest, KeepsRefusals, Refuses};
 ghost use Rattle.tree_handles.specs.Causes.{IsCaused, Overflows};
@@ -19,9 +19,9 @@ ghost use Rattle.tree_handles.specs.Forest.{Forest, kids, with_nth};
 ghost use Rattle.tree_handles.specs.Inside.{tree_at};
 ghost use Rattle.tree_handles.specs.Roots.{root_tree, without_root, put};
 
-use crate::listing::Listing;
 use crate::placing::place_term;
 use crate::term::term_at;
+use child_lists::{ChildList, next_child, put_before};
 use node_pool::{Full, Id, Pool};
 use rational128::Overflow;
 use surd_terms::{Joined, Term, join, undivided};
@@ -53,7 +53,7 @@ enum Match {
 pub(crate) fn join_term<const N: usize>(
     pool: &mut Pool,
     sum: &Handle,
-    list: &mut Listing<N>,
+    list: &mut ChildList<N>,
     term: Term,
     seen: u16,
 ) -> Result<(), NumberFault>
@@ -82,7 +82,7 @@ pub(crate) fn join_term<const N: usize>(
 fn match_in<const N: usize>(
     pool: &Pool,
     sum: Id,
-    list: &Listing<N>,
+    list: &ChildList<N>,
     term: Term,
     seen: u16,
 ) -> Result<Match, Overflow>
@@ -108,7 +108,7 @@ fn match_in<const N: usize>(
 fn match_equal<const N: usize>(
     pool: &Pool,
     sum: Id,
-    list: &Listing<N>,
+    list: &ChildList<N>,
     term: Term,
     seen: u16,
 ) -> Result<Option<Match>, Overflow>
@@ -124,7 +124,7 @@ fn match_equal<const N: usize>(
     if at == children(pool, sum) {
         return Ok(None);
     }
-    let other = term_at(pool, list.term(pool, sum, at));
+    let other = term_at(pool, list.child(pool, sum, at));
     if other.radicand() != term.radicand() {
         return Ok(None);
     }
@@ -138,7 +138,7 @@ fn match_equal<const N: usize>(
 
 /// Whether each radicand of a sum is below the number below which clean ones are square-free: the
 /// last one is the greatest.
-fn are_square_free<const N: usize>(pool: &Pool, sum: Id, list: &Listing<N>) -> bool
+fn are_square_free<const N: usize>(pool: &Pool, sum: Id, list: &ChildList<N>) -> bool
     requires stands { Stands pool.now }
     requires expression { IsExpression sum (forest pool.now) }
     requires sum { IsSum (plain (tree_at sum (forest pool.now))) }
@@ -156,7 +156,7 @@ fn are_square_free<const N: usize>(pool: &Pool, sum: Id, list: &Listing<N>) -> b
 fn match_at_place<const N: usize>(
     pool: &Pool,
     sum: Id,
-    list: &Listing<N>,
+    list: &ChildList<N>,
     term: Term,
 ) -> Result<Match, Overflow>
     requires stands { Stands pool.now }
@@ -173,7 +173,7 @@ fn match_at_place<const N: usize>(
     if at == children(pool, sum) {
         return Ok(Match::Apart(at));
     }
-    let other = term_at(pool, list.term(pool, sum, at));
+    let other = term_at(pool, list.child(pool, sum, at));
     let joined = join(other, term)?;
     match joined {
         Joined::Apart => Ok(Match::Apart(at)),
@@ -186,7 +186,7 @@ fn match_at_place<const N: usize>(
 fn match_anywhere<const N: usize>(
     pool: &Pool,
     sum: Id,
-    list: &Listing<N>,
+    list: &ChildList<N>,
     term: Term,
 ) -> Result<Match, Overflow>
     requires stands { Stands pool.now }
@@ -214,7 +214,7 @@ fn match_anywhere<const N: usize>(
 fn insert<const N: usize>(
     pool: &mut Pool,
     sum: &Handle,
-    list: &mut Listing<N>,
+    list: &mut ChildList<N>,
     at: u16,
     term: Term,
 ) -> Result<(), Full>
@@ -232,7 +232,7 @@ fn insert<const N: usize>(
     ensures room { IfErr result (λ full. free_of pool.old < 96) }
     ensures stands { Stands pool.new }
 {
-    let next = next_term(pool, sum.id(), list, at);
+    let next = next_child(pool, sum.id(), list, at);
     let child = place_term(pool, term)?;
     let id = child.id();
     put_before(pool, sum, next, child);
@@ -240,40 +240,11 @@ fn insert<const N: usize>(
     Ok(())
 }
 
-/// The term of a sum at a place, none behind the last one.
-fn next_term<const N: usize>(pool: &Pool, sum: Id, list: &Listing<N>, at: u16) -> Option<Id>
-    requires stands { Stands pool.now }
-    requires expression { IsExpression sum (forest pool.now) }
-    requires lists { Lists list.now sum (forest pool.now) }
-    requires within { at ≤ count (children_of (plain (tree_at sum (forest pool.now)))) }
-    ensures { IsTermAt at sum (forest pool.now) result }
-{
-    if at == children(pool, sum) {
-        return None;
-    }
-    Some(list.term(pool, sum, at))
-}
-
-/// The tree that stands last, just behind a sum, becomes its term before another one, or its last one.
-fn put_before(pool: &mut Pool, sum: &Handle, next: Option<Id>, child: Handle)
-    requires stands { Stands pool.old }
-    requires placed { (at : ℕ) × (before : Forest) × (u : Forest) × (others : Forest) × (t : Forest) × Ends sum.now u before others × Ends child t others (forest pool.old) × IsTermAt at sum.now others next }
-    ensures forest { (at : ℕ) (before u others t : Forest) → Ends sum.now u before others → Ends child t others (forest pool.old) → IsTermAt at sum.now others next
-        → forest pool.new ≡ put sum.now (with_nth at t (kids (root_tree sum.now others))) others }
-    ensures kept { KeepsRefusals pool.old pool.new }
-    ensures stands { Stands pool.new }
-{
-    match next {
-        Some(next) => add_before(pool, sum, next, child),
-        None => adopt(pool, sum, 1),
-    }
-}
-
 /// Puts the one term that two make in the place of the one of them that stands in a sum.
 fn replace<const N: usize>(
     pool: &mut Pool,
     sum: &Handle,
-    list: &mut Listing<N>,
+    list: &mut ChildList<N>,
     at: u16,
     term: Term,
 ) -> Result<(), Full>
@@ -306,7 +277,7 @@ fn replace<const N: usize>(
 fn exchange<const N: usize>(
     pool: &mut Pool,
     sum: &Handle,
-    list: &mut Listing<N>,
+    list: &mut ChildList<N>,
     at: u16,
     term: Term,
 ) -> Result<(), Full>
@@ -325,7 +296,7 @@ fn exchange<const N: usize>(
     ensures room { IfErr result (λ full. free_of pool.old < 96) }
     ensures stands { Stands pool.new }
 {
-    let old = list.term(pool, sum.id(), at);
+    let old = list.child(pool, sum.id(), at);
     let new = place_term(pool, term)?;
     let id = new.id();
     let gone = replace_known_child(pool, old, new);
@@ -335,7 +306,7 @@ fn exchange<const N: usize>(
 }
 
 /// The place of a radicand among those of a sum.
-fn place_of<const N: usize>(pool: &Pool, sum: Id, list: &Listing<N>, radicand: u128) -> u16
+fn place_of<const N: usize>(pool: &Pool, sum: Id, list: &ChildList<N>, radicand: u128) -> u16
     requires stands { Stands pool.now }
     requires expression { IsExpression sum (forest pool.now) }
     requires sum { IsSum (plain (tree_at sum (forest pool.now))) }
@@ -359,7 +330,7 @@ fn place_of<const N: usize>(pool: &Pool, sum: Id, list: &Listing<N>, radicand: u
 fn place_near<const N: usize>(
     pool: &Pool,
     sum: Id,
-    list: &Listing<N>,
+    list: &ChildList<N>,
     radicand: u128,
     seen: u16,
 ) -> u16
@@ -377,7 +348,7 @@ fn place_near<const N: usize>(
 }
 
 /// The radicand of a term of a sum.
-fn radicand_at<const N: usize>(pool: &Pool, sum: Id, list: &Listing<N>, at: u16) -> u128
+fn radicand_at<const N: usize>(pool: &Pool, sum: Id, list: &ChildList<N>, at: u16) -> u128
     requires stands { Stands pool.now }
     requires expression { IsExpression sum (forest pool.now) }
     requires sum { IsSum (plain (tree_at sum (forest pool.now))) }
@@ -386,7 +357,7 @@ fn radicand_at<const N: usize>(pool: &Pool, sum: Id, list: &Listing<N>, at: u16)
     ensures value { result ≡ (term_of_tree (nth at (children_of (plain (tree_at sum (forest pool.now)))))).radicand }
     ensures clean { IsClean result }
 {
-    term_at(pool, list.term(pool, sum, at)).radicand()
+    term_at(pool, list.child(pool, sum, at)).radicand()
 }
 
 /// A clean number, which is what is left under the root of the product of two terms if a sum has that radicand; and the
@@ -394,7 +365,7 @@ fn radicand_at<const N: usize>(pool: &Pool, sum: Id, list: &Listing<N>, at: u16)
 pub(crate) fn clean_radicand<const N: usize>(
     pool: &Pool,
     sum: Id,
-    list: &Listing<N>,
+    list: &ChildList<N>,
     a: Term,
     b: Term,
 ) -> (u128, u16)
@@ -415,7 +386,7 @@ pub(crate) fn clean_radicand<const N: usize>(
 }
 
 /// Takes a term out of a sum.
-fn remove<const N: usize>(pool: &mut Pool, sum: &Handle, list: &mut Listing<N>, at: u16)
+fn remove<const N: usize>(pool: &mut Pool, sum: &Handle, list: &mut ChildList<N>, at: u16)
     requires stands { Stands pool.old }
     requires sum { Gives (without_root sum.now (forest pool.old)) (forest pool.old) sum.now IsSum }
     requires lists { Lists list.old sum.now (forest pool.old) }
@@ -427,7 +398,7 @@ fn remove<const N: usize>(pool: &mut Pool, sum: &Handle, list: &mut Listing<N>, 
     ensures room { free_of pool.old ≤ free_of pool.new }
     ensures stands { Stands pool.new }
 {
-    let id = list.term(pool, sum.id(), at);
+    let id = list.child(pool, sum.id(), at);
     let child = take_known_child(pool, sum, id);
     release(pool, child);
     list.remove(at);

@@ -5,7 +5,6 @@
 mod adding;
 mod inverting;
 mod joining;
-mod listing;
 mod multiplying;
 mod placing;
 mod powers;

@@ -11,9 +11,9 @@ ghost use Rattle.calc_room.specs.Needs.{product_need};
 ghost use Rattle.calc_room.specs.Spans.{IsSpanned, Spans, SpansTree};
 ghost use Rattle.calc_terms.specs.Trees.{num, is_num, size};
 ghost use Rattle.node_pool.specs.State.{free_of};
+ghost use Rattle.child_lists.specs.Lists.{Lists};
 ghost use Rattle.number_forms.specs.Answers.{IsNumberOf, AnswersRationals, IsNumberOver};
 ghost use Rattle.number_forms.specs.Kept.{AnswersItself};
-ghost use Rattle.number_forms.specs.Listings.{Lists};
 ghost use Rattle.number_forms.specs.Overflows.{terms_from, RowOverflows, ProductOverflows};
 ghost use Rattle.number_forms.specs.Rooms.{LacksRoom, joining_need};
 ghost use Rattle.number_forms.specs.Sums.{IsSum, IsSumOf};
@@ -26,11 +26,11 @@ ghost use Rattle.tree_handles.specs.Standing.{Stands, forest, KeepsRefusals};
 
 use crate::adding::number_of;
 use crate::joining::{clean_radicand, join_term};
-use crate::listing::{FEW, Listing, MANY, NONE};
 use crate::rationals::{is_rational, keep_other, take_rationals};
 use crate::read::{is_num_one, term_count};
 use crate::term::{listed_term, nth_term};
 use calc_terms::Kind;
+use child_lists::{ChildList, FEW, MANY, NONE};
 use node_pool::{Id, Pool};
 use rational128::mul;
 use surd_terms::{Term, product_with};
@@ -191,8 +191,8 @@ fn product_within<const N: usize>(
     ensures stands { Stands pool.new }
 {
     let sum = node(pool, Kind::Add)?;
-    let mut list: Listing<N> = Listing::new();
-    let terms: Listing<N> = Listing::of(pool, b.id());
+    let mut list: ChildList<N> = ChildList::new();
+    let terms: ChildList<N> = ChildList::of(pool, b.id());
     join_rows(pool, &sum, &mut list, a.id(), b.id(), &terms)?;
     Ok(number_of(pool, sum)?)
 }
@@ -202,10 +202,10 @@ fn product_within<const N: usize>(
 fn join_rows<const N: usize>(
     pool: &mut Pool,
     sum: &Handle,
-    list: &mut Listing<N>,
+    list: &mut ChildList<N>,
     a: Id,
     b: Id,
-    terms: &Listing<N>,
+    terms: &ChildList<N>,
 ) -> Result<(), NumberFault>
     requires stands { Stands pool.old }
     requires sum { Gives (without_root sum.now (forest pool.old)) (forest pool.old) sum.now IsSum }
@@ -236,10 +236,10 @@ fn join_rows<const N: usize>(
 pub(crate) fn join_products<const N: usize>(
     pool: &mut Pool,
     sum: &Handle,
-    list: &mut Listing<N>,
+    list: &mut ChildList<N>,
     term: Term,
     number: Id,
-    terms: &Listing<N>,
+    terms: &ChildList<N>,
     from: u16,
 ) -> Result<(), NumberFault>
     requires stands { Stands pool.old }

@@ -6,8 +6,8 @@ ghost use Rattle.calc_room.specs.Spans.{IsSpanned, Spans, SpansTree};
 ghost use Rattle.calc_terms.specs.Rat.{value_of};
 ghost use Rattle.calc_terms.specs.Trees.{size};
 ghost use Rattle.node_pool.specs.State.{free_of};
+ghost use Rattle.child_lists.specs.Lists.{Lists};
 ghost use Rattle.number_forms.specs.Answers.{IsNumberOver};
-ghost use Rattle.number_forms.specs.Listings.{Lists};
 ghost use Rattle.number_forms.specs.Overflows.{terms_from, SquareRowOverflows, SquareOverflows};
 ghost use Rattle.number_forms.specs.Rooms.{LacksRoom, joining_need};
 ghost use Rattle.number_forms.specs.Squares.{twice, square_row, square_terms};
@@ -22,11 +22,11 @@ ghost use Rattle.tree_handles.specs.Standing.{Stands, forest, KeepsRefusals};
 
 use crate::adding::number_of;
 use crate::joining::{NOWHERE, join_term};
-use crate::listing::{FEW, Listing, MANY, NONE};
 use crate::multiplying::join_products;
 use crate::read::term_count;
 use crate::term::listed_term;
 use calc_terms::Kind;
+use child_lists::{ChildList, FEW, MANY, NONE};
 use node_pool::{Id, Pool};
 use rational128::{Op, Overflow, add};
 use surd_terms::{Term, product};
@@ -74,8 +74,8 @@ fn square_within<const N: usize>(pool: &mut Pool, a: &Handle) -> Result<Handle, 
     ensures stands { Stands pool.new }
 {
     let sum = node(pool, Kind::Add)?;
-    let mut list: Listing<N> = Listing::new();
-    let terms: Listing<N> = Listing::of(pool, a.id());
+    let mut list: ChildList<N> = ChildList::new();
+    let terms: ChildList<N> = ChildList::of(pool, a.id());
     join_squares(pool, &sum, &mut list, a.id(), &terms)?;
     Ok(number_of(pool, sum)?)
 }
@@ -84,9 +84,9 @@ fn square_within<const N: usize>(pool: &mut Pool, a: &Handle) -> Result<Handle, 
 fn join_squares<const N: usize>(
     pool: &mut Pool,
     sum: &Handle,
-    list: &mut Listing<N>,
+    list: &mut ChildList<N>,
     number: Id,
-    terms: &Listing<N>,
+    terms: &ChildList<N>,
 ) -> Result<(), NumberFault>
     requires stands { Stands pool.old }
     requires sum { Gives (without_root sum.now (forest pool.old)) (forest pool.old) sum.now IsSum }
@@ -116,10 +116,10 @@ fn join_squares<const N: usize>(
 fn join_square_row<const N: usize>(
     pool: &mut Pool,
     sum: &Handle,
-    list: &mut Listing<N>,
+    list: &mut ChildList<N>,
     term: Term,
     number: Id,
-    terms: &Listing<N>,
+    terms: &ChildList<N>,
     from: u16,
 ) -> Result<(), NumberFault>
     requires stands { Stands pool.old }

@@ -1,17 +1,17 @@
 //! The terms of a Number.
+ghost use Rattle.child_lists.specs.Lists.{Lists};
 ghost use Rattle.std.specs.Prelude.{◌≡◌, ◌<◌, ◌^◌, true, Some, slice_get};
 ghost use Rattle.calc_algebra.specs.Clean.{IsClean};
 ghost use Rattle.calc_algebra.specs.Numbers.{is_term, is_number, IsRadicand, natural_of, classes, value, term_of as term_of_tree};
 ghost use Rattle.calc_terms.specs.Rat.{value_of};
-ghost use Rattle.number_forms.specs.Listings.{Lists};
 ghost use Rattle.surd_terms.specs.Terms.{term_of};
 ghost use Rattle.tree_handles.specs.Expressions.{IsExpression, plain};
 ghost use Rattle.tree_handles.specs.Inside.{tree_at};
 ghost use Rattle.tree_handles.specs.Standing.{Stands, forest};
 
-use crate::listing::Listing;
 use crate::shape::{Shape, shape_of};
 use calc_terms::{Kind, Rat};
+use child_lists::ChildList;
 use node_pool::{Id, Pool};
 use surd_terms::Term;
 use tree_handles::{child_id, kind};
@@ -31,7 +31,12 @@ pub(crate) fn nth_term(pool: &Pool, id: Id, at: u16) -> Term
 }
 
 /// The same from a list of the terms.
-pub(crate) fn listed_term<const N: usize>(pool: &Pool, id: Id, terms: &Listing<N>, at: u16) -> Term
+pub(crate) fn listed_term<const N: usize>(
+    pool: &Pool,
+    id: Id,
+    terms: &ChildList<N>,
+    at: u16,
+) -> Term
     requires stands { Stands pool.now }
     requires expression { IsExpression id (forest pool.now) }
     requires number { is_number (plain (tree_at id (forest pool.now))) ≡ true }
@@ -40,7 +45,7 @@ pub(crate) fn listed_term<const N: usize>(pool: &Pool, id: Id, terms: &Listing<N
     ensures { slice_get (value (plain (tree_at id (forest pool.now)))) at ≡ Some (term_of result) }
 {
     match kind(pool, id) {
-        Kind::Add => term_at(pool, terms.term(pool, id, at)),
+        Kind::Add => term_at(pool, terms.child(pool, id, at)),
         _ => term_at(pool, id),
     }
 }

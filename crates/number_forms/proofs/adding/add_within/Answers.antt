@@ -2,7 +2,7 @@ use Rattle.std.proofs.Common.{◌≡◌, ℕ, inl, sym, ap, ◌∙◌, subst, ar
 use Rattle.calc_algebra.specs.Numbers.{is_number, value}
 use Rattle.calc_algebra.proofs.SquareClassLaws.{Same-trans}
 use Rattle.calc_algebra.proofs.TermLaws.{Same-append, Same-eq}
-use Rattle.number_forms.proofs.ListedTerms.{lists_at}
+use Rattle.child_lists.proofs.ListedChildren.{lists_at}
 use Rattle.number_forms.proofs.SumChanges.{read_expression}
 use Rattle.number_forms.proofs.Loops.{other_plain, gives_without, gives_rest, kept_after}
 use Rattle.number_forms.proofs.Denominators.{shares_eq}

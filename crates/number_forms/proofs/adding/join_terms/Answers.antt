@@ -3,7 +3,7 @@ use Rattle.std.specs.Prelude.{slice_get}
 use Rattle.calc_algebra.specs.Numbers.{is_number, value, classes}
 use Rattle.calc_terms.specs.Trees.{Tree, size}
 use Rattle.calc_algebra.proofs.TermLaws.{Same-refl}
-use Rattle.number_forms.proofs.ListedTerms.{lists_kept}
+use Rattle.child_lists.proofs.ListedChildren.{lists_kept}
 use Rattle.number_forms.proofs.Loops.{joined_none, joined_more, joined_all, from_all, other_plain, other_read, other_expression, gives_rest}
 use Rattle.number_forms.proofs.Worth.{terms_from, from_next}
 use Rattle.tree_handles.specs.Handed.{tree_of}

@@ -1,6 +1,6 @@
 use Rattle.std.proofs.Common.{◌++◌}
 use Rattle.calc_algebra.specs.Numbers.{value}
-use Rattle.number_forms.specs.Listings.{Lists}
+use Rattle.child_lists.specs.Lists.{Lists}
 use Rattle.number_forms.proofs.Loops.{IsJoined}
 use Rattle.number_forms.proofs.Worth.{terms_from}
 use Rattle.tree_handles.specs.Handed.{tree_of}

@@ -3,15 +3,17 @@ use Rattle.node_pool.specs.State.{free_of}
 use Rattle.node_pool.specs.declared.full.Full.{Full}
 use Rattle.number_forms.proofs.Exchanged.{exchanged_sum}
 use Rattle.number_forms.proofs.LastSums.{kids_represented, once_nth}
-use Rattle.number_forms.proofs.ListedTerms.{lists_at, lists_other}
+use Rattle.child_lists.proofs.ListedChildren.{ids_exchanged, lists_at}
 use Rattle.number_forms.proofs.Overflows.{passed_on}
 use Rattle.number_forms.proofs.SumChanges.{same_plain, read_expression, many_kids}
 use Rattle.calc_terms.specs.Trees.{Tree, count}
 use Rattle.surd_terms.specs.Terms.{term_of}
-use Rattle.tree_handles.specs.Children.{IsChildAt}
+use Rattle.std.specs.Prelude.{slice_set}
+use Rattle.tree_handles.specs.Children.{IsChildAt, root_ids}
+use Rattle.tree_handles.specs.Inside.{kids_of}
 use Rattle.tree_handles.specs.Expressions.{children_of}
 use Rattle.tree_handles.specs.Forest.{kids, tree_nth, set_nth}
-use Rattle.tree_handles.specs.Handed.{AllOnce, IsOwned, Ends, tree_of}
+use Rattle.tree_handles.specs.Handed.{AllOnce, IsOwned, Ends}
 use Rattle.tree_handles.specs.Roots.{root_tree, put}
 use Rattle.tree_handles.specs.Standing.{forest}
 use Rattle.tree_handles.proofs.Fronts.{behind_first, front_same, front_at, front_put}
@@ -21,20 +23,20 @@ use Rattle.number_forms.proofs.joining.exchange.Goals as goal
 use Rattle.number_forms.proofs.joining.exchange.Given.{Over}
 use Rattle.number_forms.proofs.joining.exchange.Goals.{After-release}
 
-pub term-old-requires : goal.term-old-requires
-term-old-requires g c = (search rules, (c.requires.stands, (read_expression _ c.args.sum.now c.args.pool.now c.id.ensures c.requires.stands (given_handed c.requires.sum), (lists_at {N = g.row.N} _ _ _ _ c.id.ensures c.requires.lists, subst (λ (t : Tree). c.args.at < count (children_of t)) (sym (same_plain _ c.args.sum.now c.args.pool.now c.id.ensures c.requires.stands (given_root c.requires.sum))) c.requires.within))))
+pub child-old-requires : goal.child-old-requires
+child-old-requires g c = (search rules, (c.requires.stands, (read_expression _ c.args.sum.now c.args.pool.now c.id.ensures c.requires.stands (given_handed c.requires.sum), (lists_at {N = g.row.N} _ _ _ _ c.id.ensures c.requires.lists, subst (λ (t : Tree). c.args.at < count (children_of t)) (sym (same_plain _ c.args.sum.now c.args.pool.now c.id.ensures c.requires.stands (given_root c.requires.sum))) c.requires.within))))
 
 pub replace_known_child-gone-requires-clause-known : goal.replace_known_child-gone-requires-clause-known
 replace_known_child-gone-requires-clause-known g c =
     let p = c.in_ok-new.ensures.ok in
-    (c.args.sum.now, c.args.at, p.tree, forest c.args.pool.now, p.ends, subst (λ (i : ℕ). IsChildAt c.args.at i c.term-old.result (forest c.args.pool.now)) c.id.ensures c.term-old.ensures.child)
+    (c.args.sum.now, c.args.at, p.tree, forest c.args.pool.now, p.ends, subst (λ (i : ℕ). IsChildAt c.args.at i c.child-old.result (forest c.args.pool.now)) c.id.ensures c.child-old.ensures.child)
 
 -- the old term stands last
 taken : (g : Over) (c : After-release g) → Ends c.replace_known_child-gone.result (tree_nth c.args.at (kids (root_tree c.args.sum.now (forest c.args.pool.now))))
     (put c.args.sum.now (set_nth c.args.at c.in_ok-new.ensures.ok.tree (kids (root_tree c.args.sum.now (forest c.args.pool.now)))) (forest c.args.pool.now)) (forest c.replace_known_child-gone.new.pool)
 taken g c =
     let p = c.in_ok-new.ensures.ok in
-    c.replace_known_child-gone.ensures.last c.args.sum.now c.args.at p.tree (forest c.args.pool.now) p.ends (subst (λ (i : ℕ). IsChildAt c.args.at i c.term-old.result (forest c.args.pool.now)) c.id.ensures c.term-old.ensures.child) (given_root c.requires.sum)
+    c.replace_known_child-gone.ensures.last c.args.sum.now c.args.at p.tree (forest c.args.pool.now) p.ends (subst (λ (i : ℕ). IsChildAt c.args.at i c.child-old.result (forest c.args.pool.now)) c.id.ensures c.child-old.ensures.child) (given_root c.requires.sum)
 
 done : (g : Over) (c : After-release g) → forest c.release.new.pool ≡ put c.args.sum.now (set_nth c.args.at c.in_ok-new.ensures.ok.tree (kids (root_tree c.args.sum.now (forest c.args.pool.now)))) (forest c.args.pool.now)
 done g c =
@@ -48,7 +50,7 @@ done g c =
 pub release-requires-clause-releasable : goal.release-requires-clause-releasable
 release-requires-clause-releasable g c =
     let p = c.in_ok-new.ensures.ok in
-    inl (last_root (c.replace_known_child-gone.ensures.last c.args.sum.now c.args.at p.tree (forest c.args.pool.now) p.ends (subst (λ (i : ℕ). IsChildAt c.args.at i c.term-old.result (forest c.args.pool.now)) c.id.ensures c.term-old.ensures.child) (given_root c.requires.sum)))
+    inl (last_root (c.replace_known_child-gone.ensures.last c.args.sum.now c.args.at p.tree (forest c.args.pool.now) p.ends (subst (λ (i : ℕ). IsChildAt c.args.at i c.child-old.result (forest c.args.pool.now)) c.id.ensures c.child-old.ensures.child) (given_root c.requires.sum)))
 
 pub returns-in_err-new-clause-room : goal.returns-in_err-new-clause-room
 returns-in_err-new-clause-room g c =
@@ -67,5 +69,7 @@ returns-clause-lists g c =
     let i = c.args.sum.now in
     let p = c.in_ok-new.ensures.ok in
     let many = many_kids i c.args.pool.now c.requires.stands (given_handed c.requires.sum) in
-    lists_other c.args.list.now c.set.new.self i c.args.at c.id-id.result c.args.pool.now c.release.new.pool p.tree (forest c.args.pool.now) c.requires.stands c.release.ensures.stands (given_root c.requires.sum) (given_root c.requires.sum)
-    c.set.ensures c.requires.lists p.ends.alone (p.ends.root ∙ sym c.id-id.ensures) (omega (arith, many, c.requires.within)) (done g (goal.at.returns-clause-lists g c).After-release)
+    let same = p.ends.root ∙ sym c.id-id.ensures in
+    c.set.ensures i (forest c.args.pool.now) (forest c.release.new.pool) c.requires.lists
+    (ids_exchanged i c.args.at c.args.pool.now c.release.new.pool p.tree (forest c.args.pool.now) c.requires.stands c.release.ensures.stands (given_root c.requires.sum) (given_root c.requires.sum) p.ends.alone
+    (omega (arith, many, c.requires.within)) (done g (goal.at.returns-clause-lists g c).After-release) ∙ ap (slice_set (root_ids (kids_of i (forest c.args.pool.now))) c.args.at) same)

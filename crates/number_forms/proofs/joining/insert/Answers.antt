@@ -1,10 +1,13 @@
 use Rattle.std.proofs.Common.{rules, ◌≡◌, ℕ, sym, ap, ◌∙◌, subst, arith, ◌<◌, ◌≤◌}
-use Rattle.number_forms.specs.Listings.{IsTermAt}
-use Rattle.number_forms.proofs.Exchanged.{put_as}
-use Rattle.number_forms.proofs.ListedTerms.{lists_at, lists_more}
+use Rattle.child_lists.specs.Lists.{IsNextAt}
+use Rattle.child_lists.proofs.PutBefore.{put_as}
+use Rattle.child_lists.proofs.ListedChildren.{ids_with, lists_at}
 use Rattle.calc_terms.specs.Trees.{Tree, count}
 use Rattle.number_forms.proofs.SumChanges.{same_plain, read_expression, many_kids, inserted_sum}
 use Rattle.surd_terms.specs.Terms.{term_of}
+use Rattle.std.specs.List.{insert}
+use Rattle.tree_handles.specs.Children.{root_ids}
+use Rattle.tree_handles.specs.Inside.{kids_of}
 use Rattle.tree_handles.specs.Expressions.{children_of}
 use Rattle.tree_handles.specs.Forest.{kids, with_nth}
 use Rattle.tree_handles.specs.Roots.{root_tree, without_root, put}
@@ -23,20 +26,20 @@ returns-in_err-child-clause-room g c =
     let lacking : 96 ≤ free_of c.args.pool.now → ⊥ = λ enough. absurd (cc (c.in_err-child.ensures.room enough)) in
     passed_on c.from_residual.result c.in_err-child.field-0.0 (λ (full : Full). free_of c.args.pool.now < 96) c.from_residual.ensures.0 c.from_residual.ensures.1 (omega (arith, lacking))
 
-pub next_term-next-requires : goal.next_term-next-requires
-next_term-next-requires g c = (search rules, (c.requires.stands, (read_expression _ c.args.sum.now c.args.pool.now c.id.ensures c.requires.stands (given_handed c.requires.sum), (lists_at {N = g.row.N} _ _ _ _ c.id.ensures c.requires.lists, subst (λ (t : Tree). c.args.at ≤ count (children_of t)) (sym (same_plain _ c.args.sum.now c.args.pool.now c.id.ensures c.requires.stands (given_root c.requires.sum))) c.requires.place.within))))
+pub next_child-next-requires : goal.next_child-next-requires
+next_child-next-requires g c = (search rules, (c.requires.stands, (read_expression _ c.args.sum.now c.args.pool.now c.id.ensures c.requires.stands (given_handed c.requires.sum), (lists_at {N = g.row.N} _ _ _ _ c.id.ensures c.requires.lists, subst (λ (t : Tree). c.args.at ≤ count (children_of t)) (sym (same_plain _ c.args.sum.now c.args.pool.now c.id.ensures c.requires.stands (given_root c.requires.sum))) c.requires.place.within))))
 
 pub put_before-requires-clause-placed : goal.put_before-requires-clause-placed
 put_before-requires-clause-placed g c =
     let e = c.requires.sum in
     let p = c.in_ok-child.ensures.ok in
-    (c.args.at, without_root c.args.sum.now (forest c.args.pool.now), e.tree, forest c.args.pool.now, p.tree, e.ends, p.ends, subst (λ (i : ℕ). IsTermAt c.args.at i (forest c.args.pool.now) c.next_term-next.result) c.id.ensures c.next_term-next.ensures)
+    (c.args.at, without_root c.args.sum.now (forest c.args.pool.now), e.tree, forest c.args.pool.now, p.tree, e.ends, p.ends, subst (λ (i : ℕ). IsNextAt c.args.at i (forest c.args.pool.now) c.next_child-next.result) c.id.ensures c.next_child-next.ensures)
 
 done : (g : Over) (c : After-put_before g) → forest c.put_before.new.pool ≡ put c.args.sum.now (with_nth c.args.at c.in_ok-child.ensures.ok.tree (kids (root_tree c.args.sum.now (forest c.args.pool.now)))) (forest c.args.pool.now)
 done g c =
     let e = c.requires.sum in
     let p = c.in_ok-child.ensures.ok in
-    c.put_before.ensures.forest c.args.at (without_root c.args.sum.now (forest c.args.pool.now)) e.tree (forest c.args.pool.now) p.tree e.ends p.ends (subst (λ (i : ℕ). IsTermAt c.args.at i (forest c.args.pool.now) c.next_term-next.result) c.id.ensures c.next_term-next.ensures)
+    c.put_before.ensures.forest c.args.at (without_root c.args.sum.now (forest c.args.pool.now)) e.tree (forest c.args.pool.now) p.tree e.ends p.ends (subst (λ (i : ℕ). IsNextAt c.args.at i (forest c.args.pool.now) c.next_child-next.result) c.id.ensures c.next_child-next.ensures)
 
 pub returns-clause-ok : goal.returns-clause-ok
 returns-clause-ok g c =
@@ -51,5 +54,7 @@ returns-clause-lists g c =
     let i = c.args.sum.now in
     let p = c.in_ok-child.ensures.ok in
     let many = many_kids i c.args.pool.now c.requires.stands (given_handed c.requires.sum) in
-    lists_more c.args.list.now c.insert.new.self i c.args.at c.id-id.result c.args.pool.now c.put_before.new.pool p.tree (forest c.args.pool.now) c.requires.stands c.put_before.ensures.stands (given_root c.requires.sum) (given_root c.requires.sum)
-    c.insert.ensures c.requires.lists p.ends.alone (p.ends.root ∙ sym c.id-id.ensures) (omega (arith, many, c.requires.place.within)) (done g (goal.at.returns-clause-lists g c).After-put_before)
+    let same = p.ends.root ∙ sym c.id-id.ensures in
+    c.insert.ensures i (forest c.args.pool.now) (forest c.put_before.new.pool) c.requires.lists
+    (ids_with i c.args.at c.args.pool.now c.put_before.new.pool p.tree (forest c.args.pool.now) c.requires.stands c.put_before.ensures.stands (given_root c.requires.sum) (given_root c.requires.sum) p.ends.alone
+    (omega (arith, many, c.requires.place.within)) (done g (goal.at.returns-clause-lists g c).After-put_before) ∙ ap (insert (root_ids (kids_of i (forest c.args.pool.now))) c.args.at) same)

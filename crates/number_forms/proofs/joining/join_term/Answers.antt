@@ -1,13 +1,12 @@
-use Rattle.std.proofs.Common.{sym, subst, refl, rules, ◌<◌, ◌≤◌, arith}
+use Rattle.std.proofs.Common.{sym, subst, refl, rules, ◌<◌}
 use Rattle.calc_terms.specs.Trees.{Tree, add}
 use Rattle.number_forms.specs.Sums.{IsApart, removed}
-use Rattle.number_forms.proofs.ListedTerms.{lists_at}
-use Rattle.number_forms.proofs.SumChanges.{same_plain, read_expression, read_sum, read_place, sum_value, removed_is_sum, cancelled, made_one, matched, apart_rest}
+use Rattle.child_lists.proofs.ListedChildren.{lists_at}
+use Rattle.number_forms.proofs.SumChanges.{same_plain, read_expression, read_sum, sum_value, cancelled, made_one, matched, apart_rest}
 use Rattle.tree_handles.specs.Expressions.{children_of}
 use Rattle.tree_handles.specs.Handed.{tree_of}
 use Rattle.surd_terms.specs.Terms.{term_of}
-use Rattle.tree_handles.proofs.Fronts.{behind_first, front_after_one}
-use Rattle.tree_handles.proofs.Given.{given_root, given_handed, given_told, given_rest, gives_as}
+use Rattle.tree_handles.proofs.Given.{given_root, given_handed, given_told, gives_as}
 use Rattle.number_forms.specs.Overflows.{JoinOverflows}
 use Rattle.tree_handles.specs.Faults.{OfOverflow}
 use Rattle.number_forms.proofs.Overflows.{passed_on}

@@ -7,9 +7,9 @@ use Rattle.tree_handles.specs.Standing.{forest}
 use Rattle.number_forms.proofs.joining.radicand_at.Goals as goal
 
 pub term_at-requires-clause-term : goal.term_at-requires-clause-term
-term_at-requires-clause-term g c = term_of_sum (plain (tree_at c.args.sum (forest c.args.pool.now))) _ c.args.at c.requires.sum c.requires.within (c.term.ensures.plain)
+term_at-requires-clause-term g c = term_of_sum (plain (tree_at c.args.sum (forest c.args.pool.now))) _ c.args.at c.requires.sum c.requires.within (c.child.ensures.plain)
 
 pub returns-clause-value : goal.returns-clause-value
 returns-clause-value g c =
     let t = plain (tree_at c.args.sum (forest c.args.pool.now)) in
-    read_radicand c.radicand.result (term_of c.term_at.result) (plain (tree_at c.term.result (forest c.args.pool.now))) (nth c.args.at (children_of t)) c.radicand.ensures.value c.term_at.ensures (c.term.ensures.plain)
+    read_radicand c.radicand.result (term_of c.term_at.result) (plain (tree_at c.child.result (forest c.args.pool.now))) (nth c.args.at (children_of t)) c.radicand.ensures.value c.term_at.ensures (c.child.ensures.plain)

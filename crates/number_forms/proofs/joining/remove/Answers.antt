@@ -2,7 +2,7 @@ use Rattle.std.proofs.Common.{rules, ℕ, inl, sym, ◌∙◌, subst, arith, ◌
 use Rattle.calc_terms.specs.Trees.{Tree, count}
 use Rattle.tree_handles.specs.Children.{IsChildAt}
 use Rattle.tree_handles.specs.Expressions.{children_of}
-use Rattle.number_forms.proofs.ListedTerms.{lists_at, lists_less}
+use Rattle.child_lists.proofs.ListedChildren.{ids_without, lists_at}
 use Rattle.number_forms.proofs.LastSums.{kids_represented, once_nth}
 use Rattle.number_forms.proofs.SumChanges.{same_plain, read_expression, many_kids, removed_sum}
 use Rattle.tree_handles.specs.Forest.{kids}
@@ -18,39 +18,40 @@ use Rattle.number_forms.proofs.joining.remove.Goals as goal
 use Rattle.number_forms.proofs.joining.remove.Given.{Over}
 use Rattle.number_forms.proofs.joining.remove.Goals.{After-release}
 
-pub term-id-requires : goal.term-id-requires
-term-id-requires g c = (search rules, (c.requires.stands, (read_expression _ c.args.sum.now c.args.pool.now c.id.ensures c.requires.stands (given_handed c.requires.sum), (lists_at {N = g.row.N} _ _ _ _ c.id.ensures c.requires.lists, subst (λ (t : Tree). c.args.at < count (children_of t)) (sym (same_plain _ c.args.sum.now c.args.pool.now c.id.ensures c.requires.stands (given_root c.requires.sum))) c.requires.within))))
+pub child-id-requires : goal.child-id-requires
+child-id-requires g c = (search rules, (c.requires.stands, (read_expression _ c.args.sum.now c.args.pool.now c.id.ensures c.requires.stands (given_handed c.requires.sum), (lists_at {N = g.row.N} _ _ _ _ c.id.ensures c.requires.lists, subst (λ (t : Tree). c.args.at < count (children_of t)) (sym (same_plain _ c.args.sum.now c.args.pool.now c.id.ensures c.requires.stands (given_root c.requires.sum))) c.requires.within))))
 
 pub take_known_child-child-requires-clause-known : goal.take_known_child-child-requires-clause-known
-take_known_child-child-requires-clause-known g c = (c.args.at, subst (λ (i : ℕ). IsChildAt c.args.at i c.term-id.result (forest c.args.pool.now)) c.id.ensures c.term-id.ensures.child)
+take_known_child-child-requires-clause-known g c = (c.args.at, subst (λ (i : ℕ). IsChildAt c.args.at i c.child-id.result (forest c.args.pool.now)) c.id.ensures c.child-id.ensures.child)
 
 pub release-requires-clause-releasable : goal.release-requires-clause-releasable
-release-requires-clause-releasable g c = inl (last_root (c.take_known_child-child.ensures.last c.args.at (subst (λ (i : ℕ). IsChildAt c.args.at i c.term-id.result (forest c.args.pool.now)) c.id.ensures c.term-id.ensures.child) (given_root c.requires.sum)))
+release-requires-clause-releasable g c = inl (last_root (c.take_known_child-child.ensures.last c.args.at (subst (λ (i : ℕ). IsChildAt c.args.at i c.child-id.result (forest c.args.pool.now)) c.id.ensures c.child-id.ensures.child) (given_root c.requires.sum)))
 
 owned : (g : Over) (c : After-release g) → IsOwned c.take_known_child-child.result (forest c.take_known_child-child.new.pool)
 owned g c =
-    let taken = c.take_known_child-child.ensures.last c.args.at (subst (λ (i : ℕ). IsChildAt c.args.at i c.term-id.result (forest c.args.pool.now)) c.id.ensures c.term-id.ensures.child) (given_root c.requires.sum) in
+    let taken = c.take_known_child-child.ensures.last c.args.at (subst (λ (i : ℕ). IsChildAt c.args.at i c.child-id.result (forest c.args.pool.now)) c.id.ensures c.child-id.ensures.child) (given_root c.requires.sum) in
     let handed = given_handed c.requires.sum in
     let tree = root_tree c.args.sum.now (forest c.args.pool.now) in
     record { root = last_root taken; once = subst AllOnce (sym (last_tree taken)) (once_nth c.args.at (kids tree) (kids_represented tree handed.once handed.whole).once) }
 
 pub returns-clause-sum : goal.returns-clause-sum
-returns-clause-sum g c = removed_sum c.args.at c.requires.sum (c.take_known_child-child.ensures.last c.args.at (subst (λ (i : ℕ). IsChildAt c.args.at i c.term-id.result (forest c.args.pool.now)) c.id.ensures c.term-id.ensures.child) (given_root c.requires.sum)) (c.release.ensures.owned (owned g (goal.at.returns-clause-sum g c).After-release))
+returns-clause-sum g c = removed_sum c.args.at c.requires.sum (c.take_known_child-child.ensures.last c.args.at (subst (λ (i : ℕ). IsChildAt c.args.at i c.child-id.result (forest c.args.pool.now)) c.id.ensures c.child-id.ensures.child) (given_root c.requires.sum)) (c.release.ensures.owned (owned g (goal.at.returns-clause-sum g c).After-release))
 
 pub returns-clause-room : goal.returns-clause-room
 returns-clause-room g c =
-    let sum = removed_sum c.args.at c.requires.sum (c.take_known_child-child.ensures.last c.args.at (subst (λ (i : ℕ). IsChildAt c.args.at i c.term-id.result (forest c.args.pool.now)) c.id.ensures c.term-id.ensures.child) (given_root c.requires.sum)) (c.release.ensures.owned (owned g (goal.at.returns-clause-room g c).After-release)) in
+    let sum = removed_sum c.args.at c.requires.sum (c.take_known_child-child.ensures.last c.args.at (subst (λ (i : ℕ). IsChildAt c.args.at i c.child-id.result (forest c.args.pool.now)) c.id.ensures c.child-id.ensures.child) (given_root c.requires.sum)) (c.release.ensures.owned (owned g (goal.at.returns-clause-room g c).After-release)) in
     removed_free c.args.at c.requires.stands c.release.ensures.stands (kept_after c.take_known_child-child.ensures.kept c.release.ensures.kept) c.requires.sum sum
 
 pub returns-clause-front : goal.returns-clause-front
 returns-clause-front g c =
-    let taken = c.take_known_child-child.ensures.last c.args.at (subst (λ (i : ℕ). IsChildAt c.args.at i c.term-id.result (forest c.args.pool.now)) c.id.ensures c.term-id.ensures.child) (given_root c.requires.sum) in
+    let taken = c.take_known_child-child.ensures.last c.args.at (subst (λ (i : ℕ). IsChildAt c.args.at i c.child-id.result (forest c.args.pool.now)) c.id.ensures c.child-id.ensures.child) (given_root c.requires.sum) in
     front_at (front_put _ behind_first front_same) (c.release.ensures.owned (owned g (goal.at.returns-clause-front g c).After-release) ∙ last_rest taken)
 
 pub returns-clause-lists : goal.returns-clause-lists
 returns-clause-lists g c =
     let i = c.args.sum.now in
-    let taken = c.take_known_child-child.ensures.last c.args.at (subst (λ (i : ℕ). IsChildAt c.args.at i c.term-id.result (forest c.args.pool.now)) c.id.ensures c.term-id.ensures.child) (given_root c.requires.sum) in
+    let taken = c.take_known_child-child.ensures.last c.args.at (subst (λ (i : ℕ). IsChildAt c.args.at i c.child-id.result (forest c.args.pool.now)) c.id.ensures c.child-id.ensures.child) (given_root c.requires.sum) in
     let many = many_kids i c.args.pool.now c.requires.stands (given_handed c.requires.sum) in
-    lists_less c.args.list.now c.remove.new.self i c.args.at c.args.pool.now c.release.new.pool (forest c.args.pool.now) c.requires.stands c.release.ensures.stands (given_root c.requires.sum) (given_root c.requires.sum)
-    c.remove.ensures c.requires.lists (omega (arith, many, c.requires.within)) (c.release.ensures.owned (owned g (goal.at.returns-clause-lists g c).After-release) ∙ last_rest taken)
+    c.remove.ensures i (forest c.args.pool.now) (forest c.release.new.pool) c.requires.lists
+    (ids_without i c.args.at c.args.pool.now c.release.new.pool (forest c.args.pool.now) c.requires.stands c.release.ensures.stands (given_root c.requires.sum) (given_root c.requires.sum)
+    (omega (arith, many, c.requires.within)) (c.release.ensures.owned (owned g (goal.at.returns-clause-lists g c).After-release) ∙ last_rest taken))

@@ -4,7 +4,7 @@ use Rattle.calc_algebra.specs.Numbers.{term_of as term_of_tree}
 use Rattle.calc_algebra.specs.Surds.{Surd}
 use Rattle.calc_terms.specs.Trees.{Tree, count}
 use Rattle.number_forms.specs.Sums.{IsSumOf, IsApart, removed}
-use Rattle.number_forms.proofs.ListedTerms.{lists_at}
+use Rattle.child_lists.proofs.ListedChildren.{lists_at}
 use Rattle.number_forms.proofs.SumChanges.{same_plain, read_expression, read_sum, read_place, removed_is_sum}
 use Rattle.surd_terms.specs.Terms.{term_of}
 use Rattle.tree_handles.specs.Expressions.{children_of, nth}

@@ -7,7 +7,7 @@ use Rattle.calc_algebra.proofs.TermLaws.{Same-refl}
 use Rattle.number_forms.proofs.Denominators.{parts_extracted}
 use Rattle.number_forms.proofs.Loops.{joined_none, joined_more, joined_all, from_all, other_plain, other_read, other_expression, gives_rest}
 use Rattle.number_forms.proofs.Worth.{terms_from, products_next, same_first, get_from, from_from}
-use Rattle.number_forms.proofs.ListedTerms.{lists_at, lists_kept}
+use Rattle.child_lists.proofs.ListedChildren.{lists_at, lists_kept}
 use Rattle.number_forms.proofs.SumChanges.{read_expression, read_sum}
 use Rattle.tree_handles.proofs.Fronts.{behind_first, front_after_one}
 use Rattle.tree_handles.specs.Handed.{tree_of}

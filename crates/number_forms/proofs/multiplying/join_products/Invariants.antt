@@ -2,7 +2,7 @@ use Rattle.std.proofs.Common.{◌++◌, ◌≤◌, map}
 use Rattle.calc_algebra.specs.Numbers.{value}
 use Rattle.calc_algebra.specs.Surds.{term_times}
 use Rattle.surd_terms.specs.Terms.{term_of}
-use Rattle.number_forms.specs.Listings.{Lists}
+use Rattle.child_lists.specs.Lists.{Lists}
 use Rattle.number_forms.proofs.Loops.{IsJoined}
 use Rattle.number_forms.proofs.Worth.{terms_from}
 use Rattle.tree_handles.specs.Handed.{tree_of}

@@ -5,7 +5,7 @@ use Rattle.calc_algebra.specs.Surds.{surd_times, term_times, Surd}
 use Rattle.calc_terms.specs.Trees.{Tree, size}
 use Rattle.calc_bits.specs.Denominators.{SharesDenominators}
 use Rattle.number_forms.specs.Sums.{IsSumOf}
-use Rattle.number_forms.proofs.ListedTerms.{lists_kept}
+use Rattle.child_lists.proofs.ListedChildren.{lists_kept}
 use Rattle.number_forms.proofs.Loops.{IsJoined, joined_none, joined_part, joined_all, from_all, other_plain, other_read, other_expression, gives_rest}
 use Rattle.number_forms.proofs.Worth.{terms_from, rows_next}
 use Rattle.tree_handles.specs.Handed.{tree_of, Gives}

@@ -10,7 +10,7 @@ use Rattle.number_forms.specs.Overflows.{terms_from, RowOverflows, SquareRowOver
 use Rattle.number_forms.specs.Rooms.{LacksRoom, joining_need}
 use Rattle.number_forms.specs.Squares.{twice, square_row}
 use Rattle.number_forms.specs.Sums.{IsSumOf}
-use Rattle.number_forms.proofs.ListedTerms.{lists_kept}
+use Rattle.child_lists.proofs.ListedChildren.{lists_kept}
 use Rattle.number_forms.proofs.Loops.{IsJoined, joined_none, joined_more, joined_part, joined_all, kept_after, other_plain, gives_rest}
 use Rattle.number_forms.proofs.Overflows.{passed_on, overflow_as}
 use Rattle.number_forms.proofs.Rooms.{full_as, spans_from, partial_spanned, term_lacks, row_lacks}

@@ -12,7 +12,7 @@ use Rattle.number_forms.specs.Overflows.{SquareRowOverflows, SquareOverflows}
 use Rattle.number_forms.specs.Rooms.{LacksRoom, joining_need}
 use Rattle.number_forms.specs.Squares.{square_row, square_terms}
 use Rattle.number_forms.specs.Sums.{IsSumOf}
-use Rattle.number_forms.proofs.ListedTerms.{lists_kept}
+use Rattle.child_lists.proofs.ListedChildren.{lists_kept}
 use Rattle.number_forms.proofs.Loops.{joined_none, joined_part, joined_all, from_all, other_plain, other_read, other_expression, gives_rest}
 use Rattle.number_forms.proofs.Overflows.{passed_on, overflow_as}
 use Rattle.number_forms.proofs.Rooms.{full_as, spans_from, spans_nth, partial_spanned, row_lacks}

@@ -10,8 +10,8 @@ use Rattle.tree_handles.specs.Inside.{tree_at}
 use Rattle.tree_handles.specs.Standing.{forest}
 use Rattle.number_forms.proofs.term.listed_term.Goals as goal
 
-pub term-requires : goal.term-requires
-term-requires g c = (search rules, (c.requires.stands, (c.requires.expression, (c.requires.lists, (let f = forest c.args.pool.now in let many : classes (plain (tree_at c.args.id f)) ≡ count (children_of (plain (tree_at c.args.id f))) = sum_classes _ (sym (c.kind.ensures.plain c.requires.expression) ∙ c.in-Add.is) in omega (arith, c.requires.within, many))))))
+pub child-requires : goal.child-requires
+child-requires g c = (search rules, (c.requires.stands, (c.requires.expression, (c.requires.lists, (let f = forest c.args.pool.now in let many : classes (plain (tree_at c.args.id f)) ≡ count (children_of (plain (tree_at c.args.id f))) = sum_classes _ (sym (c.kind.ensures.plain c.requires.expression) ∙ c.in-Add.is) in omega (arith, c.requires.within, many))))))
 
 pub term_at-requires-clause-term : goal.term_at-requires-clause-term
 term_at-requires-clause-term g c =
@@ -21,7 +21,7 @@ term_at-requires-clause-term g c =
     let many : classes t ≡ count (children_of t) = sum_classes _ k in
     let sum : is_number (add (children_of t)) ≡ true = subst (λ (u : Tree). is_number u ≡ true) (add_by_kind t k) c.requires.number in
     let within : c.args.at < count (children_of t) = omega (arith, c.requires.within, many) in
-    ap is_term (c.term.ensures.plain) ∙ term_test _ (nth_is_term (children_of t) c.args.at within (added_number (children_of t) sum).0)
+    ap is_term (c.child.ensures.plain) ∙ term_test _ (nth_is_term (children_of t) c.args.at within (added_number (children_of t) sum).0)
 
 pub term_at-requires-in_default : goal.term_at-requires-in_default
 term_at-requires-in_default g c =
@@ -35,4 +35,4 @@ returns-in-Add g c =
     let many : classes t ≡ count (children_of t) = sum_classes _ k in
     let within : c.args.at < count (children_of t) = omega (arith, c.requires.within, many) in
     ap (λ (u : Tree). slice_get (value u) c.args.at) (add_by_kind t k) ∙ nth_of_terms (children_of t) c.args.at within
-    ∙ ap Some (sym (c.term_at.ensures ∙ ap term_of_tree (c.term.ensures.plain)))
+    ∙ ap Some (sym (c.term_at.ensures ∙ ap term_of_tree (c.child.ensures.plain)))

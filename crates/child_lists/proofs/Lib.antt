@@ -1,0 +1,2 @@
+pub mod ListedChildren
+pub mod PutBefore

@@ -1,0 +1,39 @@
+use Rattle.std.proofs.Common.{◌≡◌, ◌<◌, get_or, ◌∙◌, arith}
+use Rattle.child_lists.proofs.ListedChildren.{children_number}
+use Rattle.child_lists.proofs.ListedChildren.{ids_nth}
+use Rattle.tree_handles.specs.Children.{root_ids, IsChildAt}
+use Rattle.tree_handles.specs.Forest.{arity}
+use Rattle.tree_handles.specs.Inside.{kids_of}
+use Rattle.tree_handles.specs.Standing.{forest}
+use Rattle.tree_handles.proofs.ChildPlaces.{seen_child}
+use Rattle.child_lists.proofs.list.ChildList.child.Goals as goal
+use Rattle.child_lists.proofs.list.ChildList.child.Given.{Over}
+use Rattle.child_lists.proofs.list.ChildList.child.Goals.{After-index-ids-place}
+
+pub child_id-requires-clause-within : goal.child_id-requires-clause-within
+child_id-requires-clause-within g c = omega (arith, c.requires.within, children_number c.args.parent (forest c.args.pool.now) c.requires.expression)
+
+here : (g : Over) (c : After-index-ids-place g) → IsChildAt c.args.at c.args.parent c.index-ids-place.result (forest c.args.pool.now)
+here g c =
+    let k = kids_of c.args.parent (forest c.args.pool.now) in
+    let within : c.args.at < arity k = omega (arith, c.requires.within, children_number c.args.parent (forest c.args.pool.now) c.requires.expression) in
+    let items : c.as_slice-ids.result.now ≡ root_ids k = c.as_slice-ids.ensures.value ∙ c.requires.lists c.if-self.true in
+    record {
+      within = within;
+      id-is = c.index-ids-place.is ∙ (λ i. get_or (items i) (c.from-place.ensures i) c.index-ids-place.result) ∙ ids_nth c.args.at c.index-ids-place.result k within;
+    }
+
+pub returns-then-place-ids-clause-child : goal.returns-then-place-ids-clause-child
+returns-then-place-ids-clause-child g c = here g (goal.at.returns-then-place-ids-clause-child g c).After-index-ids-place
+
+pub returns-else-self-clause-child : goal.returns-else-self-clause-child
+returns-else-self-clause-child g c = record {
+  within = omega (arith, c.requires.within, children_number c.args.parent (forest c.args.pool.now) c.requires.expression);
+  id-is = c.child_id.ensures.value;
+}
+
+pub returns-then-place-ids-clause-expression : goal.returns-then-place-ids-clause-expression
+returns-then-place-ids-clause-expression g c = (seen_child c.args.at c.args.parent c.index-ids-place.result c.args.pool.now c.requires.stands (here g (goal.at.returns-then-place-ids-clause-expression g c).After-index-ids-place)).expression c.requires.expression
+
+pub returns-then-place-ids-clause-plain : goal.returns-then-place-ids-clause-plain
+returns-then-place-ids-clause-plain g c = (seen_child c.args.at c.args.parent c.index-ids-place.result c.args.pool.now c.requires.stands (here g (goal.at.returns-then-place-ids-clause-plain g c).After-index-ids-place)).plain-is c.requires.expression

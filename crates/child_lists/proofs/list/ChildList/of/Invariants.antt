@@ -1,0 +1,11 @@
+use Rattle.std.proofs.Common.{◌≡◌, ◌++◌}
+use Rattle.tree_handles.specs.Children.{root_ids}
+use Rattle.tree_handles.specs.Inside.{kids_of}
+use Rattle.tree_handles.specs.Standing.{forest}
+use Rattle.child_lists.proofs.list.ChildList.of.Given as goal
+
+abbrev pub invariant-loop-id : goal.invariant-loop-id
+invariant-loop-id g l = record {
+  left : root_ids (kids_of l.fn.parent (forest l.pool)) ≡ l.yielded ++ l.id-iterator;
+  listed : l.ids.items ≡ l.yielded;
+}

@@ -1,0 +1,8 @@
+//! The children of a node under way, listed by their identifiers, so that each is found at once by its place.
+#![tactic(auto)]
+
+mod list;
+mod placing;
+
+pub use list::{ChildList, FEW, MANY, NONE};
+pub use placing::{next_child, put_before};

@@ -1,8 +1,0 @@
-use Rattle.std.proofs.Common.{rules, ◌≡◌, ◌∙◌, arith}
-use Rattle.number_forms.proofs.joining.next_term.Goals as goal
-
-pub term-requires : goal.term-requires
-term-requires g c = (search rules, (c.requires.stands, (c.requires.expression, (c.requires.lists, omega (arith, c.requires.within, c.children.ensures.plain c.requires.expression, c.if-at-children.false)))))
-
-pub returns-then-at-children : goal.returns-then-at-children
-returns-then-at-children g c = c.if-at-children.true ∙ c.children.ensures.value
