@@ -1,8 +1,8 @@
 pub mod Names
-pub mod Copied
-pub mod Passing
-pub mod Placing
-pub mod Ending
+pub mod LeafLists
+pub mod Holes
+pub mod Filling
+pub mod Chunks
 pub mod Levels
 pub mod Searches
 pub mod Composing

@@ -8,9 +8,9 @@ use Rattle.std.proofs.lemmas.List.Sums.{sum_by-append}
 use Rattle.calc_terms.specs.declared.kind.Kind.{Kind}
 use Rattle.calc_terms.specs.declared.kind.Kind.TheVariants as kind
 use Rattle.calc_terms.specs.Payload.{Payload, rational, named, bare}
-use Rattle.calc_terms.specs.Trees.{Tree, num, symbol, undef, power, root, neg, sub, div, Trees, none, more, append, count, names, names_of}
+use Rattle.calc_terms.specs.Trees.{Tree, num, symbol, undef, power, root, neg, sub, div, Trees, none, more, names, names_of}
 use Rattle.tree_handles.specs.Expressions.{nth, compound, grown, plains, takes, AllExpressions, children_of}
-use Rattle.tree_handles.specs.Forest.{Label, Forest, empty, tree, join, arity, first_trees, rest_trees}
+use Rattle.tree_handles.specs.Forest.{Label, Forest, empty, tree, arity}
 use Rattle.tree_handles.proofs.Plains.{grown_whole}
 use Rattle.tree_walks.specs.Replacing.{replaced, replaced_in, occurrences}
 use Rattle.tree_walks.specs.Walks.{has_name}
@@ -55,12 +55,6 @@ named-tree x l k r h =
     let below : occurrences_in x (children_of t) ≡ named_in x k = ap (occurrences_in x) (grown_whole l k r h).children-are in
     omega (arith, sum_by-append (λ y. cond (bytes_eq y x) 1 0) (names t) (names_of (plains r)), count_node x t, at_grown x l.payload (plains k), below)
 
-pub named-join : (x : List ℕ) (f g : Forest) → named_in x (join f g) ≡ named_in x f + named_in x g
-named-join x empty g = omega arith
-named-join x (tree l k r) g =
-    let t = grown l.payload (plains k) in
-    omega (arith, sum_by-append (λ y. cond (bytes_eq y x) 1 0) (names t) (names_of (plains r)), sum_by-append (λ y. cond (bytes_eq y x) 1 0) (names t) (names_of (plains (join r g))), named-join x r g)
-
 -- of one tree
 pub occurrences-alone : (x : List ℕ) (t : Tree) → occurrences_in x (more t none) ≡ occurrences x t
 occurrences-alone x t = ap (count_by (λ y. bytes_eq y x)) (append-nil (names t))
@@ -91,14 +85,6 @@ replaced-named x u (rational r) ts h = absurd cc
 replaced-named x u (named y) ts h = ap (λ (b : Bool). cond b u (symbol y)) h
 replaced-named x u (bare k) ts h = absurd cc
 
-pub replaced-append : (x : List ℕ) (u : Tree) (ts us : Trees) → replaced_in x u (append ts us) ≡ append (replaced_in x u ts) (replaced_in x u us)
-replaced-append x u none us = refl
-replaced-append x u (more t ts) us = ap (more (replaced x u t)) (replaced-append x u ts us)
-
-pub count-replaced : (x : List ℕ) (u : Tree) (ts : Trees) → count (replaced_in x u ts) ≡ count ts
-count-replaced x u none = refl
-count-replaced x u (more t ts) = ap suc (count-replaced x u ts)
-
 -- a leaf of the name has no children
 leaf_takes : (x : List ℕ) (q : Payload) (n : ℕ) → has_name x q ≡ true → takes q n ≡ true → n ≡ 0
 leaf_takes x (rational r) n h e = absurd cc
@@ -111,15 +97,3 @@ no_trees (tree l k r) h = absurd (omega arith)
 
 pub leaf_alone : (x : List ℕ) (l : Label) (k r : Forest) → has_name x l.payload ≡ true → AllExpressions (tree l k r) → k ≡ empty
 leaf_alone x l k r h w = no_trees k (leaf_takes x l.payload (arity k) h w.0)
-
--- the plain trees of the first trees, and of those behind them
-pub plains-split : (n : ℕ) (f : Forest) (ts us : Trees) → count ts ≡ n → plains f ≡ append ts us → (plains (first_trees n f) ≡ ts) × (plains (rest_trees n f) ≡ us)
-plains-split zero f none us c e = (refl, e)
-plains-split zero f (more t ts) us c e = absurd (omega arith)
-plains-split (suc n) f none us c e = absurd (omega arith)
-plains-split (suc n) empty (more t ts) us c e = absurd cc
-plains-split (suc n) (tree l k r) (more t ts) us c e =
-    let head : grown l.payload (plains k) ≡ t = cc in
-    let tail : plains r ≡ append ts us = cc in
-    let p = plains-split n r ts us (omega arith) tail in
-    (rw (head, p.0) refl, p.1)

@@ -1,64 +1,61 @@
--- A walk that looks for a name.
-use Rattle.std.proofs.Common.{◌≡◌, ℕ, ◌<◌, List, [], ◌∷◌, get_or, cond, refl, sym, ap, ◌∙◌, subst, arith, Bool, true, false}
+-- Walks that look for the leaves of a name.
+use Rattle.std.proofs.Common.{◌≡◌, ℕ, ◌<◌, List, [], ◌∷◌, ◌++◌, get_or, cond, refl, sym, ap, ◌∙◌, subst, arith, Bool, true, false}
 use Rattle.std.specs.Prelude.{Contains}
 use Rattle.std.specs.List.{count_by}
 use Rattle.std.specs.Str.{bytes_eq}
 use Rattle.std.proofs.lemmas.List.Elements.{Contains-append_left, Contains-append_right, Contains-push}
 use Rattle.std.proofs.lemmas.List.Sums.{get_or-le-sum_by, sum_by-cons}
 use Rattle.std.proofs.lemmas.Slice.Eq.{bytes_eq-Decides}
+use Rattle.calc_terms.specs.Payload.{kind_of_payload}
+use Rattle.node_pool.specs.State.{State}
 use Rattle.tree_handles.specs.declared.visits.Visit.{Visit}
-use Rattle.tree_handles.specs.Expressions.{plain, AllExpressions, IsWhole}
-use Rattle.tree_handles.specs.Forest.{Forest, empty, tree, join, arity, root_payload}
-use Rattle.tree_handles.specs.Inside.{holds, payload_in}
-use Rattle.tree_handles.specs.Visits.{visits_of, visit_at, AreFound}
-use Rattle.tree_handles.proofs.Forests.{all-join}
+use Rattle.tree_handles.specs.Forest.{Forest, empty, tree, join, root_payload}
+use Rattle.tree_handles.specs.Inside.{holds, payload_in, tree_at}
+use Rattle.tree_handles.specs.Standing.{Stands, forest}
+use Rattle.tree_handles.specs.Visits.{visits_of, AreFound}
 use Rattle.tree_handles.proofs.Outcomes.{by_test}
-use Rattle.tree_handles.proofs.Plains.{alone}
-use Rattle.tree_handles.proofs.Visiting.{seen, found-join, visit_here, visits_left, no_visit}
-use Rattle.tree_walks.specs.Replacing.{occurrences}
-use Rattle.tree_walks.specs.Walks.{has_name}
-use Rattle.tree_walks.proofs.Names.{named_in, named-tree, named-join, occurrences_in, occurrences-alone}
+use Rattle.tree_handles.proofs.Visiting.{seen, found, found-join, visit_here, visits_left, no_visit}
+use Rattle.tree_walks.specs.Walks.{has_name, leaves_of}
+use Rattle.tree_walks.proofs.LeafLists.{leaves-join}
 
--- the trees that are still to be searched, in which the name occurs as often as in the whole
-pub record IsSearching (x : List ℕ) (left : List Visit) (total : ℕ) (base : Forest) : Type 0 where
+-- the trees that are still to be looked through, and the leaves of the name in them
+pub record IsLooking (x : List ℕ) (left : List Visit) (leaves : List ℕ) (base : Forest) : Type 0 where
   pub trees : Forest
   pub left-are : left ≡ visits_of trees
   pub found : AreFound base trees
-  pub expressions : AllExpressions trees
-  pub same : named_in x trees ≡ total
+  pub leaves-are : leaves_of x trees ≡ leaves
+
+pub looking : {xs : List Visit} {s : State} (i : ℕ) (x : List ℕ) → Stands s → xs ≡ visits_of (tree_at i (forest s)) → IsLooking x xs (leaves_of x (tree_at i (forest s))) (forest s)
+looking {s = s} i x st e = record { trees = tree_at i (forest s); left-are = e; found = found i s st; leaves-are = refl }
 
 -- the next node
-pub record IsSearched (x : List ℕ) (v : Visit) (left : List Visit) (total : ℕ) (base : Forest) : Type 0 where
+pub record IsLooked (x : List ℕ) (v : Visit) (left : List Visit) (leaves : List ℕ) (base : Forest) : Type 0 where
   pub live : holds v.id base ≡ true
-  pub visit-is : v ≡ visit_at v.id base
-  pub here : has_name x (payload_in v.id base) ≡ true → 0 < total
-  pub more : has_name x (payload_in v.id base) ≡ false → IsSearching x left total base
+  pub kind : v.kind ≡ kind_of_payload (payload_in v.id base)
+  pub here : has_name x (payload_in v.id base) ≡ true → (rest : List ℕ) × (leaves ≡ v.id ∷ rest) × IsLooking x left rest base
+  pub other : has_name x (payload_in v.id base) ≡ false → IsLooking x left leaves base
 
-pub searched : {x : List ℕ} {v : Visit} {xs left : List Visit} {total : ℕ} {base : Forest} → IsSearching x xs total base → xs ≡ v ∷ left → IsSearched x v left total base
-searched {x = x} {v = v} {left = left} {total = total} {base = base} w e = by w.trees (sym w.left-are ∙ e) w.found w.expressions w.same
+pub looked : {x leaves : List ℕ} {v : Visit} {xs left : List Visit} {base : Forest} → IsLooking x xs leaves base → xs ≡ v ∷ left → IsLooked x v left leaves base
+looked {x = x} {leaves = leaves} {v = v} {left = left} {base = base} w e = by w.trees (sym w.left-are ∙ e) w.found w.leaves-are
   where
-    by : (f : Forest) → visits_of f ≡ v ∷ left → AreFound base f → AllExpressions f → named_in x f ≡ total → IsSearched x v left total base
-    by empty q h a s = absurd cc
-    by (tree l k r) q h a s =
+    by : (f : Forest) → visits_of f ≡ v ∷ left → AreFound base f → leaves_of x f ≡ leaves → IsLooked x v left leaves base
+    by empty q h s = absurd cc
+    by (tree l k r) q h s =
         let y = seen l k r h (visit_here l k r q) in
-        let holds-it : payload_in v.id base ≡ l.payload = ap root_payload y.tree-is in
-        let once : (b : Bool) → has_name x (payload_in v.id base) ≡ b → cond (has_name x l.payload) 1 0 ≡ cond b 1 0 = λ b t. ap {B = ℕ} (λ (z : Bool). cond z 1 0) (ap (has_name x) (sym holds-it) ∙ t) in
+        let same : (b : Bool) → has_name x (payload_in v.id base) ≡ b → has_name x l.payload ≡ b = λ b t. ap (λ (f : Forest). has_name x (root_payload f)) (sym y.tree-is) ∙ t in
+        let left-of : (b : Bool) → has_name x (payload_in v.id base) ≡ b → leaves ≡ cond b (l.id ∷ []) [] ++ leaves_of x (join k r) = λ b t.
+        sym s ∙ ap (λ (z : Bool). cond z (l.id ∷ []) [] ++ (leaves_of x k ++ leaves_of x r)) (same b t) ∙ ap (λ (ys : List ℕ). cond b (l.id ∷ []) [] ++ ys) (sym (leaves-join x k r)) in
+        let id-is : v.id ≡ l.id = ap (λ (y : Visit). y.id) (visit_here l k r q) in
         record {
           live = y.live;
-          visit-is = y.visit-is;
-          here = λ t. omega (arith, s, named-tree x l k r a, once true t);
-          more = λ t. record {
-            trees = join k r;
-            left-are = visits_left l k r q;
-            found = found-join base k r h.1 h.2;
-            expressions = all-join IsWhole k r a.1 a.2;
-            same = omega (arith, s, named-tree x l k r a, named-join x k r, once false t);
-          };
+          kind = ap (λ (y : Visit). y.kind) y.visit-is;
+          here = λ t. (leaves_of x (join k r), left-of true t ∙ ap (λ (i : ℕ). i ∷ leaves_of x (join k r)) (sym id-is), record { trees = join k r; left-are = visits_left l k r q; found = found-join base k r h.1 h.2; leaves-are = refl });
+          other = λ t. record { trees = join k r; left-are = visits_left l k r q; found = found-join base k r h.1 h.2; leaves-are = sym (left-of false t) };
         }
 
--- where none is left, the name does not occur
-pub searched_all : {x : List ℕ} {xs : List Visit} {total : ℕ} {base : Forest} → IsSearching x xs total base → xs ≡ [] → total ≡ 0
-searched_all {x = x} w e = sym w.same ∙ ap (named_in x) (no_visit w.trees (sym w.left-are ∙ e))
+-- where no node is left, no leaf is
+pub looked_all : {x leaves : List ℕ} {xs : List Visit} {base : Forest} → IsLooking x xs leaves base → xs ≡ [] → leaves ≡ []
+looked_all {x = x} w e = sym w.leaves-are ∙ ap (leaves_of x) (no_visit w.trees (sym w.left-are ∙ e))
 
 -- ---- how often a name occurs, and whether it does
 
@@ -72,7 +69,3 @@ counted x (y ∷ ys) h =
 pub uncounted : (x : List ℕ) (ys : List (List ℕ)) → Contains ys x → 0 < count_by (λ y. bytes_eq y x) ys
 uncounted x ys (k, h, e) =
     omega (arith, get_or-le-sum_by (λ z. cond (bytes_eq z x) 1 0) ys k x h, ap {B = ℕ} (λ (b : Bool). cond b 1 0) ((bytes_eq-Decides (get_or ys k x) x).1 e))
-
--- in a tree
-pub named_plain : (x : List ℕ) (t : Forest) → arity t ≡ 1 → named_in x t ≡ occurrences x (plain t)
-named_plain x t e = ap (occurrences_in x) (alone t e) ∙ occurrences-alone x (plain t)

@@ -1,14 +1,12 @@
--- Steps of walks over nodes in prefix order.
-use Rattle.std.specs.Prelude.{ℕ, ◌+◌, ◌≡◌, ◌≤◌, List, ◌++◌, drop, Bool, true, false}
+-- Leaves of a name in walks over trees, and copies in their places.
+use Rattle.std.specs.Prelude.{ℕ, ◌≡◌, ◌≤◌, ◌<◌, List, [], ◌∷◌, ◌++◌, length, take, if◌then◌else◌, Bool, false}
 use Rattle.std.specs.Str.{bytes_eq}
-use Rattle.calc_terms.specs.Node.{Node, size_of}
 use Rattle.calc_terms.specs.Payload.{Payload, rational, named, bare}
-use Rattle.node_pool.specs.Nodes.{first_of}
-use Rattle.node_pool.specs.Places.{since, until}
-use Rattle.node_pool.specs.State.{State, IsPool, free_of}
-use Rattle.tree_handles.specs.Copies.{IsCopy}
-use Rattle.tree_handles.specs.Forest.{Forest, flatten, bytes_in}
-use Rattle.tree_handles.specs.Standing.{KeepsRefusals}
+use Rattle.calc_terms.specs.Trees.{Tree, none, more}
+use Rattle.tree_handles.specs.Children.{IsChildAt}
+use Rattle.tree_handles.specs.Forest.{Forest, empty, tree, kids, root_count, set_nth, tree_nth}
+use Rattle.tree_handles.specs.Handed.{Represents}
+use Rattle.tree_handles.specs.Inside.{kids_of, with_kids}
 
 -- a leaf of the name holds it
 abbrev pub has_name : List ℕ → Payload → Bool
@@ -16,21 +14,27 @@ has_name x (rational r) = false
 has_name x (named y) = bytes_eq y x
 has_name x (bare k) = false
 
--- the node that begins at a place
-abbrev pub node_there : ℕ → State → Node
-node_there at s = first_of (since at s.nodes)
+-- the identifiers of the leaves of a name, in prefix order
+abbrev pub leaves_of : List ℕ → Forest → List ℕ
+leaves_of x empty = []
+leaves_of x (tree l k r) = (if has_name x l.payload then l.id ∷ [] else []) ++ (leaves_of x k ++ leaves_of x r)
 
--- a copy of a tree stands where one node stood, and ends at a place
-pub record PutsCopy (source : Forest) (at : ℕ) (old new : State) (end : ℕ) : Type 0 where
+-- the first of some identifiers, and all of them where they are fewer than the most that are looked for
+pub record AreFirst (most n : ℕ) (found all : List ℕ) : Type 0 where
+  pub behind : List ℕ
+  pub all-are : all ≡ take n found ++ behind
+  pub places : length found ≡ most
+  pub within : n ≤ most
+  pub last : n < most → behind ≡ []
+
+-- a child of a node is a leaf that is held once
+pub record IsLeafAt (at parent i : ℕ) (f : Forest) : Type 0 where
+  pub child : IsChildAt at parent i f
+  pub bare : kids (tree_nth at (kids_of parent f)) ≡ empty
+  pub once : root_count (tree_nth at (kids_of parent f)) ≡ 1
+
+-- a copy of a tree stands where a child stood
+pub record PutsCopy (u : Tree) (at parent : ℕ) (old new : Forest) : Type 0 where
   pub copy : Forest
-  pub same : IsCopy source copy
-  pub nodes : new.nodes ≡ until at old.nodes ++ (flatten copy ++ drop 1 (since at old.nodes))
-  pub end-is : end ≡ at + bytes_in source
-  pub room : bytes_in source ≤ free_of old
-  pub kept : KeepsRefusals old new
-  pub pool : IsPool new
-
--- a leaf of the name is replaced, and another node is passed over
-pub record PassesNode (x : List ℕ) (source : Forest) (at : ℕ) (old new : State) (end : ℕ) : Type 0 where
-  pub named : has_name x (node_there at old).payload ≡ true → PutsCopy source at old new end
-  pub other : has_name x (node_there at old).payload ≡ false → (new ≡ old) × (end ≡ at + size_of (node_there at old))
+  pub is : Represents copy (more u none)
+  pub forest-is : new ≡ with_kids parent (set_nth at copy (kids_of parent old)) old

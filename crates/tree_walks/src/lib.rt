@@ -4,6 +4,7 @@
 mod behind;
 mod depth;
 mod laws;
+mod leaves;
 mod replacing;
 mod searching;
 mod walk;

@@ -1,9 +1,7 @@
 //! Trees in the place of names.
-ghost use Rattle.std.specs.Prelude.{◌≡◌, ◌<◌, [], ◌∷◌, true, IfOk, IfErr, OnOk, OnErr, Ok, Err, ⊤};
+ghost use Rattle.std.specs.Prelude.{◌≡◌, ◌≤◌, [], ◌∷◌, ℕ, true, IfOk, IfErr, OnOk, Ok, Err, ⊤};
 ghost use Rattle.calc_terms.specs.Leaf.{name_of};
 ghost use Rattle.calc_terms.specs.Trees.{size, root_size, symbol};
-ghost use Rattle.node_pool.specs.Nodes.{used};
-ghost use Rattle.node_pool.specs.Places.{IsBoundary};
 ghost use Rattle.node_pool.specs.State.{free_of};
 ghost use Rattle.tree_handles.specs.Expressions.{IsExpression, plain};
 ghost use Rattle.tree_handles.specs.Forest.{bytes_in};
@@ -12,15 +10,15 @@ ghost use Rattle.tree_handles.specs.Inside.{holds, tree_at};
 ghost use Rattle.tree_handles.specs.Roots.{without_root};
 ghost use Rattle.tree_handles.specs.Standing.{Stands, forest, IsRefused, KeepsRefusals, LacksBytes, Refuses};
 ghost use Rattle.tree_walks.specs.Replacing.{replaced, replacing, occurrences};
-ghost use Rattle.tree_walks.specs.Walks.{PassesNode, PutsCopy, has_name, node_there};
+ghost use Rattle.tree_walks.specs.Walks.{IsLeafAt, PutsCopy};
 
-use crate::walk::{is_named, step};
+use crate::leaves::{LEAVES, count_leaves, find_leaves, is_leaf_of};
 use calc_terms::Name;
 use node_pool::{Full, Id, Pool};
-use tree_handles::{Handle, copy_tree, release};
+use tree_handles::{Handle, copy_tree, kind, release, replace_known_child};
 
-/// Each leaf of a name in the last tree becomes a copy of another tree, in prefix order: a copy is placed at the end, the
-/// leaf is removed, and the copy takes its place. Answers the root, which is another one where the whole tree was such a leaf.
+/// Each leaf of a name in the last tree becomes a copy of another tree, in prefix order: a copy is placed at the end, takes
+/// the place of the leaf, and the leaf is released. Answers the root, which is another one where the whole tree was such a leaf.
 ///
 /// Where a copy finds no room, the leaves before it have been replaced.
 pub fn replace_name(pool: &mut Pool, tree: Handle, name: Name, source: Id) -> Result<Handle, Full>
@@ -43,54 +41,42 @@ pub fn replace_name(pool: &mut Pool, tree: Handle, name: Name, source: Id) -> Re
     ensures kept { OnOk result (KeepsRefusals pool.old pool.new) }
     ensures stands { Stands pool.new }
 {
-    let root = pool.locate(tree.id());
-    if is_named(pool, root, name) {
+    let root = tree.id();
+    if is_leaf_of(pool, root, kind(pool, root), name) {
         let copy = copy_tree(pool, source)?;
         release(pool, tree);
         return Ok(copy);
     }
-    let (_, mut at) = step(pool, root);
-    while at < pool.used() {
-        at = replace_node(pool, at, name, source)?;
+    let mut leaves = [Id::default(); LEAVES];
+    let mut passed = 0;
+    let mut found = find_leaves(pool, root, name, passed, &mut leaves);
+    let mut at = 0;
+    while at < found {
+        put_copy(pool, leaves[at], source)?;
+        at += 1;
+        if at == LEAVES {
+            // The leaves of the name in the copies stay.
+            passed += LEAVES * count_leaves(pool, source, name);
+            found = find_leaves(pool, root, name, passed, &mut leaves);
+            at = 0;
+        }
     }
     Ok(tree)
 }
 
-/// A copy takes the place of the node at a place, where that is a leaf of the name. Tells the place behind the node, or
-/// behind the copy.
-fn replace_node(pool: &mut Pool, at: u32, name: Name, source: Id) -> Result<u32, Full>
+/// A copy of a tree takes the place of a leaf.
+fn put_copy(pool: &mut Pool, leaf: Id, source: Id) -> Result<(), Full>
     requires stands { Stands pool.old }
-    requires boundary { IsBoundary at pool.old.nodes }
-    requires inside { at < used pool.old.nodes }
-    requires live { holds source (forest pool.old) ≡ true }
-    ensures ok { IfOk result (PassesNode (name_of name) (tree_at source (forest pool.old)) at pool.old pool.new) }
+    requires expression { IsExpression source (forest pool.old) }
+    requires leaf { (at : ℕ) × (parent : ℕ) × IsLeafAt at parent leaf (forest pool.old) }
+    ensures ok { (at parent : ℕ) → IsLeafAt at parent leaf (forest pool.old) → IfOk result (λ _. PutsCopy (plain (tree_at source (forest pool.old))) at parent (forest pool.old) (forest pool.new)) }
+    ensures room { IfOk result (λ _. bytes_in (tree_at source (forest pool.old)) ≤ free_of pool.old) }
     ensures full { IfErr result (IsRefused (bytes_in (tree_at source (forest pool.old))) pool.old pool.new) }
-    ensures named { IfErr result (λ full. has_name (name_of name) (node_there at pool.old).payload ≡ true) }
-    ensures stands { OnErr result (Stands pool.new) }
+    ensures kept { OnOk result (KeepsRefusals pool.old pool.new) }
+    ensures stands { Stands pool.new }
 {
-    if is_named(pool, at, name) {
-        put_copy(pool, at, source)
-    } else {
-        let (_, next) = step(pool, at);
-        Ok(next)
-    }
-}
-
-/// A copy of a tree takes the place of the node at a place. Tells the place behind it.
-fn put_copy(pool: &mut Pool, at: u32, source: Id) -> Result<u32, Full>
-    requires stands { Stands pool.old }
-    requires boundary { IsBoundary at pool.old.nodes }
-    requires inside { at < used pool.old.nodes }
-    requires live { holds source (forest pool.old) ≡ true }
-    ensures ok { IfOk result (PutsCopy (tree_at source (forest pool.old)) at pool.old pool.new) }
-    ensures full { IfErr result (IsRefused (bytes_in (tree_at source (forest pool.old))) pool.old pool.new) }
-    ensures stands { OnErr result (Stands pool.new) }
-{
-    let (_, next) = step(pool, at);
-    let end = pool.used();
-    copy_tree(pool, source)?;
-    let len = pool.used() - end;
-    pool.move_block(end, len, at);
-    pool.remove_block(at + len, next - at);
-    Ok(at + len)
+    let copy = copy_tree(pool, source)?;
+    let leaf = replace_known_child(pool, leaf, copy);
+    release(pool, leaf);
+    Ok(())
 }

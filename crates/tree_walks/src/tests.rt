@@ -1,13 +1,17 @@
 //! Walks over differences that are told by their leaves: `xy7` is the tree of `x-y-7`, and `---xy7#` its kinds in prefix order.
 ghost use Rattle.std.specs.Prelude.{◌≡◌, ◌<◌, length, IfOk, ⊤, true};
+ghost use Rattle.calc_terms.specs.Leaf.{name_of};
+ghost use Rattle.node_pool.specs.Nodes.{used, first_of};
+ghost use Rattle.node_pool.specs.Places.{since, IsBoundary};
 ghost use Rattle.node_pool.specs.State.{IsPoolSize};
 ghost use Rattle.tree_handles.specs.Expressions.{IsExpression};
 ghost use Rattle.tree_handles.specs.Handed.{Gives};
 ghost use Rattle.tree_handles.specs.Inside.{holds};
 ghost use Rattle.tree_handles.specs.Standing.{Stands, forest};
+ghost use Rattle.tree_walks.specs.Walks.{has_name};
 
 use super::*;
-use crate::walk::{is_named, step};
+use crate::walk::step;
 use calc_terms::{Kind, Name, Rat};
 use node_pool::{Full, Id, Pool};
 use std::alloc::{AllocError, Global};
@@ -90,6 +94,19 @@ fn opposites(pool: &mut Pool, name: Name, signs: u32) -> Result<Handle, Full>
     Ok(tree)
 }
 
+/// Whether the node at a place is a leaf of a name.
+fn is_named(pool: &Pool, at: u32, name: Name) -> bool
+    requires boundary { IsBoundary at pool.now.nodes }
+    requires inside { at < used pool.now.nodes }
+    ensures { result ≡ has_name (name_of name) (first_of (since at pool.now.nodes)).payload }
+{
+    let header = pool.header(at);
+    match header.kind {
+        Kind::Sym => pool.name(Id::of(header.id)).bytes() == name.bytes(),
+        _ => false,
+    }
+}
+
 /// The letters of the nodes in prefix order.
 fn nodes_of(alloc: Global, pool: &Pool, names: [Name; 2]) -> Result<Vec<u8>, AllocError> {
     let mut letters = Vec::new(alloc);
@@ -139,6 +156,24 @@ fn leaves_become_copies(rt: HostRuntime) -> Result<(), Fail> {
     let y = Name::read(b"y").expect(&rt, "y is a name");
     let other = first_other(rt.alloc(), REPLACED, [x, y])?;
     assert_eq!(rt; other, None);
+    Ok(())
+}
+
+/// More leaves than one walk finds, in copies of a tree that has the name itself.
+#[test]
+fn many_leaves_become_copies(rt: HostRuntime) -> Result<(), Fail> {
+    let x = Name::read(b"x").expect(&rt, "x is a name");
+    let y = Name::read(b"y").expect(&rt, "y is a name");
+    let mut pool = opened(rt.alloc(), 32768)?;
+    let answer = substituted(&mut pool, &[b'x'; 600], x, b"xx");
+    let found = nodes_of(rt.alloc(), &pool, [x, y])?;
+    assert!(rt; answer.is_ok());
+    assert_eq!(rt; found.len(), 3 + 599 + 3 * 600);
+    assert_eq!(rt;
+        found.iter().filter(|letter| **letter == b'x').count(),
+        2 + 2 * 600
+    );
+    assert!(rt; found.ends_with(b"-xx-xx-xx"));
     Ok(())
 }
 

@@ -1,9 +1,9 @@
 use Rattle.calc_terms.specs.Leaf.{name_of}
 use Rattle.tree_handles.specs.Inside.{tree_at}
 use Rattle.tree_handles.specs.Standing.{forest}
-use Rattle.tree_walks.proofs.Names.{named_in}
-use Rattle.tree_walks.proofs.Searches.{IsSearching}
+use Rattle.tree_walks.specs.Walks.{leaves_of}
+use Rattle.tree_walks.proofs.Searches.{IsLooking}
 use Rattle.tree_walks.proofs.searching.holds_name.Given as goal
 
 abbrev pub invariant-loop-node : goal.invariant-loop-node
-invariant-loop-node l = IsSearching (name_of l.fn.name) l.node-iterator (named_in (name_of l.fn.name) (tree_at l.fn.id (forest l.fn.pool))) (forest l.fn.pool)
+invariant-loop-node l = IsLooking (name_of l.fn.name) l.node-iterator (leaves_of (name_of l.fn.name) (tree_at l.fn.id (forest l.fn.pool))) (forest l.fn.pool)
