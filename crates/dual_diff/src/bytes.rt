@@ -41,6 +41,7 @@ pub(crate) fn derivative_bytes(pool: &Pool, tree: Id, name: Name) -> u32
 
 /// The bytes of the derivatives of a node's children.
 #[cycle(counting)]
+#[inline(never)]
 fn children_bytes(pool: &Pool, tree: Id, name: Name) -> u32
     requires stands { Stands pool.now }
     requires expression { IsExpression tree (forest pool.now) }
@@ -58,6 +59,7 @@ fn children_bytes(pool: &Pool, tree: Id, name: Name) -> u32
 /// The bytes of a product's derivative: for each factor that holds the name those of the product, with its derivative in
 /// its place.
 #[cycle(counting)]
+#[inline(never)]
 fn product_bytes(pool: &Pool, tree: Id, name: Name) -> u32
     requires stands { Stands pool.now }
     requires expression { IsExpression tree (forest pool.now) }
@@ -87,6 +89,7 @@ fn product_bytes(pool: &Pool, tree: Id, name: Name) -> u32
 
 /// The bytes of a quotient's derivative.
 #[cycle(counting)]
+#[inline(never)]
 fn quotient_bytes(pool: &Pool, tree: Id, name: Name) -> u32
     requires stands { Stands pool.now }
     requires expression { IsExpression tree (forest pool.now) }
@@ -120,6 +123,7 @@ fn quotient_bytes(pool: &Pool, tree: Id, name: Name) -> u32
 
 /// The bytes of a power's derivative.
 #[cycle(counting)]
+#[inline(never)]
 fn power_bytes(pool: &Pool, tree: Id, name: Name) -> u32
     requires stands { Stands pool.now }
     requires expression { IsExpression tree (forest pool.now) }
@@ -150,6 +154,7 @@ fn power_bytes(pool: &Pool, tree: Id, name: Name) -> u32
 
 /// The bytes of a root's derivative.
 #[cycle(counting)]
+#[inline(never)]
 fn root_bytes(pool: &Pool, tree: Id, name: Name) -> u32
     requires stands { Stands pool.now }
     requires expression { IsExpression tree (forest pool.now) }

@@ -22,7 +22,8 @@ use tree_walks::holds_name;
 
 /// The derivative of a tree, as a new tree. Its bytes are counted first, so a refusal changes nothing, and is not counted.
 ///
-/// A child is derived by a call within its parent's, so the machine's stack that it takes grows with the depth.
+/// A child is derived by a call within its parent's, so the machine's stack that it takes grows with the depth. Each
+/// kind of node has a function of its own that is not inlined, so that a call keeps what its own kind needs.
 pub fn derive(pool: &mut Pool, tree: Id, name: Name) -> Result<Handle, Full>
     requires stands { Stands pool.old }
     requires expression { IsExpression tree (forest pool.old) }
@@ -73,6 +74,7 @@ fn place_derivative(pool: &mut Pool, tree: Id, name: Name) -> Handle
 
 /// A node of the same kind over the derivatives of its children, for a sum, a difference or an opposite.
 #[cycle(derivation)]
+#[inline(never)]
 fn place_same(pool: &mut Pool, tree: Id, kind: Kind, name: Name) -> Handle
     requires stands { Stands pool.old }
     requires expression { IsExpression tree (forest pool.old) }
@@ -95,6 +97,7 @@ fn place_same(pool: &mut Pool, tree: Id, kind: Kind, name: Name) -> Handle
 /// For each factor that holds the name the product with its derivative in its place, and the sum of these where they are
 /// more than one.
 #[cycle(derivation)]
+#[inline(never)]
 fn place_products(pool: &mut Pool, tree: Id, name: Name) -> Handle
     requires stands { Stands pool.old }
     requires expression { IsExpression tree (forest pool.old) }
@@ -124,6 +127,7 @@ fn place_products(pool: &mut Pool, tree: Id, name: Name) -> Handle
 
 /// A product with the derivative of the factor at a place in its place.
 #[cycle(derivation)]
+#[inline(never)]
 fn place_product(pool: &mut Pool, tree: Id, at: u16, name: Name) -> Handle
     requires stands { Stands pool.old }
     requires expression { IsExpression tree (forest pool.old) }
@@ -143,6 +147,7 @@ fn place_product(pool: &mut Pool, tree: Id, at: u16, name: Name) -> Handle
 
 /// The derivative of a quotient.
 #[cycle(derivation)]
+#[inline(never)]
 fn place_quotient(pool: &mut Pool, tree: Id, name: Name) -> Handle
     requires stands { Stands pool.old }
     requires expression { IsExpression tree (forest pool.old) }
@@ -168,6 +173,7 @@ fn place_quotient(pool: &mut Pool, tree: Id, name: Name) -> Handle
 /// The numerator of a quotient's derivative: the derivative of the dividend times the divisor, less the dividend times the
 /// derivative of the divisor.
 #[cycle(derivation)]
+#[inline(never)]
 fn place_difference(pool: &mut Pool, dividend: Id, divisor: Id, name: Name) -> Handle
     requires stands { Stands pool.old }
     requires above { IsExpression dividend (forest pool.old) }
@@ -192,6 +198,7 @@ fn place_difference(pool: &mut Pool, dividend: Id, divisor: Id, name: Name) -> H
 
 /// The derivative of a power.
 #[cycle(derivation)]
+#[inline(never)]
 fn place_power(pool: &mut Pool, tree: Id, name: Name) -> Handle
     requires stands { Stands pool.old }
     requires expression { IsExpression tree (forest pool.old) }
@@ -217,6 +224,7 @@ fn place_power(pool: &mut Pool, tree: Id, name: Name) -> Handle
 
 /// The exponent, times the power with the exponent less 1, times the derivative of the base.
 #[cycle(derivation)]
+#[inline(never)]
 fn place_lowered(pool: &mut Pool, base: Id, number: i128, name: Name) -> Handle
     requires stands { Stands pool.old }
     requires expression { IsExpression base (forest pool.old) }
@@ -236,6 +244,7 @@ fn place_lowered(pool: &mut Pool, base: Id, number: i128, name: Name) -> Handle
 
 /// The derivative of a root.
 #[cycle(derivation)]
+#[inline(never)]
 fn place_root(pool: &mut Pool, tree: Id, name: Name) -> Handle
     requires stands { Stands pool.old }
     requires expression { IsExpression tree (forest pool.old) }

@@ -16,6 +16,7 @@ use node_pool::{Id, Pool};
 use tree_handles::{Handle, child_id, copy_tree, node_over_last, number};
 
 /// A whole number.
+#[inline(never)]
 pub(crate) fn place_number(pool: &mut Pool, value: i128) -> Handle
     requires stands { Stands pool.old }
     requires fits { nat_abs value < 2 ^ 127 }
@@ -29,6 +30,7 @@ pub(crate) fn place_number(pool: &mut Pool, value: i128) -> Handle
 }
 
 /// A copy of a tree.
+#[inline(never)]
 pub(crate) fn place_copy(pool: &mut Pool, source: Id) -> Handle
     requires stands { Stands pool.old }
     requires expression { IsExpression source (forest pool.old) }
@@ -42,6 +44,7 @@ pub(crate) fn place_copy(pool: &mut Pool, source: Id) -> Handle
 }
 
 /// A node over the last trees, which were added since so many bytes were in use.
+#[inline(never)]
 pub(crate) fn place_over(pool: &mut Pool, kind: Kind, trees: u16, begin: u32) -> Handle
     requires stands { Stands pool.old }
     requires takes { takes_kind kind trees ≡ true }
@@ -58,6 +61,7 @@ pub(crate) fn place_over(pool: &mut Pool, kind: Kind, trees: u16, begin: u32) ->
 }
 
 /// A copy of a tree, to the power of a whole number.
+#[inline(never)]
 pub(crate) fn place_power_of(pool: &mut Pool, base: Id, exponent: i128) -> Handle
     requires stands { Stands pool.old }
     requires expression { IsExpression base (forest pool.old) }
@@ -72,6 +76,7 @@ pub(crate) fn place_power_of(pool: &mut Pool, base: Id, exponent: i128) -> Handl
 }
 
 /// Copies of the children of a node from one place to before another, the first having place 0.
+#[inline(never)]
 pub(crate) fn place_copies(pool: &mut Pool, parent: Id, from: u16, to: u16)
     requires stands { Stands pool.old }
     requires expression { IsExpression parent (forest pool.old) }

@@ -24,6 +24,7 @@ pivot_of (Some r) = Some (entries_of r)
 abbrev pub misfit_of : Overflow → Misfit
 misfit_of o = record { op = operation_of o.op; a = value_of o.a; b = value_of o.b }
 
-abbrev pub side_told : Result SideRow Overflow → Result Side Misfit
-side_told (Ok r) = Ok (side_of r)
-side_told (Err o) = Err (misfit_of o)
+-- the row, unless an operation did not fit
+abbrev pub side_told : Result (Unit {0}) Overflow → SideRow → Result Side Misfit
+side_told (Ok x) r = Ok (side_of r)
+side_told (Err o) r = Err (misfit_of o)

@@ -38,6 +38,7 @@ impl Elimination {
     }
 
     /// The names are taken in order, so many, with a check of the breakers for each.
+    #[inline(never)]
     pub(crate) fn eliminate<B: Breaker>(
         &mut self,
         names: usize,
@@ -74,6 +75,7 @@ impl Elimination {
     }
 
     /// The row at a place becomes the pivot of a name, which is cleared from each other row.
+    #[inline(never)]
     fn settle_by(&mut self, name: usize, at: usize) -> Result<(), Overflow>
         requires room { length (rows_told self.old).pivots < 6 }
         requires first { first_with name (rows_told self.old).left ≡ Some at }
@@ -118,6 +120,7 @@ fn pivot_row(rows: &[Row], name: usize, at: usize) -> Result<Row, Overflow>
 }
 
 /// Each pivot without a name.
+#[inline(never)]
 fn cleared_pivots(
     pivots: &[Option<Row>],
     name: usize,
@@ -152,6 +155,7 @@ fn cleared_pivot(other: &Option<Row>, name: usize, pivot: &Row) -> Result<Option
 }
 
 /// Each row without a name, but for the one at a place: the first takes its place.
+#[inline(never)]
 fn cleared_others(
     rows: &[Row],
     name: usize,

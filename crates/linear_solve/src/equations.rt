@@ -15,6 +15,7 @@ ghost use Rattle.tree_handles.specs.Standing.{Stands, forest};
 
 use crate::fault::SolveFault;
 use crate::row::{EQUATION_LIMIT, Row, one_where};
+use crate::side::SideRow;
 use crate::sides::side_row;
 use arrayvec::ArrayVec;
 use breakers::{Breaker, Watch};
@@ -22,6 +23,7 @@ use calc_terms::Name;
 use node_pool::{Id, Pool};
 
 /// The rows of the equations whose sides have these roots.
+#[inline(never)]
 pub(crate) fn equation_rows<B: Breaker>(
     pool: &Pool,
     left: &[Id],
@@ -56,6 +58,7 @@ pub(crate) fn equation_rows<B: Breaker>(
 }
 
 /// The row of an equation: left minus right.
+#[inline(never)]
 fn difference_row<B: Breaker>(
     pool: &Pool,
     left: Id,
@@ -80,9 +83,11 @@ fn difference_row<B: Breaker>(
         (nodes (plain (tree_at left (forest pool.now))) + nodes (plain (tree_at right (forest pool.now))))
         (states B.state watch.old) (states B.state watch.new)) }
 {
-    let left = side_row(pool, left, names, watch)?;
-    let right = side_row(pool, right, names, watch)?;
-    let row = left.row().plus(&right.row().negated())?;
+    let mut left_row = SideRow::none();
+    side_row(pool, left, names, watch, &mut left_row)?;
+    let mut right_row = SideRow::none();
+    side_row(pool, right, names, watch, &mut right_row)?;
+    let row = left_row.row().plus(&right_row.row().negated())?;
     Ok(row)
 }
 

@@ -21,6 +21,14 @@ pub(crate) struct SideRow {
 impl SideRow {
     ghost use Rattle.linear_solve.specs.Told.{entries_of, misfit_of, side_of};
 
+    /// A row without entries.
+    pub(crate) fn none() -> SideRow {
+        SideRow {
+            named: false,
+            row: Row::new(),
+        }
+    }
+
     /// The row of a rational.
     pub(crate) fn constant(names: &[Name], value: Rat) -> SideRow
         requires { length names.now ≤ 6 }

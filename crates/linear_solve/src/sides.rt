@@ -21,24 +21,26 @@ use breakers::{Breaker, Watch};
 use calc_terms::{Kind, Name, Rat};
 use node_pool::{Id, Pool};
 use rational128::Overflow;
+use std::mem::swap;
 use tree_handles::{child_id, children, kind, name, rational};
 
-/// The row of a linear tree.
+/// The row of a linear tree, in place of the row that stood there.
 ///
 /// All rows of a node's children are made before its own. They are joined as they come, so that one is kept at a time;
 /// where two of them do not fit, that is told once the others are made. A child's row is made by a call within its
-/// parent's, so the machine's stack that it takes grows with the tree's depth.
+/// parent's, so the machine's stack that it takes grows with the tree's depth: each call keeps one row.
 pub(crate) fn side_row<B: Breaker>(
     pool: &Pool,
     t: Id,
     names: &[Name],
     watch: &mut Watch<B>,
-) -> Result<SideRow, SolveFault>
+    row: &mut SideRow,
+) -> Result<(), SolveFault>
     requires stands { Stands pool.now }
     requires expression { IsExpression t (forest pool.now) }
     requires linear { is_linear (plain (tree_at t (forest pool.now))) ≡ true }
     requires names { length names.now ≤ 6 }
-    ensures ok { IfOk result (λ row. row_of (map name_of names.now) (plain (tree_at t (forest pool.now))) ≡ Ok (side_of row)) }
+    ensures ok { OnOk result (row_of (map name_of names.now) (plain (tree_at t (forest pool.now))) ≡ Ok (side_of row.new)) }
     ensures overflow { IfErr result (OfOverflow (λ o. row_of (map name_of names.now) (plain (tree_at t (forest pool.now)))
         ≡ Err (misfit_of o))) }
     ensures checks { OnOk result (CalmChecks (nodes (plain (tree_at t (forest pool.now))))
@@ -47,13 +49,29 @@ pub(crate) fn side_row<B: Breaker>(
         (states B.state watch.old) (states B.state watch.new)) }
 {
     let kind = kind(pool, t);
-    let mut row = Ok(bare_row(pool, t, names));
+    set_bare_row(pool, t, names, row);
+    let mut fits = Ok(());
+    let mut next = SideRow::none();
     for at in 0..children(pool, t) {
-        let next = side_row(pool, child_id(pool, t, at), names, watch)?;
-        row = joined_row(kind, names.len(), row, at, next);
+        side_row(pool, child_id(pool, t, at), names, watch, &mut next)?;
+        fits = join_row(kind, names.len(), fits, row, at, &mut next);
     }
     watch.check()?;
-    Ok(signed_row(kind, row?))
+    fits?;
+    sign_row(kind, row);
+    Ok(())
+}
+
+/// The row of a node without children, in place of another. What a call needs for it is gone when the children's rows
+/// are made.
+#[inline(never)]
+fn set_bare_row(pool: &Pool, t: Id, names: &[Name], row: &mut SideRow)
+    requires stands { Stands pool.now }
+    requires expression { IsExpression t (forest pool.now) }
+    requires names { length names.now ≤ 6 }
+    ensures { side_of row.new ≡ bare_row (map name_of names.now) (plain (tree_at t (forest pool.now))) }
+{
+    *row = bare_row(pool, t, names);
 }
 
 /// The row of a node without children.
@@ -71,36 +89,49 @@ fn bare_row(pool: &Pool, t: Id, names: &[Name]) -> SideRow
     }
 }
 
-/// The rows of a node's children so far, joined, with the next one.
-fn joined_row(
+/// The rows of a node's children so far, joined, with the next one, unless two of them did not fit.
+#[inline(never)]
+fn join_row(
     kind: Kind,
     names: usize,
-    row: Result<SideRow, Overflow>,
+    fits: Result<(), Overflow>,
+    row: &mut SideRow,
     at: u16,
-    next: SideRow,
-) -> Result<SideRow, Overflow>
-    requires divisor { kind ≡ Div → 0 < at → is_zero_fraction (constant_of names (side_of next)) ≡ false }
-    ensures first { at ≡ 0 → side_told result ≡ and_then (side_told row) (λ so_far. Ok (side_of next)) }
-    ensures later { 0 < at → side_told result ≡ and_then (side_told row) (λ so_far. joined_row names kind so_far (side_of next)) }
+    next: &mut SideRow,
+) -> Result<(), Overflow>
+    requires divisor { kind ≡ Div → 0 < at → is_zero_fraction (constant_of names (side_of next.old)) ≡ false }
+    ensures first { at ≡ 0 → side_told result row.new ≡ and_then (side_told fits row.old) (λ so_far. Ok (side_of next.old)) }
+    ensures later { 0 < at → side_told result row.new ≡ and_then (side_told fits row.old) (λ so_far. joined_row names kind so_far (side_of next.old)) }
 {
-    let row = row?;
+    fits?;
     if at == 0 {
-        return Ok(next);
+        swap(row, next);
+        return Ok(());
     }
+    *row = joined_row(kind, names, row, next)?;
+    Ok(())
+}
+
+/// The rows of a node's children so far, joined, with the next one.
+fn joined_row(kind: Kind, names: usize, row: &SideRow, next: &SideRow) -> Result<SideRow, Overflow>
+    requires divisor { kind ≡ Div → is_zero_fraction (constant_of names (side_of next.now)) ≡ false }
+    ensures ok { IfOk result (λ r. joined_row names kind (side_of row.now) (side_of next.now) ≡ Ok (side_of r)) }
+    ensures overflow { IfErr result (λ o. joined_row names kind (side_of row.now) (side_of next.now) ≡ Err (misfit_of o)) }
+{
     match kind {
-        Kind::Mult => row.times(&next, names),
-        Kind::Sub => row.minus(&next),
-        Kind::Div => row.over(&next, names),
-        _ => row.plus(&next),
+        Kind::Mult => row.times(next, names),
+        Kind::Sub => row.minus(next),
+        Kind::Div => row.over(next, names),
+        _ => row.plus(next),
     }
 }
 
 /// The row of an opposite is negated.
-fn signed_row(kind: Kind, row: SideRow) -> SideRow
-    ensures { side_of result ≡ signed_row kind (side_of row) }
+#[inline(never)]
+fn sign_row(kind: Kind, row: &mut SideRow)
+    ensures { side_of row.new ≡ signed_row kind (side_of row.old) }
 {
-    match kind {
-        Kind::Neg => row.negated(),
-        _ => row,
+    if kind == Kind::Neg {
+        *row = row.negated();
     }
 }

@@ -40,6 +40,7 @@ pub enum Solution {
 }
 
 /// What the rows say once the names, so many, are eliminated.
+#[inline(never)]
 pub(crate) fn solution_by(state: &Elimination, names: usize) -> Result<Solution, Overflow>
     requires { names ≤ 6 }
     ensures ok { IfOk result (λ s. answer_of names (rows_told state.now) ≡ Ok (answer_told s)) }

@@ -26,6 +26,9 @@ use node_pool::{Id, Pool};
 ///
 /// The watch is checked once for each node of the sides, in the order in which their rows are made, and then once for
 /// each name before its pivot is sought.
+///
+/// It is not inlined, nor are its parts: their rows stand on the machine's stack only for as long as they are needed.
+#[inline(never)]
 pub fn solve<B: Breaker>(
     pool: &Pool,
     left: &[Id],

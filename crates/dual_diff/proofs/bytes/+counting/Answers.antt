@@ -358,9 +358,7 @@ power_bytes-returns-then-is_one t c =
     let literal = c.in-Some.ensures.value ∙ ap whole_literal at in
     let small = exponent_small (nth 1 (children_of u)) c.in-Some.number literal derivable in
     let number = told c.in-Some.number (small_fits c.in-Some.number small) in
-    let fits = subst (λ z. nat_abs z < 2 ^ 127) (sym number) (small_fits c.in-Some.number small) in
     let same = c.child_id-base.ensures.plain c.requires.expression in
-    let within : 0 < count (children_of u) = omega (arith, base_and_exponent u c.requires.power) in
     let rule = power_by_rule x u c.in-Some.number c.requires.power c.requires.held (sym literal) in
     let b = nth 0 (children_of u) in
     c.derivative_bytes-slope.ensures ∙ ap (λ (w : Tree). capped (size (derivative x w))) same ∙ ap (λ (w : Tree). capped (size w)) (sym (rule ∙ one_rule c.in-Some.number b (derivative x b) (ap int_is_one (sym number) ∙ sym c.is_one.ensures ∙ c.if-is_one.true)))
@@ -386,7 +384,6 @@ power_bytes-overflow_sub-number t c =
     let literal = c.in-Some.ensures.value ∙ ap whole_literal at in
     let small = exponent_small (nth 1 (children_of u)) c.in-Some.number literal derivable in
     let number = told c.in-Some.number (small_fits c.in-Some.number small) in
-    let fits = subst (λ z. nat_abs z < 2 ^ 127) (sym number) (small_fits c.in-Some.number small) in
     fits_signed_from_abs w128 (to_z w128 (of_z w128 c.in-Some.number) -ℤ pos 1) (subst (λ z. nat_abs (z -ℤ pos 1) < 2 ^ 127) (sym number) (less_fits c.in-Some.number small))
 
 pub power_bytes-number_bytes-requires-3 : goal.power_bytes-number_bytes-requires-3

@@ -150,11 +150,8 @@ place_same-place_over-requires-clause-stands t c =
 
 pub place_same-place_over-requires-clause-takes : goal.place_same-place_over-requires-clause-takes
 place_same-place_over-requires-clause-takes t c =
-    let x = name_of c.args.name in
     let u = plain (tree_at c.args.tree (forest c.args.pool.now)) in
     let many : c.children-children.result ≡ count (children_of u) = c.children-children.ensures.plain c.requires.expression in
-    let all : AddsAll c.args.pool.now c.loop-at.pool (derivatives x (children_of u)) = adds_as c.loop-at.invariant (derivatives_all x c.loop-at.at (children_of u) (omega (arith, many, c.loop-at-test.false))) in
-    let counted : count (derivatives x (children_of u)) ≡ c.children-children.result = omega (arith, count_derivatives x (children_of u), many) in
     let linear = ap is_linear (sym c.requires.kind) ∙ c.requires.linear in
     ap (λ k. takes_kind k c.children-children.result) c.requires.kind ∙ ap (takes_kind (root_kind u)) many ∙ linear_takes u linear
 
@@ -165,7 +162,6 @@ place_same-place_over-requires-clause-added t c =
     let many : c.children-children.result ≡ count (children_of u) = c.children-children.ensures.plain c.requires.expression in
     let all : AddsAll c.args.pool.now c.loop-at.pool (derivatives x (children_of u)) = adds_as c.loop-at.invariant (derivatives_all x c.loop-at.at (children_of u) (omega (arith, many, c.loop-at-test.false))) in
     let counted : count (derivatives x (children_of u)) ≡ c.children-children.result = omega (arith, count_derivatives x (children_of u), many) in
-    let linear = ap is_linear (sym c.requires.kind) ∙ c.requires.linear in
     (c.args.pool.now, derivatives x (children_of u), c.requires.stands, all, counted, c.used-begin.ensures.value)
 
 pub place_same-place_over-requires-clause-room : goal.place_same-place_over-requires-clause-room
@@ -513,20 +509,9 @@ place_quotient-place_copy-requires-clause-expression t c =
     let x = name_of c.args.name in
     let u = plain (tree_at c.args.tree (forest c.args.pool.now)) in
     let above = c.child_id-dividend.ensures.plain c.requires.expression in
-    let below = c.child_id-divisor.ensures.plain c.requires.expression in
-    let ea = c.child_id-dividend.ensures.expression c.requires.expression in
     let eb = c.child_id-divisor.ensures.expression c.requires.expression in
     let a = nth 0 (children_of u) in
-    let b = nth 1 (children_of u) in
-    let two_of : count (children_of u) ≡ 2 = two_children u c.requires.quotient in
-    let da = of_child x 0 u (omega (arith, two_of)) c.requires.derivable in
-    let db = of_child x 1 u (omega (arith, two_of)) c.requires.derivable in
-    let told_of : occurs x b ≡ c.holds_name.result = ap (occurs x) (sym below) ∙ held c.holds_name.result x (plain (tree_at c.child_id-divisor.result (forest c.args.pool.now))) c.holds_name.ensures in
-    let rule = quotient_divided x u c.requires.quotient c.requires.held (told_of ∙ c.if-not-holds_name.true) in
-    let start = adds_none c.args.pool.now c.requires.stands in
-    let r = ready c.requires.stands start ea above da (omega (arith, c.requires.room, ap size rule)) in
     let first_one : AddsAll c.args.pool.now c.place_derivative.new.pool (more (derivative x a) none) = adds_one c.requires.stands (adds_tree c.place_derivative.ensures (ap (derivative x) above)) in
-    let copy : plain (tree_at c.child_id-divisor.result (forest c.place_derivative.new.pool)) ≡ b = still_plain first_one eb ∙ below in
     still_expression first_one eb
 
 pub place_quotient-place_copy-requires-clause-room : goal.place_quotient-place_copy-requires-clause-room
@@ -560,17 +545,9 @@ place_quotient-place_over-requires-clause-added t c =
     let u = plain (tree_at c.args.tree (forest c.args.pool.now)) in
     let above = c.child_id-dividend.ensures.plain c.requires.expression in
     let below = c.child_id-divisor.ensures.plain c.requires.expression in
-    let ea = c.child_id-dividend.ensures.expression c.requires.expression in
     let eb = c.child_id-divisor.ensures.expression c.requires.expression in
     let a = nth 0 (children_of u) in
     let b = nth 1 (children_of u) in
-    let two_of : count (children_of u) ≡ 2 = two_children u c.requires.quotient in
-    let da = of_child x 0 u (omega (arith, two_of)) c.requires.derivable in
-    let db = of_child x 1 u (omega (arith, two_of)) c.requires.derivable in
-    let told_of : occurs x b ≡ c.holds_name.result = ap (occurs x) (sym below) ∙ held c.holds_name.result x (plain (tree_at c.child_id-divisor.result (forest c.args.pool.now))) c.holds_name.ensures in
-    let rule = quotient_divided x u c.requires.quotient c.requires.held (told_of ∙ c.if-not-holds_name.true) in
-    let start = adds_none c.args.pool.now c.requires.stands in
-    let r = ready c.requires.stands start ea above da (omega (arith, c.requires.room, ap size rule)) in
     let first_one : AddsAll c.args.pool.now c.place_derivative.new.pool (more (derivative x a) none) = adds_one c.requires.stands (adds_tree c.place_derivative.ensures (ap (derivative x) above)) in
     let copy : plain (tree_at c.child_id-divisor.result (forest c.place_derivative.new.pool)) ≡ b = still_plain first_one eb ∙ below in
     let both : AddsAll c.args.pool.now c.place_copy.new.pool (two (derivative x a) b) = adds_more first_one (adds_tree c.place_copy.ensures copy) in
@@ -604,17 +581,11 @@ place_quotient-returns-then-not-holds_name t c =
     let u = plain (tree_at c.args.tree (forest c.args.pool.now)) in
     let above = c.child_id-dividend.ensures.plain c.requires.expression in
     let below = c.child_id-divisor.ensures.plain c.requires.expression in
-    let ea = c.child_id-dividend.ensures.expression c.requires.expression in
     let eb = c.child_id-divisor.ensures.expression c.requires.expression in
     let a = nth 0 (children_of u) in
     let b = nth 1 (children_of u) in
-    let two_of : count (children_of u) ≡ 2 = two_children u c.requires.quotient in
-    let da = of_child x 0 u (omega (arith, two_of)) c.requires.derivable in
-    let db = of_child x 1 u (omega (arith, two_of)) c.requires.derivable in
     let told_of : occurs x b ≡ c.holds_name.result = ap (occurs x) (sym below) ∙ held c.holds_name.result x (plain (tree_at c.child_id-divisor.result (forest c.args.pool.now))) c.holds_name.ensures in
     let rule = quotient_divided x u c.requires.quotient c.requires.held (told_of ∙ c.if-not-holds_name.true) in
-    let start = adds_none c.args.pool.now c.requires.stands in
-    let r = ready c.requires.stands start ea above da (omega (arith, c.requires.room, ap size rule)) in
     let first_one : AddsAll c.args.pool.now c.place_derivative.new.pool (more (derivative x a) none) = adds_one c.requires.stands (adds_tree c.place_derivative.ensures (ap (derivative x) above)) in
     let copy : plain (tree_at c.child_id-divisor.result (forest c.place_derivative.new.pool)) ≡ b = still_plain first_one eb ∙ below in
     let both : AddsAll c.args.pool.now c.place_copy.new.pool (two (derivative x a) b) = adds_more first_one (adds_tree c.place_copy.ensures copy) in
@@ -649,20 +620,13 @@ place_quotient-place_power_of-requires-clause-expression t c =
     let u = plain (tree_at c.args.tree (forest c.args.pool.now)) in
     let above = c.child_id-dividend.ensures.plain c.requires.expression in
     let below = c.child_id-divisor.ensures.plain c.requires.expression in
-    let ea = c.child_id-dividend.ensures.expression c.requires.expression in
     let eb = c.child_id-divisor.ensures.expression c.requires.expression in
     let a = nth 0 (children_of u) in
     let b = nth 1 (children_of u) in
-    let two_of : count (children_of u) ≡ 2 = two_children u c.requires.quotient in
-    let da = of_child x 0 u (omega (arith, two_of)) c.requires.derivable in
-    let db = of_child x 1 u (omega (arith, two_of)) c.requires.derivable in
-    let told_of : occurs x b ≡ c.holds_name.result = ap (occurs x) (sym below) ∙ held c.holds_name.result x (plain (tree_at c.child_id-divisor.result (forest c.args.pool.now))) c.holds_name.ensures in
-    let rule = quotient_whole x u c.requires.quotient (told_of ∙ c.if-not-holds_name.false) in
     let numerator : Tree = sub (mult (two (derivative x a) b)) (mult (two a (derivative x b))) in
     let same : sub (mult (two (derivative x (plain (tree_at c.child_id-dividend.result (forest c.args.pool.now)))) (plain (tree_at c.child_id-divisor.result (forest c.args.pool.now))))) (mult (two (plain (tree_at c.child_id-dividend.result (forest c.args.pool.now))) (derivative x (plain (tree_at c.child_id-divisor.result (forest c.args.pool.now)))))) ≡ numerator =
     λ i. sub (mult (two (derivative x (above i)) (below i))) (mult (two (above i) (derivative x (below i)))) in
     let first_one : AddsAll c.args.pool.now c.place_difference.new.pool (more numerator none) = adds_one c.requires.stands (adds_tree c.place_difference.ensures same) in
-    let copy : plain (tree_at c.child_id-divisor.result (forest c.place_difference.new.pool)) ≡ b = still_plain first_one eb ∙ below in
     still_expression first_one eb
 
 pub place_quotient-place_power_of-requires-clause-room : goal.place_quotient-place_power_of-requires-clause-room
@@ -697,15 +661,9 @@ place_quotient-place_over-requires-2-clause-added t c =
     let u = plain (tree_at c.args.tree (forest c.args.pool.now)) in
     let above = c.child_id-dividend.ensures.plain c.requires.expression in
     let below = c.child_id-divisor.ensures.plain c.requires.expression in
-    let ea = c.child_id-dividend.ensures.expression c.requires.expression in
     let eb = c.child_id-divisor.ensures.expression c.requires.expression in
     let a = nth 0 (children_of u) in
     let b = nth 1 (children_of u) in
-    let two_of : count (children_of u) ≡ 2 = two_children u c.requires.quotient in
-    let da = of_child x 0 u (omega (arith, two_of)) c.requires.derivable in
-    let db = of_child x 1 u (omega (arith, two_of)) c.requires.derivable in
-    let told_of : occurs x b ≡ c.holds_name.result = ap (occurs x) (sym below) ∙ held c.holds_name.result x (plain (tree_at c.child_id-divisor.result (forest c.args.pool.now))) c.holds_name.ensures in
-    let rule = quotient_whole x u c.requires.quotient (told_of ∙ c.if-not-holds_name.false) in
     let numerator : Tree = sub (mult (two (derivative x a) b)) (mult (two a (derivative x b))) in
     let same : sub (mult (two (derivative x (plain (tree_at c.child_id-dividend.result (forest c.args.pool.now)))) (plain (tree_at c.child_id-divisor.result (forest c.args.pool.now))))) (mult (two (plain (tree_at c.child_id-dividend.result (forest c.args.pool.now))) (derivative x (plain (tree_at c.child_id-divisor.result (forest c.args.pool.now)))))) ≡ numerator =
     λ i. sub (mult (two (derivative x (above i)) (below i))) (mult (two (above i) (derivative x (below i)))) in
@@ -743,13 +701,9 @@ place_quotient-returns t c =
     let u = plain (tree_at c.args.tree (forest c.args.pool.now)) in
     let above = c.child_id-dividend.ensures.plain c.requires.expression in
     let below = c.child_id-divisor.ensures.plain c.requires.expression in
-    let ea = c.child_id-dividend.ensures.expression c.requires.expression in
     let eb = c.child_id-divisor.ensures.expression c.requires.expression in
     let a = nth 0 (children_of u) in
     let b = nth 1 (children_of u) in
-    let two_of : count (children_of u) ≡ 2 = two_children u c.requires.quotient in
-    let da = of_child x 0 u (omega (arith, two_of)) c.requires.derivable in
-    let db = of_child x 1 u (omega (arith, two_of)) c.requires.derivable in
     let told_of : occurs x b ≡ c.holds_name.result = ap (occurs x) (sym below) ∙ held c.holds_name.result x (plain (tree_at c.child_id-divisor.result (forest c.args.pool.now))) c.holds_name.ensures in
     let rule = quotient_whole x u c.requires.quotient (told_of ∙ c.if-not-holds_name.false) in
     let numerator : Tree = sub (mult (two (derivative x a) b)) (mult (two a (derivative x b))) in
@@ -777,7 +731,6 @@ pub place_difference-place_copy-requires-clause-expression : goal.place_differen
 place_difference-place_copy-requires-clause-expression t c =
     let x = name_of c.args.name in
     let a = plain (tree_at c.args.dividend (forest c.args.pool.now)) in
-    let b = plain (tree_at c.args.divisor (forest c.args.pool.now)) in
     let one : AddsAll c.args.pool.now c.place_derivative.new.pool (more (derivative x a) none) = adds_one c.requires.stands c.place_derivative.ensures in
     still_expression one c.requires.below
 
@@ -830,7 +783,6 @@ place_difference-place_copy-requires-2-clause-expression t c =
     let one : AddsAll c.args.pool.now c.place_derivative.new.pool (more (derivative x a) none) = adds_one c.requires.stands c.place_derivative.ensures in
     let pair : AddsAll c.args.pool.now c.place_copy.new.pool (two (derivative x a) b) = adds_more one (adds_tree c.place_copy.ensures (still_plain one c.requires.below)) in
     let left : AddsAll c.args.pool.now c.place_over.new.pool (more (mult (two (derivative x a) b)) none) = adds_one c.requires.stands (c.place_over.ensures c.args.pool.now (two (derivative x a) b) c.requires.stands pair refl) in
-    let middle = left.stands in
     still_expression left c.requires.above
 
 pub place_difference-place_copy-requires-2-clause-room : goal.place_difference-place_copy-requires-2-clause-room
@@ -990,11 +942,6 @@ place_power-is_zero-requires t c =
     let derivable = derivable_exponent x u c.requires.power c.requires.held (of_root x u c.requires.derivable) in
     let literal = c.in-Some.ensures.value ∙ ap whole_literal at in
     let small = exponent_small (nth 1 (children_of u)) c.in-Some.number literal derivable in
-    let rule = power_by_rule x u c.in-Some.number c.requires.power c.requires.held (sym literal) in
-    let b = nth 0 (children_of u) in
-    let same = c.child_id-base.ensures.plain c.requires.expression in
-    let within : 0 < count (children_of u) = omega (arith, base_and_exponent u c.requires.power) in
-    let db = of_child x 0 u within c.requires.derivable in
     let number = told c.in-Some.number (small_fits c.in-Some.number small) in
     let fits = subst (λ z. nat_abs z < 2 ^ 127) (sym number) (small_fits c.in-Some.number small) in
     fits
@@ -1027,11 +974,7 @@ place_power-returns-then-is_zero t c =
     let small = exponent_small (nth 1 (children_of u)) c.in-Some.number literal derivable in
     let rule = power_by_rule x u c.in-Some.number c.requires.power c.requires.held (sym literal) in
     let b = nth 0 (children_of u) in
-    let same = c.child_id-base.ensures.plain c.requires.expression in
-    let within : 0 < count (children_of u) = omega (arith, base_and_exponent u c.requires.power) in
-    let db = of_child x 0 u within c.requires.derivable in
     let number = told c.in-Some.number (small_fits c.in-Some.number small) in
-    let fits = subst (λ z. nat_abs z < 2 ^ 127) (sym number) (small_fits c.in-Some.number small) in
     let zero_of = rule ∙ zero_rule c.in-Some.number b (derivative x b) (ap int_is_zero (sym number) ∙ sym c.is_zero.ensures ∙ c.if-is_zero.true) in
     adds_tree c.place_number.ensures (sym zero_of)
 
@@ -1043,11 +986,6 @@ place_power-is_one-requires t c =
     let derivable = derivable_exponent x u c.requires.power c.requires.held (of_root x u c.requires.derivable) in
     let literal = c.in-Some.ensures.value ∙ ap whole_literal at in
     let small = exponent_small (nth 1 (children_of u)) c.in-Some.number literal derivable in
-    let rule = power_by_rule x u c.in-Some.number c.requires.power c.requires.held (sym literal) in
-    let b = nth 0 (children_of u) in
-    let same = c.child_id-base.ensures.plain c.requires.expression in
-    let within : 0 < count (children_of u) = omega (arith, base_and_exponent u c.requires.power) in
-    let db = of_child x 0 u within c.requires.derivable in
     let number = told c.in-Some.number (small_fits c.in-Some.number small) in
     let fits = subst (λ z. nat_abs z < 2 ^ 127) (sym number) (small_fits c.in-Some.number small) in
     fits
@@ -1081,10 +1019,7 @@ place_power-returns-then-is_one t c =
     let rule = power_by_rule x u c.in-Some.number c.requires.power c.requires.held (sym literal) in
     let b = nth 0 (children_of u) in
     let same = c.child_id-base.ensures.plain c.requires.expression in
-    let within : 0 < count (children_of u) = omega (arith, base_and_exponent u c.requires.power) in
-    let db = of_child x 0 u within c.requires.derivable in
     let number = told c.in-Some.number (small_fits c.in-Some.number small) in
-    let fits = subst (λ z. nat_abs z < 2 ^ 127) (sym number) (small_fits c.in-Some.number small) in
     let one_of = rule ∙ one_rule c.in-Some.number b (derivative x b) (ap int_is_one (sym number) ∙ sym c.is_one.ensures ∙ c.if-is_one.true) in
     adds_tree c.place_derivative.ensures (ap (derivative x) same ∙ sym one_of)
 
@@ -1117,10 +1052,7 @@ place_power-returns t c =
     let rule = power_by_rule x u c.in-Some.number c.requires.power c.requires.held (sym literal) in
     let b = nth 0 (children_of u) in
     let same = c.child_id-base.ensures.plain c.requires.expression in
-    let within : 0 < count (children_of u) = omega (arith, base_and_exponent u c.requires.power) in
-    let db = of_child x 0 u within c.requires.derivable in
     let number = told c.in-Some.number (small_fits c.in-Some.number small) in
-    let fits = subst (λ z. nat_abs z < 2 ^ 127) (sym number) (small_fits c.in-Some.number small) in
     let low = rule ∙ lowered_rule c.in-Some.number b (derivative x b) (ap int_is_zero (sym number) ∙ sym c.is_zero.ensures ∙ c.if-is_zero.false) (ap int_is_one (sym number) ∙ sym c.is_one.ensures ∙ c.if-is_one.false) in
     adds_tree c.place_lowered.ensures ((λ i. lowered (number i) (same i) (derivative x (same i))) ∙ sym low)
 
@@ -1128,11 +1060,8 @@ place_power-returns t c =
 
 pub place_lowered-place_number-requires-clause-fits : goal.place_lowered-place_number-requires-clause-fits
 place_lowered-place_number-requires-clause-fits t c =
-    let x = name_of c.args.name in
-    let b = plain (tree_at c.args.base (forest c.args.pool.now)) in
     let n = c.args.number in
     let number = told n (small_fits n c.requires.small) in
-    let lower = ap (λ z. to_z w128 (of_z w128 (z -ℤ pos 1))) number ∙ told (n -ℤ pos 1) (less_fits n c.requires.small) in
     subst (λ z. nat_abs z < 2 ^ 127) (sym number) (small_fits n c.requires.small)
 
 pub place_lowered-place_number-requires-clause-room : goal.place_lowered-place_number-requires-clause-room
@@ -1146,11 +1075,8 @@ place_lowered-place_number-requires-clause-room t c =
 
 pub place_lowered-overflow_sub-number : goal.place_lowered-overflow_sub-number
 place_lowered-overflow_sub-number t c =
-    let x = name_of c.args.name in
-    let b = plain (tree_at c.args.base (forest c.args.pool.now)) in
     let n = c.args.number in
     let number = told n (small_fits n c.requires.small) in
-    let lower = ap (λ z. to_z w128 (of_z w128 (z -ℤ pos 1))) number ∙ told (n -ℤ pos 1) (less_fits n c.requires.small) in
     fits_signed_from_abs w128 (to_z w128 (of_z w128 n) -ℤ pos 1) (subst (λ z. nat_abs (z -ℤ pos 1) < 2 ^ 127) (sym number) (less_fits n c.requires.small))
 
 pub place_lowered-place_power_of-requires-clause-stands : goal.place_lowered-place_power_of-requires-clause-stands
@@ -1159,18 +1085,13 @@ place_lowered-place_power_of-requires-clause-stands t c =
 
 pub place_lowered-place_power_of-requires-clause-expression : goal.place_lowered-place_power_of-requires-clause-expression
 place_lowered-place_power_of-requires-clause-expression t c =
-    let x = name_of c.args.name in
-    let b = plain (tree_at c.args.base (forest c.args.pool.now)) in
     let n = c.args.number in
     let number = told n (small_fits n c.requires.small) in
-    let lower = ap (λ z. to_z w128 (of_z w128 (z -ℤ pos 1))) number ∙ told (n -ℤ pos 1) (less_fits n c.requires.small) in
     let one : AddsAll c.args.pool.now c.place_number.new.pool (more (num (whole_fraction n)) none) = adds_one c.requires.stands (adds_tree c.place_number.ensures (ap (λ z. num (whole_fraction z)) number)) in
     still_expression one c.requires.expression
 
 pub place_lowered-place_power_of-requires-clause-fits : goal.place_lowered-place_power_of-requires-clause-fits
 place_lowered-place_power_of-requires-clause-fits t c =
-    let x = name_of c.args.name in
-    let b = plain (tree_at c.args.base (forest c.args.pool.now)) in
     let n = c.args.number in
     let number = told n (small_fits n c.requires.small) in
     let lower = ap (λ z. to_z w128 (of_z w128 (z -ℤ pos 1))) number ∙ told (n -ℤ pos 1) (less_fits n c.requires.small) in
@@ -1287,17 +1208,12 @@ pub place_root-place_copy-requires-clause-expression : goal.place_root-place_cop
 place_root-place_copy-requires-clause-expression t c =
     let x = name_of c.args.name in
     let u = plain (tree_at c.args.tree (forest c.args.pool.now)) in
-    let rule = root_by_rule x u c.requires.root c.requires.held in
-    let form = root_form u c.requires.root in
     let a = nth 0 (children_of u) in
     let same = c.child_id-argument.ensures.plain c.requires.expression in
-    let within : 0 < count (children_of u) = omega (arith, one_argument u c.requires.root) in
-    let da = of_child x 0 u within c.requires.derivable in
     let one : AddsAll c.args.pool.now c.place_derivative.new.pool (more (derivative x a) none) = adds_one c.requires.stands (adds_tree c.place_derivative.ensures (ap (derivative x) same)) in
     let middle = c.place_derivative.ensures.stands in
     let two_of : AddsAll c.place_derivative.new.pool c.place_number.new.pool (more (whole_num 2) none) = adds_one middle c.place_number.ensures in
     let here = adds_join one two_of in
-    let copy : plain (tree_at c.args.tree (forest c.place_number.new.pool)) ≡ root a = still_plain here c.requires.expression ∙ form in
     still_expression here c.requires.expression
 
 pub place_root-place_copy-requires-clause-room : goal.place_root-place_copy-requires-clause-room
@@ -1325,12 +1241,9 @@ pub place_root-place_over-requires-clause-added : goal.place_root-place_over-req
 place_root-place_over-requires-clause-added t c =
     let x = name_of c.args.name in
     let u = plain (tree_at c.args.tree (forest c.args.pool.now)) in
-    let rule = root_by_rule x u c.requires.root c.requires.held in
     let form = root_form u c.requires.root in
     let a = nth 0 (children_of u) in
     let same = c.child_id-argument.ensures.plain c.requires.expression in
-    let within : 0 < count (children_of u) = omega (arith, one_argument u c.requires.root) in
-    let da = of_child x 0 u within c.requires.derivable in
     let one : AddsAll c.args.pool.now c.place_derivative.new.pool (more (derivative x a) none) = adds_one c.requires.stands (adds_tree c.place_derivative.ensures (ap (derivative x) same)) in
     let middle = c.place_derivative.ensures.stands in
     let two_of : AddsAll c.place_derivative.new.pool c.place_number.new.pool (more (whole_num 2) none) = adds_one middle c.place_number.ensures in
@@ -1361,12 +1274,9 @@ pub place_root-place_over-requires-2-clause-stands : goal.place_root-place_over-
 place_root-place_over-requires-2-clause-stands t c =
     let x = name_of c.args.name in
     let u = plain (tree_at c.args.tree (forest c.args.pool.now)) in
-    let rule = root_by_rule x u c.requires.root c.requires.held in
     let form = root_form u c.requires.root in
     let a = nth 0 (children_of u) in
     let same = c.child_id-argument.ensures.plain c.requires.expression in
-    let within : 0 < count (children_of u) = omega (arith, one_argument u c.requires.root) in
-    let da = of_child x 0 u within c.requires.derivable in
     let one : AddsAll c.args.pool.now c.place_derivative.new.pool (more (derivative x a) none) = adds_one c.requires.stands (adds_tree c.place_derivative.ensures (ap (derivative x) same)) in
     let middle = c.place_derivative.ensures.stands in
     let two_of : AddsAll c.place_derivative.new.pool c.place_number.new.pool (more (whole_num 2) none) = adds_one middle c.place_number.ensures in
@@ -1380,12 +1290,9 @@ pub place_root-place_over-requires-2-clause-added : goal.place_root-place_over-r
 place_root-place_over-requires-2-clause-added t c =
     let x = name_of c.args.name in
     let u = plain (tree_at c.args.tree (forest c.args.pool.now)) in
-    let rule = root_by_rule x u c.requires.root c.requires.held in
     let form = root_form u c.requires.root in
     let a = nth 0 (children_of u) in
     let same = c.child_id-argument.ensures.plain c.requires.expression in
-    let within : 0 < count (children_of u) = omega (arith, one_argument u c.requires.root) in
-    let da = of_child x 0 u within c.requires.derivable in
     let one : AddsAll c.args.pool.now c.place_derivative.new.pool (more (derivative x a) none) = adds_one c.requires.stands (adds_tree c.place_derivative.ensures (ap (derivative x) same)) in
     let middle = c.place_derivative.ensures.stands in
     let two_of : AddsAll c.place_derivative.new.pool c.place_number.new.pool (more (whole_num 2) none) = adds_one middle c.place_number.ensures in
@@ -1422,8 +1329,6 @@ place_root-returns t c =
     let form = root_form u c.requires.root in
     let a = nth 0 (children_of u) in
     let same = c.child_id-argument.ensures.plain c.requires.expression in
-    let within : 0 < count (children_of u) = omega (arith, one_argument u c.requires.root) in
-    let da = of_child x 0 u within c.requires.derivable in
     let one : AddsAll c.args.pool.now c.place_derivative.new.pool (more (derivative x a) none) = adds_one c.requires.stands (adds_tree c.place_derivative.ensures (ap (derivative x) same)) in
     let middle = c.place_derivative.ensures.stands in
     let two_of : AddsAll c.place_derivative.new.pool c.place_number.new.pool (more (whole_num 2) none) = adds_one middle c.place_number.ensures in

@@ -9,15 +9,15 @@ use Rattle.tree_handles.specs.Inside.{tree_at}
 use Rattle.tree_handles.specs.Standing.{forest}
 use Rattle.linear_solve.proofs.equations.difference_row.Goals as goal
 
-pub returns-in_err-right-clause-stops : goal.returns-in_err-right-clause-stops
-returns-in_err-right-clause-stops g c =
-    handed_on c.from_residual-in_err-right.result c.in_err-right.field-0.0 _ c.from_residual-in_err-right.ensures.1
-    (stops_after (nodes (plain (tree_at c.args.left (forest c.args.pool.now)))) (nodes (plain (tree_at c.args.right (forest c.args.pool.now)))) ((nodes (plain (tree_at c.args.left (forest c.args.pool.now)))) + (nodes (plain (tree_at c.args.right (forest c.args.pool.now))))) (states g.B.Breaker.state c.args.watch.now) (states g.B.Breaker.state c.side_row.new.watch) (states g.B.Breaker.state c.side_row-2.new.watch) c.in_err-right.field-0.0 (omega arith) c.in_ok-left.ensures.checks c.in_err-right.ensures.stops)
+pub returns-in_err-side_row-2-clause-stops : goal.returns-in_err-side_row-2-clause-stops
+returns-in_err-side_row-2-clause-stops g c =
+    handed_on c.from_residual-in_err-side_row-2.result c.in_err-side_row-2.field-0.0 _ c.from_residual-in_err-side_row-2.ensures.1
+    (stops_after (nodes (plain (tree_at c.args.left (forest c.args.pool.now)))) (nodes (plain (tree_at c.args.right (forest c.args.pool.now)))) ((nodes (plain (tree_at c.args.left (forest c.args.pool.now)))) + (nodes (plain (tree_at c.args.right (forest c.args.pool.now))))) (states g.B.Breaker.state c.args.watch.now) (states g.B.Breaker.state c.side_row.new.watch) (states g.B.Breaker.state c.side_row-2.new.watch) c.in_err-side_row-2.field-0.0 (omega arith) c.in_ok-side_row.ensures.checks c.in_err-side_row-2.ensures.stops)
 
 pub returns-in_err-row-clause-stops : goal.returns-in_err-row-clause-stops
 returns-in_err-row-clause-stops g c =
     handed_on c.from_residual-in_err-row.result (fault.Overflow c.in_err-row.field-0.0) _ c.from_residual-in_err-row.ensures.1
-    (record { checks = (nodes (plain (tree_at c.args.left (forest c.args.pool.now)))) + (nodes (plain (tree_at c.args.right (forest c.args.pool.now)))); few = omega arith; calm = CalmChecks-append (nodes (plain (tree_at c.args.left (forest c.args.pool.now)))) (nodes (plain (tree_at c.args.right (forest c.args.pool.now)))) (states g.B.Breaker.state c.args.watch.now) (states g.B.Breaker.state c.side_row.new.watch) (states g.B.Breaker.state c.side_row-2.new.watch) c.in_ok-left.ensures.checks c.in_ok-right.ensures.checks })
+    (record { checks = (nodes (plain (tree_at c.args.left (forest c.args.pool.now)))) + (nodes (plain (tree_at c.args.right (forest c.args.pool.now)))); few = omega arith; calm = CalmChecks-append (nodes (plain (tree_at c.args.left (forest c.args.pool.now)))) (nodes (plain (tree_at c.args.right (forest c.args.pool.now)))) (states g.B.Breaker.state c.args.watch.now) (states g.B.Breaker.state c.side_row.new.watch) (states g.B.Breaker.state c.side_row-2.new.watch) c.in_ok-side_row.ensures.checks c.in_ok-side_row-2.ensures.checks })
 
 pub returns-clause-checks : goal.returns-clause-checks
-returns-clause-checks g c = CalmChecks-append (nodes (plain (tree_at c.args.left (forest c.args.pool.now)))) (nodes (plain (tree_at c.args.right (forest c.args.pool.now)))) (states g.B.Breaker.state c.args.watch.now) (states g.B.Breaker.state c.side_row.new.watch) (states g.B.Breaker.state c.side_row-2.new.watch) c.in_ok-left.ensures.checks c.in_ok-right.ensures.checks
+returns-clause-checks g c = CalmChecks-append (nodes (plain (tree_at c.args.left (forest c.args.pool.now)))) (nodes (plain (tree_at c.args.right (forest c.args.pool.now)))) (states g.B.Breaker.state c.args.watch.now) (states g.B.Breaker.state c.side_row.new.watch) (states g.B.Breaker.state c.side_row-2.new.watch) c.in_ok-side_row.ensures.checks c.in_ok-side_row-2.ensures.checks

@@ -18,7 +18,7 @@ use Rattle.tree_handles.specs.Standing.{forest}
 use Rattle.linear_solve.proofs.sides.+side_row.Goals as goal
 
 pub loop-at-init : goal.loop-at-init
-loop-at-init g t c = record { rows = none_made (map name_of c.args.names.now) c.kind-kind.result (plain (tree_at c.args.t (forest c.args.pool.now))) (side_of c.bare_row.result) c.bare_row.ensures; checks = refl }
+loop-at-init g t c = record { rows = none_made (map name_of c.args.names.now) c.kind-kind.result (plain (tree_at c.args.t (forest c.args.pool.now))) (side_of c.set_bare_row.new.row) c.set_bare_row.ensures; checks = refl }
 
 pub side_row-requires : goal.side_row-requires
 side_row-requires g t c κs l =
@@ -28,28 +28,28 @@ side_row-requires g t c κs l =
       (l, (c.requires.stands, (c.child_id.ensures.expression c.requires.expression, (ap is_linear child ∙ child_linear (plain (tree_at c.args.t (forest c.args.pool.now))) c.loop-at.at c.requires.linear within, c.requires.names)))),
     )
 
-pub returns-in_err-next-clause-overflow : goal.returns-in_err-next-clause-overflow
-returns-in_err-next-clause-overflow g t c =
+pub returns-in_err-side_row-clause-overflow : goal.returns-in_err-side_row-clause-overflow
+returns-in_err-side_row-clause-overflow g t c =
     let within : c.loop-at.at < count (children_of (plain (tree_at c.args.t (forest c.args.pool.now)))) = omega (arith, c.children-at-end.ensures.plain c.requires.expression, c.loop-at-test.true) in
     let child = c.child_id.ensures.plain c.requires.expression in
-    handed_on c.from_residual.result c.in_err-next.field-0.0 _ c.from_residual.ensures.1
-    (overflow_as c.in_err-next.field-0.0 (λ o e. child_misfit (map name_of c.args.names.now) c.kind-kind.result (plain (tree_at c.args.t (forest c.args.pool.now))) c.loop-at.at (side_told c.loop-at.row) (misfit_of o) within c.loop-at.invariant.rows (ap (row_of (map name_of c.args.names.now)) (sym child) ∙ e)) c.in_err-next.ensures.overflow)
+    handed_on c.from_residual.result c.in_err-side_row.field-0.0 _ c.from_residual.ensures.1
+    (overflow_as c.in_err-side_row.field-0.0 (λ o e. child_misfit (map name_of c.args.names.now) c.kind-kind.result (plain (tree_at c.args.t (forest c.args.pool.now))) c.loop-at.at (side_told c.loop-at.fits c.loop-at.row) (misfit_of o) within c.loop-at.invariant.rows (ap (row_of (map name_of c.args.names.now)) (sym child) ∙ e)) c.in_err-side_row.ensures.overflow)
 
-pub returns-in_err-next-clause-stops : goal.returns-in_err-next-clause-stops
-returns-in_err-next-clause-stops g t c =
+pub returns-in_err-side_row-clause-stops : goal.returns-in_err-side_row-clause-stops
+returns-in_err-side_row-clause-stops g t c =
     let within : c.loop-at.at < count (children_of (plain (tree_at c.args.t (forest c.args.pool.now)))) = omega (arith, c.children-at-end.ensures.plain c.requires.expression, c.loop-at-test.true) in
     let child = c.child_id.ensures.plain c.requires.expression in
-    handed_on c.from_residual.result c.in_err-next.field-0.0 _ c.from_residual.ensures.1
-    (stops_after (node_sum (take c.loop-at.at (listed (children_of (plain (tree_at c.args.t (forest c.args.pool.now))))))) (nodes (nth c.loop-at.at (children_of (plain (tree_at c.args.t (forest c.args.pool.now)))))) (nodes (plain (tree_at c.args.t (forest c.args.pool.now)))) (states g.B.Breaker.state c.args.watch.now) (states g.B.Breaker.state c.loop-at.watch) (states g.B.Breaker.state c.side_row.new.watch) c.in_err-next.field-0.0 (more_nodes (plain (tree_at c.args.t (forest c.args.pool.now))) c.loop-at.at within) c.loop-at.invariant.checks
-    (subst (λ u. StopsWithin (nodes u) (states g.B.Breaker.state c.loop-at.watch) (states g.B.Breaker.state c.side_row.new.watch) c.in_err-next.field-0.0) child c.in_err-next.ensures.stops))
+    handed_on c.from_residual.result c.in_err-side_row.field-0.0 _ c.from_residual.ensures.1
+    (stops_after (node_sum (take c.loop-at.at (listed (children_of (plain (tree_at c.args.t (forest c.args.pool.now))))))) (nodes (nth c.loop-at.at (children_of (plain (tree_at c.args.t (forest c.args.pool.now)))))) (nodes (plain (tree_at c.args.t (forest c.args.pool.now)))) (states g.B.Breaker.state c.args.watch.now) (states g.B.Breaker.state c.loop-at.watch) (states g.B.Breaker.state c.side_row.new.watch) c.in_err-side_row.field-0.0 (more_nodes (plain (tree_at c.args.t (forest c.args.pool.now))) c.loop-at.at within) c.loop-at.invariant.checks
+    (subst (λ u. StopsWithin (nodes u) (states g.B.Breaker.state c.loop-at.watch) (states g.B.Breaker.state c.side_row.new.watch) c.in_err-side_row.field-0.0) child c.in_err-side_row.ensures.stops))
 
-pub joined_row-row-requires : goal.joined_row-row-requires
-joined_row-row-requires g t c = record {
+pub join_row-fits-requires : goal.join_row-fits-requires
+join_row-fits-requires g t c = record {
   divisor = λ k p.
       let within : c.loop-at.at < count (children_of (plain (tree_at c.args.t (forest c.args.pool.now)))) = omega (arith, c.children-at-end.ensures.plain c.requires.expression, c.loop-at-test.true) in
       let child = c.child_id.ensures.plain c.requires.expression in
-      divisor_at (map name_of c.args.names.now) (plain (tree_at c.args.t (forest c.args.pool.now))) c.loop-at.at (length c.args.names.now) (side_of c.in_ok-next.next) (sym (length-map c.args.names.now name_of)) (sym (c.kind-kind.ensures.plain c.requires.expression) ∙ k) c.requires.linear p within
-      (ap (row_of (map name_of c.args.names.now)) (sym child) ∙ c.in_ok-next.ensures.ok);
+      divisor_at (map name_of c.args.names.now) (plain (tree_at c.args.t (forest c.args.pool.now))) c.loop-at.at (length c.args.names.now) (side_of c.side_row.new.row) (sym (length-map c.args.names.now name_of)) (sym (c.kind-kind.ensures.plain c.requires.expression) ∙ k) c.requires.linear p within
+      (ap (row_of (map name_of c.args.names.now)) (sym child) ∙ c.in_ok-side_row.ensures.ok);
 }
 
 pub loop-at-preserved : goal.loop-at-preserved
@@ -57,11 +57,11 @@ loop-at-preserved g t c =
     let within : c.loop-at.at < count (children_of (plain (tree_at c.args.t (forest c.args.pool.now)))) = omega (arith, c.children-at-end.ensures.plain c.requires.expression, c.loop-at-test.true) in
     let child = c.child_id.ensures.plain c.requires.expression in
     record {
-      rows = next_made (map name_of c.args.names.now) c.kind-kind.result (plain (tree_at c.args.t (forest c.args.pool.now))) c.loop-at.at (length c.args.names.now) (side_told c.loop-at.row) (side_told c.joined_row-row.result) (side_of c.in_ok-next.next) (sym (length-map c.args.names.now name_of)) within c.loop-at.invariant.rows
-          (ap (row_of (map name_of c.args.names.now)) (sym child) ∙ c.in_ok-next.ensures.ok) c.joined_row-row.ensures.first c.joined_row-row.ensures.later;
+      rows = next_made (map name_of c.args.names.now) c.kind-kind.result (plain (tree_at c.args.t (forest c.args.pool.now))) c.loop-at.at (length c.args.names.now) (side_told c.loop-at.fits c.loop-at.row) (side_told c.join_row-fits.result c.join_row-fits.new.row) (side_of c.side_row.new.row) (sym (length-map c.args.names.now name_of)) within c.loop-at.invariant.rows
+          (ap (row_of (map name_of c.args.names.now)) (sym child) ∙ c.in_ok-side_row.ensures.ok) c.join_row-fits.ensures.first c.join_row-fits.ensures.later;
       checks = subst (λ n. CalmChecks n (states g.B.Breaker.state c.args.watch.now) (states g.B.Breaker.state c.side_row.new.watch)) (sym (node_sum_more (children_of (plain (tree_at c.args.t (forest c.args.pool.now)))) c.loop-at.at within))
           (CalmChecks-append (node_sum (take c.loop-at.at (listed (children_of (plain (tree_at c.args.t (forest c.args.pool.now))))))) (nodes (nth c.loop-at.at (children_of (plain (tree_at c.args.t (forest c.args.pool.now)))))) (states g.B.Breaker.state c.args.watch.now) (states g.B.Breaker.state c.loop-at.watch) (states g.B.Breaker.state c.side_row.new.watch) c.loop-at.invariant.checks
-          (subst (λ u. CalmChecks (nodes u) (states g.B.Breaker.state c.loop-at.watch) (states g.B.Breaker.state c.side_row.new.watch)) child c.in_ok-next.ensures.checks));
+          (subst (λ u. CalmChecks (nodes u) (states g.B.Breaker.state c.loop-at.watch) (states g.B.Breaker.state c.side_row.new.watch)) child c.in_ok-side_row.ensures.checks));
     }
 
 pub returns-in_err-check-clause-stops : goal.returns-in_err-check-clause-stops
@@ -70,16 +70,16 @@ returns-in_err-check-clause-stops g t c =
     handed_on c.from_residual-in_err-check.result (fault.Interrupted c.in_err-check.field-0.0) _ c.from_residual-in_err-check.ensures.1
     (trips_after (node_sum (take c.loop-at.at (listed (children_of (plain (tree_at c.args.t (forest c.args.pool.now))))))) (nodes (plain (tree_at c.args.t (forest c.args.pool.now)))) (states g.B.Breaker.state c.args.watch.now) (states g.B.Breaker.state c.loop-at.watch) (states g.B.Breaker.state c.check.new.self) c.in_err-check.field-0.0.by (omega (arith, all_nodes (plain (tree_at c.args.t (forest c.args.pool.now))) c.loop-at.at done)) c.loop-at.invariant.checks c.in_err-check.ensures.interrupted)
 
-pub returns-in_err-row-clause-overflow : goal.returns-in_err-row-clause-overflow
-returns-in_err-row-clause-overflow g t c =
+pub returns-in_err-fits-clause-overflow : goal.returns-in_err-fits-clause-overflow
+returns-in_err-fits-clause-overflow g t c =
     let done : count (children_of (plain (tree_at c.args.t (forest c.args.pool.now)))) ≤ c.loop-at.at = omega (arith, c.children-at-end.ensures.plain c.requires.expression, c.loop-at-test.false) in
-    handed_on c.from_residual-in_err-row.result (fault.Overflow c.in_err-row.field-0.0) _ c.from_residual-in_err-row.ensures.1
-    (own_misfit (map name_of c.args.names.now) c.kind-kind.result (plain (tree_at c.args.t (forest c.args.pool.now))) c.loop-at.at (side_told c.loop-at.row) (misfit_of c.in_err-row.field-0.0) (c.kind-kind.ensures.plain c.requires.expression) done c.loop-at.invariant.rows (ap side_told c.in_err-row.was))
+    handed_on c.from_residual-in_err-fits.result (fault.Overflow c.in_err-fits.field-0.0) _ c.from_residual-in_err-fits.ensures.1
+    (own_misfit (map name_of c.args.names.now) c.kind-kind.result (plain (tree_at c.args.t (forest c.args.pool.now))) c.loop-at.at (side_told c.loop-at.fits c.loop-at.row) (misfit_of c.in_err-fits.field-0.0) (c.kind-kind.ensures.plain c.requires.expression) done c.loop-at.invariant.rows (ap (λ f. side_told f c.loop-at.row) c.in_err-fits.was))
 
-pub returns-in_err-row-clause-stops : goal.returns-in_err-row-clause-stops
-returns-in_err-row-clause-stops g t c =
+pub returns-in_err-fits-clause-stops : goal.returns-in_err-fits-clause-stops
+returns-in_err-fits-clause-stops g t c =
     let done : count (children_of (plain (tree_at c.args.t (forest c.args.pool.now)))) ≤ c.loop-at.at = omega (arith, c.children-at-end.ensures.plain c.requires.expression, c.loop-at-test.false) in
-    handed_on c.from_residual-in_err-row.result (fault.Overflow c.in_err-row.field-0.0) _ c.from_residual-in_err-row.ensures.1
+    handed_on c.from_residual-in_err-fits.result (fault.Overflow c.in_err-fits.field-0.0) _ c.from_residual-in_err-fits.ensures.1
     (record {
       checks = nodes (plain (tree_at c.args.t (forest c.args.pool.now)));
       few = omega arith;
@@ -90,7 +90,7 @@ returns-in_err-row-clause-stops g t c =
 pub returns-clause-ok : goal.returns-clause-ok
 returns-clause-ok g t c =
     let done : count (children_of (plain (tree_at c.args.t (forest c.args.pool.now)))) ≤ c.loop-at.at = omega (arith, c.children-at-end.ensures.plain c.requires.expression, c.loop-at-test.false) in
-    own_made (map name_of c.args.names.now) c.kind-kind.result (plain (tree_at c.args.t (forest c.args.pool.now))) c.loop-at.at (side_told c.loop-at.row) (side_of c.in_ok-row.field-0) (side_of c.signed_row.result) (c.kind-kind.ensures.plain c.requires.expression) done c.loop-at.invariant.rows (ap side_told c.in_ok-row.was) c.signed_row.ensures
+    own_made (map name_of c.args.names.now) c.kind-kind.result (plain (tree_at c.args.t (forest c.args.pool.now))) c.loop-at.at (side_told c.loop-at.fits c.loop-at.row) (side_of c.loop-at.row) (side_of c.sign_row.new.row) (c.kind-kind.ensures.plain c.requires.expression) done c.loop-at.invariant.rows (ap (λ f. side_told f c.loop-at.row) c.in_ok-fits.was) c.sign_row.ensures
 
 pub returns-clause-checks : goal.returns-clause-checks
 returns-clause-checks g t c =

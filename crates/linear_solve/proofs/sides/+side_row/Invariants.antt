@@ -16,6 +16,6 @@ decreases-side_row g l = nodes (plain (tree_at l.t (forest l.pool.now)))
 
 abbrev pub invariant-loop-at : goal.invariant-loop-at
 invariant-loop-at g l = record {
-  rows : AreMade (map name_of l.names) l.kind (plain (tree_at l.t (forest l.pool))) l.at (side_told l.row);
+  rows : AreMade (map name_of l.names) l.kind (plain (tree_at l.t (forest l.pool))) l.at (side_told l.fits l.row);
   checks : CalmChecks (node_sum (take l.at (listed (children_of (plain (tree_at l.t (forest l.pool))))))) (states g.B.Breaker.state l.fn.watch) (states g.B.Breaker.state l.watch);
 }
