@@ -1,8 +1,8 @@
 -- The extents of a layout tree, from the last node to the first.
-use Rattle.std.proofs.Common.{◌≡◌, ◌∙◌, if◌then◌else◌, eqb, Bool, false, ℕ, suc, ◌+◌, ◌-◌, ◌<◌, ◌≤◌, List, ◌∷◌, ◌++◌, length, map, drop, get_or, set, true, refl, sym, ap, subst, arith, append_assoc}
+use Rattle.std.proofs.Common.{◌≡◌, ◌∙◌, if◌then◌else◌, eqb, Bool, false, ℕ, suc, ◌+◌, ◌-◌, ◌*◌, ◌<◌, ◌≤◌, List, ◌∷◌, ◌++◌, length, map, drop, get_or, set, true, refl, sym, ap, subst, arith, append_assoc}
 use Rattle.std.proofs.lemmas.List.{drop-map, drop-set}
 use Rattle.node_pool.specs.State.{State}
-use Rattle.tree_handles.specs.Forest.{Label, Forest, empty, tree, join, arity, flatten, node_of, bytes_in, AllNodes}
+use Rattle.tree_handles.specs.Forest.{Label, Forest, empty, tree, join, arity, flatten, node_of, nodes_in, bytes_in, AllNodes}
 use Rattle.tree_handles.specs.Inside.{holds, tree_at, payload_in}
 use Rattle.tree_handles.specs.Standing.{Stands, forest}
 use Rattle.tree_handles.proofs.Forests.{nodes-flatten}
@@ -15,7 +15,7 @@ use Rattle.pool_layouts.specs.Drawings.{drawing, AllComposed, IsComposed, IsLayo
 use Rattle.pool_layouts.specs.Extents.{extent_of, extents_of, HasExtents, HasSmall, IsOver, IsValid, AllValid, HasSomeFirst}
 use Rattle.pool_layouts.specs.Pictures.{picture, height}
 use Rattle.tree_handles.proofs.Visiting.{visits_length}
-use Rattle.pool_layouts.proofs.Measures.{extents-join}
+use Rattle.pool_layouts.proofs.Measures.{bytes_nodes, extents-join}
 use Rattle.pool_layouts.proofs.Shown.{first_is}
 use Rattle.pool_layouts.proofs.Suffixes.{after, after_flat, after_all, after_bytes, left_at, none_after}
 use Rattle.pool_layouts.proofs.UnderWay.{IsKnown, known}
@@ -34,6 +34,10 @@ tree_bytes (tree l k r) i = by (eqb l.id i) (holds i k) (tree_bytes k i) (tree_b
 -- a tree's bytes are few
 pub few_bytes : (s : State) (i : ℕ) → Stands s → holds i (forest s) ≡ true → bytes_in (tree_at i (forest s)) ≤ 524280
 few_bytes s i st h = omega (arith, tree_bytes (forest s) i, used_forest s st, st.pool.fits, st.pool.size.most)
+
+-- a drafter for so large a pool has room for a tree's nodes
+pub nodes_served : (s : State) (i : ℕ) → Stands s → 8 * nodes_in (tree_at i (forest s)) ≤ s.size
+nodes_served s i st = omega (arith, bytes_nodes (tree_at i (forest s)), tree_bytes (forest s) i, used_forest s st, st.pool.fits)
 
 -- at the end nothing is listed
 pub measure_start : (s : State) (i : ℕ) (cells : List Visit) (es : List Extent) → cells ≡ visits_of (tree_at i (forest s)) → HasExtents (after (length cells) (tree_at i (forest s))) (length cells) es

@@ -1,6 +1,6 @@
 -- A row of a picture as far as it is painted.
-use Rattle.std.specs.Prelude.{IsSome, option_to_list}
-use Rattle.std.proofs.Common.{◌≡◌, ◌∙◌, ℕ, zero, suc, ◌+◌, ◌<◌, ◌≤◌, List, [], ◌∷◌, ◌++◌, length, Option, Some, None, encode_utf8_all, refl, sym, ap, subst, arith, append_assoc, append-nil}
+use Rattle.std.specs.Prelude.{option_to_list}
+use Rattle.std.proofs.Common.{◌≡◌, ◌∙◌, ℕ, ◌+◌, ◌<◌, ◌≤◌, List, [], ◌∷◌, ◌++◌, length, Option, Some, None, encode_utf8_all, refl, sym, ap, subst, arith, append_assoc, append-nil}
 use Rattle.std.proofs.lemmas.List.{length-append, length-replicate, replicate-append-replicate}
 use Rattle.std.proofs.lemmas.Str.{encodes-append}
 use Rattle.tree_handles.specs.Forest.{Forest}
@@ -229,10 +229,6 @@ painted {steps = steps} {owed_blanks = owed_blanks} {bytes = bytes} {start = sta
     by [] q c =
         let seen_is : p.seen ≡ cut line = sym p.kept ∙ sym (cut-append_blanks p.seen owed_blanks) ∙ ap (λ (x : List ℕ). cut (p.seen ++ x)) (sym (append-nil (blanks owed_blanks))) ∙ ap cut c in
         p.bytes_are ∙ ap (λ (x : List ℕ). start ++ encode_utf8_all x) seen_is
-
-pub no_steps : (n : ℕ) → (0 < n → IsSome {T = Step} None) → n ≡ 0
-no_steps zero h = refl
-no_steps (suc n) h = absurd (cc (h (omega arith)))
 
 pub option_short : (o : Option Step) → length (option_to_list o) ≤ 1
 option_short None = omega arith

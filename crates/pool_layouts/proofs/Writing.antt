@@ -1,5 +1,4 @@
 -- A walk over the nodes of a layout that knows what is still to be written.
-use Rattle.std.specs.Prelude.{IsSome, None, zero}
 use Rattle.std.proofs.Common.{◌*◌, ◌≡◌, ◌∙◌, ℕ, suc, ◌+◌, ◌-◌, ◌<◌, ◌≤◌, List, [], ◌∷◌, ◌++◌, length, map, drop, get_or, true, refl, sym, ap, subst, arith, append_assoc, append-nil}
 use Rattle.std.proofs.lemmas.List.{length-append}
 use Rattle.calc_terms.specs.declared.kind.Kind.TheVariants as kind
@@ -227,7 +226,3 @@ done {base = base} {at = at} {cells = cells} {pendings = pendings} {bytes = byte
 
 pub content_is : (p q : Content) → p.bytes ≡ q.bytes → p.capacity ≡ q.capacity → p ≡ q
 content_is p q e f = ap (λ (b : List ℕ). let r : Content = record { bytes = b; capacity = p.capacity } in r) e ∙ ap (λ (n : ℕ). let r : Content = record { bytes = q.bytes; capacity = n } in r) f
-
-pub none_popped : (n : ℕ) → (0 < n → IsSome {T = Pending} None) → n ≡ 0
-none_popped zero h = refl
-none_popped (suc n) h = absurd (cc (h (omega arith)))

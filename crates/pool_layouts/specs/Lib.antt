@@ -12,3 +12,5 @@ pub mod Extents
 pub mod Painting
 pub mod Faces
 pub mod Columns
+pub mod Drafts
+pub mod Drafters

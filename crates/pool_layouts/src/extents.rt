@@ -1,5 +1,5 @@
 //! How much room the pictures of layouts take.
-ghost use Rattle.std.specs.Prelude.{◌≡◌, ◌+◌, ◌≤◌, ◌<◌, ◌^◌, length, max, nat_abs, true};
+ghost use Rattle.std.specs.Prelude.{◌≡◌, ◌+◌, ◌≤◌, ◌<◌, ◌^◌, length, max, nat_abs, true, vec_capacity};
 ghost use Rattle.calc_language.specs.Texts.{decimal};
 ghost use Rattle.calc_terms.specs.Rat.{ratio_of};
 ghost use Rattle.tree_handles.specs.Visits.{visits_of};
@@ -10,6 +10,7 @@ ghost use Rattle.tree_handles.specs.Forest.{Forest, Label, arity, nodes_in, tree
 ghost use Rattle.tree_handles.specs.Inside.{holds, tree_at, payload_in};
 ghost use Rattle.tree_handles.specs.Standing.{Stands, forest};
 
+use crate::lists::append;
 use calc_terms::{Kind, Rat};
 use itoa::Buffer;
 use node_pool::{Id, Pool};
@@ -114,8 +115,35 @@ impl Extent {
     }
 }
 
+/// Lists the extents of all layouts in the tree whose nodes are listed, in place of those that were listed.
+pub(crate) fn list_extents(pool: &Pool, layout: Id, cells: &[Visit], extents: &mut Vec<Extent>)
+    requires stands { Stands pool.now }
+    requires layout { IsLayout layout (forest pool.now) }
+    requires cells { cells.now ≡ visits_of (tree_at layout (forest pool.now)) }
+    requires room { length cells.now ≤ vec_capacity extents.old }
+    requires few { length cells.now ≤ 2 ^ 16 }
+    ensures listed { HasExtents (tree_at layout (forest pool.now)) 0 extents.new.items }
+    ensures few { length extents.new.items ≤ 2 ^ 16 }
+    ensures capacity { vec_capacity extents.old ≤ vec_capacity extents.new }
+{
+    blank(cells.len(), extents);
+    measure(pool, layout, cells, extents.as_mut_slice());
+}
+
+/// Lists so many extents without anything in them.
+fn blank(nodes: usize, extents: &mut Vec<Extent>)
+    requires { nodes ≤ vec_capacity extents.old }
+    ensures len { length extents.new.items ≡ nodes }
+    ensures capacity { vec_capacity extents.old ≤ vec_capacity extents.new }
+{
+    extents.clear();
+    for _ in 0..nodes {
+        append(extents, Extent::default());
+    }
+}
+
 /// Lists the extents of all layouts in the tree whose nodes are listed.
-pub(crate) fn measure(pool: &Pool, layout: Id, cells: &[Visit], extents: &mut [Extent])
+fn measure(pool: &Pool, layout: Id, cells: &[Visit], extents: &mut [Extent])
     requires stands { Stands pool.now }
     requires layout { IsLayout layout (forest pool.now) }
     requires cells { cells.now ≡ visits_of (tree_at layout (forest pool.now)) }

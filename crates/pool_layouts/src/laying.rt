@@ -1,5 +1,5 @@
 //! The layout of a face, built beside it.
-ghost use Rattle.std.specs.Prelude.{◌≡◌, ◌<◌, ◌≤◌, ◌^◌, ◌↔◌, IfOk, IfErr, IsOk, OnOk, Ok, Err, [], length, true};
+ghost use Rattle.std.specs.Prelude.{◌≡◌, ◌<◌, ◌≤◌, ◌^◌, ◌↔◌, IfOk, IfErr, IsOk, OnOk, Ok, Err, [], length, true, vec_capacity};
 ghost use Rattle.calc_terms.specs.Payload.{size_of_payload};
 ghost use Rattle.node_pool.specs.State.{free_of};
 ghost use Rattle.tree_handles.specs.Building.{taking};
@@ -17,21 +17,20 @@ ghost use Rattle.pool_layouts.specs.Layouts.{layout};
 ghost use Rattle.pool_layouts.specs.Laying.{Closes, HasLast, IsAround, is_leaf, IsStopped, PlacesMark, StandsIn, root_sizes, around_sizes};
 ghost use Rattle.pool_layouts.specs.Places.{laid, mark_before, around_of, deciding_kind as deciding};
 
-use crate::cells::{FEW, MANY, PLENTY, SEVERAL, list_nodes};
+use crate::drafter::Drafter;
 use crate::frames::Frame;
+use crate::lists::{append, list_nodes};
 use crate::places::{Place, laid_kind};
-use arrayvec::ArrayVec;
 use calc_terms::Kind;
 use node_pool::{Full, Id, Pool};
-use tree_handles::{
-    Handle, Visit, kind, name, node, node_over_last, number, rational, symbol, tree_nodes,
-};
+use tree_handles::{Handle, Visit, kind, name, node, node_over_last, number, rational, symbol};
 
 /// The layout of a face as a new last root. Its nodes are placed in postfix order: the parts from
 /// left to right, and then what they are parts of.
-pub fn layout_of(pool: &mut Pool, face: Id) -> Result<Handle, Full>
+pub fn layout_of(pool: &mut Pool, face: Id, drafter: &mut Drafter) -> Result<Handle, Full>
     requires stands { Stands pool.old }
     requires expression { IsExpression face (forest pool.old) }
+    requires served { pool.old.size ≤ drafter.old.pool_size }
     ensures ok { IfOk result (λ h. GivesLayout (forest pool.old) (forest pool.new) h (layout (plain (tree_at face (forest pool.old))))) }
     ensures front { KeepsFront [] (forest pool.old) (forest pool.new) }
     ensures kept { OnOk result (KeepsRefusals pool.old pool.new) }
@@ -43,54 +42,24 @@ pub fn layout_of(pool: &mut Pool, face: Id) -> Result<Handle, Full>
     ensures caused { IfErr result (LacksBytes pool.new) }
 
     ensures stands { Stands pool.new }
+    ensures served { drafter.new.pool_size ≡ drafter.old.pool_size }
 {
-    let nodes = tree_nodes(pool, face) as usize;
-    if nodes < FEW {
-        lay_within::<FEW>(pool, face)
-    } else if nodes < SEVERAL {
-        lay_within::<SEVERAL>(pool, face)
-    } else if nodes < PLENTY {
-        lay_within::<PLENTY>(pool, face)
-    } else {
-        lay_within::<MANY>(pool, face)
-    }
-}
-
-/// The same with lists that have room for so many nodes.
-#[inline(never)]
-fn lay_within<const N: usize>(pool: &mut Pool, face: Id) -> Result<Handle, Full>
-    requires stands { Stands pool.old }
-    requires expression { IsExpression face (forest pool.old) }
-    requires listed { nodes_in (tree_at face (forest pool.old)) < N }
-    requires few { N ≤ 2 ^ 16 }
-    ensures ok { IfOk result (λ h. GivesLayout (forest pool.old) (forest pool.new) h (layout (plain (tree_at face (forest pool.old))))) }
-    ensures front { KeepsFront [] (forest pool.old) (forest pool.new) }
-    ensures kept { OnOk result (KeepsRefusals pool.old pool.new) }
-    ensures room { OnOk result (laying (free_of pool.old) (layout (plain (tree_at face (forest pool.old)))) ≡ Ok (free_of pool.new)) }
-    ensures full { IfErr result (λ full. laying (free_of pool.old) (layout (plain (tree_at face (forest pool.old)))) ≡ Err full) }
-    ensures refuses { IfErr result (Refuses pool.old pool.new) }
-    ensures caused { IfErr result (LacksBytes pool.new) }
-    ensures stands { Stands pool.new }
-{
-    let mut cells: ArrayVec<Visit, N> = ArrayVec::new();
-    list_nodes(pool, face, &mut cells);
-    let mut under_way: ArrayVec<Frame, N> = ArrayVec::new();
-    lay(pool, face, cells.as_slice(), &mut under_way)
+    list_nodes(pool, face, &mut drafter.cells);
+    lay(pool, face, drafter.cells.as_slice(), &mut drafter.under_way)
 }
 
 /// The same by the nodes of the face. The nodes whose layouts are under way are noted, the innermost last.
-fn lay<const N: usize>(
+fn lay(
     pool: &mut Pool,
     face: Id,
     cells: &[Visit],
-    under_way: &mut ArrayVec<Frame, N>,
+    under_way: &mut Vec<Frame>,
 ) -> Result<Handle, Full>
     requires stands { Stands pool.old }
     requires expression { IsExpression face (forest pool.old) }
     requires cells { cells.now ≡ visits_of (tree_at face (forest pool.old)) }
-    requires none { under_way.old.items ≡ [] }
-    requires listed { nodes_in (tree_at face (forest pool.old)) < N }
-    requires few { N ≤ 2 ^ 16 }
+    requires room { nodes_in (tree_at face (forest pool.old)) < vec_capacity under_way.old }
+    requires few { nodes_in (tree_at face (forest pool.old)) < 2 ^ 16 }
     ensures ok { IfOk result (λ h. GivesLayout (forest pool.old) (forest pool.new) h (layout (plain (tree_at face (forest pool.old))))) }
     ensures front { KeepsFront [] (forest pool.old) (forest pool.new) }
     ensures kept { OnOk result (KeepsRefusals pool.old pool.new) }
@@ -99,15 +68,17 @@ fn lay<const N: usize>(
     ensures refuses { IfErr result (Refuses pool.old pool.new) }
     ensures caused { IfErr result (LacksBytes pool.new) }
     ensures stands { Stands pool.new }
+    ensures capacity { vec_capacity under_way.old ≤ vec_capacity under_way.new }
 {
-    under_way.push(Frame::of(cells[0], None, pool.used()));
+    under_way.clear();
+    append(under_way, Frame::of(cells[0], None, pool.used()));
     let mut at = 1;
     while let Some(frame) = under_way.pop() {
         if frame.left > 0 {
             let marks = place_mark(pool, frame.place)?;
             let around = around(cells, at, frame.place);
-            under_way.push(frame.behind(marks));
-            under_way.push(Frame::of(cells[at], around, pool.used()));
+            append(under_way, frame.behind(marks));
+            append(under_way, Frame::of(cells[at], around, pool.used()));
             at += 1;
         } else {
             let last = close(pool, frame)?;

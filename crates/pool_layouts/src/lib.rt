@@ -1,17 +1,19 @@
 //! Layouts of faces, their serial texts, and their pictures.
 #![tactic(auto)]
 
-mod cells;
+mod drafter;
 mod extents;
 mod frames;
 mod ink;
 mod laws;
 mod laying;
+mod lists;
 mod picture;
 mod places;
 mod serial;
 mod steps;
 
+pub use drafter::Drafter;
 pub use laws::{
     base_row_is_within, characters_take_one_column, one_line_is_the_text, rows_are_as_wide,
     serial_text_reads,

@@ -1,5 +1,5 @@
 //! Serial texts of layouts, in one walk over their nodes.
-ghost use Rattle.std.specs.Prelude.{◌≡◌, ◌<◌, ◌≤◌, ◌*◌, ◌^◌, [], length, nat_abs, true};
+ghost use Rattle.std.specs.Prelude.{◌≡◌, ◌<◌, ◌≤◌, ◌*◌, ◌^◌, length, nat_abs, true, vec_capacity};
 ghost use Rattle.calc_language.specs.Texts.{decimal};
 ghost use Rattle.calc_terms.specs.Rat.{ratio_of};
 ghost use Rattle.line_text.specs.Content.{spare_of, extended};
@@ -11,47 +11,31 @@ ghost use Rattle.tree_handles.specs.Forest.{bytes_in, nodes_in};
 ghost use Rattle.tree_handles.specs.Inside.{holds, tree_at, payload_in};
 ghost use Rattle.tree_handles.specs.Standing.{Stands, forest};
 
-use crate::cells::{FEW, MANY, PLENTY, SEVERAL, list_nodes};
-use arrayvec::ArrayVec;
+use crate::drafter::Drafter;
+use crate::lists::{append, list_nodes};
 use calc_terms::{Kind, Rat};
 use itoa::Buffer;
 use line_text::Text;
 use node_pool::{Id, Pool};
-use tree_handles::{Visit, kind, name, rational, tree_nodes};
+use tree_handles::{Visit, kind, name, rational};
 
 /// Appends the serial text of a layout.
-pub fn write_serial(pool: &Pool, layout: Id, text: &mut Text)
+pub fn write_serial(pool: &Pool, layout: Id, drafter: &mut Drafter, text: &mut Text)
     requires stands { Stands pool.now }
     requires layout { IsLayout layout (forest pool.now) }
     requires room { 2 * bytes_in (tree_at layout (forest pool.now)) ≤ spare_of text.old }
-    ensures { text.new ≡ extended text.old (serial (drawing (tree_at layout (forest pool.now)))) }
+    requires served { pool.now.size ≤ drafter.old.pool_size }
+    ensures written { text.new ≡ extended text.old (serial (drawing (tree_at layout (forest pool.now)))) }
+    ensures served { drafter.new.pool_size ≡ drafter.old.pool_size }
 {
-    let nodes = tree_nodes(pool, layout) as usize;
-    if nodes < FEW {
-        write_within::<FEW>(pool, layout, text);
-    } else if nodes < SEVERAL {
-        write_within::<SEVERAL>(pool, layout, text);
-    } else if nodes < PLENTY {
-        write_within::<PLENTY>(pool, layout, text);
-    } else {
-        write_within::<MANY>(pool, layout, text);
-    }
-}
-
-/// The same with lists that have room for one node more.
-#[inline(never)]
-fn write_within<const N: usize>(pool: &Pool, layout: Id, text: &mut Text)
-    requires stands { Stands pool.now }
-    requires layout { IsLayout layout (forest pool.now) }
-    requires room { 2 * bytes_in (tree_at layout (forest pool.now)) ≤ spare_of text.old }
-    requires listed { nodes_in (tree_at layout (forest pool.now)) < N }
-    requires few { N ≤ 2 ^ 16 }
-    ensures { text.new ≡ extended text.old (serial (drawing (tree_at layout (forest pool.now)))) }
-{
-    let mut cells: ArrayVec<Visit, N> = ArrayVec::new();
-    list_nodes(pool, layout, &mut cells);
-    let mut pending: ArrayVec<Pending, N> = ArrayVec::new();
-    write_nodes(pool, layout, cells.as_slice(), &mut pending, text);
+    list_nodes(pool, layout, &mut drafter.cells);
+    write_nodes(
+        pool,
+        layout,
+        drafter.cells.as_slice(),
+        &mut drafter.pending,
+        text,
+    );
 }
 
 /// The parts of a node that are still to be written.
@@ -74,40 +58,50 @@ impl Default for Pending {
 
 /// The same by the nodes of the layout. What is still to be written of the nodes around the next one is noted,
 /// the innermost last.
-fn write_nodes<const N: usize>(
+fn write_nodes(
     pool: &Pool,
     layout: Id,
     cells: &[Visit],
-    pending: &mut ArrayVec<Pending, N>,
+    pending: &mut Vec<Pending>,
     text: &mut Text,
 )
     requires stands { Stands pool.now }
     requires layout { IsLayout layout (forest pool.now) }
     requires cells { cells.now ≡ visits_of (tree_at layout (forest pool.now)) }
-    requires none { pending.old.items ≡ [] }
     requires room { 2 * bytes_in (tree_at layout (forest pool.now)) ≤ spare_of text.old }
-    requires listed { nodes_in (tree_at layout (forest pool.now)) < N }
-    requires few { N ≤ 2 ^ 16 }
-    ensures { text.new ≡ extended text.old (serial (drawing (tree_at layout (forest pool.now)))) }
+    requires deep { nodes_in (tree_at layout (forest pool.now)) < vec_capacity pending.old }
+    requires few { nodes_in (tree_at layout (forest pool.now)) < 2 ^ 16 }
+    ensures written { text.new ≡ extended text.old (serial (drawing (tree_at layout (forest pool.now)))) }
+    ensures capacity { vec_capacity pending.old ≤ vec_capacity pending.new }
 {
-    pending.push(Pending {
-        kind: Kind::Row,
-        left: 1,
-    });
+    pending.clear();
+    append(
+        pending,
+        Pending {
+            kind: Kind::Row,
+            left: 1,
+        },
+    );
     let mut at = 0;
     while let Some(rest) = pending.pop() {
         if rest.left > 0 {
             let cell = cells[at];
             text.push(before(rest.kind, rest.left));
             write_leaf(pool, cell.id, text);
-            pending.push(Pending {
-                kind: rest.kind,
-                left: rest.left - 1,
-            });
-            pending.push(Pending {
-                kind: cell.kind,
-                left: cell.children,
-            });
+            append(
+                pending,
+                Pending {
+                    kind: rest.kind,
+                    left: rest.left - 1,
+                },
+            );
+            append(
+                pending,
+                Pending {
+                    kind: cell.kind,
+                    left: cell.children,
+                },
+            );
             at += 1;
         } else {
             text.push(behind(rest.kind));

@@ -3,7 +3,7 @@ ghost use Rattle.std.specs.Prelude.{◌≡◌, ◌≤◌, IfOk};
 ghost use Rattle.node_pool.specs.State.{IsPoolSize};
 ghost use Rattle.tree_handles.specs.Standing.{Stands};
 
-use crate::{layout_of, rows, write_row, write_serial};
+use crate::{Drafter, layout_of, rows, write_row, write_serial};
 use calc_parser::{build, check};
 use calc_terms::Rat;
 use calc_tokens::{Tokens, scan};
@@ -87,14 +87,15 @@ fn opened(alloc: Global, size: u32) -> Result<Pool, AllocError>
 }
 
 /// How the layout of the greatest number is refused beside it, where it is.
-fn refused(pool: &mut Pool) -> Option<Full>
-    requires { Stands pool.old }
+fn refused(pool: &mut Pool, drafter: &mut Drafter) -> Option<Full>
+    requires stands { Stands pool.old }
+    requires served { pool.old.size ≤ drafter.old.pool_size }
     ensures { Stands pool.new }
 {
     let Ok(greatest) = number(pool, Rat::whole(i128::MAX)) else {
         return None;
     };
-    layout_of(pool, greatest.id()).err()
+    layout_of(pool, greatest.id(), drafter).err()
 }
 
 /// Appends the serial text of a line's layout and the rows of its picture; whether all of it was written.
@@ -117,19 +118,23 @@ fn draw(alloc: Global, pool: &mut Pool, line: &[u8], text: &mut Text) -> bool
     let Ok(face) = build(pool, &tokens) else {
         return false;
     };
-    let Ok(layout) = layout_of(pool, face.id()) else {
+    let Ok(mut drafter) = Drafter::open(alloc, pool.size()) else {
         return false;
     };
+    let Ok(placed) = layout_of(pool, face.id(), &mut drafter) else {
+        return false;
+    };
+    let layout = placed.id();
     if text.spare() / 2 < pool.size() {
         return false;
     }
-    write_serial(pool, layout.id(), text);
-    for row in 0..rows(pool, layout.id()) {
+    write_serial(pool, layout, &mut drafter, text);
+    for row in 0..rows(pool, layout, &mut drafter) {
         if text.spare() / 2 <= pool.size() {
             return false;
         }
         text.push(b"|");
-        write_row(pool, layout.id(), row, text);
+        write_row(pool, layout, row, &mut drafter, text);
     }
     true
 }
@@ -141,7 +146,8 @@ fn a_layout_that_finds_no_room(rt: HostRuntime) -> Result<(), Fail> {
         needed: 40,
         free: 24,
     };
-    assert_eq!(rt; refused(&mut pool), Some(full));
+    let mut drafter = Drafter::open(rt.alloc(), 64)?;
+    assert_eq!(rt; refused(&mut pool, &mut drafter), Some(full));
     Ok(())
 }
 

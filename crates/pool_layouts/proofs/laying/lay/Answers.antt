@@ -1,4 +1,4 @@
-use Rattle.std.proofs.Common.{None, ◌∙◌, ◌++◌, ◌∷◌, [], List, length, ap, sym, arith, rules}
+use Rattle.std.proofs.Common.{◌≡◌, ◌==◌, ℕ, vec_len, None, ◌∙◌, ◌++◌, ◌∷◌, [], List, length, ap, sym, arith, rules}
 use Rattle.std.proofs.lemmas.List.{length-append}
 use Rattle.tree_handles.specs.Forest.{empty, tree}
 use Rattle.tree_handles.specs.Inside.{tree_at}
@@ -12,126 +12,137 @@ use Rattle.pool_layouts.proofs.Shown.{shown_inside}
 use Rattle.pool_layouts.proofs.UnderWay.{first_inside, started, top, next, next_shows, parts_are_few, entered, closing, close_live, close_few, close_begin, close_leaf, closed_all, closed_room, closed_one, close_stopped, mark_stopped, front_kept, none_left, some_left}
 use Rattle.pool_layouts.proofs.laying.lay.Goals as goal
 
-pub bounds-cells-0 : goal.bounds-cells-0
-bounds-cells-0 g c = first_inside c.args.face c.args.pool.now c.args.cells.now c.requires.expression c.requires.cells
+empty_as : (fs : List Frame) (n : ℕ) → length fs ≡ n → (length fs == 0) ≡ (n == 0)
+empty_as fs n e = ap (λ m. m == 0) e
 
-pub push-requires : goal.push-requires
-push-requires g c =
+pub bounds-cells-0 : goal.bounds-cells-0
+bounds-cells-0 c = first_inside c.args.face c.args.pool.now c.args.cells.now c.requires.expression c.requires.cells
+
+pub append-requires : goal.append-requires
+append-requires c =
     let inside = first_inside c.args.face c.args.pool.now c.args.cells.now c.requires.expression c.requires.cells in
-    omega (arith, inside, ap length c.requires.cells, visits_length (tree_at c.args.face (forest c.args.pool.now)), c.requires.listed, ap length c.requires.none, c.requires.few)
+    omega (arith, inside, ap length c.requires.cells, visits_length (tree_at c.args.face (forest c.args.pool.now)), c.requires.room, c.clear.ensures.capacity, ap length c.clear.ensures.items)
 
 pub loop-frame-init : goal.loop-frame-init
-loop-frame-init g c =
-    started c.args.pool.now c.args.face c.args.cells.now c.push.new.self.items c.index-cells-0.result c.used.result c.requires.stands c.requires.expression c.requires.cells c.used.ensures.value
-    (c.push.ensures.items ∙ ap (λ (xs : List Frame). xs ++ c.of.result ∷ []) c.requires.none ∙ ap (λ (f : Frame). f ∷ []) c.of.ensures ∙ ap (λ (x : Visit). frame_of x None c.used.result ∷ []) c.index-cells-0.is)
+loop-frame-init c = record {
+  under_way = started c.args.pool.now c.args.face c.args.cells.now c.append.new.list.items c.index-cells-0.result c.used.result c.requires.stands c.requires.expression c.requires.cells c.used.ensures.value
+      (c.append.ensures.items ∙ ap (λ (xs : List Frame). xs ++ c.of.result ∷ []) c.clear.ensures.items ∙ ap (λ (f : Frame). f ∷ []) c.of.ensures ∙ ap (λ (x : Visit). frame_of x None c.used.result ∷ []) c.index-cells-0.is);
+  capacity = omega (arith, c.clear.ensures.capacity, c.append.ensures.capacity);
+}
 
 pub returns-in_err-marks-clause-front : goal.returns-in_err-marks-clause-front
-returns-in_err-marks-clause-front g c =
-    let n = next (top c.pop.new.self.items c.in-Some.frame c.loop-frame.invariant c.in-Some.ensures.items) c.if-frame-gt0.true in
+returns-in_err-marks-clause-front c =
+    let n = next (top c.pop.new.self.items c.in-Some.frame c.loop-frame.invariant.under_way c.in-Some.ensures.items) c.if-frame-gt0.true in
     (mark_stopped c.place_mark.new.pool c.in_err-marks.field-0.0 n c.in_err-marks.ensures.full).front
 
 pub returns-in_err-marks-clause-full : goal.returns-in_err-marks-clause-full
-returns-in_err-marks-clause-full g c =
-    let n = next (top c.pop.new.self.items c.in-Some.frame c.loop-frame.invariant c.in-Some.ensures.items) c.if-frame-gt0.true in
+returns-in_err-marks-clause-full c =
+    let n = next (top c.pop.new.self.items c.in-Some.frame c.loop-frame.invariant.under_way c.in-Some.ensures.items) c.if-frame-gt0.true in
     let h = (mark_stopped c.place_mark.new.pool c.in_err-marks.field-0.0 n c.in_err-marks.ensures.full).full_is in
     search (rules, h)
 
 pub around-around-requires-clause-shown : goal.around-around-requires-clause-shown
-around-around-requires-clause-shown g c =
-    let n = next (top c.pop.new.self.items c.in-Some.frame c.loop-frame.invariant c.in-Some.ensures.items) c.if-frame-gt0.true in
+around-around-requires-clause-shown c =
+    let n = next (top c.pop.new.self.items c.in-Some.frame c.loop-frame.invariant.under_way c.in-Some.ensures.items) c.if-frame-gt0.true in
     (tree n.label n.below empty, next_shows n)
 
 pub around-around-requires-clause-few : goal.around-around-requires-clause-few
-around-around-requires-clause-few g c = omega (arith, ap length c.requires.cells, visits_length (tree_at c.args.face (forest c.args.pool.now)), c.requires.listed, c.requires.few)
+around-around-requires-clause-few c = omega (arith, ap length c.requires.cells, visits_length (tree_at c.args.face (forest c.args.pool.now)), c.requires.few)
 
 pub behind-requires-clause-few : goal.behind-requires-clause-few
-behind-requires-clause-few g c = omega (arith, parts_are_few (top c.pop.new.self.items c.in-Some.frame c.loop-frame.invariant c.in-Some.ensures.items), c.in_ok-marks.ensures.ok.few)
+behind-requires-clause-few c = omega (arith, parts_are_few (top c.pop.new.self.items c.in-Some.frame c.loop-frame.invariant.under_way c.in-Some.ensures.items), c.in_ok-marks.ensures.ok.few)
 
-pub push-requires-then-frame-gt0 : goal.push-requires-then-frame-gt0
-push-requires-then-frame-gt0 g c =
-    let n = next (top c.pop.new.self.items c.in-Some.frame c.loop-frame.invariant c.in-Some.ensures.items) c.if-frame-gt0.true in
-    omega (arith, shown_inside (next_shows n), n.short, ap length c.requires.cells, visits_length (tree_at c.args.face (forest c.args.pool.now)), c.requires.listed, c.requires.few)
+pub append-requires-then-frame-gt0 : goal.append-requires-then-frame-gt0
+append-requires-then-frame-gt0 c =
+    let n = next (top c.pop.new.self.items c.in-Some.frame c.loop-frame.invariant.under_way c.in-Some.ensures.items) c.if-frame-gt0.true in
+    omega (arith, shown_inside (next_shows n), n.short, ap length c.requires.cells, visits_length (tree_at c.args.face (forest c.args.pool.now)), c.requires.room, c.loop-frame.invariant.capacity, c.pop.ensures.capacity)
 
 pub offset_bounds-cells-at : goal.offset_bounds-cells-at
-offset_bounds-cells-at g c =
-    let n = next (top c.pop.new.self.items c.in-Some.frame c.loop-frame.invariant c.in-Some.ensures.items) c.if-frame-gt0.true in
-    record { fits = omega (arith, shown_inside (next_shows n), ap length c.requires.cells, visits_length (tree_at c.args.face (forest c.args.pool.now)), c.requires.listed, c.requires.few) }
+offset_bounds-cells-at c =
+    let n = next (top c.pop.new.self.items c.in-Some.frame c.loop-frame.invariant.under_way c.in-Some.ensures.items) c.if-frame-gt0.true in
+    record { fits = omega (arith, shown_inside (next_shows n), ap length c.requires.cells, visits_length (tree_at c.args.face (forest c.args.pool.now)), c.requires.few) }
 
 pub bounds-cells-at : goal.bounds-cells-at
-bounds-cells-at g c =
-    let n = next (top c.pop.new.self.items c.in-Some.frame c.loop-frame.invariant c.in-Some.ensures.items) c.if-frame-gt0.true in
+bounds-cells-at c =
+    let n = next (top c.pop.new.self.items c.in-Some.frame c.loop-frame.invariant.under_way c.in-Some.ensures.items) c.if-frame-gt0.true in
     shown_inside (next_shows n)
 
-pub push-requires-then-frame-gt0-2 : goal.push-requires-then-frame-gt0-2
-push-requires-then-frame-gt0-2 g c =
-    let n = next (top c.pop.new.self.items c.in-Some.frame c.loop-frame.invariant c.in-Some.ensures.items) c.if-frame-gt0.true in
-    omega (arith, shown_inside (next_shows n), n.short, c.push-then-frame-gt0.ensures.len, ap length c.requires.cells, visits_length (tree_at c.args.face (forest c.args.pool.now)), c.requires.listed, c.requires.few)
+pub append-requires-then-frame-gt0-2 : goal.append-requires-then-frame-gt0-2
+append-requires-then-frame-gt0-2 c =
+    let n = next (top c.pop.new.self.items c.in-Some.frame c.loop-frame.invariant.under_way c.in-Some.ensures.items) c.if-frame-gt0.true in
+    omega (arith, shown_inside (next_shows n), n.short, c.append-then-frame-gt0.ensures.len, c.append-then-frame-gt0.ensures.capacity, ap length c.requires.cells, visits_length (tree_at c.args.face (forest c.args.pool.now)), c.requires.room, c.loop-frame.invariant.capacity, c.pop.ensures.capacity)
 
 pub overflow_add-at : goal.overflow_add-at
-overflow_add-at g c =
-    let n = next (top c.pop.new.self.items c.in-Some.frame c.loop-frame.invariant c.in-Some.ensures.items) c.if-frame-gt0.true in
-    record { fits = omega (arith, shown_inside (next_shows n), ap length c.requires.cells, visits_length (tree_at c.args.face (forest c.args.pool.now)), c.requires.listed, c.requires.few) }
+overflow_add-at c =
+    let n = next (top c.pop.new.self.items c.in-Some.frame c.loop-frame.invariant.under_way c.in-Some.ensures.items) c.if-frame-gt0.true in
+    record { fits = omega (arith, shown_inside (next_shows n), ap length c.requires.cells, visits_length (tree_at c.args.face (forest c.args.pool.now)), c.requires.few) }
 
 pub loop-frame-smaller-then-frame-gt0 : goal.loop-frame-smaller-then-frame-gt0
-loop-frame-smaller-then-frame-gt0 g c =
-    let n = next (top c.pop.new.self.items c.in-Some.frame c.loop-frame.invariant c.in-Some.ensures.items) c.if-frame-gt0.true in
-    omega (arith, shown_inside (next_shows n), c.push-then-frame-gt0.ensures.len, c.push-then-frame-gt0-2.ensures.len, ap length c.in-Some.ensures.items, length-append c.pop.new.self.items (c.in-Some.frame ∷ []))
+loop-frame-smaller-then-frame-gt0 c =
+    let n = next (top c.pop.new.self.items c.in-Some.frame c.loop-frame.invariant.under_way c.in-Some.ensures.items) c.if-frame-gt0.true in
+    omega (arith, shown_inside (next_shows n), c.append-then-frame-gt0.ensures.len, c.append-then-frame-gt0-2.ensures.len, ap length c.in-Some.ensures.items, length-append c.pop.new.self.items (c.in-Some.frame ∷ []))
 
 pub loop-frame-preserved-then-frame-gt0 : goal.loop-frame-preserved-then-frame-gt0
-loop-frame-preserved-then-frame-gt0 g c =
-    let n = next (top c.pop.new.self.items c.in-Some.frame c.loop-frame.invariant c.in-Some.ensures.items) c.if-frame-gt0.true in
+loop-frame-preserved-then-frame-gt0 c =
+    let n = next (top c.pop.new.self.items c.in-Some.frame c.loop-frame.invariant.under_way c.in-Some.ensures.items) c.if-frame-gt0.true in
     let popped = c.pop.new.self.items in
-    entered c.place_mark.new.pool c.in_ok-marks.marks c.around-around.result c.used-then-frame-gt0.result c.index-cells-at.result c.push-then-frame-gt0-2.new.self.items n c.in_ok-marks.ensures.ok c.in_ok-marks.ensures.kept c.in_ok-marks.ensures.room c.place_mark.ensures.stands
-    c.around-around.ensures c.used-then-frame-gt0.ensures.value
-    (c.push-then-frame-gt0-2.ensures.items ∙ ap (λ (xs : List Frame). xs ++ c.of-then-frame-gt0.result ∷ []) c.push-then-frame-gt0.ensures.items
-    ∙ ap (λ (f : Frame). (popped ++ f ∷ []) ++ c.of-then-frame-gt0.result ∷ []) c.behind.ensures ∙ ap (λ (f : Frame). (popped ++ frame_behind c.in-Some.frame c.in_ok-marks.marks ∷ []) ++ f ∷ []) c.of-then-frame-gt0.ensures
-    ∙ ap (λ (x : Visit). (popped ++ frame_behind c.in-Some.frame c.in_ok-marks.marks ∷ []) ++ frame_of x c.around-around.result c.used-then-frame-gt0.result ∷ []) c.index-cells-at.is)
+    record {
+      under_way = entered c.place_mark.new.pool c.in_ok-marks.marks c.around-around.result c.used-then-frame-gt0.result c.index-cells-at.result c.append-then-frame-gt0-2.new.list.items n c.in_ok-marks.ensures.ok c.in_ok-marks.ensures.kept c.in_ok-marks.ensures.room c.place_mark.ensures.stands
+          c.around-around.ensures c.used-then-frame-gt0.ensures.value
+          (c.append-then-frame-gt0-2.ensures.items ∙ ap (λ (xs : List Frame). xs ++ c.of-then-frame-gt0.result ∷ []) c.append-then-frame-gt0.ensures.items
+          ∙ ap (λ (f : Frame). (popped ++ f ∷ []) ++ c.of-then-frame-gt0.result ∷ []) c.behind.ensures ∙ ap (λ (f : Frame). (popped ++ frame_behind c.in-Some.frame c.in_ok-marks.marks ∷ []) ++ f ∷ []) c.of-then-frame-gt0.ensures
+          ∙ ap (λ (x : Visit). (popped ++ frame_behind c.in-Some.frame c.in_ok-marks.marks ∷ []) ++ frame_of x c.around-around.result c.used-then-frame-gt0.result ∷ []) c.index-cells-at.is);
+      capacity = omega (arith, c.loop-frame.invariant.capacity, c.pop.ensures.capacity, c.append-then-frame-gt0.ensures.capacity, c.append-then-frame-gt0-2.ensures.capacity);
+    }
 
 pub close-requires-clause-live : goal.close-requires-clause-live
-close-requires-clause-live g c = close_live (closing (top c.pop.new.self.items c.in-Some.frame c.loop-frame.invariant c.in-Some.ensures.items) (omega (arith, c.if-frame-gt0.false)))
+close-requires-clause-live c = close_live (closing (top c.pop.new.self.items c.in-Some.frame c.loop-frame.invariant.under_way c.in-Some.ensures.items) (omega (arith, c.if-frame-gt0.false)))
 
 pub close-requires-clause-few : goal.close-requires-clause-few
-close-requires-clause-few g c = close_few (closing (top c.pop.new.self.items c.in-Some.frame c.loop-frame.invariant c.in-Some.ensures.items) (omega (arith, c.if-frame-gt0.false)))
+close-requires-clause-few c = close_few (closing (top c.pop.new.self.items c.in-Some.frame c.loop-frame.invariant.under_way c.in-Some.ensures.items) (omega (arith, c.if-frame-gt0.false)))
 
 pub close-requires-clause-begin : goal.close-requires-clause-begin
-close-requires-clause-begin g c = close_begin (closing (top c.pop.new.self.items c.in-Some.frame c.loop-frame.invariant c.in-Some.ensures.items) (omega (arith, c.if-frame-gt0.false)))
+close-requires-clause-begin c = close_begin (closing (top c.pop.new.self.items c.in-Some.frame c.loop-frame.invariant.under_way c.in-Some.ensures.items) (omega (arith, c.if-frame-gt0.false)))
 
 pub close-requires-clause-leaf : goal.close-requires-clause-leaf
-close-requires-clause-leaf g c = close_leaf (closing (top c.pop.new.self.items c.in-Some.frame c.loop-frame.invariant c.in-Some.ensures.items) (omega (arith, c.if-frame-gt0.false)))
+close-requires-clause-leaf c = close_leaf (closing (top c.pop.new.self.items c.in-Some.frame c.loop-frame.invariant.under_way c.in-Some.ensures.items) (omega (arith, c.if-frame-gt0.false)))
 
 pub close-requires-clause-wraps : goal.close-requires-clause-wraps
-close-requires-clause-wraps g c = (closing (top c.pop.new.self.items c.in-Some.frame c.loop-frame.invariant c.in-Some.ensures.items) (omega (arith, c.if-frame-gt0.false))).innermost.around
+close-requires-clause-wraps c = (closing (top c.pop.new.self.items c.in-Some.frame c.loop-frame.invariant.under_way c.in-Some.ensures.items) (omega (arith, c.if-frame-gt0.false))).innermost.around
 
 pub returns-in_err-last-clause-front : goal.returns-in_err-last-clause-front
-returns-in_err-last-clause-front g c =
-    let k = closing (top c.pop.new.self.items c.in-Some.frame c.loop-frame.invariant c.in-Some.ensures.items) (omega (arith, c.if-frame-gt0.false)) in
+returns-in_err-last-clause-front c =
+    let k = closing (top c.pop.new.self.items c.in-Some.frame c.loop-frame.invariant.under_way c.in-Some.ensures.items) (omega (arith, c.if-frame-gt0.false)) in
     (close_stopped k c.close.new.pool c.in_err-last.field-0.0 c.in_err-last.ensures.full).front
 
 pub returns-in_err-last-clause-full : goal.returns-in_err-last-clause-full
-returns-in_err-last-clause-full g c =
-    let k = closing (top c.pop.new.self.items c.in-Some.frame c.loop-frame.invariant c.in-Some.ensures.items) (omega (arith, c.if-frame-gt0.false)) in
+returns-in_err-last-clause-full c =
+    let k = closing (top c.pop.new.self.items c.in-Some.frame c.loop-frame.invariant.under_way c.in-Some.ensures.items) (omega (arith, c.if-frame-gt0.false)) in
     let h = (close_stopped k c.close.new.pool c.in_err-last.field-0.0 c.in_err-last.ensures.full).full_is in
     search (rules, h)
 
 pub returns-then-is_empty-clause-ok : goal.returns-then-is_empty-clause-ok
-returns-then-is_empty-clause-ok g c =
-    let k = closing (top c.pop.new.self.items c.in-Some.frame c.loop-frame.invariant c.in-Some.ensures.items) (omega (arith, c.if-frame-gt0.false)) in
-    closed_all k c.close.new.pool c.in_ok-last.last (none_left c.pop.new.self.items (sym c.is_empty.ensures ∙ c.if-is_empty.true)) c.in_ok-last.ensures.ok
+returns-then-is_empty-clause-ok c =
+    let k = closing (top c.pop.new.self.items c.in-Some.frame c.loop-frame.invariant.under_way c.in-Some.ensures.items) (omega (arith, c.if-frame-gt0.false)) in
+    closed_all k c.close.new.pool c.in_ok-last.last (none_left c.pop.new.self.items (empty_as c.pop.new.self.items (vec_len c.pop.new.self) (omega (arith, c.pop.new.self.ok.0)) ∙ sym c.is_empty.ensures ∙ c.if-is_empty.true)) c.in_ok-last.ensures.ok
 
 pub returns-then-is_empty-clause-front : goal.returns-then-is_empty-clause-front
-returns-then-is_empty-clause-front g c =
-    let k = closing (top c.pop.new.self.items c.in-Some.frame c.loop-frame.invariant c.in-Some.ensures.items) (omega (arith, c.if-frame-gt0.false)) in
-    front_kept (closed_all k c.close.new.pool c.in_ok-last.last (none_left c.pop.new.self.items (sym c.is_empty.ensures ∙ c.if-is_empty.true)) c.in_ok-last.ensures.ok)
+returns-then-is_empty-clause-front c =
+    let k = closing (top c.pop.new.self.items c.in-Some.frame c.loop-frame.invariant.under_way c.in-Some.ensures.items) (omega (arith, c.if-frame-gt0.false)) in
+    front_kept (closed_all k c.close.new.pool c.in_ok-last.last (none_left c.pop.new.self.items (empty_as c.pop.new.self.items (vec_len c.pop.new.self) (omega (arith, c.pop.new.self.ok.0)) ∙ sym c.is_empty.ensures ∙ c.if-is_empty.true)) c.in_ok-last.ensures.ok)
 
 pub returns-then-is_empty-clause-kept : goal.returns-then-is_empty-clause-kept
-returns-then-is_empty-clause-kept g c = keeps_after c.args.pool.now c.loop-frame.pool c.close.new.pool c.loop-frame.invariant.keeps c.in_ok-last.ensures.kept
+returns-then-is_empty-clause-kept c = keeps_after c.args.pool.now c.loop-frame.pool c.close.new.pool c.loop-frame.invariant.under_way.keeps c.in_ok-last.ensures.kept
 
 pub returns-then-is_empty-clause-room : goal.returns-then-is_empty-clause-room
-returns-then-is_empty-clause-room g c =
-    let k = closing (top c.pop.new.self.items c.in-Some.frame c.loop-frame.invariant c.in-Some.ensures.items) (omega (arith, c.if-frame-gt0.false)) in
-    closed_room k c.close.new.pool (none_left c.pop.new.self.items (sym c.is_empty.ensures ∙ c.if-is_empty.true)) c.in_ok-last.ensures.room
+returns-then-is_empty-clause-room c =
+    let k = closing (top c.pop.new.self.items c.in-Some.frame c.loop-frame.invariant.under_way c.in-Some.ensures.items) (omega (arith, c.if-frame-gt0.false)) in
+    closed_room k c.close.new.pool (none_left c.pop.new.self.items (empty_as c.pop.new.self.items (vec_len c.pop.new.self) (omega (arith, c.pop.new.self.ok.0)) ∙ sym c.is_empty.ensures ∙ c.if-is_empty.true)) c.in_ok-last.ensures.room
 
 pub loop-frame-preserved : goal.loop-frame-preserved
-loop-frame-preserved g c =
-    let k = closing (top c.pop.new.self.items c.in-Some.frame c.loop-frame.invariant c.in-Some.ensures.items) (omega (arith, c.if-frame-gt0.false)) in
-    closed_one k c.close.new.pool c.in_ok-last.last (some_left c.pop.new.self.items (sym c.is_empty.ensures ∙ c.if-is_empty.false)) c.in_ok-last.ensures.ok c.in_ok-last.ensures.kept c.in_ok-last.ensures.room c.close.ensures.stands
+loop-frame-preserved c =
+    let k = closing (top c.pop.new.self.items c.in-Some.frame c.loop-frame.invariant.under_way c.in-Some.ensures.items) (omega (arith, c.if-frame-gt0.false)) in
+    record {
+      under_way = closed_one k c.close.new.pool c.in_ok-last.last (some_left c.pop.new.self.items (empty_as c.pop.new.self.items (vec_len c.pop.new.self) (omega (arith, c.pop.new.self.ok.0)) ∙ sym c.is_empty.ensures ∙ c.if-is_empty.false)) c.in_ok-last.ensures.ok c.in_ok-last.ensures.kept c.in_ok-last.ensures.room c.close.ensures.stands;
+      capacity = omega (arith, c.loop-frame.invariant.capacity, c.pop.ensures.capacity);
+    }

@@ -1,4 +1,4 @@
-use Rattle.std.proofs.Common.{◌-◌, ◌+◌, ◌*◌, length}
+use Rattle.std.proofs.Common.{◌≤◌, ◌-◌, ◌+◌, ◌*◌, length, vec_capacity}
 use Rattle.tree_handles.specs.Expressions.{plain}
 use Rattle.tree_handles.specs.Inside.{tree_at}
 use Rattle.tree_handles.specs.Standing.{forest}
@@ -7,7 +7,10 @@ use Rattle.pool_layouts.proofs.UnderWay.{IsUnderWay}
 use Rattle.pool_layouts.proofs.laying.lay.Given as goal
 
 abbrev pub invariant-loop-frame : goal.invariant-loop-frame
-invariant-loop-frame g l = IsUnderWay (layout (plain (tree_at l.fn.face (forest l.fn.pool)))) l.fn.pool l.pool l.at l.cells l.under_way.items
+invariant-loop-frame l = record {
+  under_way : IsUnderWay (layout (plain (tree_at l.fn.face (forest l.fn.pool)))) l.fn.pool l.pool l.at l.cells l.under_way.items;
+  capacity : vec_capacity l.fn.under_way ≤ vec_capacity l.under_way;
+}
 
 abbrev pub decreases-loop-frame : goal.decreases-loop-frame
-decreases-loop-frame g l = 2 * (length l.cells - l.at) + length l.under_way.items
+decreases-loop-frame l = 2 * (length l.cells - l.at) + length l.under_way.items

@@ -1,6 +1,14 @@
-use Rattle.std.proofs.Common.{arith}
+use Rattle.std.proofs.Common.{ap, arith}
 use Rattle.tree_handles.proofs.Measures.{few_in}
+use Rattle.pool_layouts.specs.Drafts.{Draft}
+use Rattle.pool_layouts.proofs.Measuring.{nodes_served}
 use Rattle.pool_layouts.proofs.laying.layout_of.Goals as goal
 
-pub lay_within-requires-else-nodes-lt-PLENTY-clause-listed : goal.lay_within-requires-else-nodes-lt-PLENTY-clause-listed
-lay_within-requires-else-nodes-lt-PLENTY-clause-listed c = omega (arith, few_in c.args.face c.args.pool.now c.requires.stands)
+pub list_nodes-requires-clause-room : goal.list_nodes-requires-clause-room
+list_nodes-requires-clause-room c = omega (arith, nodes_served c.args.pool.now c.args.face c.requires.stands, c.requires.served, c.drafter.invariant.cells, ap (λ (d : Draft). d.pool_size) c.drafter.view_is)
+
+pub lay-requires-clause-room : goal.lay-requires-clause-room
+lay-requires-clause-room c = omega (arith, nodes_served c.args.pool.now c.args.face c.requires.stands, c.requires.served, c.drafter.invariant.under_way, ap (λ (d : Draft). d.pool_size) c.drafter.view_is)
+
+pub lay-requires-clause-few : goal.lay-requires-clause-few
+lay-requires-clause-few c = omega (arith, few_in c.args.face c.args.pool.now c.requires.stands)

@@ -1,6 +1,61 @@
-use Rattle.std.proofs.Common.{arith}
+use Rattle.std.proofs.Common.{◌∙◌, ◌++◌, ◌∷◌, ◌≡◌, [], List, length, sym, ap, subst, arith}
+use Rattle.tree_handles.specs.Forest.{empty}
+use Rattle.tree_handles.specs.Inside.{tree_at}
+use Rattle.tree_handles.specs.Standing.{forest}
+use Rattle.pool_layouts.specs.declared.extents.Extent.{Extent}
+use Rattle.pool_layouts.specs.declared.steps.Step.{Step}
+use Rattle.pool_layouts.specs.declared.steps.Step.TheVariants as step
+use Rattle.pool_layouts.specs.Drafts.{Draft}
+use Rattle.pool_layouts.specs.Drawings.{drawing}
+use Rattle.pool_layouts.specs.Extents.{HasExtents}
+use Rattle.pool_layouts.specs.Painting.{IsLine, span_of}
+use Rattle.pool_layouts.specs.Pictures.{picture}
+use Rattle.tree_handles.specs.Visits.{visits_of}
 use Rattle.tree_handles.proofs.Measures.{few_in}
+use Rattle.tree_handles.proofs.Visiting.{visits_length}
+use Rattle.pool_layouts.proofs.Measuring.{IsMeasured, measured, measured_first, nodes_served}
+use Rattle.pool_layouts.proofs.RowLines.{row_line, row_room}
 use Rattle.pool_layouts.proofs.picture.write_row.Goals as goal
+use Rattle.pool_layouts.proofs.picture.write_row.Goals.{After-append, After-as_slice-cells, After-as_slice-extents}
 
-pub write_row_within-requires-else-nodes-lt-PLENTY-clause-listed : goal.write_row_within-requires-else-nodes-lt-PLENTY-clause-listed
-write_row_within-requires-else-nodes-lt-PLENTY-clause-listed c = omega (arith, few_in c.args.layout c.args.pool.now c.requires.stands)
+measured_here : (c : After-as_slice-extents) → IsMeasured c.args.pool.now c.args.layout c.as_slice-extents.result.now
+measured_here c =
+    measured c.args.pool.now c.args.layout c.as_slice-extents.result.now c.requires.stands c.requires.layout
+    (subst (HasExtents (tree_at c.args.layout (forest c.args.pool.now)) 0) (sym (c.as_slice-extents.ensures.value ∙ ap (λ (d : Draft). d.extents) c.drafter.view_is)) c.requires.measured.measured)
+
+listed_here : (c : After-as_slice-cells) → c.as_slice-cells.result.now ≡ visits_of (tree_at c.args.layout (forest c.args.pool.now))
+listed_here c = c.as_slice-cells.ensures.value ∙ ap (λ (d : Draft). d.nodes) c.drafter.view_is ∙ c.requires.measured.listed
+
+pub extent_at-requires-clause-some : goal.extent_at-requires-clause-some
+extent_at-requires-clause-some c = measured_first c.args.pool.now c.args.layout c.as_slice-extents.result.now (measured_here (goal.at.extent_at-requires-clause-some c).After-as_slice-extents)
+
+pub paint-requires-clause-deep : goal.paint-requires-clause-deep
+paint-requires-clause-deep c =
+    omega (
+      arith,
+      ap length (listed_here (goal.at.paint-requires-clause-deep c).After-as_slice-cells),
+      visits_length (tree_at c.args.layout (forest c.args.pool.now)),
+      nodes_served c.args.pool.now c.args.layout c.requires.stands,
+      c.requires.served,
+      c.drafter.invariant.steps,
+      ap (λ (d : Draft). d.pool_size) c.drafter.view_is,
+      c.clear.ensures.capacity,
+      c.append.ensures.capacity,
+    )
+
+pub paint-requires-clause-few_cells : goal.paint-requires-clause-few_cells
+paint-requires-clause-few_cells c = omega (arith, ap length (listed_here (goal.at.paint-requires-clause-few_cells c).After-as_slice-cells), visits_length (tree_at c.args.layout (forest c.args.pool.now)), few_in c.args.layout c.args.pool.now c.requires.stands)
+
+line_here : (c : After-append) → IsLine (forest c.args.pool.now) c.as_slice-cells.result.now c.as_slice-extents.result.now c.append.new.list.items ((picture (drawing (tree_at c.args.layout (forest c.args.pool.now)))).line c.args.row)
+line_here c =
+    let m = measured c.args.pool.now c.args.layout c.as_slice-extents.result.now c.requires.stands c.requires.layout
+    (subst (HasExtents (tree_at c.args.layout (forest c.args.pool.now)) 0) (sym (c.as_slice-extents.ensures.value ∙ ap (λ (d : Draft). d.extents) c.drafter.view_is)) c.requires.measured.measured) in
+    row_line c.args.pool.now c.args.layout c.as_slice-cells.result.now c.as_slice-extents.result.now c.append.new.list.items c.extent_at.result.nodes c.args.row c.requires.stands c.requires.layout
+    (c.as_slice-cells.ensures.value ∙ ap (λ (d : Draft). d.nodes) c.drafter.view_is ∙ c.requires.measured.listed) m
+    (ap (λ (x : Extent). x.nodes) (c.extent_at.ensures.value m.label m.below empty m.small)) c.requires.row (c.append.ensures.items ∙ ap (λ (x : List Step). x ++ step.Part (span_of 0 c.extent_at.result.nodes) c.args.row ∷ []) c.clear.ensures.items)
+
+pub paint-requires-clause-painting : goal.paint-requires-clause-painting
+paint-requires-clause-painting c = (_, line_here (goal.at.paint-requires-clause-painting c).After-append, row_room c.args.pool.now c.args.layout c.args.row c.args.text.now c.requires.stands c.requires.layout c.requires.room)
+
+pub returns-clause-written : goal.returns-clause-written
+returns-clause-written c = c.paint.ensures.painted _ (line_here (goal.at.returns-clause-written c).After-append)

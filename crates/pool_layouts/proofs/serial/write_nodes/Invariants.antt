@@ -1,4 +1,4 @@
-use Rattle.std.proofs.Common.{◌≡◌, ◌-◌, ◌+◌, ◌*◌, ◌++◌, length}
+use Rattle.std.proofs.Common.{◌≡◌, ◌≤◌, ◌-◌, ◌+◌, ◌*◌, ◌++◌, length, vec_capacity}
 use Rattle.tree_handles.specs.Inside.{tree_at}
 use Rattle.tree_handles.specs.Standing.{forest}
 use Rattle.pool_layouts.specs.Drawings.{drawing}
@@ -7,10 +7,11 @@ use Rattle.pool_layouts.proofs.Writing.{IsWriting}
 use Rattle.pool_layouts.proofs.serial.write_nodes.Given as goal
 
 abbrev pub invariant-loop-rest : goal.invariant-loop-rest
-invariant-loop-rest g l = record {
+invariant-loop-rest l = record {
   writing : IsWriting (forest l.pool) l.at l.cells l.pending.items l.text.bytes (l.fn.text.bytes ++ serial (drawing (tree_at l.fn.layout (forest l.pool))));
   capacity : l.text.capacity ≡ l.fn.text.capacity;
+  deep : vec_capacity l.fn.pending ≤ vec_capacity l.pending;
 }
 
 abbrev pub decreases-loop-rest : goal.decreases-loop-rest
-decreases-loop-rest g l = 2 * (length l.cells - l.at) + length l.pending.items
+decreases-loop-rest l = 2 * (length l.cells - l.at) + length l.pending.items

@@ -1,4 +1,10 @@
+use Rattle.std.proofs.Common.{◌≤◌}
+use Rattle.tree_handles.specs.Standing.{forest}
+use Rattle.pool_layouts.specs.Drafts.{Measures}
 use Rattle.pool_layouts.proofs.tests.draw.Given as goal
 
 abbrev pub invariant-loop-row : goal.invariant-loop-row
-invariant-loop-row l = Unit {0}
+invariant-loop-row l = record {
+  measured : Measures l.drafter l.layout (forest l.pool);
+  served : l.pool.size ≤ l.drafter.pool_size;
+}

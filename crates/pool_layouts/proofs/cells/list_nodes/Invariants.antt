@@ -1,8 +1,0 @@
-use Rattle.std.proofs.Common.{◌≡◌, ◌++◌}
-use Rattle.tree_handles.specs.Inside.{tree_at}
-use Rattle.tree_handles.specs.Standing.{forest}
-use Rattle.tree_handles.specs.Visits.{visits_of}
-use Rattle.pool_layouts.proofs.cells.list_nodes.Given as goal
-
-abbrev pub invariant-loop-node : goal.invariant-loop-node
-invariant-loop-node g l = l.cells.items ++ l.node-iterator ≡ visits_of (tree_at l.fn.root (forest l.fn.pool))

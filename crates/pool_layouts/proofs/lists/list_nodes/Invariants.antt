@@ -1,0 +1,11 @@
+use Rattle.std.proofs.Common.{◌≡◌, ◌≤◌, ◌++◌, vec_capacity}
+use Rattle.tree_handles.specs.Inside.{tree_at}
+use Rattle.tree_handles.specs.Standing.{forest}
+use Rattle.tree_handles.specs.Visits.{visits_of}
+use Rattle.pool_layouts.proofs.lists.list_nodes.Given as goal
+
+abbrev pub invariant-loop-node : goal.invariant-loop-node
+invariant-loop-node l = record {
+  listed : l.cells.items ++ l.node-iterator ≡ visits_of (tree_at l.fn.root (forest l.fn.pool));
+  capacity : vec_capacity l.fn.cells ≤ vec_capacity l.cells;
+}
