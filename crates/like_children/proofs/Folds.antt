@@ -1,5 +1,6 @@
 -- Numbers by their places, and rationals calculated from left to right.
-use Rattle.std.proofs.Common.{ℕ, zero, suc, ◌<◌, ◌≤◌, ◌≡◌, List, [], ◌∷◌, Bool, true, false, if◌then◌else◌, refl, sym, ap, ◌∙◌, subst, arith}
+use Rattle.std.specs.Prelude.{Err}
+use Rattle.std.proofs.Common.{ℕ, zero, suc, ◌≤◌, ◌≡◌, List, ◌∷◌, Bool, true, false, if◌then◌else◌, refl, sym, ap, ◌∙◌, subst, arith}
 use Rattle.std.proofs.lemmas.Bool.{and_parts}
 use Rattle.calc_terms.specs.Fits.{Operation, add_op, mul_op, operation_fits, result_of}
 use Rattle.calc_terms.specs.Fractions.{Fraction}
@@ -7,12 +8,17 @@ use Rattle.calc_algebra.specs.Numbers.{is_number}
 use Rattle.calc_measures.specs.PlainValues.{PlainValue, exactly, overflow, calculated, fold_values, gather, values, plain_of_children, plain_value, are_plain}
 use Rattle.calc_algebra.specs.Reduced.{NoneIs}
 use Rattle.calc_terms.specs.Trees.{Tree, num, add, mult, Trees, none, more, count, is_num, are_rationals}
+use Rattle.node_pool.specs.State.{State}
+use Rattle.number_forms.specs.Answers.{AnswersRationals}
 use Rattle.rational128.specs.declared.overflow.Overflow.{Overflow}
+use Rattle.tree_handles.specs.declared.fault.NumberFault.{NumberFault}
+use Rattle.tree_handles.specs.declared.fault.NumberFault.TheVariants as fault
 use Rattle.calc_measures.specs.PlainTrees.{IsPlainAnswer, IsPlainOverflow}
 use Rattle.tree_handles.specs.Expressions.{nth}
 use Rattle.number_forms.specs.Sums.{removed}
-use Rattle.like_children.specs.Folds.{rational_of, rationals_of, AreFolded, IsTotal}
-use Rattle.like_children.specs.Numbers.{NoNumberBetween, IsNextNumber}
+use Rattle.like_children.specs.Folds.{rational_of, rationals_of, AreFolded, IsTotal, AnswersTotal}
+use Rattle.like_children.specs.Numbers.{NoNumberBetween, IsNextNumber, others_in}
+use Rattle.like_children.proofs.NumbersIn.{number_out}
 
 clash : true ≡ false → ⊥
 clash e = cc
@@ -45,21 +51,21 @@ plain_rationals (more (num q) ts) h = plain_rationals ts h
 plain_rationals (more _ ts) h = cc
 
 -- the plain values of a sum and of a product of rationals
-plain_sum : (t : Tree) (ts : Trees) → is_num t ≡ true → are_rationals ts ≡ true → plain_value (add (more t ts)) ≡ fold_values add_op (rational_of t) (rationals_of ts)
+pub plain_sum : (t : Tree) (ts : Trees) → is_num t ≡ true → are_rationals ts ≡ true → plain_value (add (more t ts)) ≡ fold_values add_op (rational_of t) (rationals_of ts)
 plain_sum (num q) ts h k = rw (plain_rationals ts k, gathered ts k) refl
 plain_sum _ ts h k = cc
 
-plain_product : (t : Tree) (ts : Trees) → is_num t ≡ true → are_rationals ts ≡ true → plain_value (mult (more t ts)) ≡ fold_values mul_op (rational_of t) (rationals_of ts)
+pub plain_product : (t : Tree) (ts : Trees) → is_num t ≡ true → are_rationals ts ≡ true → plain_value (mult (more t ts)) ≡ fold_values mul_op (rational_of t) (rationals_of ts)
 plain_product (num q) ts h k = rw (plain_rationals ts k, gathered ts k) refl
 plain_product _ ts h k = cc
 
 -- ---- the result so far, and the rationals that are left
 
+pub begun_with : (op : Operation) (t : Tree) (ts : Trees) → is_num t ≡ true → are_rationals ts ≡ true → AreFolded op (fold_values op (rational_of t) (rationals_of ts)) t ts
+begun_with op t ts h k = record { rational = h; rationals = k; plain = refl }
+
 pub sum_begun : (t : Tree) (ts : Trees) → is_num t ≡ true → are_rationals ts ≡ true → AreFolded add_op (plain_value (add (more t ts))) t ts
 sum_begun t ts h k = record { rational = h; rationals = k; plain = plain_sum t ts h k }
-
-pub product_begun : (t : Tree) (ts : Trees) → is_num t ≡ true → are_rationals ts ≡ true → AreFolded mul_op (plain_value (mult (more t ts))) t ts
-product_begun t ts h k = record { rational = h; rationals = k; plain = plain_product t ts h k }
 
 -- among rationals the first Number is the first tree
 pub record IsFirst (at : ℕ) (us : Trees) : Type 0 where
@@ -76,6 +82,14 @@ first_of (suc n) (more t ts) r h = absurd (clash (sym (num_number t (and_parts (
 
 rationals_first : (at : ℕ) (us : Trees) (f : IsFirst at us) → rationals_of us ≡ rational_of (nth at us) ∷ rationals_of f.rest
 rationals_first at us f = ap rationals_of f.is
+
+-- the first one is the result so far
+pub fold_begun : {op : Operation} (v : PlainValue) (at : ℕ) (us : Trees) → IsFirst at us → ((f : IsFirst at us) → v ≡ fold_values op (rational_of (nth at us)) (rationals_of f.rest)) → AreFolded op v (nth at us) (removed at us)
+fold_begun {op = op} v at us f e = record {
+  rational = f.rational;
+  rationals = ap are_rationals f.left ∙ f.rationals;
+  plain = e f ∙ ap (λ (x : Trees). fold_values op (rational_of (nth at us)) (rationals_of x)) (sym f.left);
+}
 
 record IsStep (op : Operation) (p q : Fraction) (rs : List Fraction) (e : Tree) : Type 0 where
   rational : is_num e ≡ true
@@ -119,22 +133,31 @@ fold_full v at us d a h k =
     let f = first_of at us a.rationals h in
     k (rational_of d) (rational_of (nth at us)) (num_is d a.rational) (num_is (nth at us) f.rational)
 
+pub fold_faulted : {op : Operation} (v : PlainValue) (at : ℕ) (us : Trees) (d : Tree) (new : State) (f : NumberFault) → AreFolded op v d us → IsNextNumber 0 at us
+    → ((p q : Fraction) → d ≡ num p → nth at us ≡ num q → AnswersRationals (calculated op p q) new (Err f)) → AnswersTotal v new (Err f)
+fold_faulted v at us d new (fault.Full full) a h k = fold_full v at us d a h k
+fold_faulted v at us d new (fault.Overflow o) a h k = fold_overflowed v at us d o a h k
+
 -- none is left
-no_rationals : (us : Trees) → NoneIs is_number us → are_rationals us ≡ true → us ≡ none
+pub no_rationals : (us : Trees) → NoneIs is_number us → are_rationals us ≡ true → us ≡ none
 no_rationals none b h = refl
 no_rationals (more t us) b h = absurd (clash (sym (num_number t (and_parts (is_num t) (are_rationals us) h).0) ∙ b.0))
 
-pub fold_done : {op : Operation} (v : PlainValue) (us : Trees) (d : Tree) → AreFolded op v d us → NoneIs is_number us → IsTotal v d us
+pub fold_done : {op : Operation} (v : PlainValue) (us : Trees) (d : Tree) → AreFolded op v d us → NoneIs is_number us → IsTotal v d
 fold_done {op = op} v us d a b =
     let e = no_rationals us b a.rationals in
     record {
       q = rational_of d;
       plain = a.plain ∙ ap (λ (x : Trees). fold_values op (rational_of d) (rationals_of x)) e;
       is = num_is d a.rational;
-      none_left = e;
     }
 
 -- rationals have a Number among them
 pub some_number : (ts : Trees) → are_rationals ts ≡ true → 1 ≤ count ts → NoNumberBetween 0 (count ts) ts → ⊥
 some_number none q m b = absurd (omega arith)
 some_number (more t ts) q m b = clash (sym (num_number t (and_parts (is_num t) (are_rationals ts) q).0) ∙ b 0 (omega arith) (omega arith))
+
+-- and nothing else
+pub rational_others : (ts : Trees) → are_rationals ts ≡ true → others_in ts ≡ none
+rational_others none h = refl
+rational_others (more t ts) h = let (a, b) = and_parts (is_num t) (are_rationals ts) h in number_out t ts (num_number t a) ∙ rational_others ts b

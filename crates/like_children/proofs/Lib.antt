@@ -2,3 +2,11 @@ pub mod Items
 mod Pairs
 mod Before
 pub mod Folds
+pub mod Kids
+pub mod Many
+pub mod NumbersIn
+pub mod Openings
+pub mod SoFar
+pub mod OneOrder
+pub mod Parts
+pub mod OwnPowers

@@ -1,15 +1,14 @@
 -- Keys of neighbours.
-use Rattle.std.proofs.Common.{◌⊎◌, inl, inr, nat_lt, ℕ, suc, ◌<◌, ◌+◌, ◌≡◌, Bool, false, ◌&&◌, refl, sym, ap, ◌∙◌, subst, arith}
+use Rattle.std.proofs.Common.{◌⊎◌, inl, inr, ℕ, suc, ◌<◌, ◌+◌, ◌≡◌, Bool, false, ◌&&◌, sym, ap, ◌∙◌, subst, arith}
 use Rattle.std.specs.Prelude.{Option, None, Some, IfSome}
 use Rattle.std.specs.Ordering.{is_eq}
-use Rattle.std.proofs.lemmas.Bool.{ltb-true, ltb-false}
 use Rattle.calc_algebra.specs.TreeOrder.{tree_cmp}
 use Rattle.calc_terms.specs.Trees.{Tree, Trees}
 use Rattle.node_order.specs.declared.keys.Key.{Key}
 use Rattle.node_order.specs.Keys.{IsKey}
 use Rattle.tree_handles.specs.Expressions.{nth}
 use Rattle.tree_handles.specs.Forest.{Forest}
-use Rattle.tree_handles.proofs.Outcomes.{by_test}
+use Rattle.like_children.proofs.Before.{by_place}
 use Rattle.like_children.specs.Keyed.{IsKeyOf, have_one_key}
 use Rattle.like_children.specs.Neighbours.{are_alike, NoPairBetween}
 
@@ -27,11 +26,8 @@ one_key has key t u f (Some a) None h k = sym (λ i. h.has i && k i && is_eq (tr
 one_key has key t u f (Some a) (Some b) h k = (λ i. is_eq (tree_cmp (h.tree i) (k.tree i))) ∙ sym (λ i. h.has i && k.has i && is_eq (tree_cmp (key t) (key u)))
 
 pub no_pair_more : (alike : Tree → Tree → Bool) (from n : ℕ) (ts : Trees) → NoPairBetween alike from (suc n) ts → alike (nth n ts) (nth (suc n) ts) ≡ false → NoPairBetween alike from (suc (n + 1)) ts
-no_pair_more alike from n ts h q k f l = by (by_place k l)
+no_pair_more alike from n ts h q k f l = by (by_place k n (omega (arith, l)))
   where
-    by_place : (k : ℕ) → suc k < suc (n + 1) → (k < n) ⊎ (k ≡ n)
-    by_place k l = by_test (λ b. nat_lt k n ≡ b → (k < n) ⊎ (k ≡ n)) (nat_lt k n) (λ p x. inl (ltb-true k n x)) (λ p x. inr (omega (arith, ltb-false k n x, l))) refl
-
     by : (k < n) ⊎ (k ≡ n) → alike (nth k ts) (nth (suc k) ts) ≡ false
     by (inl m) = h k f (omega (arith, m))
     by (inr x) = (λ i. alike (nth (x i) ts) (nth (suc (x i)) ts)) ∙ q

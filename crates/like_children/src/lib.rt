@@ -1,8 +1,13 @@
-//! What sums and products do alike with their children: they find the Numbers among them, and neighbours with one key.
+//! What sums and products do alike with their children: they open those of their own kind, join the Numbers among them, and find
+//! neighbours with one key.
 #![tactic(auto)]
 
+mod collecting;
 mod neighbours;
 mod numbers;
+mod opening;
 
+pub use collecting::{Joins, collect_numbers};
 pub use neighbours::{Likes, is_pair, next_pair};
 pub use numbers::next_number;
+pub use opening::{Opens, open_children};

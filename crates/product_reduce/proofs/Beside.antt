@@ -1,5 +1,6 @@
 -- Roots beside others.
 use Rattle.std.proofs.Common.{ℕ, ◌<◌, ◌≡◌, List, eqb, Bool, true, false, cond, refl, sym, ap, ◌∙◌, subst}
+use Rattle.like_children.proofs.Kids.{represents_nth, represents_without}
 use Rattle.number_forms.specs.Sums.{removed}
 use Rattle.std.proofs.lemmas.Bool.{eqb-true, ne_eqb}
 use Rattle.calc_terms.specs.Trees.{Tree, Trees, count}
@@ -15,7 +16,7 @@ use Rattle.tree_handles.proofs.Given.{gives, given_handed, given_rest, given_tol
 use Rattle.tree_handles.proofs.Outcomes.{by_test, eqb-sym}
 use Rattle.tree_handles.proofs.Roots.{no_root, root-without, tree-without, without-swap, root-put, tree-put, without-put}
 use Rattle.product_reduce.specs.Products.{IsProduct, Becomes, IsBeside}
-use Rattle.product_reduce.proofs.Products.{product_arity, product_kids, becomes_put, represents_nth, represents_without}
+use Rattle.product_reduce.proofs.Products.{product_arity, product_kids, becomes_put}
 
 -- a root that is gone is no root any more
 pub gone : (i : ℕ) (f : Forest) → Distinct f → has_root i (without_root i f) ≡ false

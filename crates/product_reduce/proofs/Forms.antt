@@ -10,7 +10,7 @@ use Rattle.calc_algebra.specs.Reduced.{is_num_one, num_one, Split, split, split_
 use Rattle.calc_terms.specs.Trees.{Tree, num, symbol, undef, add, mult, power, root, neg, sub, div, Trees, none, more, append, HasTwo, is_mult}
 use Rattle.calc_terms.proofs.FractionFacts.{no_zero, no_one}
 use Rattle.calc_algebra.proofs.NumberLaws.{number_words, number_test, term_words}
-use Rattle.calc_algebra.proofs.ReducedLaws.{form_words, form_test}
+use Rattle.calc_algebra.proofs.ReducedLaws.{form_words}
 use Rattle.product_reduce.specs.Factors.{opened, others_in, coefficient_before}
 use Rattle.product_reduce.proofs.Opened.{one_is_num}
 
@@ -229,11 +229,6 @@ product_form_with c ts s two d =
       rising = subst (λ (x : Split). RisesBy base_of x.factors) same s.rising;
       distributed = subst (λ (x : Split). is_undistributed x ≡ false) same d;
     }
-
-pub product_formed : (c : Tree) (ts : Trees) → IsSorted c ts → HasTwo (coefficient_before c ts) → is_undistributed (split c ts) ≡ false → IsFormed (mult (coefficient_before c ts))
-product_formed c ts s two d =
-    let form : HasForm (mult (coefficient_before c ts)) = inr (product_form_with c ts s two d) in
-    record { form = form; parts = and_from _ _ (form_test (mult (coefficient_before c ts)) form) (all_formed_test (coefficient_before c ts) (formed_with c ts s.number s.formed)) }
 
 -- a product with one factor is that factor
 pub product_tree_formed : (ts : Trees) → AllFormed ts → (HasTwo ts → IsFormed (mult ts)) → IsFormed (product_tree ts)

@@ -1,5 +1,5 @@
 -- Free bytes and those of a product, from one pool to the next.
-use Rattle.std.proofs.Common.{◌≡◌, ℕ, zero, suc, ◌+◌, ◌*◌, ◌<◌, ◌≤◌, ◌^◌, List, length, Bool, true, false, not, if◌then◌else◌, refl, Result, Ok, Err, ap, arith}
+use Rattle.std.proofs.Common.{◌≡◌, ℕ, ◌+◌, ◌*◌, ◌<◌, ◌≤◌, ◌^◌, List, length, Bool, true, false, not, if◌then◌else◌, refl, Result, Ok, Err, ap, arith}
 use Rattle.std.specs.Prelude.{IfErr}
 use Rattle.std.proofs.lemmas.Bool.{and_from}
 use Rattle.calc_algebra.specs.Numbers.{is_number}
@@ -8,6 +8,8 @@ use Rattle.calc_room.specs.Counts.{counted, counted_among}
 use Rattle.calc_room.specs.Spans.{SpansTree, SpansTrees}
 use Rattle.number_forms.proofs.Rooms.{number_size}
 use Rattle.tree_room.proofs.Handed.{factors_bytes}
+use Rattle.like_children.proofs.Kids.{sizes_taken}
+use Rattle.like_children.proofs.Many.{all_bytes, handed_bytes}
 use Rattle.product_reduce.specs.Answers.{AreOthers}
 use Rattle.calc_terms.specs.Fractions.{one_fraction}
 use Rattle.calc_terms.specs.Trees.{Tree, mult, power, Trees, none, more, count, size, sizes}
@@ -19,27 +21,16 @@ use Rattle.coefficients.proofs.Rooms.{sizes_append}
 use Rattle.std.proofs.lemmas.Nat.{mul-le}
 use Rattle.tree_room.specs.Needs.{product_step_room}
 use Rattle.product_reduce.specs.Factors.{opened}
-use Rattle.node_pool.specs.Nodes.{used}
 use Rattle.node_pool.specs.State.{State, free_of}
-use Rattle.number_forms.proofs.RationalCalls.{bytes_without}
 use Rattle.number_forms.specs.Sums.{removed}
-use Rattle.tree_handles.specs.Expressions.{nth, plain}
+use Rattle.tree_handles.specs.Expressions.{nth}
 use Rattle.tree_handles.specs.Forest.{Forest, bytes_in, kids, tree_nth, without_nth}
 use Rattle.tree_handles.specs.Handed.{tree_of, IsHanded, Ends}
 use Rattle.tree_handles.specs.Roots.{root_tree, without_root, put}
 use Rattle.tree_handles.specs.Standing.{Stands, forest, KeepsRefusals}
-use Rattle.tree_handles.proofs.Places.{used_forest}
-use Rattle.tree_handles.proofs.Plains.{size-plain}
-use Rattle.tree_handles.proofs.Roots.{root_arity}
 use Rattle.product_reduce.specs.Joining.{exponent_of}
 use Rattle.product_reduce.specs.Products.{IsProduct, Becomes, IsBeside, IsTakenOut, IsSplit}
 use Rattle.product_reduce.proofs.Beside.{taken_factor, without_factor}
-
-pub all_bytes : (s : State) → Stands s → free_of s + bytes_in (forest s) ≡ s.size
-all_bytes s st = let fits : used s.nodes ≤ s.size = st.pool.fits in omega (arith, fits, used_forest s st)
-
-pub handed_bytes : (i : ℕ) (f : Forest) → IsHanded i f → bytes_in f ≡ bytes_in (without_root i f) + size (plain (root_tree i f))
-handed_bytes i f h = omega (arith, bytes_without i f h.root, size-plain (root_tree i f) (root_arity i f h.root) h.whole)
 
 pub product_bytes : {i : ℕ} {f : Forest} {ts : Trees} → IsProduct i f ts → bytes_in f ≡ bytes_in (without_root i f) + size (mult ts)
 product_bytes {i = i} {f = f} p = omega (arith, handed_bytes i f p.handed, ap size p.tree)
@@ -82,20 +73,15 @@ split_free {s = s} {t = t} {i = i} st su k h x =
 
 -- ---- a factor less
 
-pub removed_sizes : (n : ℕ) (ts : Trees) → n < count ts → sizes (removed n ts) + size (nth n ts) ≡ sizes ts
-removed_sizes n none l = absurd (omega arith)
-removed_sizes zero (more t ts) l = omega arith
-removed_sizes (suc n) (more t ts) l = omega (arith, removed_sizes n ts (omega arith))
-
 pub child_free : {s t : State} {i h : ℕ} {ts : Trees} (at : ℕ) → Stands s → Stands t → KeepsRefusals s t → IsProduct i (forest s) ts → at < count ts
     → Ends h (tree_nth at (kids (root_tree i (forest s)))) (put i (without_nth at (kids (root_tree i (forest s)))) (forest s)) (forest t) → free_of t ≡ free_of s
 child_free {ts = ts} at st su k p l e =
-    omega (arith, taken_out_free st su k p (record { left = _; beside = taken_factor at p l e; becomes = without_factor at p }), removed_sizes at ts l)
+    omega (arith, taken_out_free st su k p (record { left = _; beside = taken_factor at p l e; becomes = without_factor at p }), sizes_taken at ts l)
 
 -- only its exponent is left of it
 pub exponent_free : {s t : State} {i h : ℕ} {ts : Trees} (at : ℕ) → Stands s → Stands t → KeepsRefusals s t → IsProduct i (forest s) ts → at < count ts
     → IsTakenOut i (removed at ts) (forest s) (forest t) h (exponent_of (nth at ts)) → free_of s ≤ free_of t + 40
-exponent_free {ts = ts} at st su k p l x = omega (arith, taken_out_free st su k p x, removed_sizes at ts l, split_bytes (nth at ts))
+exponent_free {ts = ts} at st su k p l x = omega (arith, taken_out_free st su k p x, sizes_taken at ts l, split_bytes (nth at ts))
 
 -- ---- refusals
 

@@ -1,20 +1,20 @@
 -- What holds of each part of the factors of a product holds of each part of what they are gathered to.
 use Rattle.std.proofs.Common.{◌≡◌, ℕ, List, Bool, true, false, if◌then◌else◌, refl, sym, subst}
-use Rattle.calc_terms.specs.Fractions.{Fraction, times, zero_fraction, one_fraction, is_zero_fraction, is_one_fraction}
-use Rattle.calc_terms.specs.Trees.{Tree, num, symbol, undef, add, mult, power, root, neg, sub, div, Trees, none, more, append, AllParts, AllPartsOf, IsPart, IsPartOf, itself, in_add, in_mult, in_base, in_exponent, in_root, in_neg, in_left, in_right, in_dividend, in_divisor, first, later}
-use Rattle.calc_algebra.specs.Numbers.{is_number, value, IsNumber, IsTerm, AreTerms}
+use Rattle.calc_terms.specs.Fractions.{Fraction, one_fraction}
+use Rattle.calc_terms.specs.Trees.{Tree, num, undef, add, mult, power, Trees, none, more, append, AllParts, AllPartsOf}
+use Rattle.calc_algebra.specs.Numbers.{is_number, value}
 use Rattle.calc_algebra.specs.Reduced.{base_of, is_num_one, is_opaque_exponent, num_one, product_tree}
-use Rattle.calc_algebra.proofs.MeaningRewrites.{Permuted, permuted_none, permuted_more, permuted_swap, permuted_trans}
 use Rattle.calc_algebra.proofs.NumberLaws.{number_words}
 use Rattle.calc_room.specs.Powers.{IsPowerOf, HasPowersOf}
 use Rattle.calc_room.specs.Spans.{Spans, SpansRoot, SpansTree, SpansTrees}
 use Rattle.calc_room.proofs.NumberSpans.{spans_times, spans_same, tree_spanned, value_spanned}
 use Rattle.calc_room.proofs.SpanLaws.{one_spanned}
-use Rattle.coefficients.specs.Coefficients.{factors_of, spliced, rational_before, with_coefficient}
-use Rattle.coefficients.specs.Multiples.{mapped, rational_times_factors, rational_times, rational_times_number, rational_times_term}
+use Rattle.coefficients.specs.Coefficients.{factors_of}
 use Rattle.coefficients.proofs.Forms.{AllPartsOf-append}
 use Rattle.node_order.specs.Sorting.{IsSorting}
 use Rattle.number_forms.specs.Readers.{is_zero}
+use Rattle.like_children.proofs.OwnPowers.{number_powers, own_powers_of}
+use Rattle.like_children.proofs.Parts.{factors_parts, permuted_parts, product_tree_parts, with_parts}
 use Rattle.product_reduce.specs.Answers.{IsJoined, IsWritten, IsWrittenProduct}
 use Rattle.product_reduce.specs.Factors.{opened, numbers_in, others_in, product_of_values, IsCoefficient, coefficient_before, coefficient_times}
 use Rattle.product_reduce.specs.Gathering.{IsGathered}
@@ -24,13 +24,9 @@ use Rattle.product_reduce.proofs.Sorted.{permuted_lists}
 -- ---- factors that are opened, parted, and change places
 
 module _ (P : Tree → Type 0) where
-  factors_parts : (t : Tree) → AllParts P t → AllPartsOf P (factors_of t)
-  factors_parts (mult ts) h = h.1
-  factors_parts t h = (h, tt)
-
   pub opened_parts : (ts : Trees) → AllPartsOf P ts → AllPartsOf P (opened ts)
   opened_parts none h = tt
-  opened_parts (more t ts) h = AllPartsOf-append P (factors_of t) (opened ts) (factors_parts t h.0) (opened_parts ts h.1)
+  opened_parts (more t ts) h = AllPartsOf-append P (factors_of t) (opened ts) (factors_parts P t h.0) (opened_parts ts h.1)
 
   pub numbers_parts : (ts : Trees) → AllPartsOf P ts → AllPartsOf P (numbers_in ts)
   numbers_parts none h = tt
@@ -48,69 +44,15 @@ module _ (P : Tree → Type 0) where
       by true go = go
       by false go = (h.0, go)
 
-  permuted_parts : {ts us : Trees} → Permuted ts us → AllPartsOf P ts → AllPartsOf P us
-  permuted_parts permuted_none h = h
-  permuted_parts (permuted_more k) h = (h.0, permuted_parts k h.1)
-  permuted_parts permuted_swap h = ((h.1).0, (h.0, (h.1).1))
-  permuted_parts (permuted_trans k l) h = permuted_parts l (permuted_parts k h)
-
--- ---- a coefficient before a part
+-- ---- gathered
 
 module _ (P : Tree → Type 0)
     (of_num : (q : Fraction) → P (num q))
     (of_add : (ts : Trees) → P (add ts))
     (of_mult : (ts : Trees) → P (mult ts)) where
-  product_tree_parts : (ts : Trees) → AllPartsOf P ts → AllParts P (product_tree ts)
-  product_tree_parts none h = of_num one_fraction
-  product_tree_parts (more t none) h = h.0
-  product_tree_parts (more t (more u ts)) h = (of_mult (more t (more u ts)), h)
-
-  spliced_parts : (c p : Tree) → AllParts P c → AllParts P p → AllParts P (spliced c p)
-  spliced_parts c p h k = (of_mult (append (factors_of c) (factors_of p)), AllPartsOf-append P (factors_of c) (factors_of p) (factors_parts P c h) (factors_parts P p k))
-
-  times_factors_parts : (q : Fraction) (ts : Trees) → AllPartsOf P ts → AllParts P (rational_times_factors q ts)
-  times_factors_parts q (more (num c) ts) h = by (is_one_fraction (times q c))
-    where
-      by : (b : Bool) → AllParts P (if b then product_tree ts else mult (more (num (times q c)) ts))
-      by true = product_tree_parts ts h.1
-      by false = (of_mult (more (num (times q c)) ts), (of_num (times q c), h.1))
-  times_factors_parts q ts h = (of_mult (more (num q) ts), (of_num q, h))
-
-  times_parts : (q : Fraction) (t : Tree) → AllParts P t → AllParts P (rational_times q t)
-  times_parts q (num c) h = of_num (times q c)
-  times_parts q (mult ts) h = times_factors_parts q ts h.1
-  times_parts q t h = (of_mult (more (num q) (more t none)), (of_num q, (h, tt)))
-
-  mapped_parts : (f : Tree → Tree) → ((t : Tree) → AllParts P t → AllParts P (f t)) → (ts : Trees) → AllPartsOf P ts → AllPartsOf P (mapped f ts)
-  mapped_parts f k none h = tt
-  mapped_parts f k (more t ts) h = (k t h.0, mapped_parts f k ts h.1)
-
-  times_term_parts : (q : Fraction) (t : Tree) → AllParts P t → AllParts P (rational_times_term q t)
-  times_term_parts q (mult (more (add us) ts)) h = by (is_number (add us))
-    where
-      by : (b : Bool) → AllParts P (if b then mult (more (rational_times_number q us) ts) else mult (more (num q) (more (add us) ts)))
-      by true = (of_mult (more (rational_times_number q us) ts), ((of_add (mapped (rational_times q) us), mapped_parts (rational_times q) (times_parts q) us ((h.1).0).1), (h.1).1))
-      by false = (of_mult (more (num q) (more (add us) ts)), (of_num q, h.1))
-  times_term_parts q t h = times_parts q t h
-
-  before_parts : (q : Fraction) (p : Tree) → AllParts P p → AllParts P (rational_before q p)
-  before_parts q (add ts) h = (of_add (mapped (rational_times_term q) ts), mapped_parts (rational_times_term q) (times_term_parts q) ts h.1)
-  before_parts q p h = spliced_parts (num q) p (of_num q) h
-
-  with_parts : (c p : Tree) → AllParts P c → AllParts P p → AllParts P (with_coefficient c p)
-  with_parts (num q) p h k = by (is_zero_fraction q) (is_one_fraction q)
-    where
-      by : (x y : Bool) → AllParts P (if x then num zero_fraction else (if y then p else rational_before q p))
-      by true y = of_num zero_fraction
-      by false true = k
-      by false false = before_parts q p k
-  with_parts c p h k = spliced_parts c p h k
-
-  -- ---- gathered
-
   written_parts : (c : Tree) (us : Trees) → AllParts P c → AllPartsOf P us → AllParts P (coefficient_times c us)
   written_parts c none h k = h
-  written_parts c (more t ts) h k = with_parts c (product_tree (more t ts)) h (product_tree_parts (more t ts) k)
+  written_parts c (more t ts) h k = with_parts P of_num of_add of_mult c (product_tree (more t ts)) h (product_tree_parts P of_num of_add of_mult (more t ts) k)
 
   before_factors : (c : Tree) (us : Trees) → AllParts P c → AllPartsOf P us → AllParts P (mult (coefficient_before c us))
   before_factors c us h k = (of_mult (coefficient_before c us), by (is_num_one c))
@@ -193,40 +135,6 @@ module _ (P : Tree → Type 0)
       (factors_joined (others_in (opened ts)) (others_parts P (opened ts) (opened_parts P ts h))))
 
 -- ---- powers: a Number has none, and those of the factors are their own
-
-term_powers : (ts : Trees) (t : Tree) → IsTerm t → HasPowersOf ts t
-term_powers ts (num q) h = tt
-term_powers ts (root (num r)) h = (tt, tt)
-term_powers ts (mult (more (num q) (more (root (num r)) none))) h = (tt, (tt, ((tt, tt), tt)))
-term_powers ts t h = absurd h
-
-terms_powers : (ts us : Trees) → AreTerms us → AllPartsOf (IsPowerOf ts) us
-terms_powers ts none h = tt
-terms_powers ts (more t us) h = (term_powers ts t h.0, terms_powers ts us h.1)
-
-number_powers : (ts : Trees) (t : Tree) → IsNumber t → HasPowersOf ts t
-number_powers ts (num q) h = tt
-number_powers ts (add us) h = (tt, terms_powers ts us h.1)
-number_powers ts (root a) h = term_powers ts (root a) h
-number_powers ts (mult us) h = term_powers ts (mult us) h
-number_powers ts t h = absurd h
-
-mutual
-  own_powers : (ts : Trees) (t : Tree) → ((p : Tree) → IsPart p t → IsPartOf p ts) → HasPowersOf ts t
-  own_powers ts (num q) k = tt
-  own_powers ts (symbol x) k = tt
-  own_powers ts undef k = tt
-  own_powers ts (add us) k = (tt, own_powers_of ts us (λ p h. k p (in_add h)))
-  own_powers ts (mult us) k = (tt, own_powers_of ts us (λ p h. k p (in_mult h)))
-  own_powers ts (power b e) k = (k (power b e) itself, own_powers ts b (λ p h. k p (in_base h)), own_powers ts e (λ p h. k p (in_exponent h)))
-  own_powers ts (root a) k = (tt, own_powers ts a (λ p h. k p (in_root h)))
-  own_powers ts (neg a) k = (tt, own_powers ts a (λ p h. k p (in_neg h)))
-  own_powers ts (sub a b) k = (tt, own_powers ts a (λ p h. k p (in_left h)), own_powers ts b (λ p h. k p (in_right h)))
-  own_powers ts (div a b) k = (tt, own_powers ts a (λ p h. k p (in_dividend h)), own_powers ts b (λ p h. k p (in_divisor h)))
-
-  own_powers_of : (ts us : Trees) → ((p : Tree) → IsPartOf p us → IsPartOf p ts) → AllPartsOf (IsPowerOf ts) us
-  own_powers_of ts none k = tt
-  own_powers_of ts (more t us) k = (own_powers ts t (λ p h. k p (first h)), own_powers_of ts us (λ p h. k p (later h)))
 
 coefficient_powers : (ts : Trees) (c : Tree) → IsCoefficient c (opened ts) → HasPowersOf ts c
 coefficient_powers ts c k = number_powers ts c (number_words c k.number)

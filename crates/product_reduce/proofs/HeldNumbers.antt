@@ -31,8 +31,9 @@ use Rattle.tree_bits.specs.Weighted.{weighted, AreHeld}
 use Rattle.tree_bits.proofs.Factors.{factor_as_tree}
 use Rattle.tree_bits.proofs.Numbers.{held_number, held_wider, nothing_held}
 use Rattle.tree_bits.proofs.Weighted.{put_before}
+use Rattle.like_children.proofs.NumbersIn.{both_true}
 use Rattle.product_reduce.specs.Bits.{IsFactorHeld, AreFactorsHeld, none_held, factor_held, term_held}
-use Rattle.product_reduce.specs.Factors.{numbers_in, product_of_values}
+use Rattle.product_reduce.specs.Factors.{product_of_values}
 
 -- ---- one Number
 
@@ -90,11 +91,6 @@ pub one_held : IsHeld surd_one 0 0
 one_held = held_power [] 0 0 0 (nothing_held 0 0)
 
 -- ---- the product of all
-
-pub both_true : (a b : Bool) → (a && b) ≡ true → (a ≡ true) × (b ≡ true)
-both_true true true h = (refl, refl)
-both_true true false h = cc
-both_true false b h = cc
 
 -- a rational and a root in front are one term in front
 term_in_front : (c r : Fraction) (v : Surd) (h l p q : ℕ) → IsHeld (term c (natural_of r.num) ∷ []) h l → IsHeld v p q
@@ -296,15 +292,3 @@ front_held (more (num c) none) (more (root (num r)) us) n (term_held p q k m f s
 front_held (more t (more u ts)) us n (factor_held p q k m f s x y) = factor_held p q k m f (front_held (more u ts) us (both_true (is_number t) (are_numbers (append (more u ts) us)) n).1 s) x y
 front_held (more (num c) (more (root (num r)) ts)) us n (term_held p q k m f s x y) =
     term_held p q k m f (front_held ts us (both_true (is_number (root (num r))) (are_numbers (append ts us)) n).1 s) x y
-
-pub front_numbers : (ts us : Trees) → are_numbers (append ts us) ≡ true → are_numbers ts ≡ true
-front_numbers none us n = refl
-front_numbers (more t ts) us n = let b = both_true (is_number t) (are_numbers (append ts us)) n in and_from (is_number t) (are_numbers ts) b.0 (front_numbers ts us b.1)
-
-pub numbers_are : (ts : Trees) → are_numbers (numbers_in ts) ≡ true
-numbers_are none = refl
-numbers_are (more t ts) = by (is_number t) refl (numbers_are ts)
-  where
-    by : (b : Bool) → is_number t ≡ b → are_numbers (numbers_in ts) ≡ true → are_numbers (if b then more t (numbers_in ts) else numbers_in ts) ≡ true
-    by true e go = and_from (is_number t) (are_numbers (numbers_in ts)) e go
-    by false e go = go

@@ -1,26 +1,22 @@
 -- A pair of factors is taken out of a product, and comes back as one power.
-use Rattle.std.proofs.Common.{ℕ, zero, suc, ◌<◌, ◌≤◌, ◌+◌, ◌≡◌, refl, ap, ◌∙◌, arith}
+use Rattle.std.proofs.Common.{ℕ, zero, suc, ◌<◌, ◌≤◌, ◌≡◌, true, refl, ap, ◌∙◌, arith}
+use Rattle.like_children.proofs.Kids.{count_removed, represents_without}
 use Rattle.number_forms.specs.Sums.{removed}
 use Rattle.calc_terms.specs.Trees.{Tree, Trees, none, more, count}
 use Rattle.tree_handles.specs.Expressions.{nth, inserted}
 use Rattle.tree_handles.specs.Forest.{Forest, kids, tree_nth, without_nth, with_nth}
 use Rattle.tree_handles.specs.Handed.{Ends, Gives}
-use Rattle.tree_handles.specs.Roots.{root_tree, without_root, put}
+use Rattle.tree_handles.specs.Roots.{has_root, root_tree, without_root, put}
 use Rattle.tree_handles.proofs.Given.{given_handed, given_rest, given_same, given_told, represents_handed, represents_with, represents_as}
 use Rattle.product_reduce.specs.Products.{Becomes, IsBeside, IsTakenOut}
 use Rattle.product_reduce.proofs.Beside.{beside_product, beside_put, beside_given, taken_factor}
-use Rattle.product_reduce.proofs.Products.{becomes_put, becomes_after, product_kids, represents_without}
+use Rattle.product_reduce.proofs.Products.{becomes_put, becomes_after, product_kids}
 
 pub nth_removed : (i j : ℕ) (ts : Trees) → i < j → nth i (removed j ts) ≡ nth i ts
 nth_removed i j none h = refl
 nth_removed i zero (more t ts) h = absurd (omega arith)
 nth_removed zero (suc j) (more t ts) h = refl
 nth_removed (suc i) (suc j) (more t ts) h = nth_removed i j ts (omega arith)
-
-pub count_removed : (n : ℕ) (ts : Trees) → n < count ts → count (removed n ts) + 1 ≡ count ts
-count_removed n none h = absurd (omega arith)
-count_removed zero (more t ts) h = omega arith
-count_removed (suc n) (more t ts) h = omega (arith, count_removed n ts (omega arith))
 
 -- ---- both factors are out
 
@@ -44,6 +40,12 @@ both_out i at ts f g h e p x y l d =
       second = beside_put i n y.beside y.becomes.product.handed.root;
       becomes = becomes_after y.becomes (becomes_put y.becomes.product r refl);
     }
+
+-- the exponent of the second of a pair is out, and now the first one
+pub pair_out : (ts : Trees) {i first second : ℕ} {f g h : Forest} {e p : ℕ} {x : Tree} → first < second → second < count ts → IsTakenOut i (removed second ts) f g e x
+    → (has_root i g ≡ true → Ends p (tree_nth first (kids (root_tree i g))) (put i (without_nth first (kids (root_tree i g))) g) h) → AreOut i (removed first (removed second ts)) f h p e (nth first (removed second ts)) x
+pair_out ts {i = i} {first = first} {second = second} {f = f} {g = g} {h = h} {e = e} {p = p} {x = x} o l y d =
+    both_out i first (removed second ts) f g h e p x y (omega (arith, count_removed second ts l, o, l)) (d (beside_product y.beside y.becomes.product).handed.root)
 
 -- ---- the power comes back
 

@@ -1,5 +1,6 @@
 -- The place of a joint behind a coefficient.
 use Rattle.std.proofs.Common.{ℕ, zero, suc, ◌+◌, ◌<◌, ◌≤◌, ◌≡◌, Bool, true, false, if◌then◌else◌, refl, ap, ◌∙◌, arith}
+use Rattle.like_children.proofs.Kids.{count_removed}
 use Rattle.std.proofs.lemmas.Bool.{and_parts, and_from}
 use Rattle.calc_algebra.specs.Numbers.{is_number}
 use Rattle.calc_algebra.specs.Reduced.{is_num_one, is_reduced, are_reduced}
@@ -7,11 +8,11 @@ use Rattle.calc_terms.specs.Trees.{Tree, Trees, none, more, append, count}
 use Rattle.coefficients.specs.Coefficients.{factors_of}
 use Rattle.number_forms.specs.Sums.{removed}
 use Rattle.tree_handles.specs.Expressions.{nth, inserted}
+use Rattle.like_children.proofs.NumbersIn.{count_append}
 use Rattle.product_reduce.specs.Factors.{coefficient_before}
 use Rattle.product_reduce.specs.Joining.{joint, joined, IsFirstPair, IsFirstJoint, IsJointAt}
 use Rattle.product_reduce.proofs.Finished.{formed_reduced, reduced_nth}
 use Rattle.product_reduce.proofs.Forms.{AllFormed, formed_factors, number_formed}
-use Rattle.product_reduce.proofs.Joins.{count_removed}
 use Rattle.product_reduce.proofs.Pairs.{joined_at}
 
 -- ---- places in lists
@@ -40,10 +41,6 @@ removed_behind : (ps ts : Trees) (n k : ℕ) → k ≡ count ps + n → removed 
 removed_behind none ts n k e = ap (λ (m : ℕ). removed m ts) (omega (arith, e))
 removed_behind (more p ps) ts n zero e = absurd (omega (arith, e))
 removed_behind (more p ps) ts n (suc k) e = ap (more p) (removed_behind ps ts n k (omega (arith, e)))
-
-pub count-append : (ps ts : Trees) → count (append ps ts) ≡ count ps + count ts
-count-append none ts = omega arith
-count-append (more p ps) ts = omega (arith, count-append ps ts)
 
 -- ---- reduced factors
 
@@ -82,7 +79,7 @@ front_reduced c h = by (is_num_one c)
     by false = formed_are_reduced (factors_of c) (formed_factors c (number_formed c h))
 
 pub count_before : (c : Tree) (ts : Trees) → count ts ≤ count (coefficient_before c ts)
-count_before c ts = let e = ap count (before_is c ts) ∙ count-append (in_front c) ts in omega arith
+count_before c ts = let e = ap count (before_is c ts) ∙ count_append (in_front c) ts in omega arith
 
 pub joined_count : (i j : ℕ) (us : Trees) → IsFirstPair i j us → i < count (joined us)
 joined_count i j us h =
@@ -105,7 +102,7 @@ joint_there i j at c us h e =
     let d = count_removed i (removed j us) b in
     let few : i ≤ count rest = omega (arith, b, d) in
     let whole : coefficient_before c (joined us) ≡ append ps (inserted i (more t none) rest) = before_is c (joined us) ∙ ap (append ps) (joined_at i j us h) in
-    let all : count (coefficient_before c (joined us)) ≡ count ps + count (joined us) = ap count (before_is c (joined us)) ∙ count-append ps (joined us) in
+    let all : count (coefficient_before c (joined us)) ≡ count ps + count (joined us) = ap count (before_is c (joined us)) ∙ count_append ps (joined us) in
     ap (nth at) whole ∙ nth_behind ps (inserted i (more t none) rest) i at (omega (arith, e, all)) ∙ nth_inserted i t rest few
 
 pub first_joint_at : (i j at : ℕ) (c : Tree) (us : Trees) → IsFirstPair i j us → at + count (joined us) ≡ count (coefficient_before c (joined us)) + i
@@ -123,7 +120,7 @@ joint_at i j at c us n r h e =
     let d = count_removed i (removed j us) b in
     let few : i ≤ count rest = omega (arith, b, d) in
     let whole : coefficient_before c (joined us) ≡ append ps (inserted i (more t none) rest) = before_is c (joined us) ∙ ap (append ps) (joined_at i j us h) in
-    let all : count (coefficient_before c (joined us)) ≡ count ps + count (joined us) = ap count (before_is c (joined us)) ∙ count-append ps (joined us) in
+    let all : count (coefficient_before c (joined us)) ≡ count ps + count (joined us) = ap count (before_is c (joined us)) ∙ count_append ps (joined us) in
     let place : at ≡ count ps + i = omega (arith, e, all) in
     let l = joined_count i j us h in
     record {

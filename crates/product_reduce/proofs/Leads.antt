@@ -28,11 +28,12 @@ use Rattle.product_reduce.proofs.Forms.{AllFormed}
 use Rattle.product_reduce.proofs.Fronts.{one_in_front, other_in_front, single_factor}
 use Rattle.product_reduce.proofs.Gathered.{others_permuted, reduced_permuted}
 use Rattle.product_reduce.proofs.HeldNumbers.{alone_held, no_factors_held}
-use Rattle.product_reduce.proofs.JointPlaces.{count-append}
 use Rattle.product_reduce.proofs.LastSteps.{ending, permuted_none_is, times_written}
 use Rattle.product_reduce.proofs.Misfits.{permuted_one_is}
 use Rattle.product_reduce.proofs.Neighbours.{pair_partners, sorted_apart, apart_before}
-use Rattle.product_reduce.proofs.Progress.{numbers_none, others_all, one_value}
+use Rattle.like_children.proofs.Folds.{no_numbers}
+use Rattle.like_children.proofs.NumbersIn.{count_append, no_numbers_none, no_numbers_others}
+use Rattle.product_reduce.proofs.Progress.{one_value}
 use Rattle.product_reduce.proofs.Sorted.{none_permuted, permuted_lists, sorted_rising}
 
 clash : true ≡ false → ⊥
@@ -51,7 +52,7 @@ factors_some t h = omega arith
 
 pub opened_some : (ts : Trees) → AllFormed ts → 1 ≤ count ts → 1 ≤ count (opened ts)
 opened_some none h l = absurd (omega arith)
-opened_some (more t ts) h l = omega (arith, factors_some t h.0.form, count-append (factors_of t) (opened ts))
+opened_some (more t ts) h l = omega (arith, factors_some t h.0.form, count_append (factors_of t) (opened ts))
 
 -- ---- how a coefficient is written
 
@@ -120,12 +121,12 @@ one_times (more t us) =
 pub lead_none : (ts : Trees) → NoNumberBetween 0 (count ts) ts → 1 ≤ count ts → IsLead 0 num_one ts
 unfolding is_number
 lead_none ts n l =
-    let all = others_all ts n in
+    let all = no_numbers_others ts (no_numbers ts n) in
     record {
       lead = none;
       split = sym all;
       long = refl;
-      coefficient = record { number = refl; same = Same-eq (one_value ∙ sym (ap product_of_values (numbers_none ts n))); held = λ h l a. no_factors_held (value num_one) h l one_value };
+      coefficient = record { number = refl; same = Same-eq (one_value ∙ sym (ap product_of_values (no_numbers_none ts (no_numbers ts n)))); held = λ h l a. no_factors_held (value num_one) h l one_value };
       not_zero = one_not_zero;
       some = subst (λ (x : Trees). 1 ≤ count x) (sym all) l;
       before = λ us. one_in_front num_one us one_is_one;
@@ -135,9 +136,9 @@ lead_none ts n l =
 pub lead_one : (ts : Trees) → IsNextNumber 0 0 ts → NoNumberBetween 1 (count ts) ts → NoneIs is_mult ts → is_zero (nth 0 ts) ≡ false → is_num_one (nth 0 ts) ≡ false → 2 ≤ count ts → is_one_add (removed 0 ts) ≡ false → IsLead 1 (nth 0 ts) ts
 lead_one none h n m z o l d = absurd (omega arith)
 lead_one (more c os) h n m z o l d =
-    let all : NoNumberBetween 0 (count os) os = λ k f x. n (suc k) (omega arith) (omega arith) in
-    let alone : others_in (more c os) ≡ os = ap (λ (b : Bool). if b then others_in os else more c (others_in os)) h.number ∙ others_all os all in
-    let numbers : numbers_in (more c os) ≡ more c none = ap (λ (b : Bool). if b then more c (numbers_in os) else numbers_in os) h.number ∙ ap (more c) (numbers_none os all) in
+    let all = no_numbers os (λ k f x. n (suc k) (omega arith) (omega arith)) in
+    let alone : others_in (more c os) ≡ os = ap (λ (b : Bool). if b then others_in os else more c (others_in os)) h.number ∙ no_numbers_others os all in
+    let numbers : numbers_in (more c os) ≡ more c none = ap (λ (b : Bool). if b then more c (numbers_in os) else numbers_in os) h.number ∙ ap (more c) (no_numbers_none os all) in
     let some : 1 ≤ count os = omega arith in
     record {
       lead = more c none;
@@ -189,12 +190,12 @@ permuted_behind (more t ps) p = permuted_more (permuted_behind ps p)
 
 -- they are as many at least, and as reduced
 pub lead_within : (n : ℕ) (c : Tree) (ts : Trees) → IsLead n c ts → n ≤ count ts
-lead_within n c ts h = omega (arith, ap count h.split, count-append h.lead (others_in ts), h.long)
+lead_within n c ts h = omega (arith, ap count h.split, count_append h.lead (others_in ts), h.long)
 
 pub put_within : (n : ℕ) (c : Tree) (ts us : Trees) → IsLead n c ts → IsSorting n base_of ts us → n + 1 ≤ count us
 put_within n c ts us h s =
     let b = behind n c ts us h s in
-    omega (arith, ap count b.is, count-append h.lead b.vs, h.long, some_permuted (others_in ts) b.vs (permuted_lists (others_in ts) b.vs b.sorted.moved) h.some)
+    omega (arith, ap count b.is, count_append h.lead b.vs, h.long, some_permuted (others_in ts) b.vs (permuted_lists (others_in ts) b.vs b.sorted.moved) h.some)
 
 pub put_reduced : (n : ℕ) (c : Tree) (ts us : Trees) → IsLead n c ts → IsSorting n base_of ts us → are_reduced ts ≡ true → are_reduced us ≡ true
 put_reduced n c ts us h s r =

@@ -12,7 +12,8 @@ pub mod Joins
 pub mod Ones
 pub mod Fronts
 pub mod Progress
-pub mod Multiplied
+pub mod Results
+pub mod Begun
 pub mod Sorted
 pub mod OneOrder
 pub mod Products
@@ -34,6 +35,5 @@ mod GatheredParts
 mod SpreadFits
 mod HeldProducts
 mod HeldMultiples
-mod Underway
 mod FreeBytes
 mod GatheredCounts

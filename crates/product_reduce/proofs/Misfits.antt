@@ -1,5 +1,5 @@
 -- Which operation of a product does not fit, from the call that was refused.
-use Rattle.std.proofs.Common.{◌≡◌, ℕ, eqb, ◌&&◌, false, Result, Ok, Err, refl, ap, ◌∙◌, subst}
+use Rattle.std.proofs.Common.{◌≡◌, ℕ, eqb, ◌&&◌, false, Result, Ok, Err, refl, ap, ◌∙◌}
 use Rattle.std.specs.Prelude.{IfErr, IsErrAnd}
 use Rattle.calc_algebra.proofs.MeaningRewrites.{Permuted, permuted_none, permuted_more, permuted_swap, permuted_trans, Permuted-sym}
 use Rattle.calc_algebra.specs.Numbers.{value}
@@ -41,9 +41,6 @@ pub product_named : (a b : Tree) (new : State) (r : Result ℕ NumberFault) → 
 product_named a b new (Ok x) h k = tt
 product_named a b new (Err (fault.Full full)) h k = tt
 product_named a b new (Err (fault.Overflow o)) h k = names_product a b o h k
-
-pub product_as : {a b c d : Tree} (o : Overflow) → a ≡ c → b ≡ d → NamesProduct a b o → NamesProduct c d o
-product_as {b = b} {c = c} o e f h = subst (λ (x : Tree). NamesProduct c x o) f (subst (λ (x : Tree). NamesProduct x b o) e h)
 
 -- ---- a coefficient and a sum
 

@@ -1,5 +1,6 @@
 -- Neighbours among sorted factors, and what their bases tell of all factors.
 use Rattle.std.specs.Ordering.{is_eq, is_lt}
+use Rattle.like_children.proofs.Kids.{count_removed}
 use Rattle.std.specs.Prelude.{IsSortedByKey, IsPermutation}
 use Rattle.std.proofs.lemmas.Bool.{and_parts}
 use Rattle.std.proofs.Common.{ℕ, zero, suc, ◌<◌, ◌≤◌, ◌+◌, ◌≡◌, Bool, true, false, not, ◌&&◌, if◌then◌else◌, refl, sym, ap, ◌∙◌, arith, add-one}
@@ -12,12 +13,12 @@ use Rattle.calc_terms.specs.Trees.{Tree, Trees, none, more, count, is_mult}
 use Rattle.node_order.specs.Sorting.{list_of}
 use Rattle.number_forms.specs.Sums.{removed}
 use Rattle.tree_handles.specs.Expressions.{nth}
+use Rattle.like_children.proofs.NumbersIn.{count_append}
 use Rattle.product_reduce.specs.Factors.{coefficient_before}
 use Rattle.product_reduce.specs.Joining.{is_partner, has_partner, have_partners, joint, IsJointAt}
 use Rattle.product_reduce.specs.Neighbours.{is_single, is_pair, IsPairAt, NoPairBetween, joined_pair}
 use Rattle.product_reduce.proofs.Finished.{reduced_nth}
-use Rattle.product_reduce.proofs.JointPlaces.{in_front, before_is, count-append, nth_behind, nth_inserted, removed_inserted, count_inserted, reduced_removed}
-use Rattle.product_reduce.proofs.Joins.{count_removed}
+use Rattle.product_reduce.proofs.JointPlaces.{in_front, before_is, nth_behind, nth_inserted, removed_inserted, count_inserted, reduced_removed}
 use Rattle.product_reduce.proofs.Sorted.{AreApart, apart_words, apart_permuted, less_of, permuted_lists}
 
 -- ---- a pair tells that some factors have partners
@@ -94,7 +95,7 @@ pub pair_before : (n at : ℕ) (c : Tree) (us : Trees) → IsPairAt n us → at 
 pair_before n at c us p e =
     let ps = in_front c in
     let whole = before_is c us in
-    let all : count (coefficient_before c us) ≡ count ps + count us = ap count whole ∙ count-append ps us in
+    let all : count (coefficient_before c us) ≡ count ps + count us = ap count whole ∙ count_append ps us in
     let place : at ≡ count ps + n = omega (arith, e, all) in
     record {
       within = omega (arith, all, place, p.within);

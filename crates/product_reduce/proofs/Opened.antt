@@ -9,12 +9,13 @@ use Rattle.calc_algebra.specs.SquareClasses.{Same}
 use Rattle.calc_algebra.specs.Surds.{Surd}
 use Rattle.calc_terms.specs.Trees.{Tree, num, mult, Trees, none, more, append}
 use Rattle.calc_terms.proofs.FractionFacts.{one_is}
-use Rattle.calc_algebra.proofs.MeaningRewrites.{KeepsMeanings, KeepsMeanings-refl, KeepsMeanings-eq, KeepsMeanings-trans, KeepsMeanings-product_more, KeepsMeanings-product_append, flat_product, nested_product, Permuted, permuted_none, permuted_more, permuted_trans, Permuted-sym, Permuted-to_front, permuted_product, one_factor_of_product, product_parts, none_product}
+use Rattle.calc_algebra.proofs.MeaningRewrites.{KeepsMeanings, KeepsMeanings-refl, KeepsMeanings-eq, KeepsMeanings-trans, KeepsMeanings-product_more, KeepsMeanings-product_append, flat_product, nested_product, permuted_product, one_factor_of_product, product_parts, none_product}
 use Rattle.calc_algebra.proofs.NumberLaws.{number_words}
 use Rattle.calc_algebra.proofs.NumberRewrites.{number_value, value_means}
 use Rattle.calc_algebra.proofs.SquareClassLaws.{Same-trans}
 use Rattle.calc_algebra.proofs.MeaningLaws.{Same-sym}
 use Rattle.calc_algebra.proofs.TermLaws.{Same-surd_times}
+use Rattle.like_children.proofs.NumbersIn.{numbers_first}
 use Rattle.product_reduce.specs.Factors.{opened, numbers_in, others_in, product_of_values, IsCoefficient, coefficient_before}
 
 -- ---- products in a product
@@ -28,14 +29,6 @@ opened_keeps none = KeepsMeanings-refl (mult none)
 opened_keeps (more t ts) = KeepsMeanings-trans (first_opened t ts) (KeepsMeanings-product_append (KeepsMeanings-refl (mult (factors_of t))) (opened_keeps ts))
 
 -- ---- Numbers among the factors
-
-pub numbers_first : (ts : Trees) → Permuted ts (append (numbers_in ts) (others_in ts))
-numbers_first none = permuted_none
-numbers_first (more t ts) = by (numbers_first ts) (is_number t)
-  where
-    by : Permuted ts (append (numbers_in ts) (others_in ts)) → (k : Bool) → Permuted (more t ts) (append (if k then more t (numbers_in ts) else numbers_in ts) (if k then others_in ts else more t (others_in ts)))
-    by go true = permuted_more go
-    by go false = permuted_trans (permuted_more go) (Permuted-sym (Permuted-to_front (numbers_in ts) t (others_in ts)))
 
 values_multiplied : (f : Assignment) → IsAssignment f → (ts : Trees) (v : Surd) → Means (mult (numbers_in ts)) f v → Same v (product_of_values (numbers_in ts))
 values_multiplied f once none v m = none_product f v m

@@ -24,11 +24,10 @@ use Rattle.product_reduce.specs.Answers.{AreOthers, IsEnding}
 use Rattle.product_reduce.specs.Joining.{have_partners}
 use Rattle.product_reduce.specs.Factors.{coefficient_before}
 use Rattle.product_reduce.specs.Products.{IsProduct, Becomes, factors_in}
-use Rattle.product_reduce.specs.Sorting.{SortsFactors}
-use Rattle.product_reduce.proofs.Beside.{beside_becomes, tree_becomes}
+use Rattle.product_reduce.proofs.Beside.{tree_becomes}
 use Rattle.product_reduce.proofs.LastSteps.{coefficient_alone, ending, permuted_none_is, sorted_factors}
 use Rattle.product_reduce.proofs.Products.{factors_are}
-use Rattle.product_reduce.proofs.Sorted.{permuted_lists, sorted_rising}
+use Rattle.product_reduce.proofs.Sorted.{sorted_rising}
 
 -- the factors stand sorted, and the coefficient as before
 pub record AreReadied (i c : ℕ) (old now : Forest) : Type 0 where
@@ -40,19 +39,6 @@ pub record AreReadied (i c : ℕ) (old now : Forest) : Type 0 where
   pub sorted : IsSorting 0 base_of (factors_in i old) us
   pub permuted : Permuted (factors_in i old) us
   pub rising : RisesBy base_of us
-
-pub readied : {s t : State} (i c : ℕ) → Stands s → Stands t → IsProduct i (forest s) (factors_in i (forest s)) → IsHanded c (forest s) → eqb c i ≡ false → have_partners (factors_in i (forest s)) ≡ false
-    → SortsFactors i 0 (forest s) (forest t) → AreReadied i c (forest s) (forest t)
-readied {s = s} i c ss st p h d n x = record {
-  us = x.us;
-  product = x.becomes.product;
-  others = x.becomes.others;
-  handed = beside_becomes c ss st p x.becomes h d;
-  tree = ap plain (tree_becomes c ss st p x.becomes h d);
-  sorted = x.sorted;
-  permuted = permuted_lists (factors_in i (forest s)) x.us x.sorted.moved;
-  rising = sorted_rising (factors_in i (forest s)) x.us n x.sorted.moved x.sorted.rising;
-}
 
 -- and so where they stand sorted already
 pub readied_here : {f : Forest} (i c : ℕ) → IsProduct i f (factors_in i f) → IsHanded c f → have_partners (factors_in i f) ≡ false → IsSortedByKey base_of tree_cmp (list_of (factors_in i f)) → AreReadied i c f f

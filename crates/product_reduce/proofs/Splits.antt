@@ -1,5 +1,6 @@
 -- A factor is split into its base and its exponent.
-use Rattle.std.proofs.Common.{ℕ, ◌≡◌, [], ◌∷◌, Bool, true, false, if◌then◌else◌, refl, sym, ap, ◌∙◌, subst, arith}
+use Rattle.std.proofs.Common.{ℕ, ◌≡◌, [], ◌∷◌, Bool, true, false, if◌then◌else◌, refl, sym, ap, ◌∙◌, subst, arith, cond, eqb}
+use Rattle.like_children.proofs.Kids.{represents_kids, represents_without}
 use Rattle.number_forms.specs.Sums.{removed}
 use Rattle.std.proofs.lemmas.Bool.{not-true, not-false}
 use Rattle.calc_algebra.specs.Reduced.{is_opaque_exponent, is_transparent_power, base_of, num_one}
@@ -17,7 +18,8 @@ use Rattle.tree_handles.proofs.Roots.{root-put, kids-put}
 use Rattle.product_reduce.specs.Joining.{exponent_of}
 use Rattle.product_reduce.specs.Products.{IsBeside, IsSplit}
 use Rattle.product_reduce.proofs.Beside.{beside_as, beside_root, beside_tree, beside_without, taken_beside}
-use Rattle.product_reduce.proofs.Products.{tree_put, others_put, represents_kids, represents_without}
+use Rattle.coefficients.proofs.Places.{without_put}
+use Rattle.tree_handles.proofs.Outcomes.{by_test}
 
 -- ---- powers that are not opaque, and other factors
 
@@ -47,6 +49,13 @@ opaque (sub a b) h = record { base = refl; exponent = refl }
 opaque (div a b) h = record { base = refl; exponent = refl }
 
 -- ---- a root that keeps fewer children
+
+tree_put : (i : ℕ) (n f : Forest) → root_tree i (put i n f) ≡ with_root_kids n (root_tree i f)
+tree_put i n empty = refl
+tree_put i n (tree l k r) =
+    by_test (λ b. root_tree i (cond b (tree l n r) (tree l k (put i n r))) ≡ with_root_kids n (cond b (tree l k empty) (root_tree i r))) (eqb l.id i)
+    (λ e. ap (λ (b : Bool). cond b (tree l n empty) (root_tree i r)) e)
+    (λ e. ap (λ (b : Bool). cond b (tree l k empty) (root_tree i (put i n r))) e ∙ tree_put i n r)
 
 with_fewer : (n t : Forest) → AllOnce n → AllOnce t → AllOnce (with_root_kids n t)
 with_fewer n empty h k = tt
@@ -115,8 +124,8 @@ emptied i f g h a b top x e =
       owned = record { root = beside_root i d root; once = subst AllOnce (sym (beside_tree i d root)) (once_put i g n x.once (all-without_nth IsOnce 0 (kids (root_tree i g)) x.below.once)) };
       split = record {
         left = without_root i g;
-        base = beside_as (beside_without i d root) x.first (others_put i n g) refl;
-        exponent = beside_as (beside_without i x.exponent first_root) refl (others_put i (without_nth 1 (kids (root_tree i f))) f) refl;
+        base = beside_as (beside_without i d root) x.first (without_put i n g) refl;
+        exponent = beside_as (beside_without i x.exponent first_root) refl (without_put i (without_nth 1 (kids (root_tree i f))) f) refl;
       };
       front = front_without behind_first (front_end e (front_put n behind_first x.front));
     }

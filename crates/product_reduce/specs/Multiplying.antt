@@ -1,40 +1,41 @@
--- The Numbers among the factors, multiplied from left to right.
-use Rattle.std.specs.Prelude.{ℕ, ◌≡◌, ◌≤◌, ◌<◌, true}
+-- The first Number among the factors, which the others are multiplied into.
+use Rattle.std.specs.Prelude.{ℕ, List, ◌≡◌, ◌≤◌, true}
 use Rattle.calc_terms.specs.Fits.{mul_op}
 use Rattle.calc_algebra.specs.Numbers.{is_number, value}
-use Rattle.calc_measures.specs.PlainValues.{plain_value}
+use Rattle.calc_algebra.specs.Reduced.{are_reduced}
 use Rattle.calc_algebra.specs.SquareClasses.{Same}
-use Rattle.calc_algebra.specs.Surds.{surd_times}
 use Rattle.calc_bits.specs.Masses.{IsHeld}
-use Rattle.calc_terms.specs.Trees.{Tree, mult, Trees, append, count, are_rationals}
+use Rattle.calc_measures.specs.PlainValues.{plain_value}
+use Rattle.calc_room.specs.Spans.{SpansTree, SpansTrees}
+use Rattle.calc_terms.specs.Trees.{Tree, mult, Trees, append, count, are_rationals, sizes}
+use Rattle.like_children.specs.Children.{LeavesChildren}
 use Rattle.like_children.specs.Folds.{AreFolded}
 use Rattle.tree_handles.specs.Expressions.{plain}
 use Rattle.tree_handles.specs.Forest.{Forest}
 use Rattle.tree_handles.specs.Roots.{root_tree}
 use Rattle.product_reduce.specs.Bits.{AreFactorsHeld}
 use Rattle.product_reduce.specs.Factors.{numbers_in, others_in, product_of_values}
-use Rattle.calc_algebra.specs.Reduced.{are_reduced}
-use Rattle.product_reduce.specs.Products.{IsTakenOut}
 
--- these Numbers are the first ones, whose product is d, which is held by what holds them one by one, and then the others
-pub record AreMultiplied (ns others : Trees) (d : Tree) : Type 0 where
-  pub first : Trees
-  pub is : ns ≡ append first others
-  pub worth : Same (value d) (product_of_values first)
-  pub held : (h l : ℕ) → AreFactorsHeld first h l → IsHeld (value d) h l
+-- a Number that is worth these multiplied, and is held by what holds them one by one
+pub record IsProductOf (ns : Trees) (d : Tree) : Type 0 where
+  pub worth : Same (value d) (product_of_values ns)
+  pub held : (h l : ℕ) → AreFactorsHeld ns h l → IsHeld (value d) h l
 
--- the Numbers of ts multiplied are d times those that are still among us; the other factors are the same
-pub record IsProgress (ts us : Trees) (d : Tree) : Type 0 where
+-- the first Number of ts, and 1 where there is none; us are the factors that are left
+pub record IsBegun (ts us : Trees) (d : Tree) : Type 0 where
   pub number : is_number d ≡ true
-  pub worth : Same (product_of_values (numbers_in ts)) (surd_times (value d) (product_of_values (numbers_in us)))
-  pub multiplied : AreMultiplied (numbers_in ts) (numbers_in us) d
+  pub first : Trees
+  pub is : numbers_in ts ≡ append first (numbers_in us)
+  pub some : 1 ≤ count (numbers_in us) → 1 ≤ count first
+  pub product : IsProductOf first d
   pub others : others_in us ≡ others_in ts
   pub reduced : are_reduced us ≡ true
-  pub fewer : 1 ≤ count (numbers_in us) → count (numbers_in us) < count (numbers_in ts)
+  pub fewer : sizes us ≤ sizes ts
+  pub spanned : (gs : List ℕ) → SpansTrees gs ts → SpansTree gs d × SpansTrees gs us
   pub folded : are_rationals ts ≡ true → 1 ≤ count ts → AreFolded mul_op (plain_value (mult ts)) d us
 
--- beside what is left of a product stands the product of its Numbers so far
+-- it stands beside what is left of a product
 pub record IsUnderway (i : ℕ) (ts : Trees) (old new : Forest) (h : ℕ) : Type 0 where
   pub us : Trees
-  pub taken : IsTakenOut i us old new h (plain (root_tree h new))
-  pub progress : IsProgress ts us (plain (root_tree h new))
+  pub left : LeavesChildren i us old new h
+  pub begun : IsBegun ts us (plain (root_tree h new))

@@ -127,3 +127,19 @@ pub fn finished(
     let part = unwrapped(pool, product);
     put_coefficient(pool, coefficient, part)
 }
+
+/// The coefficient alone, which goes last. The product is released.
+pub fn alone(pool: &mut Pool, product: Handle, coefficient: Handle) -> Handle
+    requires stands { Stands pool.old }
+    requires product { IsHanded product (forest pool.old) }
+    requires coefficient { IsHanded coefficient (forest pool.old) }
+    requires apart { (coefficient == product) ≡ false }
+    ensures ok { Gives (without_root product (without_root coefficient (forest pool.old))) (forest pool.new) result (λ t. t ≡ tree_of coefficient pool.old) }
+    ensures front { KeepsFront (product ∷ coefficient ∷ []) (forest pool.old) (forest pool.new) }
+    ensures kept { KeepsRefusals pool.old pool.new }
+    ensures stands { Stands pool.new }
+{
+    release(pool, product);
+    move_last(pool, &coefficient);
+    coefficient
+}

@@ -8,8 +8,9 @@ ghost use Rattle.tree_handles.specs.Inside.{tree_at};
 ghost use Rattle.tree_handles.specs.Standing.{Stands, forest, KeepsRefusals};
 
 use calc_terms::Kind;
+use like_children::{Opens, open_children};
 use node_pool::{Id, Pool};
-use tree_handles::{Handle, child_id, children, has_undefined_child, kind, merge_children};
+use tree_handles::{Handle, child_id, children, has_undefined_child, kind};
 
 /// How many factors a product has.
 pub fn factor_count(pool: &Pool, product: &Handle) -> u16
@@ -56,6 +57,22 @@ pub fn has_undef_factor(pool: &Pool, product: &Handle) -> bool
     has_undefined_child(pool, product.id())
 }
 
+/// Products give way to their factors.
+struct Products;
+
+impl Opens for Products {
+    ghost use Rattle.std.specs.Prelude.{⊤};
+    ghost use Rattle.coefficients.specs.Coefficients.{factors_of};
+
+    ghost parts = { factors_of };
+
+    ghost can_tell = { λ t. ⊤ };
+
+    fn opens(&self, pool: &Pool, id: Id) -> bool {
+        is_product(pool, id)
+    }
+}
+
 /// The factors of each factor that is a product take its place.
 pub fn open_products(pool: &mut Pool, product: &Handle)
     requires stands { Stands pool.old }
@@ -64,11 +81,5 @@ pub fn open_products(pool: &mut Pool, product: &Handle)
     ensures kept { KeepsRefusals pool.old pool.new }
     ensures stands { Stands pool.new }
 {
-    let mut at = factor_count(pool, product);
-    while at > 0 {
-        at -= 1;
-        if is_product(pool, factor(pool, product, at)) {
-            merge_children(pool, product, at);
-        }
-    }
+    open_children(pool, product, &Products);
 }

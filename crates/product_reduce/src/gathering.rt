@@ -26,7 +26,7 @@ ghost use Rattle.tree_handles.specs.Standing.{LacksBytes, Stands, forest, KeepsR
 ghost use Rattle.tree_room.specs.Handed.{numbers_among, product_count};
 ghost use Rattle.tree_room.specs.Needs.{product_step_room};
 
-use crate::endings::finished;
+use crate::endings::{alone, finished};
 use crate::factors::{factor_count, has_undef_factor, open_products};
 use crate::fronting::put_in_front;
 use crate::joining::join_pair;
@@ -37,7 +37,7 @@ use crate::steps::Joining;
 use coefficients::unwrapped;
 use node_pool::{Full, Pool};
 use number_forms::is_zero;
-use tree_handles::{Handle, NumberFault, move_last, release, undefined};
+use tree_handles::{Handle, NumberFault, move_last, undefined};
 
 /// A product of reduced factors with its Numbers as one coefficient and its other factors in the order of their bases,
 /// and the place of the first that has the base of the next one; where there is none, the reduced tree.
@@ -156,9 +156,7 @@ fn order_or_end(
     ensures stands { Stands pool.new }
 {
     if is_zero(pool, coefficient.id()) {
-        release(pool, product);
-        move_last(pool, &coefficient);
-        return Ok(Joining::Done(coefficient));
+        return Ok(Joining::Done(alone(pool, product, coefficient)));
     }
     sort_factors(pool, &product, 0);
     match like_children::next_pair(pool, &product, 0, &Bases) {

@@ -1,16 +1,10 @@
 //! The Numbers among the factors, multiplied from left to right.
-ghost use Rattle.std.specs.Prelude.{ℕ, List, length, ◌≡◌, ◌==◌, ◌<◌, ◌≤◌, ◌+◌, ◌*◌, ◌^◌, true, false, IfOk, IfErr, OnOk, [], ◌∷◌};
-ghost use Rattle.number_forms.specs.Sums.{removed};
+ghost use Rattle.std.specs.Prelude.{ℕ, List, length, ◌≡◌, ◌<◌, ◌≤◌, ◌+◌, ◌*◌, ◌^◌, true, IfOk, IfErr, OnOk, [], ◌∷◌};
 ghost use Rattle.calc_algebra.specs.Reduced.{are_reduced};
-ghost use Rattle.calc_terms.specs.Trees.{are_rationals, num, mult, count, size};
-ghost use Rattle.calc_terms.specs.Fits.{mul_op};
-ghost use Rattle.calc_terms.specs.Fractions.{Fraction};
-ghost use Rattle.calc_algebra.specs.Numbers.{is_number, value};
-ghost use Rattle.calc_measures.specs.PlainValues.{calculated, plain_value};
-ghost use Rattle.calc_algebra.specs.Surds.{surd_times};
-ghost use Rattle.calc_bits.specs.Bounds.{HasFewBits, IsNoLarger};
+ghost use Rattle.calc_terms.specs.Trees.{are_rationals, mult, count};
+ghost use Rattle.calc_measures.specs.PlainValues.{plain_value};
 ghost use Rattle.calc_room.specs.Needs.{product_need};
-ghost use Rattle.calc_room.specs.Spans.{SpansTree, SpansTrees};
+ghost use Rattle.calc_room.specs.Spans.{SpansTrees};
 ghost use Rattle.node_pool.specs.State.{free_of};
 ghost use Rattle.number_forms.specs.Lacks.{LacksBelow};
 ghost use Rattle.product_reduce.specs.Bits.{AreFactorsHeld};
@@ -18,17 +12,15 @@ ghost use Rattle.like_children.specs.Numbers.{NoNumberBetween};
 ghost use Rattle.product_reduce.specs.Factors.{numbers_in, others_in, IsCoefficient};
 ghost use Rattle.product_reduce.specs.Multiplying.{IsUnderway};
 ghost use Rattle.product_reduce.specs.Products.{IsProduct, IsTakenOut, factors_in};
-ghost use Rattle.number_forms.specs.Answers.{IsNumberOf, AnswersRationals};
+ghost use Rattle.number_forms.specs.Answers.{AnswersRationals};
 ghost use Rattle.tree_handles.specs.Faults.{OfOverflow, Faults};
-ghost use Rattle.product_reduce.specs.Misfits.{MultiplyingOverflows, NamesProduct};
+ghost use Rattle.product_reduce.specs.Misfits.{MultiplyingOverflows};
 ghost use Rattle.tree_handles.specs.Causes.{IsCaused};
 ghost use Rattle.tree_handles.specs.Standing.{LacksBytes, Stands, forest, KeepsRefusals, Refuses};
-ghost use Rattle.tree_handles.specs.Handed.{tree_of, IsHanded, KeepsFront};
-ghost use Rattle.tree_handles.specs.Expressions.{nth};
-ghost use Rattle.tree_handles.specs.Roots.{without_root};
+ghost use Rattle.tree_handles.specs.Handed.{tree_of, KeepsFront};
 
 use crate::nodes::one;
-use like_children::next_number;
+use like_children::{Joins, collect_numbers, next_number};
 use node_pool::{Full, Pool};
 use number_forms::multiply_numbers;
 use tree_handles::{Handle, NumberFault, take_child};
@@ -53,42 +45,26 @@ fn take_first_number(pool: &mut Pool, product: &Handle) -> Result<Handle, Full>
     }
 }
 
-/// The Number at a place is multiplied into the product of those before it.
-fn multiply_in(
-    pool: &mut Pool,
-    product: &Handle,
-    at: u16,
-    so_far: Handle,
-) -> Result<Handle, NumberFault>
-    requires stands { Stands pool.old }
-    requires product { IsProduct product.now (forest pool.old) (factors_in product.now (forest pool.old)) }
-    requires within { at < count (factors_in product.now (forest pool.old)) }
-    requires number { is_number (nth at (factors_in product.now (forest pool.old))) ≡ true }
-    requires handed { IsHanded so_far (forest pool.old) }
-    requires apart { (so_far == product.now) ≡ false }
-    requires so_far { is_number (tree_of so_far pool.old) ≡ true }
-    ensures ok { let ts = factors_in product.now (forest pool.old) in
-        IfOk result (λ h. IsTakenOut product.now (removed at ts) (without_root so_far (forest pool.old)) (forest pool.new) h (tree_of h pool.new)) }
-    ensures number { let ts = factors_in product.now (forest pool.old) in
-        IfOk result (λ h. IsNumberOf (surd_times (value (tree_of so_far pool.old)) (value (nth at ts))) (tree_of h pool.new)) }
-    ensures rationals { let ts = factors_in product.now (forest pool.old) in
-        (p q : Fraction) → tree_of so_far pool.old ≡ num p → nth at ts ≡ num q → AnswersRationals (calculated mul_op p q) pool.new result }
-    ensures overflow { IfErr result (OfOverflow (NamesProduct (tree_of so_far pool.old) (nth at (factors_in product.now (forest pool.old))))) }
-    ensures measured { let ts = factors_in product.now (forest pool.old) in
-        IfOk result (λ h. IsNoLarger (surd_times (value (tree_of so_far pool.old)) (value (nth at ts))) (value (tree_of h pool.new))) }
-    ensures bits { let ts = factors_in product.now (forest pool.old) in
-        HasFewBits (surd_times (value (tree_of so_far pool.old)) (value (nth at ts))) → IfErr result (OfOverflow (λ o. ⊥)) }
-    ensures room { let t = nth at (factors_in product.now (forest pool.old)) in
-        (gs : List ℕ) → SpansTree gs (tree_of so_far pool.old) → SpansTree gs t
-        → IfErr result (LacksBelow (product_need * 2 ^ length gs) (free_of pool.old + size (tree_of so_far pool.old) + size t)) }
-    ensures front { KeepsFront (product.now ∷ so_far ∷ []) (forest pool.old) (forest pool.new) }
-    ensures kept { OnOk result (KeepsRefusals pool.old pool.new) }
-    ensures faults { IfErr result (Faults pool.old pool.new) }
-    ensures caused { IfErr result (IsCaused pool.new) }
-    ensures stands { Stands pool.new }
-{
-    let number = take_child(pool, product, at);
-    multiply_numbers(pool, so_far, number)
+/// Numbers are multiplied.
+struct Multiplying;
+
+impl Joins for Multiplying {
+    ghost use Rattle.calc_algebra.specs.Surds.{surd_times};
+    ghost use Rattle.calc_room.specs.Needs.{product_need};
+    ghost use Rattle.calc_terms.specs.Fits.{mul_op};
+    ghost use Rattle.product_reduce.specs.Misfits.{NamesProduct};
+
+    ghost operation = { mul_op };
+
+    ghost both = { surd_times };
+
+    ghost misfit = { NamesProduct };
+
+    ghost need = { product_need };
+
+    fn join(&self, pool: &mut Pool, a: Handle, b: Handle) -> Result<Handle, NumberFault> {
+        multiply_numbers(pool, a, b)
+    }
 }
 
 /// Takes the Numbers among the factors out of a product, multiplied from left to right; 1 where there is none.
@@ -112,12 +88,6 @@ pub fn take_coefficient(pool: &mut Pool, product: &Handle) -> Result<Handle, Num
     ensures caused { IfErr result (IsCaused pool.new) }
     ensures stands { Stands pool.new }
 {
-    let mut coefficient = take_first_number(pool, product)?;
-    while let Some(at) = next_number(pool, product, 0) {
-        match multiply_in(pool, product, at, coefficient) {
-            Ok(product) => coefficient = product,
-            Err(fault) => return Err(fault),
-        }
-    }
-    Ok(coefficient)
+    let first = take_first_number(pool, product)?;
+    collect_numbers(pool, product, first, &Multiplying)
 }

@@ -26,14 +26,14 @@ ghost use Rattle.tree_room.specs.Needs.{product_step_room};
 ghost use Rattle.tree_handles.specs.Roots.{without_root};
 ghost use Rattle.tree_handles.specs.Standing.{Stands, forest, KeepsRefusals};
 
-use crate::endings::{joined, sorted};
+use crate::endings::{alone, joined, sorted};
 use crate::factors::{has_undef_factor, open_products};
 use crate::numbers::take_coefficient;
 use crate::partners::first_pair;
 use node_pool::Pool;
 use number_forms::is_zero;
 use reduce_port::Step;
-use tree_handles::{Handle, NumberFault, move_last, release, undefined};
+use tree_handles::{Handle, NumberFault, undefined};
 
 /// What a step on a product made of it.
 #[derive(Drop)]
@@ -169,9 +169,7 @@ fn join_or_end(
     ensures stands { Stands pool.new }
 {
     if is_zero(pool, coefficient.id()) {
-        release(pool, product);
-        move_last(pool, &coefficient);
-        return Ok(Joining::Done(coefficient));
+        return Ok(Joining::Done(alone(pool, product, coefficient)));
     }
     match first_pair(pool, &product) {
         Some((first, second)) => {

@@ -1,5 +1,6 @@
 -- The addends of terms, of multiples of terms, and of sums.
 use Rattle.std.proofs.Common.{◌≡◌, ◌≢◌, ◌≤◌, ◌⊎◌, inl, inr, [], ◌∷◌, Bool, true, false, if◌then◌else◌, refl, sym, ap, ◌∙◌, subst, arith, append-nil, map, one-mul}
+use Rattle.like_children.proofs.Parts.{last_parts}
 use Rattle.calc_terms.specs.Fractions.{Fraction, times, zero_fraction, one_fraction, is_one_fraction}
 use Rattle.calc_terms.proofs.FractionFacts.{zero_test, one_is}
 use Rattle.calc_terms.specs.Trees.{Tree, num, add, mult, root, Trees, none, more, append, count, is_add, AllParts, AllPartsOf}
@@ -19,7 +20,6 @@ use Rattle.coefficients.proofs.NumberMultiples.{IsFactor, not_one_is, number_sca
 use Rattle.coefficients.proofs.Splits.{IsCoefficient, Leads, in_front}
 use Rattle.coefficients.proofs.SumMultiples.{number_term}
 use Rattle.coefficients.proofs.TermMultiples.{multiple}
-use Rattle.sum_reduce.proofs.CollectedParts.{last_parts}
 use Rattle.sum_reduce.proofs.WrittenSums.{number_terms-terms, other_terms-terms}
 use Rattle.tree_bits.specs.Factors.{distributed}
 use Rattle.tree_bits.specs.HeldTrees.{Addend, addend, addend_of, addends, addends_of}

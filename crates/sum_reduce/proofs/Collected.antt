@@ -1,5 +1,6 @@
 -- What is answered for terms no two of which have identical parts.
 use Rattle.std.specs.Prelude.{IsPermutation}
+use Rattle.like_children.proofs.NumbersIn.{append_none, number_in, number_out, no_numbers_others, no_numbers_none}
 use Rattle.std.proofs.Common.{◌≤◌, ◌≡◌, [], length, Bool, true, if◌then◌else◌, inl, inr, refl, sym, ap, ◌∙◌, subst, arith, append-nil}
 use Rattle.calc_terms.specs.Fractions.{zero_fraction}
 use Rattle.calc_algebra.specs.Numbers.{is_number, value, terms_of}
@@ -17,14 +18,10 @@ use Rattle.sum_reduce.specs.Stages.{IsStage}
 use Rattle.sum_reduce.specs.SumAnswers.{IsCollected}
 use Rattle.sum_reduce.specs.Terms.{opened, terms_of_number, sum_tree, written_tree}
 use Rattle.sum_reduce.proofs.Orders.{arranged_flat}
-use Rattle.sum_reduce.proofs.Rearranged.{tight_opened, number_in, number_out, no_numbers_others, no_numbers_none}
+use Rattle.sum_reduce.proofs.Rearranged.{tight_opened}
 use Rattle.sum_reduce.proofs.WrittenSums.{zero_terms, term_in}
 
 -- ---- a Number alone
-
-append_none : (ts : Trees) → append ts none ≡ ts
-append_none none = refl
-append_none (more t ts) = ap (more t) (append_none ts)
 
 two_tree : (ts : Trees) → 2 ≤ length (terms_of ts) → sum_tree ts ≡ add ts
 two_tree none h = absurd (omega arith)

@@ -1,5 +1,6 @@
 -- The terms of a sum are collected to terms that count no more.
 use Rattle.std.proofs.Common.{◌≡◌, ℕ, suc, ◌+◌, ◌≤◌, max, Bool, true, false, not, if◌then◌else◌, refl, sym, ap, ◌∙◌, subst, arith}
+use Rattle.like_children.proofs.Parts.{permuted_parts, first_parts, last_parts}
 use Rattle.calc_terms.specs.Fractions.{Fraction, times, zero_fraction, is_zero_fraction, is_one_fraction}
 use Rattle.calc_terms.proofs.FractionFacts.{no_zero}
 use Rattle.calc_terms.specs.Trees.{Tree, num, symbol, undef, add, mult, power, root, neg, sub, div, Trees, none, more, append, count, is_add, AllParts, AllPartsOf}
@@ -18,7 +19,7 @@ use Rattle.coefficients.proofs.NumberMultiples.{IsFactor, not_one_is, scaled}
 use Rattle.coefficients.proofs.TermMultiples.{multiple}
 use Rattle.sum_reduce.specs.Collected.{AreLike, Collects, collects_opened, collects_ordered, collects_numbers, collects_like, collects_then}
 use Rattle.sum_reduce.specs.Terms.{terms_of_loose, opened, terms_of_number, sum_tree, leads_number, written_tree}
-use Rattle.sum_reduce.proofs.CollectedParts.{opened_parts, permuted_parts, first_parts, last_parts}
+use Rattle.sum_reduce.proofs.CollectedParts.{opened_parts}
 use Rattle.sum_reduce.proofs.Rearranged.{of_lists}
 
 -- what a tree counts as a term or a factor

@@ -1,5 +1,6 @@
 -- Exponents that count their bases are collected to exponents that count them no more often.
 use Rattle.std.proofs.Common.{◌≡◌, ℕ, ◌≤◌, ◌<◌, ◌++◌, [], length, ℤ, pos, ◌+ℤ◌, ◌*ℤ◌, Bool, true, false, ◌&&◌, ◌==◌, if◌then◌else◌, refl, sym, ap, ◌∙◌, subst, arith}
+use Rattle.like_children.proofs.Parts.{first_parts}
 use Rattle.std.proofs.lemmas.Bool.{and_parts, and_from, eqb-true}
 use Rattle.calc_terms.specs.Fractions.{Fraction, lowest, lowest_parts, times, whole_fraction, zero_fraction, one_fraction, is_zero_fraction, is_one_fraction}
 use Rattle.calc_terms.proofs.FractionFacts.{zero_is, one_is, whole_denominator, whole_numerator}
@@ -23,7 +24,6 @@ use Rattle.number_forms.specs.Answers.{IsNumberOf}
 use Rattle.sum_reduce.specs.Collected.{AreLike, sum_of_coefficients, Collects, collects_opened, collects_ordered, collects_numbers, collects_like, collects_then}
 use Rattle.sum_reduce.specs.Terms.{terms_of_loose, opened, terms_of_number, sum_tree, leads_number, written_tree}
 use Rattle.sum_reduce.proofs.CollectedCounts.{collected_formed, like_monic}
-use Rattle.sum_reduce.proofs.CollectedParts.{first_parts}
 use Rattle.sum_reduce.proofs.CountedMultiples.{within_same, within_after, within_both, nothing_within, sum_within, product_within, multiple_added}
 use Rattle.sum_reduce.proofs.Rearranged.{of_lists}
 use Rattle.tree_bits.specs.Exponents.{Counts, counts, multiple, added, is_counted, are_counted, counts_of, counts_of_all}

@@ -1,13 +1,14 @@
 -- Which operation does not fit, from stage to stage of a sum.
 use Rattle.std.specs.Prelude.{Result, Ok, Err, IfErr}
-use Rattle.std.proofs.Common.{ℕ, suc, ◌<◌, ◌≤◌, ◌≡◌, true, false, ◌&&◌, refl, sym, ap, ◌∙◌, subst, arith}
+use Rattle.like_children.proofs.Kids.{count_removed}
+use Rattle.std.proofs.Common.{ℕ, suc, ◌<◌, ◌≤◌, ◌≡◌, false, ◌&&◌, refl, sym, ap, ◌∙◌, subst, arith}
 use Rattle.calc_terms.specs.Fits.{add_op}
 use Rattle.calc_terms.specs.Fractions.{Fraction}
 use Rattle.calc_algebra.specs.Numbers.{is_number, value}
 use Rattle.calc_algebra.specs.Reduced.{part_of}
 use Rattle.calc_measures.specs.PlainValues.{calculated}
 use Rattle.calc_terms.specs.Trees.{Tree, num, Trees, more, append, count, is_num}
-use Rattle.calc_algebra.proofs.MeaningRewrites.{permuted_more, permuted_trans, Permuted-append_right}
+use Rattle.calc_algebra.proofs.MeaningRewrites.{permuted_trans, Permuted-append_right}
 use Rattle.coefficients.specs.Coefficients.{coefficient_of}
 use Rattle.coefficients.specs.Overflows.{NamesPut}
 use Rattle.tree_handles.specs.Faults.{OfOverflow}
@@ -21,13 +22,12 @@ use Rattle.tree_handles.specs.Expressions.{nth}
 use Rattle.tree_handles.specs.declared.fault.NumberFault.{NumberFault}
 use Rattle.tree_handles.specs.declared.fault.NumberFault.TheVariants as fault
 use Rattle.like_children.specs.Neighbours.{IsPairAt}
-use Rattle.like_children.specs.Numbers.{IsNextNumber}
 use Rattle.sum_reduce.specs.Collected.{Collects, collects_ordered, collects_then}
 use Rattle.sum_reduce.specs.Joining.{IsJoining}
-use Rattle.sum_reduce.specs.Overflows.{NamesSum, Overflows, hinders_numbers, hinders_like, hinders_part}
+use Rattle.sum_reduce.specs.Overflows.{NamesSum, Overflows, hinders_like, hinders_part}
 use Rattle.sum_reduce.specs.Terms.{is_partner}
 use Rattle.sum_reduce.proofs.Joins.{partners}
-use Rattle.sum_reduce.proofs.Places.{taken_permuted, count_removed, nth_behind_removed}
+use Rattle.sum_reduce.proofs.Places.{taken_permuted, nth_behind_removed}
 use Rattle.sum_reduce.proofs.Rearranged.{of_lists, to_lists}
 
 -- ---- two Numbers
@@ -54,14 +54,6 @@ overflows_after k o h = record { us = h.us; collects = collects_then k h.collect
 
 pub overflows_as : {ts us : Trees} → ts ≡ us → (o : Overflow) → Overflows ts o → Overflows us o
 overflows_as e o h = subst (λ (x : Trees). Overflows x o) e h
-
--- a Number at a place cannot be added to the one in front
-pub number_hinders : {ts : Trees} (d : Tree) (us : Trees) (at : ℕ) → Collects ts (more d us) → is_number d ≡ true → IsNextNumber 0 at us → (o : Overflow) → NamesSum d (nth at us) o → Overflows ts o
-number_hinders d us at k n h o e = record {
-  us = more d (more (nth at us) (removed at us));
-  collects = collects_then k (collects_ordered (to_lists (permuted_more {t = d} (taken_permuted at us h.within))));
-  hinders = hinders_numbers d (nth at us) (removed at us) n h.number e;
-}
 
 pub taken_first : (at : ℕ) (ts : Trees) → at < count ts → Collects ts (more (nth at ts) (removed at ts))
 taken_first at ts l = collects_ordered (to_lists (taken_permuted at ts l))

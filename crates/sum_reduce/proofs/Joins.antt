@@ -1,5 +1,7 @@
 -- Terms with identical parts become one.
 use Rattle.std.specs.declared.cmp.Ordering.{Ordering}
+use Rattle.like_children.proofs.NumbersIn.{other_in}
+use Rattle.like_children.proofs.Kids.{count_removed}
 use Rattle.std.specs.declared.cmp.Ordering.TheVariants.{Less, Equal, Greater}
 use Rattle.std.specs.Ordering.{is_eq}
 use Rattle.std.proofs.Common.{ℕ, zero, suc, ◌+◌, ◌≤◌, ◌<◌, ◌≡◌, ◌++◌, [], ◌∷◌, Bool, true, false, ◌&&◌, not, refl, sym, ap, ◌∙◌, subst, arith, append-nil}
@@ -41,8 +43,8 @@ use Rattle.tree_bits.specs.HeldTrees.{addend}
 use Rattle.sum_reduce.proofs.Names.{names_of_part}
 use Rattle.calc_measures.proofs.Nests.{nest_permuted, nest_number}
 use Rattle.sum_reduce.proofs.Nests.{nest_of_part}
-use Rattle.sum_reduce.proofs.Places.{taken_permuted, inserted_permuted, count_inserted, count_removed, nth_inserted, nth_behind_inserted, removed_inserted, nth_removed, nth_behind_removed, removed_two}
-use Rattle.sum_reduce.proofs.Rearranged.{of_lists, to_lists, tight_opened, other_in, others_permuted, unlike_permuted}
+use Rattle.sum_reduce.proofs.Places.{taken_permuted, inserted_permuted, count_inserted, nth_inserted, nth_behind_inserted, removed_inserted, nth_removed, nth_behind_removed, removed_two}
+use Rattle.sum_reduce.proofs.Rearranged.{of_lists, to_lists, tight_opened, others_permuted, unlike_permuted}
 use Rattle.sum_reduce.proofs.Stages.{none_permuted, formed_permuted, stage_after, stage_permuted}
 use Rattle.sum_reduce.proofs.Widths.{widths_permuted, width_other, coefficient_width}
 
@@ -347,6 +349,11 @@ partner_step ts c e us vs at less j h q w =
     let few : at < count (removed at us) = omega (arith, count_removed at us l, h.within) in
     joining_at vs at (ap (nth at) q ∙ nth_removed at (suc at) us (omega arith)) (ap (removed at) q ∙ removed_two at us)
     (joining_more ts c (nth at us) (removed at us) less at e j few (ap (is_partner (nth at us)) next ∙ h.pair) w.number (rw next w.worth) (rw next w.parts))
+
+-- the first two of a pair
+pub two_joined : (ts us vs : Trees) (c e : Tree) (at : ℕ) → AreFormed ts → NoneIs is_loose ts → IsPairAt is_partner at ts → us ≡ inserted at (more (part_of (nth at ts)) none) (removed at ts) → c ≡ coefficient_of (nth at ts)
+    → vs ≡ removed (suc at) us → IsNumberOver (value c ++ value (coefficient_of (nth (suc at) us))) e → IsJoining ts e (nth at vs) (removed at vs) (0 + nodes (nth at us))
+two_joined ts us vs c e at f n h q k r w = partner_step ts c e us vs at 0 (joining_start ts us c at f n h q k) (pair_start ts us at f h q) r w
 
 pub partner_within : (us vs : Trees) (at : ℕ) → IsPairAt is_partner at us → vs ≡ removed (suc at) us → at < count vs
 partner_within us vs at h q = omega (arith, ap count q, count_removed (suc at) us h.within, h.within)

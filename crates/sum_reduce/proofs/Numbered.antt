@@ -1,16 +1,20 @@
 -- The Numbers among the terms become one.
 use Rattle.std.specs.Prelude.{Err, Option, None, Some, MatchOption, is_some}
-use Rattle.std.proofs.Common.{ℕ, suc, ◌<◌, ◌≤◌, ◌≡◌, ◌++◌, [], ◌∷◌, true, false, refl, sym, ap, ◌∙◌, subst, arith}
+use Rattle.std.proofs.Common.{ℕ, suc, ◌<◌, ◌≤◌, ◌≡◌, ◌++◌, [], ◌∷◌, Bool, true, false, refl, sym, ap, ◌∙◌, subst, arith}
 use Rattle.std.proofs.lemmas.Bool.{and_parts}
 use Rattle.calc_terms.specs.Fits.{add_op}
-use Rattle.calc_terms.specs.Fractions.{Fraction}
-use Rattle.calc_algebra.specs.Numbers.{is_number, value}
-use Rattle.calc_measures.specs.PlainValues.{PlainValue, calculated, plain_value}
+use Rattle.calc_algebra.specs.Numbers.{is_number, are_numbers, value}
 use Rattle.calc_algebra.specs.Reduced.{NoneIs}
-use Rattle.calc_terms.specs.Trees.{Tree, num, add, Trees, none, more, append, count, is_num, are_rationals}
 use Rattle.calc_algebra.proofs.MeaningRewrites.{permuted_more}
+use Rattle.calc_algebra.proofs.NumberLaws.{number_words}
+use Rattle.calc_bits.specs.Bounds.{HasFewBits}
+use Rattle.calc_measures.specs.PlainValues.{PlainValue, fold_values, plain_value}
+use Rattle.calc_terms.specs.Trees.{Tree, add, Trees, none, more, append, count, is_num, are_rationals}
+use Rattle.coefficients.proofs.Forms.{number_parts}
 use Rattle.node_pool.specs.State.{State}
-use Rattle.number_forms.specs.Answers.{IsNumberOver, AnswersRationals}
+use Rattle.rational128.specs.declared.overflow.Overflow.{Overflow}
+use Rattle.tree_bits.specs.Children.{addends_of_each}
+use Rattle.tree_bits.proofs.Numbers.{alone}
 use Rattle.tree_handles.specs.declared.fault.NumberFault.{NumberFault}
 use Rattle.tree_handles.specs.declared.fault.NumberFault.TheVariants as fault
 use Rattle.tree_handles.specs.Expressions.{nth}
@@ -18,35 +22,84 @@ use Rattle.tree_handles.specs.Forest.{Forest}
 use Rattle.tree_handles.specs.Roots.{put}
 use Rattle.tree_handles.proofs.Fronts.{IsBehind, behind_first, behind_later, behind_new, front_same, front_at, front_put, front_without}
 use Rattle.tree_handles.proofs.Roots.{put-put}
-use Rattle.like_children.specs.Numbers.{IsNextNumber, NoNumberBetween}
-use Rattle.sum_reduce.proofs.Sums.{takes_rest}
-use Rattle.sum_reduce.specs.Arranging.{IsGathered, IsLead, IsLed, IsNumbered, IsTotal, IsFolded, AnswersTotal, AnswersFold}
+use Rattle.like_children.specs.Folds.{rational_of, rationals_of, IsTotal, AnswersTotal}
+use Rattle.like_children.specs.Joining.{AreJoined, IsNextOf}
+use Rattle.like_children.specs.Numbers.{numbers_in, others_in, IsNextNumber, NoNumberBetween}
+use Rattle.like_children.proofs.Folds.{num_number, sum_begun, plain_sum, first_of, fold_done, no_numbers, no_rationals}
+use Rattle.like_children.proofs.NumbersIn.{numbers_first, trees_assoc, both_true, front_numbers, end_numbers, numbers_are, none_number}
+use Rattle.number_forms.specs.Sums.{removed}
+use Rattle.sum_reduce.specs.Arranging.{IsLead, IsLed, IsNumbered, IsFolded, AnswersFold}
+use Rattle.sum_reduce.specs.Bits.{HaveFewBits}
+use Rattle.sum_reduce.specs.Overflows.{NamesSum, Overflows, hinders_numbers}
 use Rattle.sum_reduce.specs.Stages.{IsStage}
 use Rattle.sum_reduce.specs.Sums.{Takes}
-use Rattle.number_forms.specs.Sums.{removed}
 use Rattle.sum_reduce.specs.Terms.{AreFormed, is_loose}
-use Rattle.like_children.specs.Folds.{AreFolded}
-use Rattle.like_children.proofs.Folds.{num_number, sum_begun, first_of, fold_overflowed, fold_full, fold_done, no_numbers}
+use Rattle.sum_reduce.proofs.Held.{held_equal, few_after, few_of_both}
 use Rattle.sum_reduce.proofs.Opened.{number_tight}
 use Rattle.sum_reduce.proofs.Places.{taken_permuted}
 use Rattle.sum_reduce.proofs.Stages.{none_permuted, formed_permuted, stage_after, stage_permuted, stage_same, stage_added}
+use Rattle.sum_reduce.proofs.Sums.{takes_rest}
 
--- one of them is added
-pub number_step : (d e : Tree) (us vs : Trees) (at : ℕ) → IsNextNumber 0 at us → is_number d ≡ true → IsNumberOver (value d ++ value (nth at us)) e → AreFormed (more d us) → vs ≡ removed at us → IsStage (more d us) (more e vs)
-number_step d e us vs at h n w f q =
-    let perm = permuted_more {t = d} (taken_permuted at us h.within) in
-    let g = formed_permuted perm f in
-    subst (λ (x : Trees). IsStage (more d us) (more e x)) (sym q)
-    (stage_after (stage_permuted perm f (omega arith)) (stage_added d (nth at us) e (removed at us) n h.number w.number w.worth w.parts g.1.1))
+-- Numbers among the terms were added to another: it is a Number, and none of the terms is
+pub record IsGathered (n : Tree) (ts : Trees) (m : Tree) (us : Trees) : Type 0 where
+  pub number : is_number m ≡ true
+  pub no_number : NoneIs is_number us
+  pub no_sum : NoneIs is_loose ts → NoneIs is_loose us
+  pub stage : IsStage (more n ts) (more m us)
 
-pub flat_step : (us vs : Trees) (at : ℕ) → IsNextNumber 0 at us → vs ≡ removed at us → NoneIs is_loose us → NoneIs is_loose vs
-flat_step us vs at h q s = subst (NoneIs is_loose) (sym q) (none_permuted is_loose (taken_permuted at us h.within) s).1
+-- they are added one after another
+added : (xs rest : Trees) (d m : Tree) → is_number d ≡ true → are_numbers xs ≡ true → AreFormed (append xs rest) → AreJoined (λ v w. v ++ w) d xs m → IsStage (more d (append xs rest)) (more m rest)
+added none rest d m h k f e = subst (λ (t : Tree). IsStage (more d rest) (more t rest)) (sym e) (stage_same (more d rest) (number_parts d (number_words d h), f) (omega arith))
+added (more x xs) rest d m h k f j =
+    let (a, b) = both_true (is_number x) (are_numbers xs) k in
+    let s = j.1 in
+    stage_after (stage_added d x j.0 (append xs rest) h a s.number s.worth s.no_larger.parts f.1) (added xs rest j.0 m s.number b f.1 j.2)
 
--- what is answered where one of them does not fit
-pub fold_faulted : (v : PlainValue) (at : ℕ) (us vs : Trees) (d : Tree) (new : State) (f : NumberFault) → AreFolded add_op v d us → IsNextNumber 0 at us
-    → ((p q : Fraction) → d ≡ num p → nth at us ≡ num q → AnswersRationals (calculated add_op p q) new (Err f)) → AnswersTotal v new vs (Err f)
-fold_faulted v at us vs d new (fault.Full full) a h k = fold_full v at us d a h k
-fold_faulted v at us vs d new (fault.Overflow o) a h k = fold_overflowed v at us d o a h k
+-- the Numbers come first
+numbers_led : (n : Tree) (ts : Trees) → is_number n ≡ true → AreFormed ts → IsStage (more n ts) (more n (append (numbers_in ts) (others_in ts)))
+numbers_led n ts h f = stage_permuted (permuted_more (numbers_first ts)) (number_parts n (number_words n h), f) (omega arith)
+
+pub gathered : (n m : Tree) (ts : Trees) → is_number n ≡ true → AreFormed ts → is_number m ≡ true → AreJoined (λ v w. v ++ w) n (numbers_in ts) m → IsGathered n ts m (others_in ts)
+gathered n m ts h f k j = record {
+  number = k;
+  no_number = none_number ts;
+  no_sum = λ s. none_behind is_loose (numbers_in ts) (others_in ts) (none_permuted is_loose (numbers_first ts) s);
+  stage = stage_after (numbers_led n ts h f) (added (numbers_in ts) (others_in ts) n m h (numbers_are ts) (formed_permuted (numbers_first ts) f) j);
+}
+  where
+    none_behind : (p : Tree → Bool) (ts us : Trees) → NoneIs p (append ts us) → NoneIs p us
+    none_behind p none us h = h
+    none_behind p (more t ts) us h = none_behind p ts us h.1
+
+-- one of them, and those before it added
+pub record IsNextAdded (n : Tree) (ts : Trees) (d x : Tree) : Type 0 where
+  pub rest : Trees
+  pub next : is_number x ≡ true
+  pub stage : IsStage (more n ts) (more d (more x rest))
+
+pub next_added : (n : Tree) (ts : Trees) → is_number n ≡ true → AreFormed ts → (s : IsNextOf (λ v w. v ++ w) n (numbers_in ts)) → IsNextAdded n ts s.so_far s.next
+next_added n ts h f s =
+    let os = others_in ts in
+    let rest = append s.rest os in
+    let whole : append (numbers_in ts) os ≡ append s.first (more s.next rest) = ap (λ (ns : Trees). append ns os) s.is ∙ trees_assoc s.first (more s.next s.rest) os in
+    let numbers : are_numbers (append s.first (more s.next s.rest)) ≡ true = ap are_numbers (sym s.is) ∙ numbers_are ts in
+    let formed : AreFormed (append s.first (more s.next rest)) = subst AreFormed whole (formed_permuted (numbers_first ts) f) in
+    record {
+      rest = rest;
+      next = (both_true (is_number s.next) (are_numbers s.rest) (end_numbers s.first (more s.next s.rest) numbers)).0;
+      stage = stage_after (subst (λ (us : Trees). IsStage (more n ts) (more n us)) whole (numbers_led n ts h f)) (added s.first (more s.next rest) n s.so_far h (front_numbers s.first (more s.next s.rest) numbers) formed s.joined);
+    }
+
+pub next_hinders : (n : Tree) (ts : Trees) → is_number n ≡ true → AreFormed ts → (o : Overflow) → (s : IsNextOf (λ v w. v ++ w) n (numbers_in ts)) × NamesSum s.so_far s.next o → Overflows (more n ts) o
+next_hinders n ts h f o e =
+    let s = e.0 in
+    let a = next_added n ts h f s in
+    record { us = more s.so_far (more s.next a.rest); collects = a.stage.collects; hinders = hinders_numbers s.so_far s.next a.rest s.number a.next e.1 }
+
+pub next_fits : (n : Tree) (ts : Trees) → is_number n ≡ true → AreFormed ts → HaveFewBits (addends_of_each (more n ts)) → (s : IsNextOf (λ v w. v ++ w) n (numbers_in ts)) → HasFewBits (value s.so_far ++ value s.next)
+next_fits n ts h f b s =
+    let a = next_added n ts h f s in
+    few_of_both (few_after (held_equal (λ i. alone s.so_far s.number i ++ (alone s.next a.next i ++ addends_of_each a.rest))) (few_after a.stage.held b))
 
 pub formed_behind : (at : ℕ) (ts us : Trees) → at < count ts → AreFormed ts → us ≡ removed at ts → AreFormed us
 formed_behind at ts us l f q = subst AreFormed (sym q) (formed_permuted (taken_permuted at ts l) f).1
@@ -60,7 +113,7 @@ numbered at ts us vs ws n m h f l q e g w =
     record {
       stage = subst (IsStage ts) (sym w) (stage_after first g.stage);
       led = record { lead = more m none; others = vs; split = w; one = g.number; no_number = g.no_number };
-      no_sum = λ s. subst (NoneIs is_loose) (sym w) (number_tight m g.number, g.no_sum (flat_step ts us at h q s));
+      no_sum = λ s. subst (NoneIs is_loose) (sym w) (number_tight m g.number, g.no_sum (subst (NoneIs is_loose) (sym q) (none_permuted is_loose (taken_permuted at ts h.within) s).1));
     }
 
 pub unnumbered : (ts : Trees) → IsLed ts → AreFormed ts → 1 ≤ count ts → IsNumbered ts ts
@@ -90,7 +143,7 @@ led_alone P ts n (Some k) h e s m = absurd (clash s)
 pub record AreRationals (n : Tree) (us : Trees) (v : PlainValue) : Type 0 where
   pub first : is_num n ≡ true
   pub others : are_rationals us ≡ true
-  pub plain : v ≡ plain_value (add (more n us))
+  pub plain : v ≡ fold_values add_op (rational_of n) (rationals_of us)
 
 pub rationals_taken : (at : ℕ) (ts us : Trees) (n : Tree) → IsNextNumber 0 at ts → are_rationals ts ≡ true → us ≡ removed at ts → n ≡ nth at ts → AreRationals n us (plain_value (add ts))
 rationals_taken at ts us n h r q e =
@@ -98,11 +151,11 @@ rationals_taken at ts us n h r q e =
     record {
       first = ap is_num e ∙ f.rational;
       others = ap are_rationals (q ∙ f.left) ∙ f.rationals;
-      plain = ap (λ (x : Trees). plain_value (add x)) f.is ∙ (λ i. plain_value (add (more (sym e i) (sym (q ∙ f.left) i))));
+      plain = ap (λ (x : Trees). plain_value (add x)) f.is ∙ plain_sum (nth at ts) f.rest f.rational f.rationals ∙ (λ i. fold_values add_op (rational_of (sym e i)) (rationals_of (sym (q ∙ f.left) i)));
     }
 
-pub total_folded : (v w : PlainValue) (m : Tree) (vs ws : Trees) → v ≡ w → IsTotal w m vs → ws ≡ more m vs → IsFolded v ws
-total_folded v w m vs ws e t q = record { q = t.q; plain = e ∙ t.plain; is = q ∙ (λ i. more (t.is i) (t.none_left i)) }
+pub total_folded : (v w : PlainValue) (m : Tree) (vs ws : Trees) → v ≡ w → IsTotal w m → vs ≡ none → ws ≡ more m vs → IsFolded v ws
+total_folded v w m vs ws e t n q = record { q = t.q; plain = e ∙ t.plain; is = q ∙ (λ i. more (t.is i) (n i)) }
 
 pub led_folded : (ts : Trees) → IsLed ts → are_rationals ts ≡ true → 1 ≤ count ts → IsFolded (plain_value (add ts)) ts
 led_folded ts h r l = by h.lead h.others h.split h.one h.no_number
@@ -118,12 +171,12 @@ led_folded ts h r l = by h.lead h.others h.split h.one h.no_number
     by none os e o n = absurd (no_rational ts (subst (NoneIs is_number) (sym e) n) r l)
     by (more m none) os e o n =
         let (a, b) = and_parts (is_num m) (are_rationals os) (sym (ap are_rationals e) ∙ r) in
-        total_folded _ _ m os ts (ap (λ (x : Trees). plain_value (add x)) e) (fold_done (plain_value (add (more m os))) os m (sum_begun m os a b) n) e
+        total_folded _ _ m os ts (ap (λ (x : Trees). plain_value (add x)) e) (fold_done (plain_value (add (more m os))) os m (sum_begun m os a b) n) (no_rationals os n b) e
     by (more m (more u us)) os e o n = absurd o
 
-pub total_faulted : (v w : PlainValue) (new : State) (us vs : Trees) (f : NumberFault) → v ≡ w → AnswersTotal w new us (Err f) → AnswersFold v vs (Err f)
-total_faulted v w new us vs (fault.Full full) e h = h
-total_faulted v w new us vs (fault.Overflow o) e h = subst (λ (x : PlainValue). AnswersTotal x new us (Err (fault.Overflow o))) (sym e) h
+pub total_faulted : (v w : PlainValue) (new : State) (vs : Trees) (f : NumberFault) → v ≡ w → AnswersTotal w new (Err f) → AnswersFold v vs (Err f)
+total_faulted v w new vs (fault.Full full) e h = h
+total_faulted v w new vs (fault.Overflow o) e h = subst (λ (x : PlainValue). AnswersTotal x new (Err (fault.Overflow o))) (sym e) h
 
 -- ---- a tree beside a sum that another one left
 

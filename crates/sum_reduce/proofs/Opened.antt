@@ -1,7 +1,6 @@
 -- Sums among the terms are opened.
-use Rattle.std.specs.Prelude.{Option, Some, None, MatchOption}
-use Rattle.std.proofs.Common.{ℕ, zero, suc, ◌+◌, ◌-◌, ◌≤◌, ◌<◌, ◌≡◌, ◌⊎◌, inl, inr, nat_lt, Bool, true, false, not, ◌&&◌, if◌then◌else◌, refl, sym, ap, ◌∙◌, subst, arith}
-use Rattle.std.proofs.lemmas.Bool.{and_parts, ltb-true, ltb-false}
+use Rattle.std.proofs.Common.{◌≤◌, ◌≡◌, inl, inr, Bool, true, false, not, ◌&&◌, if◌then◌else◌, refl, sym, ap, ◌∙◌, subst, arith}
+use Rattle.std.proofs.lemmas.Bool.{and_parts}
 use Rattle.calc_measures.specs.Loads.{nest, nest_of}
 use Rattle.calc_algebra.specs.Numbers.{is_number, are_numbers}
 use Rattle.calc_algebra.specs.Reduced.{HasForm, IsSumForm, NoneIs}
@@ -9,12 +8,11 @@ use Rattle.calc_terms.specs.Trees.{Tree, add, Trees, none, more, append, count, 
 use Rattle.calc_algebra.proofs.MeaningRewrites.{KeepsMeanings, KeepsMeanings-refl, KeepsMeanings-sum_append, flat_sum}
 use Rattle.calc_algebra.proofs.NumberLaws.{number_test}
 use Rattle.coefficients.proofs.Forms.{AllPartsOf-append}
-use Rattle.coefficients.proofs.Openings.{opened_from, nth_opened, count_opened, opened_at, opened_beside}
-use Rattle.tree_handles.specs.Expressions.{nth, inserted, children_of}
-use Rattle.tree_handles.proofs.Outcomes.{by_test}
+use Rattle.tree_handles.specs.Expressions.{children_of}
+use Rattle.like_children.proofs.NumbersIn.{append_none, count_append}
+use Rattle.like_children.specs.Opening.{Opens}
 use Rattle.sum_reduce.specs.Stages.{width, widths}
-use Rattle.number_forms.specs.Sums.{removed}
-use Rattle.sum_reduce.specs.Terms.{AreFormed, is_loose, terms_of_loose, opened, IsTightBetween, IsLastLoose}
+use Rattle.sum_reduce.specs.Terms.{AreFormed, is_loose, terms_of_loose, opened}
 use Rattle.calc_algebra.proofs.Names.{Within, within_same, within_beside, within_trans, within_eq, within_both, within_none, names_of-append}
 use Rattle.calc_measures.proofs.Nests.{nest-append}
 use Rattle.sum_reduce.proofs.Widths.{widths-append}
@@ -37,15 +35,15 @@ tight_terms (add ts) h = by (is_number (add ts)) h
     by false h = cc
 tight_terms t h = refl
 
+pub loose_opens : (t : Tree) (b : Bool) → b ≡ is_loose t → Opens terms_of_loose t b
+loose_opens t true e = sym (loose_terms t (sym e))
+loose_opens t false e = tight_terms t (sym e)
+
 -- ---- what stays
 
 first_opened : (t : Tree) → KeepsMeanings (add (more t none)) (add (terms_of_loose t))
 first_opened (add us) = by (is_number (add us))
   where
-    append_none : (ts : Trees) → append ts none ≡ ts
-    append_none none = refl
-    append_none (more t ts) = ap (more t) (append_none ts)
-
     by : (k : Bool) → KeepsMeanings (add (more (add us) none)) (add (if k then more (add us) none else us))
     by true = KeepsMeanings-refl _
     by false = subst (λ (x : Trees). KeepsMeanings (add (more (add us) none)) (add x)) (append_none us) (flat_sum us none)
@@ -135,10 +133,6 @@ pub opened_tight : (ts : Trees) → AreFormed ts → NoneIs is_loose (opened ts)
 opened_tight none h = tt
 opened_tight (more t ts) h = NoneIs-append is_loose (terms_of_loose t) (opened ts) (first_tight t h.0) (opened_tight ts h.1)
 
-count-append : (ts us : Trees) → count (append ts us) ≡ count ts + count us
-count-append none us = omega arith
-count-append (more t ts) us = omega (arith, count-append ts us)
-
 first_some : (t : Tree) → AllParts HasForm t → 1 ≤ count (terms_of_loose t)
 first_some (add us) h = by (is_number (add us)) refl
   where
@@ -153,7 +147,7 @@ first_some t h = omega arith
 
 pub opened_some : (ts : Trees) → AreFormed ts → 1 ≤ count ts → 1 ≤ count (opened ts)
 opened_some none h l = l
-opened_some (more t ts) h l = omega (arith, count-append (terms_of_loose t) (opened ts), first_some t h.0)
+opened_some (more t ts) h l = omega (arith, count_append (terms_of_loose t) (opened ts), first_some t h.0)
 
 -- ---- Numbers stay
 
@@ -170,67 +164,3 @@ opened_numbers none h = refl
 opened_numbers (more t ts) h =
     let (a, b) = and_parts (is_number t) (are_numbers ts) h in
     ap (λ (x : Trees). append x (opened ts)) (tight_terms t (number_tight t a)) ∙ ap (more t) (opened_numbers ts b)
-
--- ---- the terms now, opened from a place on
-
-pub opened_place : (ts : Trees) (n at : ℕ) (us : Trees) → at ≡ suc n → at ≤ count ts → us ≡ opened_from terms_of_loose at ts → n < count us
-opened_place ts n at us e l q =
-    let k : n < count (opened_from terms_of_loose (suc n) ts) = count_opened terms_of_loose n ts (omega (arith, l, e)) in
-    let w : count us ≡ count (opened_from terms_of_loose (suc n) ts) = ap count (q ∙ ap (λ (m : ℕ). opened_from terms_of_loose m ts) e) in
-    omega (arith, k, w)
-
-pub opened_seen : (ts : Trees) (n at : ℕ) (us : Trees) → at ≡ suc n → at ≤ count ts → us ≡ opened_from terms_of_loose at ts → nth n us ≡ nth n ts
-opened_seen ts n at us e l q = ap (nth n) (q ∙ ap (λ (m : ℕ). opened_from terms_of_loose m ts) e) ∙ nth_opened terms_of_loose n ts (omega (arith, l, e))
-
-pub opened_more : (ts : Trees) (n at : ℕ) (us : Trees) → at ≡ suc n → at ≤ count ts → us ≡ opened_from terms_of_loose at ts → is_loose (nth n us) ≡ true → inserted n (children_of (nth n us)) (removed n us) ≡ opened_from terms_of_loose n ts
-opened_more ts n at us e l q h =
-    let same = opened_seen ts n at us e l q in
-    ap (λ (t : Tree). inserted n (children_of t) (removed n us)) same ∙ ap (λ (x : Trees). inserted n (children_of (nth n ts)) (removed n x)) (q ∙ ap (λ (m : ℕ). opened_from terms_of_loose m ts) e)
-    ∙ opened_at terms_of_loose n ts (omega (arith, l, e)) (loose_terms (nth n ts) (ap is_loose (sym same) ∙ h))
-
-pub opened_still : (ts : Trees) (n at : ℕ) (us : Trees) → at ≡ suc n → at ≤ count ts → us ≡ opened_from terms_of_loose at ts → is_loose (nth n us) ≡ false → us ≡ opened_from terms_of_loose n ts
-opened_still ts n at us e l q h =
-    q ∙ ap (λ (m : ℕ). opened_from terms_of_loose m ts) e ∙ opened_beside terms_of_loose n ts (omega (arith, l, e)) (tight_terms (nth n ts) (ap is_loose (sym (opened_seen ts n at us e l q)) ∙ h))
-
--- ---- the terms before those that were opened
-
-pub nth_before : (n at : ℕ) (ts : Trees) → n < at → at ≤ count ts → nth n (opened_from terms_of_loose at ts) ≡ nth n ts
-nth_before n zero ts h l = absurd (omega arith)
-nth_before n (suc at) none h l = absurd (omega arith)
-nth_before zero (suc at) (more t ts) h l = refl
-nth_before (suc n) (suc at) (more t ts) h l = nth_before n at ts (omega arith) (omega arith)
-
-pub count_before : (at : ℕ) (ts : Trees) → at ≤ count ts → at ≤ count (opened_from terms_of_loose at ts)
-count_before zero ts l = omega arith
-count_before (suc at) none l = absurd (omega arith)
-count_before (suc at) (more t ts) l = omega (arith, count_before at ts (omega arith))
-
-opened_by : (d n : ℕ) (ts us : Trees) → n + d ≤ count ts → us ≡ opened_from terms_of_loose (n + d) ts → IsTightBetween n (n + d) us → us ≡ opened_from terms_of_loose n ts
-opened_by zero n ts us l q h = q ∙ ap (λ (m : ℕ). opened_from terms_of_loose m ts) {x = n + 0} (omega arith)
-opened_by (suc d) n ts us l q h =
-    opened_by d n ts us (omega arith) (opened_still ts (n + d) (n + suc d) us (omega arith) l q (h (n + d) (omega arith) (omega arith))) (λ k a b. h k a (omega (arith, b)))
-
--- where none of the terms before is such a sum, they are as they would be opened
-pub opened_down : (n at : ℕ) (ts us : Trees) → n ≤ at → at ≤ count ts → us ≡ opened_from terms_of_loose at ts → IsTightBetween n at us → us ≡ opened_from terms_of_loose n ts
-opened_down n at ts us le l q h =
-    let e : n + (at - n) ≡ at = omega arith in
-    opened_by (at - n) n ts us (omega arith) (q ∙ ap (λ (m : ℕ). opened_from terms_of_loose m ts) (sym e)) (λ k a b. h k a (omega (arith, b)))
-
--- a place before the next one is before this one, or this one
-by_place : (k n : ℕ) → k < n + 1 → (k < n) ⊎ (k ≡ n)
-by_place k n l = by_test (λ b. nat_lt k n ≡ b → (k < n) ⊎ (k ≡ n)) (nat_lt k n) (λ p q. inl (ltb-true k n q)) (λ p q. inr (omega (arith, ltb-false k n q))) refl
-
-tight_to : (from n : ℕ) (ts : Trees) → IsTightBetween from n ts → is_loose (nth n ts) ≡ false → IsTightBetween from (n + 1) ts
-tight_to from n ts h e k a b = by (by_place k n b)
-  where
-    by : (k < n) ⊎ (k ≡ n) → is_loose (nth k ts) ≡ false
-    by (inl m) = h k a m
-    by (inr q) = ap (λ (m : ℕ). is_loose (nth m ts)) q ∙ e
-
--- what is known of the last such sum, with one more term seen
-pub last_here : (n : ℕ) (ts : Trees) → is_loose (nth n ts) ≡ true → IsLastLoose n (n + 1) ts
-last_here n ts e = record { before = omega arith; loose = e; last = λ k a b. absurd (omega (arith, a, b)) }
-
-pub last_still : (r : Option ℕ) (n : ℕ) (ts : Trees) → MatchOption r (IsTightBetween 0 n ts) (λ at. IsLastLoose at n ts) → is_loose (nth n ts) ≡ false → MatchOption r (IsTightBetween 0 (n + 1) ts) (λ at. IsLastLoose at (n + 1) ts)
-last_still None n ts h e = tight_to 0 n ts h e
-last_still (Some at) n ts h e = record { before = omega (arith, h.before); loose = h.loose; last = tight_to (suc at) n ts h.last e }

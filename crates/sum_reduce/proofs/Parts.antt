@@ -5,7 +5,7 @@ use Rattle.calc_algebra.specs.Numbers.{is_number}
 use Rattle.calc_algebra.specs.Reduced.{Split, split_product, product_tree, part_of, is_reduced}
 use Rattle.calc_terms.specs.Trees.{Tree, mult, Trees, none, more, count, is_mult}
 use Rattle.coefficients.specs.Coefficients.{coefficient_length}
-use Rattle.coefficients.proofs.Lengths.{IsPairLed, IsMeasured, long, measured, some_factors, product_part, other_part}
+use Rattle.coefficients.proofs.Lengths.{IsPairLed, IsMeasured, long, measured, some_factors, product_part}
 use Rattle.node_order.specs.declared.keys.Key.{Key}
 use Rattle.node_order.specs.Keys.{trees_behind, key_tree, IsKey}
 use Rattle.tree_handles.specs.Expressions.{plain, children_of, IsExpression}
@@ -63,10 +63,3 @@ product_key i n f x m r h e =
       valid = record { tree = x; product = λ p. m; some = λ p. omega (arith, e, some, l.two) };
       value = key_value (plain (tree_at i f)) n m r h e;
     }
-
--- and of any other tree
-pub other_key : (i : ℕ) (f : Forest) → IsExpression i f → is_mult (plain (tree_at i f)) ≡ false → IsPartKey (record { id = i; behind = 0 }) (plain (tree_at i f)) f
-other_key i f x m = record {
-  valid = record { tree = x; product = λ p. absurd (omega (arith, p)); some = λ p. absurd (omega (arith, p)) };
-  value = other_part (plain (tree_at i f)) m;
-}

@@ -27,11 +27,6 @@ count_inserted zero t ts = omega arith
 count_inserted (suc n) t none = refl
 count_inserted (suc n) t (more u ts) = omega (arith, count_inserted n t ts)
 
-pub count_removed : (n : ℕ) (ts : Trees) → n < count ts → count (removed n ts) + 1 ≡ count ts
-count_removed n none h = absurd (omega arith)
-count_removed zero (more t ts) h = omega arith
-count_removed (suc n) (more t ts) h = omega (arith, count_removed n ts (omega arith))
-
 pub inserted_permuted : (n : ℕ) (t : Tree) (ts : Trees) → Permuted (inserted n (more t none) ts) (more t ts)
 inserted_permuted zero t ts = Permuted-refl (more t ts)
 inserted_permuted (suc n) t none = Permuted-refl (more t none)

@@ -15,6 +15,7 @@ use Rattle.calc_algebra.proofs.SquareClassLaws.{Same-Agree}
 use Rattle.calc_algebra.proofs.SurdLaws.{Agree, Agree-refl, Agree-trans, Agree-eq, Agree-Same, Agree-append, append_comm}
 use Rattle.calc_algebra.proofs.TreeOrderLaws.{tree_cmp_total}
 use Rattle.node_order.specs.Sorting.{list_of}
+use Rattle.like_children.proofs.NumbersIn.{number_in, number_out}
 use Rattle.sum_reduce.specs.Collected.{numbers_in, others_in, sum_of_values, AreUnlike}
 use Rattle.sum_reduce.specs.Stages.{IsRearranged}
 use Rattle.sum_reduce.specs.Terms.{is_loose, is_partner, terms_of_loose, opened}
@@ -57,18 +58,6 @@ number_opened t ts h = ap (λ (x : Trees). append x (opened ts)) (tight_terms t 
 
 -- ---- the Numbers and the others
 
-pub number_in : (t : Tree) (ts : Trees) → is_number t ≡ true → numbers_in (more t ts) ≡ more t (numbers_in ts)
-number_in t ts h = ap (λ (b : Bool). if b then more t (numbers_in ts) else numbers_in ts) h
-
-pub number_out : (t : Tree) (ts : Trees) → is_number t ≡ true → others_in (more t ts) ≡ others_in ts
-number_out t ts h = ap (λ (b : Bool). if b then others_in ts else more t (others_in ts)) h
-
-pub other_in : (t : Tree) (ts : Trees) → is_number t ≡ false → others_in (more t ts) ≡ more t (others_in ts)
-other_in t ts h = ap (λ (b : Bool). if b then others_in ts else more t (others_in ts)) h
-
-pub other_out : (t : Tree) (ts : Trees) → is_number t ≡ false → numbers_in (more t ts) ≡ numbers_in ts
-other_out t ts h = ap (λ (b : Bool). if b then more t (numbers_in ts) else numbers_in ts) h
-
 pub numbers_permuted : {ts us : Trees} → Permuted ts us → Permuted (numbers_in ts) (numbers_in us)
 numbers_permuted permuted_none = permuted_none
 numbers_permuted (permuted_more {t} {ts} {us} k) = by (is_number t) (numbers_permuted k)
@@ -100,22 +89,6 @@ others_permuted (permuted_swap {t} {u} {ts}) = by (is_number t) (is_number u) (o
     by false true x = Permuted-refl _
     by false false x = permuted_swap
 others_permuted (permuted_trans k l) = permuted_trans (others_permuted k) (others_permuted l)
-
-pub none_number : (ts : Trees) → NoneIs is_number (others_in ts)
-none_number none = tt
-none_number (more t ts) = by (is_number t) refl (none_number ts)
-  where
-    by : (b : Bool) → is_number t ≡ b → NoneIs is_number (others_in ts) → NoneIs is_number (if b then others_in ts else more t (others_in ts))
-    by true e h = h
-    by false e h = (e, h)
-
-pub no_numbers_others : (ts : Trees) → NoneIs is_number ts → others_in ts ≡ ts
-no_numbers_others none h = refl
-no_numbers_others (more t ts) h = other_in t ts h.0 ∙ ap (more t) (no_numbers_others ts h.1)
-
-pub no_numbers_none : (ts : Trees) → NoneIs is_number ts → numbers_in ts ≡ none
-no_numbers_none none h = refl
-no_numbers_none (more t ts) h = other_out t ts h.0 ∙ no_numbers_none ts h.1
 
 -- ---- their values
 

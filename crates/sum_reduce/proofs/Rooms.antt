@@ -1,5 +1,7 @@
 -- How many bytes the terms of a sum have while they are collected, and for how few at hand that is refused.
 use Rattle.std.proofs.Common.{◌≡◌, ℕ, suc, ◌+◌, ◌*◌, ◌^◌, ◌<◌, ◌≤◌, List, length, Bool, true, false, if◌then◌else◌, refl, ap, ◌∙◌, subst, arith}
+use Rattle.like_children.proofs.Parts.{first_parts, last_parts, permuted_parts}
+use Rattle.like_children.proofs.Kids.{count_removed, sizes_taken}
 use Rattle.std.proofs.lemmas.Bool.{and_from}
 use Rattle.std.proofs.lemmas.Nat.{pow_pos}
 use Rattle.calc_algebra.specs.Numbers.{is_number}
@@ -27,11 +29,10 @@ use Rattle.sum_reduce.specs.Joining.{IsJoining}
 use Rattle.sum_reduce.specs.Rooms.{terms_room}
 use Rattle.sum_reduce.specs.Terms.{AreFormed, is_partner}
 use Rattle.sum_reduce.proofs.CollectedCounts.{counted_in, collected_counts, put_counted}
-use Rattle.sum_reduce.proofs.CollectedParts.{first_parts, last_parts, part_parts, permuted_parts}
+use Rattle.sum_reduce.proofs.CollectedParts.{part_parts}
 use Rattle.sum_reduce.proofs.CollectedSpans.{total_spans}
-use Rattle.sum_reduce.proofs.Places.{count_removed, inserted_permuted, nth_behind_removed, taken_permuted}
+use Rattle.sum_reduce.proofs.Places.{inserted_permuted, nth_behind_removed, taken_permuted}
 use Rattle.sum_reduce.proofs.Rearranged.{of_lists}
-use Rattle.sum_reduce.proofs.SumBytes.{sizes_taken}
 use Rattle.tree_handles.specs.Expressions.{nth, inserted}
 use Rattle.tree_room.specs.Handed.{counted_in_all, sum_count}
 use Rattle.tree_room.specs.Needs.{tree_bytes, sum_room}

@@ -1,38 +1,29 @@
 -- Free bytes and those of a sum, from call to call.
-use Rattle.std.proofs.Common.{◌≡◌, ◌∙◌, ℕ, zero, suc, ◌+◌, ◌<◌, ◌≤◌, ap, refl, arith}
+use Rattle.std.proofs.Common.{◌≡◌, ◌∙◌, ℕ, ◌+◌, ◌<◌, ◌≤◌, ap, arith}
 use Rattle.calc_terms.specs.Trees.{Tree, add, Trees, none, more, count, size, sizes}
 use Rattle.coefficients.proofs.Lacks.{sum_whole}
 use Rattle.coefficients.proofs.Rooms.{sizes_append}
-use Rattle.node_pool.specs.Nodes.{used}
 use Rattle.node_pool.specs.State.{State, free_of}
-use Rattle.number_forms.proofs.RationalCalls.{bytes_without}
-use Rattle.number_forms.specs.Sums.{removed}
 use Rattle.std.proofs.Common.{Bool, true, false, if◌then◌else◌}
 use Rattle.calc_algebra.specs.Numbers.{is_number}
+use Rattle.like_children.proofs.Kids.{sizes_taken}
+use Rattle.like_children.proofs.Many.{all_bytes, handed_bytes}
 use Rattle.sum_reduce.specs.Sums.{terms_in, IsSum, Changes, Takes}
 use Rattle.sum_reduce.specs.Terms.{terms_of_loose, opened}
 use Rattle.sum_reduce.proofs.Sums.{IsOut, changes_rest, takes_rest, takes_handed, takes_apart}
 use Rattle.coefficients.proofs.Places.{without_put}
-use Rattle.tree_handles.specs.Expressions.{plain, nth}
+use Rattle.tree_handles.specs.Expressions.{plain}
 use Rattle.tree_handles.specs.Forest.{Forest, bytes_in}
-use Rattle.tree_handles.specs.Handed.{tree_of, IsHanded}
+use Rattle.tree_handles.specs.Handed.{tree_of}
 use Rattle.tree_handles.specs.Roots.{root_tree, without_root}
 use Rattle.tree_handles.specs.Standing.{Stands, forest, KeepsRefusals}
 use Rattle.tree_handles.proofs.Given.{handed_beside}
-use Rattle.tree_handles.proofs.Places.{used_forest}
-use Rattle.tree_handles.proofs.Plains.{size-plain}
-use Rattle.tree_handles.proofs.Roots.{root_arity, tree-without}
+use Rattle.tree_handles.proofs.Roots.{tree-without}
 
 -- ---- the bytes of a forest
 
-all_bytes : (s : State) → Stands s → free_of s + bytes_in (forest s) ≡ s.size
-all_bytes s st = let fits : used s.nodes ≤ s.size = st.pool.fits in omega (arith, fits, used_forest s st)
-
-beside_bytes : (i : ℕ) (f : Forest) → IsHanded i f → bytes_in f ≡ bytes_in (without_root i f) + size (plain (root_tree i f))
-beside_bytes i f h = omega (arith, bytes_without i f h.root, size-plain (root_tree i f) (root_arity i f h.root) h.whole)
-
 sum_bytes : (i : ℕ) (f : Forest) → IsSum i f → bytes_in f ≡ bytes_in (without_root i f) + size (add (terms_in i f))
-sum_bytes i f h = omega (arith, beside_bytes i f h.handed, ap size (sum_whole (plain (root_tree i f)) h.sum))
+sum_bytes i f h = omega (arith, handed_bytes i f h.handed, ap size (sum_whole (plain (root_tree i f)) h.sum))
 
 changes_bytes : {i : ℕ} {f g : Forest} → IsSum i f → Changes i f g → bytes_in g + size (add (terms_in i f)) ≡ bytes_in f + size (add (terms_in i g))
 changes_bytes {i = i} {f = f} {g = g} h c = omega (arith, sum_bytes i f h, sum_bytes i g c.sum, ap bytes_in (changes_rest c))
@@ -45,8 +36,8 @@ takes_bytes {i = i} {h = h} {f = f} {g = g} t =
     omega (
       arith,
       sum_bytes i f t.was,
-      beside_bytes h g (takes_handed t),
-      beside_bytes i (without_root h g) (handed_beside h apart t.sum.handed),
+      handed_bytes h g (takes_handed t),
+      handed_bytes i (without_root h g) (handed_beside h apart t.sum.handed),
       seen,
       ap size (sum_whole (plain (root_tree i g)) t.sum.sum),
       ap bytes_in rest,
@@ -67,13 +58,6 @@ takes_free {s = s} {t = t} st su k c = omega (arith, all_bytes s st, all_bytes t
 pub taken_free : {s t : State} {f : Forest} {i c h : ℕ} → Stands s → Stands t → KeepsRefusals s t → Takes i f (forest s) c → Takes i f (forest t) h
     → free_of t + size (add (terms_in i (forest t))) + size (tree_of h t) ≡ free_of s + size (add (terms_in i (forest s))) + size (tree_of c s)
 taken_free {s = s} {t = t} st su k c d = omega (arith, all_bytes s st, all_bytes t su, k.size, takes_bytes c, takes_bytes d)
-
--- ---- terms by their places
-
-pub sizes_taken : (n : ℕ) (ts : Trees) → n < count ts → sizes ts ≡ size (nth n ts) + sizes (removed n ts)
-sizes_taken n none l = absurd (omega arith)
-sizes_taken zero (more t ts) l = refl
-sizes_taken (suc n) (more t ts) l = omega (arith, sizes_taken n ts (omega arith))
 
 -- a term that was taken out moves no bytes
 pub out_free : {s t : State} {i n h : ℕ} → Stands s → Stands t → KeepsRefusals s t → n < count (terms_in i (forest s)) → IsOut i n (forest s) (forest t) h → free_of t ≡ free_of s

@@ -1,61 +1,28 @@
 -- Roots that are sums, from call to call.
-use Rattle.std.proofs.Common.{ℕ, zero, suc, ◌<◌, ◌≡◌, List, [], ◌∷◌, eqb, true, false, refl, sym, ap, ◌∙◌, subst, arith}
+use Rattle.std.proofs.Common.{ℕ, ◌<◌, ◌≡◌, List, [], ◌∷◌, eqb, true, false, refl, sym, ap, ◌∙◌, subst, arith}
 use Rattle.calc_terms.specs.declared.kind.Kind.TheVariants as kind
 use Rattle.calc_terms.specs.Trees.{Tree, Trees, none, more, count, is_add}
 use Rattle.node_pool.specs.State.{State}
 use Rattle.coefficients.specs.Pairs.{GivesTwo}
 use Rattle.coefficients.proofs.Places.{IsOver, over_sum, over_handed, over_plain, over_put, over_same, over_end, over_beside, without_put, represents_count, once_count}
 use Rattle.coefficients.proofs.Steps.{live, expression, seen, children_in, gives_put, gives_without}
-use Rattle.tree_handles.specs.Expressions.{nth, grown, plains, plain, inserted, children_of, IsExpression, IsWhole}
-use Rattle.tree_handles.specs.Forest.{Forest, empty, tree, arity, kids, root_count, tree_nth, without_nth, with_nth, merged_nth}
+use Rattle.tree_handles.specs.Expressions.{nth, plain, inserted, children_of, IsExpression}
+use Rattle.tree_handles.specs.Forest.{Forest, arity, kids, root_count, tree_nth, without_nth, with_nth, merged_nth}
 use Rattle.tree_handles.specs.Handed.{IsOnce, IsHanded, Represents, Ends, Gives, KeepsFront}
 use Rattle.tree_handles.specs.Inside.{holds, tree_at, kids_of}
 use Rattle.tree_handles.specs.Roots.{root_tree, without_root, put}
 use Rattle.tree_handles.specs.Standing.{Stands, forest}
-use Rattle.tree_handles.proofs.Counted.{all-kids, all-tree_nth, all-without_nth}
+use Rattle.tree_handles.proofs.Counted.{all-tree_nth}
 use Rattle.tree_handles.proofs.Forests.{arity-tree_nth}
 use Rattle.tree_handles.proofs.Fronts.{IsBehind, behind_first, behind_later, behind_new, front_same, front_at, front_end, front_put, front_without}
-use Rattle.tree_handles.proofs.Given.{gives, gives_as, given_handed, given_root, given_rest, given_same, given_told, given_other, given_without, handed_by_put, represents_handed, represents_with, represents_as}
-use Rattle.tree_handles.proofs.Lasts.{apart, other_apart, kids_of_root, last_tree}
-use Rattle.tree_handles.proofs.Nths.{with_nth-without_nth}
+use Rattle.tree_handles.proofs.Given.{gives, gives_as, given_handed, given_root, given_rest, given_same, given_told, given_other, given_without, handed_by_put, represents_handed, represents_with}
+use Rattle.tree_handles.proofs.Lasts.{apart, ends_as, other_apart, kids_of_root, last_tree}
 use Rattle.tree_handles.proofs.Outcomes.{eqb-sym}
-use Rattle.tree_handles.proofs.Plains.{plain-tree_nth, children_of-plain, whole_kids, alone}
 use Rattle.tree_handles.proofs.Roots.{root-put, put-put, put-same, tree-put, without-put}
+use Rattle.like_children.specs.Children.{LeavesChildren}
+use Rattle.like_children.proofs.Kids.{represents_nth, represents_without, represents_merged}
 use Rattle.sum_reduce.specs.Sums.{terms_in, IsSum, Changes, Takes}
 use Rattle.number_forms.specs.Sums.{removed}
-
--- ---- children by their places
-
-plains-without_nth : (n : ℕ) (f : Forest) → plains (without_nth n f) ≡ removed n (plains f)
-plains-without_nth zero empty = refl
-plains-without_nth zero (tree l k r) = refl
-plains-without_nth (suc n) empty = refl
-plains-without_nth (suc n) (tree l k r) = ap (more (grown l.payload (plains k))) (plains-without_nth n r)
-
-represents_without : (n : ℕ) {k : Forest} {ts : Trees} → Represents k ts → Represents (without_nth n k) (removed n ts)
-represents_without n {k = k} h = record {
-  once = all-without_nth IsOnce n k h.once;
-  whole = all-without_nth IsWhole n k h.whole;
-  plain_trees = plains-without_nth n k ∙ ap (removed n) h.plain_trees;
-}
-
-represents_nth : (n : ℕ) {k : Forest} {ts : Trees} → n < arity k → Represents k ts → Represents (tree_nth n k) (more (nth n ts) none)
-represents_nth n {k = k} l h = record {
-  once = all-tree_nth IsOnce n k h.once;
-  whole = all-tree_nth IsWhole n k h.whole;
-  plain_trees = alone (tree_nth n k) (arity-tree_nth n k l) ∙ ap (λ (t : Tree). more t none) (plain-tree_nth n k ∙ ap (nth n) h.plain_trees);
-}
-
-represents_kids : {t : Forest} {u : Tree} → Represents t (more u none) → Represents (kids t) (children_of u)
-represents_kids {t = t} h = record {
-  once = all-kids IsOnce t h.once;
-  whole = whole_kids t h.whole;
-  plain_trees = sym (children_of-plain t h.whole) ∙ ap children_of (ap (nth 0) h.plain_trees);
-}
-
-represents_merged : (n : ℕ) {k : Forest} {ts : Trees} → n < arity k → Represents k ts → Represents (merged_nth n k) (inserted n (children_of (nth n ts)) (removed n ts))
-represents_merged n {k = k} l h =
-    represents_as (represents_with n (represents_kids (represents_nth n l h)) (represents_without n h)) (with_nth-without_nth n (kids (tree_nth n k)) k l) refl
 
 -- ---- a sum
 
@@ -154,6 +121,10 @@ term_out {i = i} {f = f} n s l e =
       tree = given_told g;
     }
 
+pub record IsLeft (i : ℕ) (us : Trees) (old new : Forest) (m : ℕ) : Type 0 where
+  pub takes : Takes i old new m
+  pub terms : terms_in i new ≡ us
+
 -- what is rewritten beside it
 pub record IsRewritten (i : ℕ) (old mid new : Forest) (m : ℕ) : Type 0 where
   pub takes : Takes i old new m
@@ -169,6 +140,17 @@ rewritten t k =
 
 pub takes_after : {i h m : ℕ} {f g new : Forest} → Takes i f g h → Takes i (without_root h g) new m → Takes i f new m
 takes_after {i = i} {f = f} t u = record { was = t.was; kids = u.kids; given = gives_as u.given (ap (put i u.kids) (takes_rest t) ∙ put-put i u.kids t.kids f) (λ x y. y); sum = u.sum }
+
+-- it is handed on, and comes back beside a sum with other terms
+pub taken_given : {i h : ℕ} {f g : Forest} {P : Tree → Type 0} → Takes i f g h → P (plain (root_tree h g)) → Gives (without_root h g) g h P
+taken_given {P = P} t p =
+    let k = t.given in
+    record { tree = k.tree; ends = ends_as k.ends refl (sym (given_rest k)); once = k.once; whole = k.whole; told = subst (λ (x : Forest). P (plain x)) (last_tree k.ends) p }
+
+pub taken_on : {i h m : ℕ} {us : Trees} {f g new : Forest} → Takes i f g h → LeavesChildren i us (without_root h g) new m → IsLeft i us f new m
+taken_on {i = i} {f = f} t l =
+    let o = over_end (over_put l.kids (beside_over t) l.are) l.given.ends in
+    record { takes = record { was = t.was; kids = l.kids; given = gives_as l.given (ap (put i l.kids) (takes_rest t) ∙ put-put i l.kids t.kids f) (λ x y. y); sum = over_is_sum o }; terms = over_terms o }
 
 -- it goes
 pub record IsReleased (i : ℕ) (old mid new : Forest) : Type 0 where

@@ -1,18 +1,16 @@
 -- Terms in order.
-use Rattle.std.specs.Prelude.{ℕ, ◌≡◌, ⊤, true, IsSortedByKey, Result, Ok, Err}
+use Rattle.std.specs.Prelude.{◌≡◌, ⊤, true, IsSortedByKey, Result, Ok, Err}
 use Rattle.calc_terms.specs.Fractions.{Fraction}
 use Rattle.calc_algebra.specs.Numbers.{is_number}
 use Rattle.calc_measures.specs.PlainValues.{PlainValue, exactly}
 use Rattle.calc_algebra.specs.Reduced.{part_of, NoneIs}
 use Rattle.calc_algebra.specs.TreeOrder.{tree_cmp}
-use Rattle.calc_terms.specs.Trees.{Tree, num, Trees, none, more, append, count}
+use Rattle.calc_terms.specs.Trees.{num, Trees, none, more, append, count}
 pub use Rattle.like_children.specs.Folds.{IsTotal}
 use Rattle.like_children.specs.Neighbours.{NoPairBetween}
 use Rattle.node_order.specs.Sorting.{list_of}
-use Rattle.node_pool.specs.State.{State}
 use Rattle.calc_measures.specs.PlainTrees.{IsPlainOverflow}
 use Rattle.tree_handles.specs.Causes.{LacksLongForm}
-use Rattle.tree_handles.specs.Handed.{tree_of}
 use Rattle.tree_handles.specs.declared.fault.NumberFault.{NumberFault}
 use Rattle.tree_handles.specs.declared.fault.NumberFault.TheVariants as fault
 use Rattle.sum_reduce.specs.Stages.{IsStage}
@@ -23,13 +21,6 @@ abbrev pub IsLead : Trees → Type 0
 IsLead none = ⊤
 IsLead (more t none) = is_number t ≡ true
 IsLead _ = ⊥
-
--- Numbers among the terms were added to another: it is a Number, and none of the terms is
-pub record IsGathered (n : Tree) (ts : Trees) (m : Tree) (us : Trees) : Type 0 where
-  pub number : is_number m ≡ true
-  pub no_number : NoneIs is_number us
-  pub no_sum : NoneIs is_loose ts → NoneIs is_loose us
-  pub stage : IsStage (more n ts) (more m us)
 
 -- a Number or none, and then terms that are no Numbers
 pub record IsLed (ts : Trees) : Type 0 where
@@ -65,12 +56,6 @@ pub record IsFolded (v : PlainValue) (ts : Trees) : Type 0 where
   pub q : Fraction
   pub plain : v ≡ exactly q
   pub is : ts ≡ more (num q) none
-
--- a total is answered where rationals have one, else the first overflow, or bytes are lacking for a number in the long form
-abbrev pub AnswersTotal : PlainValue → State → Trees → Result ℕ NumberFault → Type 0
-AnswersTotal v new us (Ok h) = IsTotal v (tree_of h new) us
-AnswersTotal v new us (Err (fault.Full full)) = LacksLongForm full
-AnswersTotal v new us (Err (fault.Overflow o)) = IsPlainOverflow v o
 
 -- terms are answered where rationals fold to one, else the first overflow, or bytes are lacking for a number in the long form
 abbrev pub AnswersFold : PlainValue → Trees → Result Unit NumberFault → Type 0

@@ -1,5 +1,5 @@
 -- The terms of a sum: sums in it opened, and terms with identical parts.
-use Rattle.std.specs.Prelude.{ℕ, suc, ◌≡◌, ◌<◌, ◌≤◌, Bool, true, false, ◌&&◌, not, if◌then◌else◌}
+use Rattle.std.specs.Prelude.{Bool, false, ◌&&◌, not, if◌then◌else◌}
 use Rattle.calc_terms.specs.Fractions.{zero_fraction, is_zero_fraction}
 use Rattle.calc_algebra.specs.Numbers.{is_number}
 use Rattle.calc_algebra.specs.Reduced.{part_of, HasForm}
@@ -15,16 +15,6 @@ AreFormed ts = AllPartsOf HasForm ts
 -- a sum that is no Number
 abbrev pub is_loose : Tree → Bool
 is_loose t = is_add t && not (is_number t)
-
--- no term from one place to before another is such a sum
-abbrev pub IsTightBetween : ℕ → ℕ → Trees → Type 0
-IsTightBetween from to ts = (k : ℕ) → from ≤ k → k < to → is_loose (nth k ts) ≡ false
-
--- the last such sum before a place stands there
-pub record IsLastLoose (n to : ℕ) (ts : Trees) : Type 0 where
-  pub before : n < to
-  pub loose : is_loose (nth n ts) ≡ true
-  pub last : IsTightBetween (suc n) to ts
 
 -- the terms of a sum that is no Number, and any other tree as its own term
 abbrev pub terms_of_loose : Tree → Trees

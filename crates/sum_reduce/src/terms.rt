@@ -1,19 +1,18 @@
 //! The terms of a sum by their places; sums among them are opened.
-ghost use Rattle.std.specs.Prelude.{◌≡◌, ◌<◌, ◌≤◌, ℕ, MatchOption, true};
+ghost use Rattle.std.specs.Prelude.{◌≡◌, ◌<◌, true};
 ghost use Rattle.calc_terms.specs.Trees.{count, has_undef};
 ghost use Rattle.sum_reduce.specs.Sums.{IsSum, Changes, terms_in};
-ghost use Rattle.sum_reduce.specs.Terms.{AreFormed, is_loose, IsTightBetween, IsLastLoose, opened};
+ghost use Rattle.sum_reduce.specs.Terms.{AreFormed, is_loose, opened};
 ghost use Rattle.calc_algebra.specs.Reduced.{is_reduced};
 ghost use Rattle.tree_handles.specs.Expressions.{IsExpression, plain, nth};
 ghost use Rattle.tree_handles.specs.Inside.{tree_at};
 ghost use Rattle.tree_handles.specs.Standing.{Stands, forest, KeepsRefusals};
 
 use calc_terms::Kind;
+use like_children::{Opens, open_children};
 use node_pool::{Id, Pool};
 use number_forms::is_reduced_number;
-use tree_handles::{
-    Handle, child_id, child_ids, children, has_undefined_child, kind, merge_children,
-};
+use tree_handles::{Handle, child_id, children, has_undefined_child, kind};
 
 /// How many terms a sum has.
 pub fn term_count(pool: &Pool, sum: &Handle) -> u16
@@ -57,23 +56,21 @@ pub fn is_loose(pool: &Pool, id: Id) -> bool
     }
 }
 
-/// The place of the last sum, and no Number, among the first terms.
-fn last_loose(pool: &Pool, sum: &Handle, first: u16) -> Option<u16>
-    requires stands { Stands pool.now }
-    requires sum { IsSum sum.now (forest pool.now) }
-    requires within { first ≤ count (terms_in sum.now (forest pool.now)) }
-    requires reduced { (n : ℕ) → n < first → is_reduced (nth n (terms_in sum.now (forest pool.now))) ≡ true }
-    ensures { let ts = terms_in sum.now (forest pool.now) in
-        MatchOption result (IsTightBetween 0 first ts) (λ at. IsLastLoose at first ts) }
-{
-    let mut ids = child_ids(pool, sum.id(), 0);
-    let mut last = None;
-    for at in 0..first {
-        if is_loose(pool, ids.next()?) {
-            last = Some(at);
-        }
+/// Sums that are no Numbers give way to their terms.
+struct Loose;
+
+impl Opens for Loose {
+    ghost use Rattle.std.specs.Prelude.{◌≡◌, true};
+    ghost use Rattle.calc_algebra.specs.Reduced.{is_reduced};
+    ghost use Rattle.sum_reduce.specs.Terms.{terms_of_loose};
+
+    ghost parts = { terms_of_loose };
+
+    ghost can_tell = { λ t. is_reduced t ≡ true };
+
+    fn opens(&self, pool: &Pool, id: Id) -> bool {
+        is_loose(pool, id)
     }
-    last
 }
 
 /// The terms of each sum in a sum take its place. A Number stays as it is.
@@ -86,9 +83,5 @@ pub fn open_sums(pool: &mut Pool, sum: &Handle)
     ensures kept { KeepsRefusals pool.old pool.new }
     ensures stands { Stands pool.new }
 {
-    let mut first = term_count(pool, sum);
-    while let Some(at) = last_loose(pool, sum, first) {
-        merge_children(pool, sum, at);
-        first = at;
-    }
+    open_children(pool, sum, &Loose);
 }

@@ -1,4 +1,4 @@
-use Rattle.std.proofs.Common.{ℕ, ◌≡◌, ◌≤◌, ◌^◌, length, ◌∙◌, ap, sym, subst, inl, arith}
+use Rattle.std.proofs.Common.{ℕ, ◌≡◌, ◌≤◌, ◌^◌, length, ◌∙◌, ap, sym, subst, inl, arith, rules}
 use Rattle.calc_algebra.specs.Numbers.{is_number}
 use Rattle.calc_algebra.specs.Reduced.{is_reduced, product_tree}
 use Rattle.calc_room.specs.Counts.{counted}
@@ -52,25 +52,18 @@ returns-then-factor_count-eq0-clause-front c =
     let start = front_without behind_first front_same in
     front_end c.move_last.ensures.last (front_without (behind_later behind_first) (front_at start (c.release.ensures.owned (owned c.requires.product.handed))))
 
-pub put_coefficient-requires-clause-first : goal.put_coefficient-requires-clause-first
-put_coefficient-requires-clause-first c =
-    let r = readied_here c.args.product c.args.coefficient c.requires.product c.requires.coefficient c.requires.differ c.requires.order in
-    given_other c.unwrapped-part.ensures.tree (alone_handed c.args.product c.args.coefficient _ _ c.requires.apart r)
-
-pub put_coefficient-requires-clause-second : goal.put_coefficient-requires-clause-second
-put_coefficient-requires-clause-second c = given_handed c.unwrapped-part.ensures.tree
-
-pub put_coefficient-requires-clause-apart : goal.put_coefficient-requires-clause-apart
-put_coefficient-requires-clause-apart c =
-    let r = readied_here c.args.product c.args.coefficient c.requires.product c.requires.coefficient c.requires.differ c.requires.order in
-    eqb-sym c.unwrapped-part.result c.args.coefficient (given_apart c.unwrapped-part.ensures.tree (alone_handed c.args.product c.args.coefficient _ _ c.requires.apart r))
-
-pub put_coefficient-requires-clause-reduced : goal.put_coefficient-requires-clause-reduced
-put_coefficient-requires-clause-reduced c =
+pub put_coefficient-requires : goal.put_coefficient-requires
+put_coefficient-requires c =
     let r = readied_here c.args.product c.args.coefficient c.requires.product c.requires.coefficient c.requires.differ c.requires.order in
     let k : count (factors_in c.args.product (forest c.args.pool.now)) ≡ count r.us = ap count (factors_are r.product) in
-    ap is_reduced (given_told (part_given c.args.product c.args.coefficient c.unwrapped-part.result _ _ _ r c.unwrapped-part.ensures.tree))
-    ∙ part_reduced c.args.product c.args.coefficient _ _ r c.requires.others (omega (arith, c.factor_count.ensures, c.if-factor_count-eq0.false, k))
+    record {
+      stands = search rules;
+      first = given_other c.unwrapped-part.ensures.tree (alone_handed c.args.product c.args.coefficient _ _ c.requires.apart r);
+      second = given_handed c.unwrapped-part.ensures.tree;
+      apart = eqb-sym c.unwrapped-part.result c.args.coefficient (given_apart c.unwrapped-part.ensures.tree (alone_handed c.args.product c.args.coefficient _ _ c.requires.apart r));
+      reduced = ap is_reduced (given_told (part_given c.args.product c.args.coefficient c.unwrapped-part.result _ _ _ r c.unwrapped-part.ensures.tree))
+          ∙ part_reduced c.args.product c.args.coefficient _ _ r c.requires.others (omega (arith, c.factor_count.ensures, c.if-factor_count-eq0.false, k));
+    }
 
 pub returns-clause-ok : goal.returns-clause-ok
 returns-clause-ok c =

@@ -1,4 +1,4 @@
-use Rattle.std.proofs.Common.{◌≡◌, ◌≤◌, ◌^◌, length, ◌∙◌, Err, ap, sym, refl, subst, true, false, arith}
+use Rattle.std.proofs.Common.{◌≡◌, ◌≤◌, ◌^◌, length, ◌∙◌, Err, ap, sym, refl, subst, true, false, arith, rules}
 use Rattle.calc_measures.specs.PlainValues.{PlainValue, plain_value}
 use Rattle.calc_room.specs.Counts.{counted}
 use Rattle.calc_room.specs.Powers.{HasPowersOf}
@@ -43,19 +43,16 @@ open_products-requires-clause-product c = handed_product c.requires.handed c.req
 
 -- ---- the coefficient stands first as it is written
 
-pub written_lead-requires-clause-reduced : goal.written_lead-requires-clause-reduced
-written_lead-requires-clause-reduced c =
-    ap are_reduced (factors_are c.open_products.ensures.opened.product) ∙ reduced_opened (factors_in c.args.product (forest c.args.pool.now)) c.requires.reduced (sym c.has_undef_factor.ensures ∙ c.if-has_undef_factor.false)
-
-pub written_lead-requires-clause-flat : goal.written_lead-requires-clause-flat
-written_lead-requires-clause-flat c =
+pub written_lead-requires : goal.written_lead-requires
+written_lead-requires c =
     let ts = factors_in c.args.product (forest c.args.pool.now) in
-    subst (NoneIs is_mult) (sym (factors_are c.open_products.ensures.opened.product)) (opened_flat ts (reduced_formed ts c.requires.reduced (sym c.has_undef_factor.ensures ∙ c.if-has_undef_factor.false)))
-
-pub written_lead-requires-clause-some : goal.written_lead-requires-clause-some
-written_lead-requires-clause-some c =
-    let ts = factors_in c.args.product (forest c.args.pool.now) in
-    subst (λ (us : Trees). 1 ≤ count us) (sym (factors_are c.open_products.ensures.opened.product)) (opened_some ts (reduced_formed ts c.requires.reduced (sym c.has_undef_factor.ensures ∙ c.if-has_undef_factor.false)) c.requires.some)
+    record {
+      stands = search rules;
+      product = search rules;
+      reduced = ap are_reduced (factors_are c.open_products.ensures.opened.product) ∙ reduced_opened (factors_in c.args.product (forest c.args.pool.now)) c.requires.reduced (sym c.has_undef_factor.ensures ∙ c.if-has_undef_factor.false);
+      flat = subst (NoneIs is_mult) (sym (factors_are c.open_products.ensures.opened.product)) (opened_flat ts (reduced_formed ts c.requires.reduced (sym c.has_undef_factor.ensures ∙ c.if-has_undef_factor.false)));
+      some = subst (λ (us : Trees). 1 ≤ count us) (sym (factors_are c.open_products.ensures.opened.product)) (opened_some ts (reduced_formed ts c.requires.reduced (sym c.has_undef_factor.ensures ∙ c.if-has_undef_factor.false)) c.requires.some);
+    }
 
 pub order_behind-requires-clause-reduced : goal.order_behind-requires-clause-reduced
 order_behind-requires-clause-reduced c =
@@ -94,19 +91,17 @@ pub take_coefficient-requires-clause-reduced : goal.take_coefficient-requires-cl
 take_coefficient-requires-clause-reduced c =
     ap are_reduced (factors_are c.open_products.ensures.opened.product) ∙ reduced_opened (factors_in c.args.product (forest c.args.pool.now)) c.requires.reduced (sym c.has_undef_factor.ensures ∙ c.if-has_undef_factor.false)
 
-pub order_or_end-requires-clause-product : goal.order_or_end-requires-clause-product
-order_or_end-requires-clause-product c = (parted c.args.product c.in_ok-coefficient.coefficient (factors_in c.args.product (forest c.args.pool.now)) _ _ _ c.open_products.ensures.opened c.in_ok-coefficient.ensures.taken).product
-
-pub order_or_end-requires-clause-others : goal.order_or_end-requires-clause-others
-order_or_end-requires-clause-others c =
+pub order_or_end-requires : goal.order_or_end-requires
+order_or_end-requires c =
     let p = parted c.args.product c.in_ok-coefficient.coefficient (factors_in c.args.product (forest c.args.pool.now)) _ _ _ c.open_products.ensures.opened c.in_ok-coefficient.ensures.taken in
-    subst (λ (ts : Trees). AreOthers ts) (sym p.factors) (others_are (factors_in c.args.product (forest c.args.pool.now)) c.requires.reduced (sym c.has_undef_factor.ensures ∙ c.if-has_undef_factor.false))
-
-pub order_or_end-requires-clause-coefficient : goal.order_or_end-requires-clause-coefficient
-order_or_end-requires-clause-coefficient c = c.in_ok-coefficient.ensures.taken.beside.handed
-
-pub order_or_end-requires-clause-apart : goal.order_or_end-requires-clause-apart
-order_or_end-requires-clause-apart c = (parted c.args.product c.in_ok-coefficient.coefficient (factors_in c.args.product (forest c.args.pool.now)) _ _ _ c.open_products.ensures.opened c.in_ok-coefficient.ensures.taken).apart
+    record {
+      stands = search rules;
+      product = (parted c.args.product c.in_ok-coefficient.coefficient (factors_in c.args.product (forest c.args.pool.now)) _ _ _ c.open_products.ensures.opened c.in_ok-coefficient.ensures.taken).product;
+      others = subst (λ (ts : Trees). AreOthers ts) (sym p.factors) (others_are (factors_in c.args.product (forest c.args.pool.now)) c.requires.reduced (sym c.has_undef_factor.ensures ∙ c.if-has_undef_factor.false));
+      coefficient = c.in_ok-coefficient.ensures.taken.beside.handed;
+      number = search rules;
+      apart = (parted c.args.product c.in_ok-coefficient.coefficient (factors_in c.args.product (forest c.args.pool.now)) _ _ _ c.open_products.ensures.opened c.in_ok-coefficient.ensures.taken).apart;
+    }
 
 pub returns-clause-done : goal.returns-clause-done
 returns-clause-done c =

@@ -1,4 +1,4 @@
-use Rattle.std.proofs.Common.{◌∙◌, ap, sym, refl, subst, arith}
+use Rattle.std.proofs.Common.{◌∙◌, ap, sym, refl, subst, arith, rules}
 use Rattle.calc_algebra.specs.Reduced.{product_tree, are_reduced}
 use Rattle.calc_terms.specs.Trees.{Trees, count}
 use Rattle.tree_handles.specs.Expressions.{plain, children_of}
@@ -19,19 +19,16 @@ use Rattle.product_reduce.proofs.gathering.order_behind.Goals as goal
 pub sort_factors-requires-clause-within : goal.sort_factors-requires-clause-within
 sort_factors-requires-clause-within c = lead_within c.args.lead _ _ c.requires.lead.1
 
-pub next_pair-requires-clause-handed : goal.next_pair-requires-clause-handed
-next_pair-requires-clause-handed c = c.sort_factors.ensures.sorts.becomes.product.handed
-
-pub next_pair-requires-clause-within : goal.next_pair-requires-clause-within
-next_pair-requires-clause-within c =
-    let x = c.sort_factors.ensures.sorts in
-    omega (arith, put_within c.args.lead _ _ x.us c.requires.lead.1 x.sorted, ap count (factors_are x.becomes.product))
-
-pub next_pair-requires-clause-told : goal.next_pair-requires-clause-told
-next_pair-requires-clause-told c =
+pub next_pair-requires : goal.next_pair-requires
+next_pair-requires c =
     let x = c.sort_factors.ensures.sorts in
     let r = put_reduced c.args.lead _ _ x.us c.requires.lead.1 x.sorted c.requires.reduced in
-    λ n l. reduced_nth n (factors_in c.args.product (forest c.sort_factors.new.pool)) l (ap are_reduced (factors_are x.becomes.product) ∙ r)
+    record {
+      stands = search rules;
+      handed = c.sort_factors.ensures.sorts.becomes.product.handed;
+      within = omega (arith, put_within c.args.lead _ _ x.us c.requires.lead.1 x.sorted, ap count (factors_are x.becomes.product));
+      told = λ n l. reduced_nth n (factors_in c.args.product (forest c.sort_factors.new.pool)) l (ap are_reduced (factors_are x.becomes.product) ∙ r);
+    }
 
 pub unwrapped-requires-clause-some : goal.unwrapped-requires-clause-some
 unwrapped-requires-clause-some c =

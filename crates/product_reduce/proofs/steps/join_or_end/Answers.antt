@@ -1,18 +1,13 @@
-use Rattle.std.proofs.Common.{◌∙◌, ap, sym, refl, inl, arith}
+use Rattle.std.proofs.Common.{◌∙◌, ap, sym, refl, arith}
 use Rattle.coefficients.proofs.Lacks.{passed_lacks, refusal_lacks}
 use Rattle.node_pool.specs.State.{free_of}
 use Rattle.tree_handles.specs.Handed.{tree_of}
 use Rattle.product_reduce.proofs.FreeBytes.{pair_lacks}
 use Rattle.number_forms.specs.Readers.{is_zero}
-use Rattle.tree_handles.specs.Expressions.{plain}
 use Rattle.product_reduce.specs.Products.{factors_in}
-use Rattle.tree_handles.specs.Roots.{has_root, root_tree, without_root}
 use Rattle.tree_handles.specs.Standing.{forest}
-use Rattle.tree_handles.proofs.Fronts.{behind_first, behind_later, front_same, front_at, front_end, front_without}
-use Rattle.tree_handles.proofs.Given.{gives, gives_as, owned, handed_beside, represents_handed}
-use Rattle.tree_handles.proofs.Lasts.{ends_as, expression_root, last_tree, plain_root}
-use Rattle.tree_handles.proofs.Outcomes.{eqb-sym}
-use Rattle.tree_handles.proofs.Roots.{tree-without, without-swap}
+use Rattle.tree_handles.proofs.Given.{gives_as, given_told}
+use Rattle.tree_handles.proofs.Lasts.{expression_root, plain_root}
 use Rattle.product_reduce.specs.Answers.{at_zero, at_end}
 use Rattle.number_forms.proofs.Overflows.{passed_on}
 use Rattle.product_reduce.proofs.Misfits.{none_named}
@@ -22,13 +17,6 @@ use Rattle.product_reduce.proofs.steps.join_or_end.Goals as goal
 pub is_zero-requires-clause-expression : goal.is_zero-requires-clause-expression
 is_zero-requires-clause-expression c = rw c.id.ensures (expression_root c.requires.stands c.requires.coefficient)
 
-pub release-requires-clause-releasable : goal.release-requires-clause-releasable
-release-requires-clause-releasable c = inl c.requires.product.handed.root
-
-pub move_last-requires-clause-root : goal.move_last-requires-clause-root
-move_last-requires-clause-root c =
-    ap (has_root c.args.coefficient) (c.release.ensures.owned (owned c.requires.product.handed)) ∙ (handed_beside c.args.product (eqb-sym c.args.coefficient c.args.product c.requires.apart) c.requires.coefficient).root
-
 pub sorted-requires-clause-not_zero : goal.sorted-requires-clause-not_zero
 sorted-requires-clause-not_zero c =
     let seen = rw c.id.ensures at c.is_zero.ensures in
@@ -36,25 +24,12 @@ sorted-requires-clause-not_zero c =
 
 pub returns-then-is_zero-clause-done : goal.returns-then-is_zero-clause-done
 returns-then-is_zero-clause-done c =
-    let i = c.args.product in
-    let k = c.args.coefficient in
-    let old = forest c.args.pool.now in
     let seen = rw c.id.ensures at c.is_zero.ensures in
-    let zero = ap is_zero (sym (plain_root k c.requires.stands c.requires.coefficient.root)) ∙ sym seen ∙ c.if-is_zero.true in
-    let gone = c.release.ensures.owned (owned c.requires.product.handed) in
-    let beside = handed_beside i (eqb-sym k i c.requires.apart) c.requires.coefficient in
-    gives (ends_as c.move_last.ensures.last (ap (root_tree k) gone) (ap (without_root k) gone ∙ without-swap k i old c.requires.apart))
-    (represents_handed beside) (at_zero zero (ap plain (tree-without i k old (eqb-sym k i c.requires.apart))))
+    let zero = ap is_zero (sym (plain_root c.args.coefficient c.requires.stands c.requires.coefficient.root)) ∙ sym seen ∙ c.if-is_zero.true in
+    gives_as c.alone.ensures.ok refl (λ t e. at_zero zero e)
 
 pub returns-then-is_zero-clause-alone : goal.returns-then-is_zero-clause-alone
-returns-then-is_zero-clause-alone c = λ e.
-    let gone = c.release.ensures.owned (owned c.requires.product.handed) in
-    ap plain (last_tree c.move_last.ensures.last ∙ ap (root_tree c.args.coefficient) gone ∙ tree-without c.args.product c.args.coefficient (forest c.args.pool.now) (eqb-sym c.args.coefficient c.args.product c.requires.apart))
-
-pub returns-then-is_zero-clause-front : goal.returns-then-is_zero-clause-front
-returns-then-is_zero-clause-front c =
-    let gone = c.release.ensures.owned (owned c.requires.product.handed) in
-    front_end c.move_last.ensures.last (front_without (behind_later behind_first) (front_at (front_without behind_first front_same) gone))
+returns-then-is_zero-clause-alone c = λ e. given_told c.alone.ensures.ok
 
 pub returns-in_ok-product-in-Some-clause-joined : goal.returns-in_ok-product-in-Some-clause-joined
 returns-in_ok-product-in-Some-clause-joined c =

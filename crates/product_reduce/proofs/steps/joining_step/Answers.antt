@@ -1,4 +1,4 @@
-use Rattle.std.proofs.Common.{◌≡◌, ◌≤◌, ◌^◌, length, ◌∙◌, Err, ap, sym, refl, subst, true, false, arith}
+use Rattle.std.proofs.Common.{◌≡◌, ◌≤◌, ◌^◌, length, ◌∙◌, Err, ap, sym, refl, subst, true, false, arith, rules}
 use Rattle.std.proofs.lemmas.Nat.{pow_pos}
 use Rattle.calc_measures.specs.PlainValues.{PlainValue, plain_value}
 use Rattle.calc_room.specs.Counts.{counted}
@@ -45,19 +45,17 @@ pub take_coefficient-requires-clause-reduced : goal.take_coefficient-requires-cl
 take_coefficient-requires-clause-reduced c =
     ap are_reduced (factors_are c.open_products.ensures.opened.product) ∙ reduced_opened (factors_in c.args.product (forest c.args.pool.now)) c.requires.reduced (sym c.has_undef_factor.ensures ∙ c.if-has_undef_factor.false)
 
-pub join_or_end-requires-clause-product : goal.join_or_end-requires-clause-product
-join_or_end-requires-clause-product c = (parted c.args.product c.in_ok-coefficient.coefficient (factors_in c.args.product (forest c.args.pool.now)) _ _ _ c.open_products.ensures.opened c.in_ok-coefficient.ensures.taken).product
-
-pub join_or_end-requires-clause-others : goal.join_or_end-requires-clause-others
-join_or_end-requires-clause-others c =
+pub join_or_end-requires : goal.join_or_end-requires
+join_or_end-requires c =
     let p = parted c.args.product c.in_ok-coefficient.coefficient (factors_in c.args.product (forest c.args.pool.now)) _ _ _ c.open_products.ensures.opened c.in_ok-coefficient.ensures.taken in
-    subst (λ (ts : Trees). AreOthers ts) (sym p.factors) (others_are (factors_in c.args.product (forest c.args.pool.now)) c.requires.reduced (sym c.has_undef_factor.ensures ∙ c.if-has_undef_factor.false))
-
-pub join_or_end-requires-clause-coefficient : goal.join_or_end-requires-clause-coefficient
-join_or_end-requires-clause-coefficient c = c.in_ok-coefficient.ensures.taken.beside.handed
-
-pub join_or_end-requires-clause-apart : goal.join_or_end-requires-clause-apart
-join_or_end-requires-clause-apart c = (parted c.args.product c.in_ok-coefficient.coefficient (factors_in c.args.product (forest c.args.pool.now)) _ _ _ c.open_products.ensures.opened c.in_ok-coefficient.ensures.taken).apart
+    record {
+      stands = search rules;
+      product = (parted c.args.product c.in_ok-coefficient.coefficient (factors_in c.args.product (forest c.args.pool.now)) _ _ _ c.open_products.ensures.opened c.in_ok-coefficient.ensures.taken).product;
+      others = subst (λ (ts : Trees). AreOthers ts) (sym p.factors) (others_are (factors_in c.args.product (forest c.args.pool.now)) c.requires.reduced (sym c.has_undef_factor.ensures ∙ c.if-has_undef_factor.false));
+      coefficient = c.in_ok-coefficient.ensures.taken.beside.handed;
+      number = search rules;
+      apart = (parted c.args.product c.in_ok-coefficient.coefficient (factors_in c.args.product (forest c.args.pool.now)) _ _ _ c.open_products.ensures.opened c.in_ok-coefficient.ensures.taken).apart;
+    }
 
 pub returns-clause-done : goal.returns-clause-done
 returns-clause-done c =

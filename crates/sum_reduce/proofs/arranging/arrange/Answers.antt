@@ -1,4 +1,4 @@
-use Rattle.std.proofs.Common.{◌≤◌, sym, subst, ap, arith}
+use Rattle.std.proofs.Common.{◌≤◌, sym, subst, ap, arith, rules}
 use Rattle.calc_algebra.specs.Reduced.{NoneIs}
 use Rattle.calc_measures.specs.PlainValues.{plain_value}
 use Rattle.calc_terms.specs.Trees.{Trees, add, count, sizes}
@@ -26,14 +26,13 @@ use Rattle.sum_reduce.proofs.HeldTerms.{opened_held}
 use Rattle.tree_bits.specs.Children.{addends_of_each}
 use Rattle.sum_reduce.proofs.arranging.arrange.Goals as goal
 
-pub join_numbers-requires-clause-sum : goal.join_numbers-requires-clause-sum
-join_numbers-requires-clause-sum c = c.open_sums.ensures.changes.sum
-
-pub join_numbers-requires-clause-formed : goal.join_numbers-requires-clause-formed
-join_numbers-requires-clause-formed c = subst AreFormed (sym c.open_sums.ensures.opened) (opened_formed _ c.requires.formed)
-
-pub join_numbers-requires-clause-some : goal.join_numbers-requires-clause-some
-join_numbers-requires-clause-some c = subst (λ (x : Trees). 1 ≤ count x) (sym c.open_sums.ensures.opened) (opened_some _ c.requires.formed c.requires.some)
+pub join_numbers-requires : goal.join_numbers-requires
+join_numbers-requires c = record {
+  stands = search rules;
+  sum = c.open_sums.ensures.changes.sum;
+  formed = subst AreFormed (sym c.open_sums.ensures.opened) (opened_formed _ c.requires.formed);
+  some = subst (λ (x : Trees). 1 ≤ count x) (sym c.open_sums.ensures.opened) (opened_some _ c.requires.formed c.requires.some);
+}
 
 pub returns-in_err-join_numbers-clause-rationals : goal.returns-in_err-join_numbers-clause-rationals
 returns-in_err-join_numbers-clause-rationals c =
@@ -44,21 +43,15 @@ returns-in_err-join_numbers-clause-rationals c =
 pub returns-in_err-join_numbers-clause-front : goal.returns-in_err-join_numbers-clause-front
 returns-in_err-join_numbers-clause-front c = front_after_one behind_first (changes_front c.open_sums.ensures.changes) c.join_numbers.ensures.front
 
-pub sort_terms-requires-clause-sum : goal.sort_terms-requires-clause-sum
-sort_terms-requires-clause-sum c = c.in_ok-join_numbers.ensures.ok.sum
-
-pub sort_terms-requires-clause-formed : goal.sort_terms-requires-clause-formed
-sort_terms-requires-clause-formed c = c.in_ok-join_numbers.ensures.joined.stage.formed
-
-pub sort_terms-requires-clause-some : goal.sort_terms-requires-clause-some
-sort_terms-requires-clause-some c = c.in_ok-join_numbers.ensures.joined.stage.some
-
-pub sort_terms-requires-clause-led : goal.sort_terms-requires-clause-led
-sort_terms-requires-clause-led c = c.in_ok-join_numbers.ensures.joined.led
-
-pub sort_terms-requires-clause-flat : goal.sort_terms-requires-clause-flat
-sort_terms-requires-clause-flat c =
-    c.in_ok-join_numbers.ensures.joined.no_sum (subst (NoneIs is_loose) (sym c.open_sums.ensures.opened) (opened_tight _ c.requires.formed))
+pub sort_terms-requires : goal.sort_terms-requires
+sort_terms-requires c = record {
+  stands = search rules;
+  sum = c.in_ok-join_numbers.ensures.ok.sum;
+  formed = c.in_ok-join_numbers.ensures.joined.stage.formed;
+  some = c.in_ok-join_numbers.ensures.joined.stage.some;
+  led = c.in_ok-join_numbers.ensures.joined.led;
+  flat = c.in_ok-join_numbers.ensures.joined.no_sum (subst (NoneIs is_loose) (sym c.open_sums.ensures.opened) (opened_tight _ c.requires.formed));
+}
 
 pub returns-clause-ok : goal.returns-clause-ok
 returns-clause-ok c = changes_after (changes_after c.open_sums.ensures.changes c.in_ok-join_numbers.ensures.ok) c.sort_terms.ensures.changes

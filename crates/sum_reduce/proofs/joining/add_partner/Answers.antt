@@ -1,4 +1,5 @@
-use Rattle.std.proofs.Common.{◌∙◌, ap, ℕ, ◌<◌, sym, subst, arith, ◌++◌}
+use Rattle.std.proofs.Common.{◌∙◌, ap, ℕ, ◌<◌, sym, subst, arith, ◌++◌, rules}
+use Rattle.like_children.proofs.Kids.{sizes_taken}
 use Rattle.calc_algebra.specs.Numbers.{is_number, value}
 use Rattle.calc_algebra.specs.Reduced.{is_reduced}
 use Rattle.calc_terms.specs.Trees.{is_undef, size, sizes}
@@ -20,7 +21,7 @@ use Rattle.calc_room.specs.Spans.{SpansRoot, SpansTree}
 use Rattle.coefficients.proofs.Lacks.{refusal_lacks, result_lacks}
 use Rattle.sum_reduce.proofs.CollectedParts.{coefficient_parts}
 use Rattle.sum_reduce.proofs.Rooms.{number_lacks}
-use Rattle.sum_reduce.proofs.SumBytes.{out_free, takes_free, sizes_taken}
+use Rattle.sum_reduce.proofs.SumBytes.{out_free, takes_free}
 use Rattle.tree_handles.specs.Handed.{tree_of}
 use Rattle.tree_handles.proofs.Forests.{keeps_after}
 use Rattle.calc_bits.specs.Bounds.{HasFewBits}
@@ -29,55 +30,30 @@ use Rattle.sum_reduce.proofs.joining.add_partner.Goals as goal
 pub take_child-term-requires-clause-within : goal.take_child-term-requires-clause-within
 take_child-term-requires-clause-within c = sum_within c.args.at c.requires.stands c.requires.sum c.requires.within
 
-pub coefficient_alone-requires-clause-handed : goal.coefficient_alone-requires-clause-handed
-coefficient_alone-requires-clause-handed c =
+pub coefficient_alone-requires : goal.coefficient_alone-requires
+coefficient_alone-requires c =
     let o = term_out c.args.at c.requires.sum c.requires.within (c.take_child-term.ensures.last c.requires.sum.handed.root) in
-    takes_handed o.takes
+    record {
+      stands = search rules;
+      handed = takes_handed o.takes;
+      reduced = ap is_reduced o.tree ∙ c.requires.reduced;
+      defined = ap is_undef o.tree ∙ c.requires.defined;
+      no_number = ap is_number o.tree ∙ c.requires.no_number;
+    }
 
-pub coefficient_alone-requires-clause-reduced : goal.coefficient_alone-requires-clause-reduced
-coefficient_alone-requires-clause-reduced c =
-    let o = term_out c.args.at c.requires.sum c.requires.within (c.take_child-term.ensures.last c.requires.sum.handed.root) in
-    ap is_reduced o.tree ∙ c.requires.reduced
-
-pub coefficient_alone-requires-clause-defined : goal.coefficient_alone-requires-clause-defined
-coefficient_alone-requires-clause-defined c =
-    let o = term_out c.args.at c.requires.sum c.requires.within (c.take_child-term.ensures.last c.requires.sum.handed.root) in
-    ap is_undef o.tree ∙ c.requires.defined
-
-pub coefficient_alone-requires-clause-no_number : goal.coefficient_alone-requires-clause-no_number
-coefficient_alone-requires-clause-no_number c =
-    let o = term_out c.args.at c.requires.sum c.requires.within (c.take_child-term.ensures.last c.requires.sum.handed.root) in
-    ap is_number o.tree ∙ c.requires.no_number
-
-pub add_numbers-requires-clause-first : goal.add_numbers-requires-clause-first
-add_numbers-requires-clause-first c =
+pub add_numbers-requires : goal.add_numbers-requires
+add_numbers-requires c =
     let o = term_out c.args.at c.requires.sum c.requires.within (c.take_child-term.ensures.last c.requires.sum.handed.root) in
     let r = rewritten o.takes c.in_ok-coefficient.ensures.ok in
-    other_handed c.requires.apart c.requires.handed r.takes
-
-pub add_numbers-requires-clause-second : goal.add_numbers-requires-clause-second
-add_numbers-requires-clause-second c =
-    let o = term_out c.args.at c.requires.sum c.requires.within (c.take_child-term.ensures.last c.requires.sum.handed.root) in
-    let r = rewritten o.takes c.in_ok-coefficient.ensures.ok in
-    takes_handed r.takes
-
-pub add_numbers-requires-clause-apart : goal.add_numbers-requires-clause-apart
-add_numbers-requires-clause-apart c =
-    let o = term_out c.args.at c.requires.sum c.requires.within (c.take_child-term.ensures.last c.requires.sum.handed.root) in
-    let r = rewritten o.takes c.in_ok-coefficient.ensures.ok in
-    eqb-sym c.in_ok-coefficient.coefficient c.args.so_far (other_clear c.requires.apart c.requires.handed r.takes)
-
-pub add_numbers-requires-clause-first_number : goal.add_numbers-requires-clause-first_number
-add_numbers-requires-clause-first_number c =
-    let o = term_out c.args.at c.requires.sum c.requires.within (c.take_child-term.ensures.last c.requires.sum.handed.root) in
-    let r = rewritten o.takes c.in_ok-coefficient.ensures.ok in
-    ap is_number (other_same c.requires.apart c.requires.handed r.takes) ∙ c.requires.so_far
-
-pub add_numbers-requires-clause-second_number : goal.add_numbers-requires-clause-second_number
-add_numbers-requires-clause-second_number c =
-    let o = term_out c.args.at c.requires.sum c.requires.within (c.take_child-term.ensures.last c.requires.sum.handed.root) in
     let t = nth c.args.at (terms_in c.args.sum.now (forest c.args.pool.now)) in
-    ap is_number (given_told c.in_ok-coefficient.ensures.ok ∙ ap coefficient_of o.tree) ∙ number_test (coefficient_of t) (taken t c.requires.reduced c.requires.defined c.requires.no_number).number
+    record {
+      stands = search rules;
+      first = other_handed c.requires.apart c.requires.handed r.takes;
+      second = takes_handed r.takes;
+      apart = eqb-sym c.in_ok-coefficient.coefficient c.args.so_far (other_clear c.requires.apart c.requires.handed r.takes);
+      first_number = ap is_number (other_same c.requires.apart c.requires.handed r.takes) ∙ c.requires.so_far;
+      second_number = ap is_number (given_told c.in_ok-coefficient.ensures.ok ∙ ap coefficient_of o.tree) ∙ number_test (coefficient_of t) (taken t c.requires.reduced c.requires.defined c.requires.no_number).number;
+    }
 
 pub returns-clause-ok : goal.returns-clause-ok
 returns-clause-ok c =

@@ -1,4 +1,5 @@
-use Rattle.std.proofs.Common.{suc, ◌+◌, ap, add-one, arith}
+use Rattle.std.proofs.Common.{suc, ◌+◌, ap, add-one, arith, rules}
+use Rattle.like_children.proofs.Kids.{count_removed}
 use Rattle.calc_terms.specs.Trees.{count}
 use Rattle.tree_handles.specs.Standing.{forest}
 use Rattle.tree_handles.proofs.Forests.{keeps_none, keeps_after}
@@ -6,7 +7,6 @@ use Rattle.tree_handles.proofs.Fronts.{behind_first, front_same, front_after_two
 use Rattle.sum_reduce.specs.Sums.{terms_in}
 use Rattle.sum_reduce.proofs.Joins.{joining_formed, joining_less, next_partner, partner_step, partner_within}
 use Rattle.sum_reduce.proofs.Numbered.{beside_behind}
-use Rattle.sum_reduce.proofs.Places.{count_removed}
 use Rattle.sum_reduce.proofs.Sorted.{formed_nth}
 use Rattle.sum_reduce.proofs.Sums.{takes_handed, takes_apart, takes_after}
 use Rattle.coefficients.specs.Coefficients.{coefficient_of}
@@ -44,51 +44,23 @@ is_pair-requires-clause-told c =
     let j = i.joining _ _ c.requires.joining.2 in
     λ n l. formed_nth n us l (joining_formed _ _ us c.args.at _ j i.within)
 
-pub add_partner-requires-clause-sum : goal.add_partner-requires-clause-sum
-add_partner-requires-clause-sum c =
-    (c.loop-pool.invariant.takes _ c.requires.taken.1).sum
-
-pub add_partner-requires-clause-within : goal.add_partner-requires-clause-within
-add_partner-requires-clause-within c =
-    rw add-one (c.is_pair.ensures.pair c.loop-pool-test.true).within
-
-pub add_partner-requires-clause-reduced : goal.add_partner-requires-clause-reduced
-add_partner-requires-clause-reduced c =
+pub add_partner-requires : goal.add_partner-requires
+add_partner-requires c =
     let i = c.loop-pool.invariant in
     let us = terms_in c.args.sum.now (forest c.loop-pool.pool) in
     let j = i.joining _ _ c.requires.joining.2 in
     let n = next_partner us c.args.at (joining_formed _ _ us c.args.at _ j i.within) (c.is_pair.ensures.pair c.loop-pool-test.true) in
-    rw add-one n.reduced
-
-pub add_partner-requires-clause-defined : goal.add_partner-requires-clause-defined
-add_partner-requires-clause-defined c =
-    let i = c.loop-pool.invariant in
-    let us = terms_in c.args.sum.now (forest c.loop-pool.pool) in
-    let j = i.joining _ _ c.requires.joining.2 in
-    let n = next_partner us c.args.at (joining_formed _ _ us c.args.at _ j i.within) (c.is_pair.ensures.pair c.loop-pool-test.true) in
-    rw add-one n.defined
-
-pub add_partner-requires-clause-no_number : goal.add_partner-requires-clause-no_number
-add_partner-requires-clause-no_number c =
-    let i = c.loop-pool.invariant in
-    let us = terms_in c.args.sum.now (forest c.loop-pool.pool) in
-    let j = i.joining _ _ c.requires.joining.2 in
-    let n = next_partner us c.args.at (joining_formed _ _ us c.args.at _ j i.within) (c.is_pair.ensures.pair c.loop-pool-test.true) in
-    rw add-one n.no_number
-
-pub add_partner-requires-clause-handed : goal.add_partner-requires-clause-handed
-add_partner-requires-clause-handed c =
-    takes_handed (c.loop-pool.invariant.takes _ c.requires.taken.1)
-
-pub add_partner-requires-clause-apart : goal.add_partner-requires-clause-apart
-add_partner-requires-clause-apart c =
-    takes_apart (c.loop-pool.invariant.takes _ c.requires.taken.1)
-
-pub add_partner-requires-clause-so_far : goal.add_partner-requires-clause-so_far
-add_partner-requires-clause-so_far c =
-    let i = c.loop-pool.invariant in
-    let j = i.joining _ _ c.requires.joining.2 in
-    j.number
+    record {
+      stands = search rules;
+      sum = (c.loop-pool.invariant.takes _ c.requires.taken.1).sum;
+      within = rw add-one (c.is_pair.ensures.pair c.loop-pool-test.true).within;
+      reduced = rw add-one n.reduced;
+      defined = rw add-one n.defined;
+      no_number = rw add-one n.no_number;
+      handed = takes_handed (c.loop-pool.invariant.takes _ c.requires.taken.1);
+      apart = takes_apart (c.loop-pool.invariant.takes _ c.requires.taken.1);
+      so_far = j.number;
+    }
 
 pub loop-pool-smaller : goal.loop-pool-smaller
 loop-pool-smaller c =

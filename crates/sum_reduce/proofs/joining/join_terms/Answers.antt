@@ -1,11 +1,11 @@
-use Rattle.std.proofs.Common.{◌<◌, sym, subst, add-one, arith}
+use Rattle.std.proofs.Common.{◌<◌, sym, subst, add-one, arith, rules}
 use Rattle.calc_terms.specs.Trees.{Trees}
 use Rattle.tree_handles.specs.Expressions.{nth}
 use Rattle.tree_handles.specs.Standing.{forest}
 use Rattle.tree_handles.proofs.Fronts.{behind_first, front_after_two}
 use Rattle.sum_reduce.specs.Stages.{IsStage, widths}
 use Rattle.sum_reduce.specs.Sums.{terms_in}
-use Rattle.sum_reduce.proofs.Joins.{joining_start, pair_start, joining_formed, next_partner, first_partner, partner_step, partner_within, joining_done, joined_within, joined_others, pair_here, here_reduced, here_defined}
+use Rattle.sum_reduce.proofs.Joins.{joining_start, pair_start, joining_formed, next_partner, first_partner, two_joined, partner_within, joining_done, joined_within, joined_others, pair_here, here_reduced, here_defined}
 use Rattle.sum_reduce.proofs.Results.{on_ok_map}
 use Rattle.sum_reduce.proofs.Sums.{takes_handed, takes_apart, takes_after, takes_behind, takes_front, takes_changes}
 use Rattle.sum_reduce.proofs.Widths.{some_node}
@@ -24,17 +24,15 @@ use Rattle.sum_reduce.proofs.Held.{few_after}
 use Rattle.tree_bits.specs.Children.{addends_of_each}
 use Rattle.sum_reduce.proofs.joining.join_terms.Goals as goal
 
-pub take_coefficient_at-requires-clause-within : goal.take_coefficient_at-requires-clause-within
-take_coefficient_at-requires-clause-within c = pair_here c.args.at (terms_in c.args.sum.now (forest c.args.pool.now)) c.requires.pair
-
-pub take_coefficient_at-requires-clause-reduced : goal.take_coefficient_at-requires-clause-reduced
-take_coefficient_at-requires-clause-reduced c = here_reduced c.args.at (terms_in c.args.sum.now (forest c.args.pool.now)) c.requires.formed c.requires.pair
-
-pub take_coefficient_at-requires-clause-defined : goal.take_coefficient_at-requires-clause-defined
-take_coefficient_at-requires-clause-defined c = here_defined c.args.at (terms_in c.args.sum.now (forest c.args.pool.now)) c.requires.formed c.requires.pair
-
-pub take_coefficient_at-requires-clause-no_number : goal.take_coefficient_at-requires-clause-no_number
-take_coefficient_at-requires-clause-no_number c = first_partner (terms_in c.args.sum.now (forest c.args.pool.now)) c.args.at c.requires.pair
+pub take_coefficient_at-requires : goal.take_coefficient_at-requires
+take_coefficient_at-requires c = record {
+  stands = search rules;
+  sum = search rules;
+  within = pair_here c.args.at (terms_in c.args.sum.now (forest c.args.pool.now)) c.requires.pair;
+  reduced = here_reduced c.args.at (terms_in c.args.sum.now (forest c.args.pool.now)) c.requires.formed c.requires.pair;
+  defined = here_defined c.args.at (terms_in c.args.sum.now (forest c.args.pool.now)) c.requires.formed c.requires.pair;
+  no_number = first_partner (terms_in c.args.sum.now (forest c.args.pool.now)) c.args.at c.requires.pair;
+}
 
 pub add_partner-requires-clause-sum : goal.add_partner-requires-clause-sum
 add_partner-requires-clause-sum c = c.in_ok-coefficient.ensures.ok.sum
@@ -79,43 +77,31 @@ add_partner-requires-clause-so_far c =
     let j = joining_start (terms_in c.args.sum.now (forest c.args.pool.now)) (terms_in c.args.sum.now (forest c.take_coefficient_at.new.pool)) _ c.args.at c.requires.formed c.requires.flat c.requires.pair c.in_ok-coefficient.ensures.terms c.in_ok-coefficient.ensures.coefficient in
     j.number
 
-pub add_partners-requires-clause-sum : goal.add_partners-requires-clause-sum
-add_partners-requires-clause-sum c = c.in_ok-both.ensures.ok.sum
-
-pub add_partners-requires-clause-taken : goal.add_partners-requires-clause-taken
-add_partners-requires-clause-taken c = (_, takes_after c.in_ok-coefficient.ensures.ok c.in_ok-both.ensures.ok)
-
-pub add_partners-requires-clause-within : goal.add_partners-requires-clause-within
-add_partners-requires-clause-within c =
+pub add_partners-requires : goal.add_partners-requires
+add_partners-requires c =
     let us = terms_in c.args.sum.now (forest c.take_coefficient_at.new.pool) in
     let p = pair_start (terms_in c.args.sum.now (forest c.args.pool.now)) us c.args.at c.requires.formed c.requires.pair c.in_ok-coefficient.ensures.terms in
-    partner_within us (terms_in c.args.sum.now (forest c.add_partner.new.pool)) c.args.at p (rw add-one at c.in_ok-both.ensures.terms)
-
-pub add_partners-requires-clause-joining : goal.add_partners-requires-clause-joining
-add_partners-requires-clause-joining c =
     let ts = terms_in c.args.sum.now (forest c.args.pool.now) in
-    let us = terms_in c.args.sum.now (forest c.take_coefficient_at.new.pool) in
-    let p = pair_start ts us c.args.at c.requires.formed c.requires.pair c.in_ok-coefficient.ensures.terms in
-    let j = joining_start ts us _ c.args.at c.requires.formed c.requires.flat c.requires.pair c.in_ok-coefficient.ensures.terms c.in_ok-coefficient.ensures.coefficient in
-    (ts, _, partner_step ts _ _ us (terms_in c.args.sum.now (forest c.add_partner.new.pool)) c.args.at 0 j p (rw add-one at c.in_ok-both.ensures.terms) (rw add-one at c.in_ok-both.ensures.number))
+    record {
+      stands = search rules;
+      sum = c.in_ok-both.ensures.ok.sum;
+      taken = (_, takes_after c.in_ok-coefficient.ensures.ok c.in_ok-both.ensures.ok);
+      within = partner_within us (terms_in c.args.sum.now (forest c.add_partner.new.pool)) c.args.at p (rw add-one at c.in_ok-both.ensures.terms);
+      joining = (ts, _, two_joined ts _ _ _ _ c.args.at c.requires.formed c.requires.flat c.requires.pair c.in_ok-coefficient.ensures.terms c.in_ok-coefficient.ensures.coefficient (rw add-one at c.in_ok-both.ensures.terms) (rw add-one at c.in_ok-both.ensures.number));
+    }
 
-pub put_back-requires-clause-sum : goal.put_back-requires-clause-sum
-put_back-requires-clause-sum c = (c.in_ok-total.ensures.ok _ (takes_after c.in_ok-coefficient.ensures.ok c.in_ok-both.ensures.ok)).sum
-
-pub put_back-requires-clause-handed : goal.put_back-requires-clause-handed
-put_back-requires-clause-handed c = takes_handed (c.in_ok-total.ensures.ok _ (takes_after c.in_ok-coefficient.ensures.ok c.in_ok-both.ensures.ok))
-
-pub put_back-requires-clause-apart : goal.put_back-requires-clause-apart
-put_back-requires-clause-apart c = takes_apart (c.in_ok-total.ensures.ok _ (takes_after c.in_ok-coefficient.ensures.ok c.in_ok-both.ensures.ok))
-
-pub put_back-requires-clause-reduced : goal.put_back-requires-clause-reduced
-put_back-requires-clause-reduced c =
+pub put_back-requires : goal.put_back-requires
+put_back-requires c =
     let ts = terms_in c.args.sum.now (forest c.args.pool.now) in
-    let us = terms_in c.args.sum.now (forest c.take_coefficient_at.new.pool) in
-    let p = pair_start ts us c.args.at c.requires.formed c.requires.pair c.in_ok-coefficient.ensures.terms in
-    let j = joining_start ts us _ c.args.at c.requires.formed c.requires.flat c.requires.pair c.in_ok-coefficient.ensures.terms c.in_ok-coefficient.ensures.coefficient in
-    let k = partner_step ts _ _ us (terms_in c.args.sum.now (forest c.add_partner.new.pool)) c.args.at 0 j p (rw add-one at c.in_ok-both.ensures.terms) (rw add-one at c.in_ok-both.ensures.number) in
-    (c.in_ok-total.ensures.joining ts _ k).monic.reduced
+    let k = two_joined ts _ _ _ _ c.args.at c.requires.formed c.requires.flat c.requires.pair c.in_ok-coefficient.ensures.terms c.in_ok-coefficient.ensures.coefficient (rw add-one at c.in_ok-both.ensures.terms) (rw add-one at c.in_ok-both.ensures.number) in
+    record {
+      stands = search rules;
+      sum = (c.in_ok-total.ensures.ok _ (takes_after c.in_ok-coefficient.ensures.ok c.in_ok-both.ensures.ok)).sum;
+      within = search rules;
+      reduced = (c.in_ok-total.ensures.joining ts _ k).monic.reduced;
+      handed = takes_handed (c.in_ok-total.ensures.ok _ (takes_after c.in_ok-coefficient.ensures.ok c.in_ok-both.ensures.ok));
+      apart = takes_apart (c.in_ok-total.ensures.ok _ (takes_after c.in_ok-coefficient.ensures.ok c.in_ok-both.ensures.ok));
+    }
 
 pub returns-clause-ok : goal.returns-clause-ok
 returns-clause-ok c = on_ok_map c.put_back.result c.put_back.ensures.ok (takes_changes (c.in_ok-total.ensures.ok _ (takes_after c.in_ok-coefficient.ensures.ok c.in_ok-both.ensures.ok)))
@@ -124,9 +110,7 @@ pub returns-clause-stage : goal.returns-clause-stage
 returns-clause-stage c =
     let ts = terms_in c.args.sum.now (forest c.args.pool.now) in
     let us = terms_in c.args.sum.now (forest c.take_coefficient_at.new.pool) in
-    let p = pair_start ts us c.args.at c.requires.formed c.requires.pair c.in_ok-coefficient.ensures.terms in
-    let j = joining_start ts us _ c.args.at c.requires.formed c.requires.flat c.requires.pair c.in_ok-coefficient.ensures.terms c.in_ok-coefficient.ensures.coefficient in
-    let k = partner_step ts _ _ us (terms_in c.args.sum.now (forest c.add_partner.new.pool)) c.args.at 0 j p (rw add-one at c.in_ok-both.ensures.terms) (rw add-one at c.in_ok-both.ensures.number) in
+    let k = two_joined ts _ _ _ _ c.args.at c.requires.formed c.requires.flat c.requires.pair c.in_ok-coefficient.ensures.terms c.in_ok-coefficient.ensures.coefficient (rw add-one at c.in_ok-both.ensures.terms) (rw add-one at c.in_ok-both.ensures.number) in
     let d = joining_done _ _ ts _ _ c.args.at (c.in_ok-total.ensures.joining ts _ k) (omega (arith, some_node (nth c.args.at us))) in
     on_ok_map c.put_back.result c.put_back.ensures.terms (λ e. subst (IsStage ts) (sym e) d.stage)
 
@@ -134,9 +118,7 @@ pub returns-clause-fewer : goal.returns-clause-fewer
 returns-clause-fewer c =
     let ts = terms_in c.args.sum.now (forest c.args.pool.now) in
     let us = terms_in c.args.sum.now (forest c.take_coefficient_at.new.pool) in
-    let p = pair_start ts us c.args.at c.requires.formed c.requires.pair c.in_ok-coefficient.ensures.terms in
-    let j = joining_start ts us _ c.args.at c.requires.formed c.requires.flat c.requires.pair c.in_ok-coefficient.ensures.terms c.in_ok-coefficient.ensures.coefficient in
-    let k = partner_step ts _ _ us (terms_in c.args.sum.now (forest c.add_partner.new.pool)) c.args.at 0 j p (rw add-one at c.in_ok-both.ensures.terms) (rw add-one at c.in_ok-both.ensures.number) in
+    let k = two_joined ts _ _ _ _ c.args.at c.requires.formed c.requires.flat c.requires.pair c.in_ok-coefficient.ensures.terms c.in_ok-coefficient.ensures.coefficient (rw add-one at c.in_ok-both.ensures.terms) (rw add-one at c.in_ok-both.ensures.number) in
     let d = joining_done _ _ ts _ _ c.args.at (c.in_ok-total.ensures.joining ts _ k) (omega (arith, some_node (nth c.args.at us))) in
     on_ok_map c.put_back.result c.put_back.ensures.terms (λ e. subst (λ (x : Trees). widths x < widths ts) (sym e) d.fewer)
 
@@ -147,10 +129,7 @@ returns-clause-within c =
 pub returns-clause-others : goal.returns-clause-others
 returns-clause-others c =
     let ts = terms_in c.args.sum.now (forest c.args.pool.now) in
-    let us = terms_in c.args.sum.now (forest c.take_coefficient_at.new.pool) in
-    let p = pair_start ts us c.args.at c.requires.formed c.requires.pair c.in_ok-coefficient.ensures.terms in
-    let j = joining_start ts us _ c.args.at c.requires.formed c.requires.flat c.requires.pair c.in_ok-coefficient.ensures.terms c.in_ok-coefficient.ensures.coefficient in
-    let k = partner_step ts _ _ us (terms_in c.args.sum.now (forest c.add_partner.new.pool)) c.args.at 0 j p (rw add-one at c.in_ok-both.ensures.terms) (rw add-one at c.in_ok-both.ensures.number) in
+    let k = two_joined ts _ _ _ _ c.args.at c.requires.formed c.requires.flat c.requires.pair c.in_ok-coefficient.ensures.terms c.in_ok-coefficient.ensures.coefficient (rw add-one at c.in_ok-both.ensures.terms) (rw add-one at c.in_ok-both.ensures.number) in
     on_ok_map c.put_back.result c.put_back.ensures.terms (joined_others c.args.at _ (terms_in c.args.sum.now (forest c.add_partners.new.pool)) _ c.in_ok-total.ensures.within (c.in_ok-total.ensures.joining ts _ k).no_sum)
 
 pub returns-clause-front : goal.returns-clause-front
@@ -180,29 +159,21 @@ returns-in_err-both-clause-overflow c =
 pub returns-in_err-total-clause-overflow : goal.returns-in_err-total-clause-overflow
 returns-in_err-total-clause-overflow c =
     let ts = terms_in c.args.sum.now (forest c.args.pool.now) in
-    let us = terms_in c.args.sum.now (forest c.take_coefficient_at.new.pool) in
-    let p = pair_start ts us c.args.at c.requires.formed c.requires.pair c.in_ok-coefficient.ensures.terms in
-    let j = joining_start ts us _ c.args.at c.requires.formed c.requires.flat c.requires.pair c.in_ok-coefficient.ensures.terms c.in_ok-coefficient.ensures.coefficient in
-    let k = partner_step ts _ _ us (terms_in c.args.sum.now (forest c.add_partner.new.pool)) c.args.at 0 j p (rw add-one at c.in_ok-both.ensures.terms) (rw add-one at c.in_ok-both.ensures.number) in
+    let k = two_joined ts _ _ _ _ c.args.at c.requires.formed c.requires.flat c.requires.pair c.in_ok-coefficient.ensures.terms c.in_ok-coefficient.ensures.coefficient (rw add-one at c.in_ok-both.ensures.terms) (rw add-one at c.in_ok-both.ensures.number) in
     passed_named c.from_residual-in_err-total.result c.in_err-total.field-0.0 (Overflows ts) (Overflows ts) c.from_residual-in_err-total.ensures.1 (c.in_err-total.ensures.overflow ts _ k) (λ x h. h)
 
 pub returns-clause-overflow : goal.returns-clause-overflow
 returns-clause-overflow c =
     let ts = terms_in c.args.sum.now (forest c.args.pool.now) in
     let us = terms_in c.args.sum.now (forest c.take_coefficient_at.new.pool) in
-    let p = pair_start ts us c.args.at c.requires.formed c.requires.pair c.in_ok-coefficient.ensures.terms in
-    let j = joining_start ts us _ c.args.at c.requires.formed c.requires.flat c.requires.pair c.in_ok-coefficient.ensures.terms c.in_ok-coefficient.ensures.coefficient in
-    let k = partner_step ts _ _ us (terms_in c.args.sum.now (forest c.add_partner.new.pool)) c.args.at 0 j p (rw add-one at c.in_ok-both.ensures.terms) (rw add-one at c.in_ok-both.ensures.number) in
+    let k = two_joined ts _ _ _ _ c.args.at c.requires.formed c.requires.flat c.requires.pair c.in_ok-coefficient.ensures.terms c.in_ok-coefficient.ensures.coefficient (rw add-one at c.in_ok-both.ensures.terms) (rw add-one at c.in_ok-both.ensures.number) in
     result_named c.put_back.result _ (Overflows ts) c.put_back.ensures.overflow (part_hinders (c.in_ok-total.ensures.joining ts _ k) (omega (arith, some_node (nth c.args.at us))))
 
 pub returns-clause-counts : goal.returns-clause-counts
 returns-clause-counts c =
     let ts = terms_in c.args.sum.now (forest c.args.pool.now) in
-    let us = terms_in c.args.sum.now (forest c.take_coefficient_at.new.pool) in
     let vs = terms_in c.args.sum.now (forest c.add_partners.new.pool) in
-    let p = pair_start ts us c.args.at c.requires.formed c.requires.pair c.in_ok-coefficient.ensures.terms in
-    let j = joining_start ts us _ c.args.at c.requires.formed c.requires.flat c.requires.pair c.in_ok-coefficient.ensures.terms c.in_ok-coefficient.ensures.coefficient in
-    let k = partner_step ts _ _ us (terms_in c.args.sum.now (forest c.add_partner.new.pool)) c.args.at 0 j p (rw add-one at c.in_ok-both.ensures.terms) (rw add-one at c.in_ok-both.ensures.number) in
+    let k = two_joined ts _ _ _ _ c.args.at c.requires.formed c.requires.flat c.requires.pair c.in_ok-coefficient.ensures.terms c.in_ok-coefficient.ensures.coefficient (rw add-one at c.in_ok-both.ensures.terms) (rw add-one at c.in_ok-both.ensures.number) in
     on_ok_map c.put_back.result c.put_back.ensures.terms (λ e. joined_counts ts _ (nth c.args.at vs) (removed c.args.at vs) _ _ c.args.at (c.in_ok-total.ensures.joining ts _ k) e)
 
 pub returns-in_err-coefficient-clause-room : goal.returns-in_err-coefficient-clause-room
@@ -226,10 +197,7 @@ returns-in_err-both-clause-room c = λ gs s.
 pub returns-in_err-total-clause-room : goal.returns-in_err-total-clause-room
 returns-in_err-total-clause-room c = λ gs s.
     let ts = terms_in c.args.sum.now (forest c.args.pool.now) in
-    let us = terms_in c.args.sum.now (forest c.take_coefficient_at.new.pool) in
-    let p = pair_start ts us c.args.at c.requires.formed c.requires.pair c.in_ok-coefficient.ensures.terms in
-    let j = joining_start ts us _ c.args.at c.requires.formed c.requires.flat c.requires.pair c.in_ok-coefficient.ensures.terms c.in_ok-coefficient.ensures.coefficient in
-    let k = partner_step ts _ _ us (terms_in c.args.sum.now (forest c.add_partner.new.pool)) c.args.at 0 j p (rw add-one at c.in_ok-both.ensures.terms) (rw add-one at c.in_ok-both.ensures.number) in
+    let k = two_joined ts _ _ _ _ c.args.at c.requires.formed c.requires.flat c.requires.pair c.in_ok-coefficient.ensures.terms c.in_ok-coefficient.ensures.coefficient (rw add-one at c.in_ok-both.ensures.terms) (rw add-one at c.in_ok-both.ensures.number) in
     let kept = keeps_after _ _ _ c.in_ok-coefficient.ensures.kept c.in_ok-both.ensures.kept in
     let free = takes_free c.requires.stands c.in_ok-both.ensures.stands kept (takes_after c.in_ok-coefficient.ensures.ok c.in_ok-both.ensures.ok) in
     passed_lacks c.from_residual-in_err-total.result c.in_err-total.field-0.0 _ _ c.from_residual-in_err-total.ensures.1 (c.in_err-total.ensures.room ts _ k gs s) (λ full l. omega (arith, l, free))
@@ -237,11 +205,8 @@ returns-in_err-total-clause-room c = λ gs s.
 pub returns-clause-room : goal.returns-clause-room
 returns-clause-room c = λ gs s.
     let ts = terms_in c.args.sum.now (forest c.args.pool.now) in
-    let us = terms_in c.args.sum.now (forest c.take_coefficient_at.new.pool) in
     let vs = terms_in c.args.sum.now (forest c.add_partners.new.pool) in
-    let p = pair_start ts us c.args.at c.requires.formed c.requires.pair c.in_ok-coefficient.ensures.terms in
-    let j = joining_start ts us _ c.args.at c.requires.formed c.requires.flat c.requires.pair c.in_ok-coefficient.ensures.terms c.in_ok-coefficient.ensures.coefficient in
-    let k = partner_step ts _ _ us (terms_in c.args.sum.now (forest c.add_partner.new.pool)) c.args.at 0 j p (rw add-one at c.in_ok-both.ensures.terms) (rw add-one at c.in_ok-both.ensures.number) in
+    let k = two_joined ts _ _ _ _ c.args.at c.requires.formed c.requires.flat c.requires.pair c.in_ok-coefficient.ensures.terms c.in_ok-coefficient.ensures.coefficient (rw add-one at c.in_ok-both.ensures.terms) (rw add-one at c.in_ok-both.ensures.number) in
     let d = c.in_ok-total.ensures.joining ts _ k in
     let w = joining_spans gs ts _ (nth c.args.at vs) (removed c.args.at vs) _ d s in
     let kept = keeps_after _ _ _ (keeps_after _ _ _ c.in_ok-coefficient.ensures.kept c.in_ok-both.ensures.kept) c.in_ok-total.ensures.kept in
@@ -261,19 +226,13 @@ returns-in_err-both-clause-bits c = λ b.
 pub returns-in_err-total-clause-bits : goal.returns-in_err-total-clause-bits
 returns-in_err-total-clause-bits c = λ b.
     let ts = terms_in c.args.sum.now (forest c.args.pool.now) in
-    let us = terms_in c.args.sum.now (forest c.take_coefficient_at.new.pool) in
-    let p = pair_start ts us c.args.at c.requires.formed c.requires.pair c.in_ok-coefficient.ensures.terms in
-    let j = joining_start ts us _ c.args.at c.requires.formed c.requires.flat c.requires.pair c.in_ok-coefficient.ensures.terms c.in_ok-coefficient.ensures.coefficient in
-    let k = partner_step ts _ _ us (terms_in c.args.sum.now (forest c.add_partner.new.pool)) c.args.at 0 j p (rw add-one at c.in_ok-both.ensures.terms) (rw add-one at c.in_ok-both.ensures.number) in
+    let k = two_joined ts _ _ _ _ c.args.at c.requires.formed c.requires.flat c.requires.pair c.in_ok-coefficient.ensures.terms c.in_ok-coefficient.ensures.coefficient (rw add-one at c.in_ok-both.ensures.terms) (rw add-one at c.in_ok-both.ensures.number) in
     passed_named c.from_residual-in_err-total.result c.in_err-total.field-0.0 (λ o. ⊥) (λ o. ⊥) c.from_residual-in_err-total.ensures.1 (c.in_err-total.ensures.bits ts _ k b) (λ x h. h)
 
 pub returns-clause-bits : goal.returns-clause-bits
 returns-clause-bits c = λ b.
     let ts = terms_in c.args.sum.now (forest c.args.pool.now) in
-    let us = terms_in c.args.sum.now (forest c.take_coefficient_at.new.pool) in
     let vs = terms_in c.args.sum.now (forest c.add_partners.new.pool) in
-    let p = pair_start ts us c.args.at c.requires.formed c.requires.pair c.in_ok-coefficient.ensures.terms in
-    let j = joining_start ts us _ c.args.at c.requires.formed c.requires.flat c.requires.pair c.in_ok-coefficient.ensures.terms c.in_ok-coefficient.ensures.coefficient in
-    let k = partner_step ts _ _ us (terms_in c.args.sum.now (forest c.add_partner.new.pool)) c.args.at 0 j p (rw add-one at c.in_ok-both.ensures.terms) (rw add-one at c.in_ok-both.ensures.number) in
+    let k = two_joined ts _ _ _ _ c.args.at c.requires.formed c.requires.flat c.requires.pair c.in_ok-coefficient.ensures.terms c.in_ok-coefficient.ensures.coefficient (rw add-one at c.in_ok-both.ensures.terms) (rw add-one at c.in_ok-both.ensures.number) in
     let d = c.in_ok-total.ensures.joining ts _ k in
     c.put_back.ensures.bits (addends_of_each (removed c.args.at vs)) d.monic (few_after d.held b)

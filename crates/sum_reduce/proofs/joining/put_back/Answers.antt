@@ -1,4 +1,5 @@
-use Rattle.std.proofs.Common.{◌∙◌, ap, arith, ◌^◌, length, sym, subst, ◌∷◌}
+use Rattle.std.proofs.Common.{◌∙◌, ap, arith, ◌^◌, length, sym, subst, ◌∷◌, rules}
+use Rattle.like_children.proofs.Kids.{count_removed}
 use Rattle.calc_algebra.specs.Reduced.{is_reduced}
 use Rattle.calc_terms.specs.Trees.{more, none, count, Tree, size}
 use Rattle.coefficients.specs.Coefficients.{with_coefficient, factors_of, IsMonic}
@@ -9,7 +10,6 @@ use Rattle.tree_handles.proofs.Given.{gives_as, given_told, given_root}
 use Rattle.tree_handles.proofs.Outcomes.{eqb-sym}
 use Rattle.tree_handles.proofs.Roots.{root_held, without-swap}
 use Rattle.sum_reduce.specs.Sums.{terms_in}
-use Rattle.sum_reduce.proofs.Places.{count_removed}
 use Rattle.sum_reduce.proofs.Sums.{sum_within, sum_arity, term_out, takes_handed, takes_behind, takes_front, other_handed, other_same, other_clear, both_rewritten, put_in, roots_apart, beside_front}
 use Rattle.coefficients.proofs.Named.{passed_named, put_as}
 use Rattle.calc_algebra.specs.Numbers.{is_number, value}
@@ -26,49 +26,29 @@ use Rattle.sum_reduce.proofs.joining.put_back.Goals as goal
 pub take_child-part-requires-clause-within : goal.take_child-part-requires-clause-within
 take_child-part-requires-clause-within c = sum_within c.args.at c.requires.stands c.requires.sum c.requires.within
 
-pub put_coefficient-requires-clause-first : goal.put_coefficient-requires-clause-first
-put_coefficient-requires-clause-first c =
+pub put_coefficient-requires : goal.put_coefficient-requires
+put_coefficient-requires c =
     let o = term_out c.args.at c.requires.sum c.requires.within (c.take_child-part.ensures.last c.requires.sum.handed.root) in
-    other_handed c.requires.apart c.requires.handed o.takes
+    record {
+      stands = search rules;
+      first = other_handed c.requires.apart c.requires.handed o.takes;
+      second = takes_handed o.takes;
+      apart = eqb-sym c.take_child-part.result c.args.coefficient (other_clear c.requires.apart c.requires.handed o.takes);
+      reduced = ap is_reduced o.tree ∙ c.requires.reduced;
+    }
 
-pub put_coefficient-requires-clause-second : goal.put_coefficient-requires-clause-second
-put_coefficient-requires-clause-second c =
-    let o = term_out c.args.at c.requires.sum c.requires.within (c.take_child-part.ensures.last c.requires.sum.handed.root) in
-    takes_handed o.takes
-
-pub put_coefficient-requires-clause-apart : goal.put_coefficient-requires-clause-apart
-put_coefficient-requires-clause-apart c =
-    let o = term_out c.args.at c.requires.sum c.requires.within (c.take_child-part.ensures.last c.requires.sum.handed.root) in
-    eqb-sym c.take_child-part.result c.args.coefficient (other_clear c.requires.apart c.requires.handed o.takes)
-
-pub put_coefficient-requires-clause-reduced : goal.put_coefficient-requires-clause-reduced
-put_coefficient-requires-clause-reduced c =
-    let o = term_out c.args.at c.requires.sum c.requires.within (c.take_child-part.ensures.last c.requires.sum.handed.root) in
-    ap is_reduced o.tree ∙ c.requires.reduced
-
-pub add_child-requires-clause-live : goal.add_child-requires-clause-live
-add_child-requires-clause-live c =
+pub add_child-requires : goal.add_child-requires
+add_child-requires c =
     let o = term_out c.args.at c.requires.sum c.requires.within (c.take_child-part.ensures.last c.requires.sum.handed.root) in
     let apart = eqb-sym c.take_child-part.result c.args.coefficient (other_clear c.requires.apart c.requires.handed o.takes) in
     let r = both_rewritten c.requires.apart c.requires.handed o.takes (gives_as c.in_ok-term.ensures.ok (without-swap c.args.coefficient c.take_child-part.result _ apart) (λ t x. x)) in
-    root_held c.args.sum.now _ r.takes.sum.handed.root
-
-pub add_child-requires-clause-within : goal.add_child-requires-clause-within
-add_child-requires-clause-within c =
-    let o = term_out c.args.at c.requires.sum c.requires.within (c.take_child-part.ensures.last c.requires.sum.handed.root) in
-    let apart = eqb-sym c.take_child-part.result c.args.coefficient (other_clear c.requires.apart c.requires.handed o.takes) in
-    let r = both_rewritten c.requires.apart c.requires.handed o.takes (gives_as c.in_ok-term.ensures.ok (without-swap c.args.coefficient c.take_child-part.result _ apart) (λ t x. x)) in
-    omega (arith, sum_arity c.in_ok-term.ensures.stands r.takes.sum, ap count (r.terms ∙ o.terms), count_removed c.args.at (terms_in c.args.sum.now (forest c.args.pool.now)) c.requires.within, c.requires.within)
-
-pub add_child-requires-clause-root : goal.add_child-requires-clause-root
-add_child-requires-clause-root c = given_root c.in_ok-term.ensures.ok
-
-pub add_child-requires-clause-apart : goal.add_child-requires-clause-apart
-add_child-requires-clause-apart c =
-    let o = term_out c.args.at c.requires.sum c.requires.within (c.take_child-part.ensures.last c.requires.sum.handed.root) in
-    let apart = eqb-sym c.take_child-part.result c.args.coefficient (other_clear c.requires.apart c.requires.handed o.takes) in
-    let r = both_rewritten c.requires.apart c.requires.handed o.takes (gives_as c.in_ok-term.ensures.ok (without-swap c.args.coefficient c.take_child-part.result _ apart) (λ t x. x)) in
-    roots_apart c.in_ok-term.ensures.stands r.takes
+    record {
+      stands = search rules;
+      live = root_held c.args.sum.now _ r.takes.sum.handed.root;
+      within = omega (arith, sum_arity c.in_ok-term.ensures.stands r.takes.sum, ap count (r.terms ∙ o.terms), count_removed c.args.at (terms_in c.args.sum.now (forest c.args.pool.now)) c.requires.within, c.requires.within);
+      root = given_root c.in_ok-term.ensures.ok;
+      apart = roots_apart c.in_ok-term.ensures.stands r.takes;
+    }
 
 pub returns-clause-ok : goal.returns-clause-ok
 returns-clause-ok c =

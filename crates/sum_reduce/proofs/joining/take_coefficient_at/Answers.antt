@@ -1,4 +1,5 @@
-use Rattle.std.proofs.Common.{◌∙◌, ap, arith, ℕ, ◌<◌, subst}
+use Rattle.std.proofs.Common.{◌∙◌, ap, arith, ℕ, ◌<◌, subst, rules}
+use Rattle.like_children.proofs.Kids.{count_removed}
 use Rattle.calc_algebra.specs.Numbers.{is_number}
 use Rattle.calc_algebra.specs.Reduced.{is_reduced, part_of}
 use Rattle.calc_terms.specs.Trees.{more, none, count, is_undef}
@@ -10,7 +11,6 @@ use Rattle.tree_handles.proofs.Fronts.{front_after_one}
 use Rattle.tree_handles.proofs.Given.{given_root}
 use Rattle.tree_handles.proofs.Roots.{root_held}
 use Rattle.sum_reduce.specs.Sums.{terms_in}
-use Rattle.sum_reduce.proofs.Places.{count_removed}
 use Rattle.sum_reduce.proofs.Sums.{sum_within, term_out, takes_handed, takes_behind, takes_front, part_back, both_over, both_apart}
 use Rattle.std.specs.Prelude.{IfErr}
 use Rattle.node_pool.specs.State.{free_of}
@@ -23,43 +23,27 @@ use Rattle.sum_reduce.proofs.joining.take_coefficient_at.Goals as goal
 pub take_child-term-requires-clause-within : goal.take_child-term-requires-clause-within
 take_child-term-requires-clause-within c = sum_within c.args.at c.requires.stands c.requires.sum c.requires.within
 
-pub take_coefficient-requires-clause-handed : goal.take_coefficient-requires-clause-handed
-take_coefficient-requires-clause-handed c =
+pub take_coefficient-requires : goal.take_coefficient-requires
+take_coefficient-requires c =
     let o = term_out c.args.at c.requires.sum c.requires.within (c.take_child-term.ensures.last c.requires.sum.handed.root) in
-    takes_handed o.takes
+    record {
+      stands = search rules;
+      handed = takes_handed o.takes;
+      reduced = ap is_reduced o.tree ∙ c.requires.reduced;
+      defined = ap is_undef o.tree ∙ c.requires.defined;
+      no_number = ap is_number o.tree ∙ c.requires.no_number;
+    }
 
-pub take_coefficient-requires-clause-reduced : goal.take_coefficient-requires-clause-reduced
-take_coefficient-requires-clause-reduced c =
+pub add_child-requires : goal.add_child-requires
+add_child-requires c =
     let o = term_out c.args.at c.requires.sum c.requires.within (c.take_child-term.ensures.last c.requires.sum.handed.root) in
-    ap is_reduced o.tree ∙ c.requires.reduced
-
-pub take_coefficient-requires-clause-defined : goal.take_coefficient-requires-clause-defined
-take_coefficient-requires-clause-defined c =
-    let o = term_out c.args.at c.requires.sum c.requires.within (c.take_child-term.ensures.last c.requires.sum.handed.root) in
-    ap is_undef o.tree ∙ c.requires.defined
-
-pub take_coefficient-requires-clause-no_number : goal.take_coefficient-requires-clause-no_number
-take_coefficient-requires-clause-no_number c =
-    let o = term_out c.args.at c.requires.sum c.requires.within (c.take_child-term.ensures.last c.requires.sum.handed.root) in
-    ap is_number o.tree ∙ c.requires.no_number
-
-pub add_child-requires-clause-live : goal.add_child-requires-clause-live
-add_child-requires-clause-live c =
-    let o = term_out c.args.at c.requires.sum c.requires.within (c.take_child-term.ensures.last c.requires.sum.handed.root) in
-    root_held c.args.sum.now _ (both_over o.takes c.in_ok-coefficient.ensures.ok).root
-
-pub add_child-requires-clause-within : goal.add_child-requires-clause-within
-add_child-requires-clause-within c =
-    let o = term_out c.args.at c.requires.sum c.requires.within (c.take_child-term.ensures.last c.requires.sum.handed.root) in
-    omega (arith, children_in c.in_ok-coefficient.ensures.stands (both_over o.takes c.in_ok-coefficient.ensures.ok), ap count o.terms, count_removed c.args.at (terms_in c.args.sum.now (forest c.args.pool.now)) c.requires.within, c.requires.within)
-
-pub add_child-requires-clause-root : goal.add_child-requires-clause-root
-add_child-requires-clause-root c = given_root c.in_ok-coefficient.ensures.ok.second-given
-
-pub add_child-requires-clause-apart : goal.add_child-requires-clause-apart
-add_child-requires-clause-apart c =
-    let o = term_out c.args.at c.requires.sum c.requires.within (c.take_child-term.ensures.last c.requires.sum.handed.root) in
-    both_apart c.in_ok-coefficient.ensures.stands o.takes c.in_ok-coefficient.ensures.ok
+    record {
+      stands = search rules;
+      live = root_held c.args.sum.now _ (both_over o.takes c.in_ok-coefficient.ensures.ok).root;
+      within = omega (arith, children_in c.in_ok-coefficient.ensures.stands (both_over o.takes c.in_ok-coefficient.ensures.ok), ap count o.terms, count_removed c.args.at (terms_in c.args.sum.now (forest c.args.pool.now)) c.requires.within, c.requires.within);
+      root = given_root c.in_ok-coefficient.ensures.ok.second-given;
+      apart = both_apart c.in_ok-coefficient.ensures.stands o.takes c.in_ok-coefficient.ensures.ok;
+    }
 
 pub returns-clause-ok : goal.returns-clause-ok
 returns-clause-ok c =

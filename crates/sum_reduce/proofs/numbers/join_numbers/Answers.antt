@@ -1,4 +1,5 @@
-use Rattle.std.proofs.Common.{◌∙◌, ap, sym, subst, arith}
+use Rattle.std.proofs.Common.{◌∙◌, inl, ap, sym, subst, arith, rules}
+use Rattle.like_children.proofs.Parts.{permuted_parts}
 use Rattle.calc_algebra.specs.Numbers.{is_number}
 use Rattle.calc_measures.specs.PlainValues.{plain_value}
 use Rattle.calc_terms.specs.Trees.{add, more}
@@ -8,16 +9,18 @@ use Rattle.tree_handles.specs.Standing.{forest}
 use Rattle.tree_handles.proofs.Forests.{keeps_none}
 use Rattle.tree_handles.proofs.Fronts.{behind_first, front_same, front_after_two}
 use Rattle.tree_handles.proofs.Given.{given_root}
+use Rattle.like_children.proofs.Folds.{rational_others}
+use Rattle.sum_reduce.proofs.Sorted.{formed_nth}
+use Rattle.tree_handles.specs.Handed.{tree_of}
 use Rattle.tree_handles.proofs.Roots.{root_held}
 use Rattle.sum_reduce.specs.Sums.{terms_in}
-use Rattle.sum_reduce.proofs.Numbered.{numbered, unnumbered, formed_behind, led_folded, rationals_taken, total_folded, total_faulted}
-use Rattle.sum_reduce.proofs.Sums.{changes_same, changes_front, sum_within, term_out, takes_front, takes_behind, put_in, roots_apart}
+use Rattle.sum_reduce.proofs.Numbered.{gathered, next_hinders, next_fits, numbered, unnumbered, formed_behind, led_folded, rationals_taken, total_folded, total_faulted}
+use Rattle.sum_reduce.proofs.Sums.{taken_given, taken_on, sum_beside, takes_apart, changes_same, changes_front, sum_within, term_out, takes_front, takes_behind, put_in, roots_apart}
 use Rattle.coefficients.proofs.Named.{passed_named}
 use Rattle.sum_reduce.specs.Overflows.{Overflows}
 use Rattle.sum_reduce.proofs.Hindered.{overflows_after, overflows_as, taken_first}
 use Rattle.calc_room.specs.Spans.{SpansRoot, SpansTree, SpansTrees}
 use Rattle.coefficients.proofs.Lacks.{passed_lacks}
-use Rattle.sum_reduce.proofs.CollectedParts.{permuted_parts}
 use Rattle.sum_reduce.proofs.Places.{taken_permuted}
 use Rattle.sum_reduce.proofs.SumBytes.{out_free}
 use Rattle.sum_reduce.specs.Bits.{HaveFewBits}
@@ -29,71 +32,60 @@ pub take_child-number-requires-clause-within : goal.take_child-number-requires-c
 take_child-number-requires-clause-within c =
     sum_within c.in-Some.at c.requires.stands c.requires.sum c.in-Some.ensures.within
 
-pub add_all_numbers-requires-clause-sum : goal.add_all_numbers-requires-clause-sum
-add_all_numbers-requires-clause-sum c =
+pub collect_numbers-requires : goal.collect_numbers-requires
+collect_numbers-requires c =
     let o = term_out c.in-Some.at c.requires.sum c.in-Some.ensures.within (c.take_child-number.ensures.last c.requires.sum.handed.root) in
-    o.takes.sum
+    record {
+      stands = search rules;
+      parent = (sum_beside c.take_child-number.result (takes_apart o.takes) o.takes.sum).handed;
+      many = inl o.takes.sum.sum;
+      reduced = λ n l. formed_nth n _ l (formed_behind c.in-Some.at (terms_in c.args.sum.now (forest c.args.pool.now)) _ c.in-Some.ensures.within c.requires.formed o.terms);
+      number = taken_given o.takes (ap is_number o.tree ∙ c.in-Some.ensures.number);
+    }
 
-pub add_all_numbers-requires-clause-formed : goal.add_all_numbers-requires-clause-formed
-add_all_numbers-requires-clause-formed c =
+pub add_child-requires : goal.add_child-requires
+add_child-requires c =
     let o = term_out c.in-Some.at c.requires.sum c.in-Some.ensures.within (c.take_child-number.ensures.last c.requires.sum.handed.root) in
-    formed_behind c.in-Some.at (terms_in c.args.sum.now (forest c.args.pool.now)) _ c.in-Some.ensures.within c.requires.formed o.terms
-
-pub add_all_numbers-requires-clause-taken : goal.add_all_numbers-requires-clause-taken
-add_all_numbers-requires-clause-taken c =
-    let o = term_out c.in-Some.at c.requires.sum c.in-Some.ensures.within (c.take_child-number.ensures.last c.requires.sum.handed.root) in
-    (_, o.takes)
-
-pub add_all_numbers-requires-clause-number : goal.add_all_numbers-requires-clause-number
-add_all_numbers-requires-clause-number c =
-    let o = term_out c.in-Some.at c.requires.sum c.in-Some.ensures.within (c.take_child-number.ensures.last c.requires.sum.handed.root) in
-    ap is_number o.tree ∙ c.in-Some.ensures.number
-
-pub add_child-requires-clause-live : goal.add_child-requires-clause-live
-add_child-requires-clause-live c =
-    let o = term_out c.in-Some.at c.requires.sum c.in-Some.ensures.within (c.take_child-number.ensures.last c.requires.sum.handed.root) in
-    let t = c.in_ok-total-in-Some.ensures.ok _ o.takes in
-    root_held c.args.sum.now _ t.sum.handed.root
-
-pub add_child-requires-clause-root : goal.add_child-requires-clause-root
-add_child-requires-clause-root c =
-    let o = term_out c.in-Some.at c.requires.sum c.in-Some.ensures.within (c.take_child-number.ensures.last c.requires.sum.handed.root) in
-    let t = c.in_ok-total-in-Some.ensures.ok _ o.takes in
-    given_root t.given
-
-pub add_child-requires-clause-apart : goal.add_child-requires-clause-apart
-add_child-requires-clause-apart c =
-    let o = term_out c.in-Some.at c.requires.sum c.in-Some.ensures.within (c.take_child-number.ensures.last c.requires.sum.handed.root) in
-    let t = c.in_ok-total-in-Some.ensures.ok _ o.takes in
-    roots_apart c.in_ok-total-in-Some.ensures.stands t
+    let t = (taken_on o.takes c.in_ok-total-in-Some.ensures.ok).takes in
+    record {
+      stands = search rules;
+      live = root_held c.args.sum.now _ t.sum.handed.root;
+      within = search rules;
+      root = given_root t.given;
+      apart = roots_apart c.in_ok-total-in-Some.ensures.stands t;
+    }
 
 pub returns-in_ok-total-in-Some-clause-ok : goal.returns-in_ok-total-in-Some-clause-ok
 returns-in_ok-total-in-Some-clause-ok c =
     let o = term_out c.in-Some.at c.requires.sum c.in-Some.ensures.within (c.take_child-number.ensures.last c.requires.sum.handed.root) in
-    let t = c.in_ok-total-in-Some.ensures.ok _ o.takes in
+    let t = (taken_on o.takes c.in_ok-total-in-Some.ensures.ok).takes in
     let x = put_in 0 t (c.add_child.ensures.root t.sum.handed.root) in
     x.changes
 
 pub returns-in_ok-total-in-Some-clause-joined : goal.returns-in_ok-total-in-Some-clause-joined
 returns-in_ok-total-in-Some-clause-joined c =
     let o = term_out c.in-Some.at c.requires.sum c.in-Some.ensures.within (c.take_child-number.ensures.last c.requires.sum.handed.root) in
-    let t = c.in_ok-total-in-Some.ensures.ok _ o.takes in
+    let t = (taken_on o.takes c.in_ok-total-in-Some.ensures.ok).takes in
     let x = put_in 0 t (c.add_child.ensures.root t.sum.handed.root) in
-    numbered c.in-Some.at (terms_in c.args.sum.now (forest c.args.pool.now)) _ _ _ _ _ c.in-Some.ensures c.requires.formed c.requires.some o.terms o.tree c.in_ok-total-in-Some.ensures.gathered x.terms
+    let ts = terms_in c.args.sum.now (forest c.args.pool.now) in
+    let formed = formed_behind c.in-Some.at ts _ c.in-Some.ensures.within c.requires.formed o.terms in
+    let all = gathered _ _ (terms_in c.args.sum.now (forest c.take_child-number.new.pool)) (ap is_number o.tree ∙ c.in-Some.ensures.number) formed c.in_ok-total-in-Some.ensures.number c.in_ok-total-in-Some.ensures.joined in
+    numbered c.in-Some.at ts _ _ _ _ _ c.in-Some.ensures c.requires.formed c.requires.some o.terms o.tree all (x.terms ∙ ap (more (tree_of c.in_ok-total-in-Some.total c.collect_numbers.new.pool)) (taken_on o.takes c.in_ok-total-in-Some.ensures.ok).terms)
 
 pub returns-in_ok-total-in-Some-clause-rationals : goal.returns-in_ok-total-in-Some-clause-rationals
 returns-in_ok-total-in-Some-clause-rationals c =
     λ q.
     let o = term_out c.in-Some.at c.requires.sum c.in-Some.ensures.within (c.take_child-number.ensures.last c.requires.sum.handed.root) in
-    let t = c.in_ok-total-in-Some.ensures.ok _ o.takes in
+    let t = (taken_on o.takes c.in_ok-total-in-Some.ensures.ok).takes in
     let x = put_in 0 t (c.add_child.ensures.root t.sum.handed.root) in
     let r = rationals_taken c.in-Some.at (terms_in c.args.sum.now (forest c.args.pool.now)) _ _ c.in-Some.ensures q o.terms o.tree in
-    total_folded _ _ _ _ _ r.plain (c.in_ok-total-in-Some.ensures.rationals r.first r.others) x.terms
+    let left = (taken_on o.takes c.in_ok-total-in-Some.ensures.ok).terms ∙ rational_others (terms_in c.args.sum.now (forest c.take_child-number.new.pool)) r.others in
+    total_folded _ _ _ _ _ r.plain (c.in_ok-total-in-Some.ensures.rationals r.first r.others) left x.terms
 
 pub returns-in_ok-total-in-Some-clause-front : goal.returns-in_ok-total-in-Some-clause-front
 returns-in_ok-total-in-Some-clause-front c =
     let o = term_out c.in-Some.at c.requires.sum c.in-Some.ensures.within (c.take_child-number.ensures.last c.requires.sum.handed.root) in
-    let t = c.in_ok-total-in-Some.ensures.ok _ o.takes in
+    let t = (taken_on o.takes c.in_ok-total-in-Some.ensures.ok).takes in
     let x = put_in 0 t (c.add_child.ensures.root t.sum.handed.root) in
     changes_front x.changes
 
@@ -102,13 +94,13 @@ returns-in_err-total-in-Some-clause-rationals c =
     λ q.
     let o = term_out c.in-Some.at c.requires.sum c.in-Some.ensures.within (c.take_child-number.ensures.last c.requires.sum.handed.root) in
     let r = rationals_taken c.in-Some.at (terms_in c.args.sum.now (forest c.args.pool.now)) _ _ c.in-Some.ensures q o.terms o.tree in
-    passed_on c.from_residual.result c.in_err-total-in-Some.field-0.0 (AnswersFold (plain_value (add (terms_in c.args.sum.now (forest c.args.pool.now)))) (terms_in c.args.sum.now (forest c.add_all_numbers.new.pool)))
-    c.from_residual.ensures.0 c.from_residual.ensures.1 (total_faulted _ _ c.add_all_numbers.new.pool (terms_in c.args.sum.now (forest c.add_all_numbers.new.pool)) (terms_in c.args.sum.now (forest c.add_all_numbers.new.pool)) _ r.plain (c.in_err-total-in-Some.ensures.rationals r.first r.others))
+    passed_on c.from_residual.result c.in_err-total-in-Some.field-0.0 (AnswersFold (plain_value (add (terms_in c.args.sum.now (forest c.args.pool.now)))) (terms_in c.args.sum.now (forest c.collect_numbers.new.pool)))
+    c.from_residual.ensures.0 c.from_residual.ensures.1 (total_faulted _ _ c.collect_numbers.new.pool (terms_in c.args.sum.now (forest c.collect_numbers.new.pool)) _ r.plain (c.in_err-total-in-Some.ensures.rationals r.first r.others))
 
 pub returns-in_err-total-in-Some-clause-front : goal.returns-in_err-total-in-Some-clause-front
 returns-in_err-total-in-Some-clause-front c =
     let o = term_out c.in-Some.at c.requires.sum c.in-Some.ensures.within (c.take_child-number.ensures.last c.requires.sum.handed.root) in
-    front_after_two behind_first (takes_behind o.takes) (takes_front o.takes) c.add_all_numbers.ensures.front
+    front_after_two behind_first (takes_behind o.takes) (takes_front o.takes) c.collect_numbers.ensures.front
 
 pub returns-in-None : goal.returns-in-None
 returns-in-None c =
@@ -130,8 +122,10 @@ pub returns-in_err-total-in-Some-clause-overflow : goal.returns-in_err-total-in-
 returns-in_err-total-in-Some-clause-overflow c =
     let ts = terms_in c.args.sum.now (forest c.args.pool.now) in
     let o = term_out c.in-Some.at c.requires.sum c.in-Some.ensures.within (c.take_child-number.ensures.last c.requires.sum.handed.root) in
+    let formed = formed_behind c.in-Some.at ts _ c.in-Some.ensures.within c.requires.formed o.terms in
     passed_named c.from_residual.result c.in_err-total-in-Some.field-0.0 _ (Overflows ts) c.from_residual.ensures.1 c.in_err-total-in-Some.ensures.overflow
-    (λ x h. overflows_after (taken_first c.in-Some.at ts c.in-Some.ensures.within) x (overflows_as (λ i. more (o.tree i) (o.terms i)) x h))
+    (λ x h. overflows_after (taken_first c.in-Some.at ts c.in-Some.ensures.within) x
+    (overflows_as (λ i. more (o.tree i) (o.terms i)) x (next_hinders _ _ (ap is_number o.tree ∙ c.in-Some.ensures.number) formed x h)))
 
 pub returns-in_err-total-in-Some-clause-room : goal.returns-in_err-total-in-Some-clause-room
 returns-in_err-total-in-Some-clause-room c = λ gs s.
@@ -147,5 +141,6 @@ returns-in_err-total-in-Some-clause-bits c = λ b.
     let ts = terms_in c.args.sum.now (forest c.args.pool.now) in
     let o = term_out c.in-Some.at c.requires.sum c.in-Some.ensures.within (c.take_child-number.ensures.last c.requires.sum.handed.root) in
     let first = few_after (held_permuted (taken_permuted c.in-Some.at ts c.in-Some.ensures.within)) b in
+    let formed = formed_behind c.in-Some.at ts _ c.in-Some.ensures.within c.requires.formed o.terms in
     passed_named c.from_residual.result c.in_err-total-in-Some.field-0.0 (λ o. ⊥) (λ o. ⊥) c.from_residual.ensures.1
-    (c.in_err-total-in-Some.ensures.bits (subst HaveFewBits (λ i. addends_of_each (more (sym o.tree i) (sym o.terms i))) first)) (λ x h. h)
+    (c.in_err-total-in-Some.ensures.bits (next_fits _ _ (ap is_number o.tree ∙ c.in-Some.ensures.number) formed (subst HaveFewBits (λ i. addends_of_each (more (sym o.tree i) (sym o.terms i))) first))) (λ x h. h)

@@ -1,0 +1,62 @@
+-- Children by their places.
+use Rattle.std.proofs.Common.{ℕ, zero, suc, ◌+◌, ◌<◌, ◌≡◌, refl, sym, ap, ◌∙◌, arith}
+use Rattle.calc_terms.specs.Trees.{Tree, Trees, none, more, count, sizes, size}
+use Rattle.number_forms.specs.Sums.{removed}
+use Rattle.tree_handles.specs.Expressions.{nth, grown, plains, inserted, children_of, IsWhole}
+use Rattle.tree_handles.specs.Forest.{Forest, empty, tree, arity, kids, tree_nth, without_nth, merged_nth}
+use Rattle.tree_handles.specs.Handed.{IsOnce, Represents}
+use Rattle.tree_handles.proofs.Counted.{all-kids, all-tree_nth, all-without_nth}
+use Rattle.tree_handles.proofs.Forests.{arity-tree_nth}
+use Rattle.tree_handles.proofs.Given.{represents_as, represents_with}
+use Rattle.tree_handles.proofs.Nths.{with_nth-without_nth}
+use Rattle.tree_handles.proofs.Plains.{plain-tree_nth, children_of-plain, whole_kids, alone}
+
+plains-without_nth : (n : ℕ) (f : Forest) → plains (without_nth n f) ≡ removed n (plains f)
+plains-without_nth zero empty = refl
+plains-without_nth zero (tree l k r) = refl
+plains-without_nth (suc n) empty = refl
+plains-without_nth (suc n) (tree l k r) = ap (more (grown l.payload (plains k))) (plains-without_nth n r)
+
+pub represents_without : (n : ℕ) {k : Forest} {ts : Trees} → Represents k ts → Represents (without_nth n k) (removed n ts)
+represents_without n {k = k} h = record {
+  once = all-without_nth IsOnce n k h.once;
+  whole = all-without_nth IsWhole n k h.whole;
+  plain_trees = plains-without_nth n k ∙ ap (removed n) h.plain_trees;
+}
+
+pub represents_nth : (n : ℕ) {k : Forest} {ts : Trees} → n < arity k → Represents k ts → Represents (tree_nth n k) (more (nth n ts) none)
+represents_nth n {k = k} l h = record {
+  once = all-tree_nth IsOnce n k h.once;
+  whole = all-tree_nth IsWhole n k h.whole;
+  plain_trees = alone (tree_nth n k) (arity-tree_nth n k l) ∙ ap (λ (t : Tree). more t none) (plain-tree_nth n k ∙ ap (nth n) h.plain_trees);
+}
+
+-- the children of one tree
+pub represents_kids : {t : Forest} {u : Tree} → Represents t (more u none) → Represents (kids t) (children_of u)
+represents_kids {t = t} h = record {
+  once = all-kids IsOnce t h.once;
+  whole = whole_kids t h.whole;
+  plain_trees = sym (children_of-plain t h.whole) ∙ ap children_of (ap (nth 0) h.plain_trees);
+}
+
+pub represents_merged : (n : ℕ) {k : Forest} {ts : Trees} → n < arity k → Represents k ts → Represents (merged_nth n k) (inserted n (children_of (nth n ts)) (removed n ts))
+represents_merged n {k = k} l h =
+    represents_as (represents_with n (represents_kids (represents_nth n l h)) (represents_without n h)) (with_nth-without_nth n (kids (tree_nth n k)) k l) refl
+
+-- ---- one less
+
+pub sizes_taken : (n : ℕ) (ts : Trees) → n < count ts → sizes ts ≡ size (nth n ts) + sizes (removed n ts)
+sizes_taken n none l = absurd (omega arith)
+sizes_taken zero (more t ts) l = refl
+sizes_taken (suc n) (more t ts) l = omega (arith, sizes_taken n ts (omega arith))
+
+pub count_removed : (n : ℕ) (ts : Trees) → n < count ts → count (removed n ts) + 1 ≡ count ts
+count_removed n none h = absurd (omega arith)
+count_removed zero (more t ts) h = omega arith
+count_removed (suc n) (more t ts) h = omega (arith, count_removed n ts (omega arith))
+
+pub each_removed : (P : Tree → Type 0) (n : ℕ) (ts : Trees) → ((k : ℕ) → k < count ts → P (nth k ts)) → (k : ℕ) → k < count (removed n ts) → P (nth k (removed n ts))
+each_removed P n none h k l = absurd (omega arith)
+each_removed P zero (more t ts) h k l = h (suc k) (omega arith)
+each_removed P (suc n) (more t ts) h zero l = h 0 (omega arith)
+each_removed P (suc n) (more t ts) h (suc k) l = each_removed P n ts (λ j m. h (suc j) (omega arith)) k (omega arith)
