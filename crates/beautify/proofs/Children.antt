@@ -1,6 +1,8 @@
 -- The children of a node that stands before a stack.
 use Rattle.std.proofs.Common.{◌≡◌, ℕ, ◌<◌, sym, ap, ◌∙◌, subst, arith}
-use Rattle.calc_terms.specs.Trees.{Tree, count}
+use Rattle.calc_terms.specs.Trees.{Tree, count, root_kind}
+use Rattle.calc_terms.specs.declared.kind.Kind.{Kind}
+use Rattle.calc_terms.specs.declared.kind.Kind.TheVariants as kind
 use Rattle.node_pool.specs.Nodes.{AreDistinct}
 use Rattle.node_pool.specs.State.{State}
 use Rattle.node_pool.proofs.Ids.{AreDistinct-parts}
@@ -13,6 +15,7 @@ use Rattle.tree_handles.proofs.Distinct.{Distinct, distinct, child_tree}
 use Rattle.tree_handles.proofs.Forests.{flatten-join}
 use Rattle.tree_handles.proofs.Plains.{children_of-plain, count-plains}
 use Rattle.tree_handles.proofs.Readings.{whole_child, expression_child}
+use Rattle.beautify.proofs.NodeKinds.{IsPower, IsRoot, power_parts, root_parts}
 use Rattle.beautify.proofs.Stacking.{in_base}
 
 pub record IsChildOf (n j i : ℕ) (g : Forest) : Type 0 where
@@ -37,3 +40,40 @@ child_of {g = g} {i = i} s n j st h e w is =
       expression = record { live = ap (λ (m : ℕ). holds m g) here ∙ x.live; whole = subst AllExpressions (sym tree) (whole_child n i g e.whole) };
       plain-is = ap plain tree ∙ expression_child n i g e;
     }
+
+-- ---- the kind of a node, and the sides of a power and of a root
+
+pub kind_seen : {g f : Forest} {i j : ℕ} {k : Kind} {P : Tree → Type 0} → Gives g f j P → IsExpression i g → (IsExpression i f → k ≡ root_kind (plain (tree_at i f))) → root_kind (plain (tree_at i g)) ≡ k
+kind_seen h e told = let b = in_base h e in sym (told b.0 ∙ ap (λ (t : Forest). root_kind (plain t)) b.1)
+
+pub record HasPowerSides (i : ℕ) (g : Forest) (s : State) : Type 0 where
+  pub first : 0 < arity (kids_of i (forest s))
+  pub second : 1 < arity (kids_of i (forest s))
+  pub base : (b : ℕ) → b ≡ root_id (tree_nth 0 (kids_of i (forest s))) → IsExpression b g
+  pub exponent : (e : ℕ) → e ≡ root_id (tree_nth 1 (kids_of i (forest s))) → IsExpression e g
+  pub whole : (b e : ℕ) → b ≡ root_id (tree_nth 0 (kids_of i (forest s))) → e ≡ root_id (tree_nth 1 (kids_of i (forest s))) → IsPower (plain (tree_at i g)) (plain (tree_at b g)) (plain (tree_at e g))
+
+pub power_sides : {g : Forest} {i j : ℕ} {P : Tree → Type 0} (s : State) → Stands s → Gives g (forest s) j P → IsExpression i g → root_kind (plain (tree_at i g)) ≡ kind.Pow → HasPowerSides i g s
+power_sides {g = g} {i = i} s st h e k =
+    let t = plain (tree_at i g) in
+    let p = power_parts t k in
+    let base = λ (b : ℕ). child_of s 0 b st h e (omega (arith, ap count p.parts)) in
+    let exponent = λ (b : ℕ). child_of s 1 b st h e (omega (arith, ap count p.parts)) in
+    record {
+      first = within_kids s 0 h e (omega (arith, ap count p.parts));
+      second = within_kids s 1 h e (omega (arith, ap count p.parts));
+      base = λ b q. (base b q).expression;
+      exponent = λ b q. (exponent b q).expression;
+      whole = λ b x q r. rw ((base b q).plain-is, (exponent x r).plain-is) p;
+    }
+
+pub record HasArgument (i : ℕ) (g : Forest) (s : State) : Type 0 where
+  pub within : 0 < arity (kids_of i (forest s))
+  pub expression : (a : ℕ) → a ≡ root_id (tree_nth 0 (kids_of i (forest s))) → IsExpression a g
+  pub whole : (a : ℕ) → a ≡ root_id (tree_nth 0 (kids_of i (forest s))) → IsRoot (plain (tree_at i g)) (plain (tree_at a g))
+
+pub root_argument : {g : Forest} {i j : ℕ} {P : Tree → Type 0} (s : State) → Stands s → Gives g (forest s) j P → IsExpression i g → root_kind (plain (tree_at i g)) ≡ kind.Root → HasArgument i g s
+root_argument {g = g} {i = i} s st h e k =
+    let p = root_parts (plain (tree_at i g)) k in
+    let argument = λ (a : ℕ). child_of s 0 a st h e (omega (arith, ap count p.parts)) in
+    record { within = within_kids s 0 h e (omega (arith, ap count p.parts)); expression = λ a q. (argument a q).expression; whole = λ a q. rw ((argument a q).plain-is) p }

@@ -20,8 +20,9 @@ use Rattle.beautify.proofs.Children.{base_distinct}
 use Rattle.beautify.proofs.Marking.{at_root, same_tree, still_marked}
 use Rattle.beautify.proofs.Sizes.{some_size}
 use Rattle.beautify.proofs.Stacking.{in_base, same_base, is_stack, stacked_is, on_ok, if_err, restacks_as, nothing_done, then, fails_then, passed_on, free_after}
-use Rattle.beautify.proofs.Suffixes.{show_next, all_shown, none_shown, own_part, room_left}
+use Rattle.beautify.proofs.Suffixes.{Shows, show_next, all_shown, none_shown, own_part, room_left}
 use Rattle.beautify.proofs.face.show_tree.Goals as goal
+use Rattle.beautify.proofs.face.show_tree.Goals.{After-node_at-id}
 
 less : (n k : ℕ) → 0 < n → n ≤ k → n - 1 < k
 less n k h w = omega (arith, h, w)
@@ -69,78 +70,56 @@ node_at-id-requires-clause-within c =
     let same = ap (λ (k : ℕ). nodes_in (tree_at k (forest c.loop-left.pool))) (c.mark_before-mark.ensures.tree ∙ c.loop-left.invariant.tree) in
     omega (arith, less _ _ c.loop-left-test.true c.loop-left.invariant.within, nodes-flatten (tree_at c.args.tree base), ap nodes_in (in_base c.loop-left.invariant.holds.gives c.requires.expression).1, same)
 
+-- the next node, and what stands behind it
+next : (c : After-node_at-id) → (t : Tree) × Shows c.args.tree (without_root c.args.stack.now (forest c.args.pool.now)) (c.loop-left.left - 1) t (stacked c.args.stack.now (forest c.loop-left.pool)) × (plain (tree_at c.node_at-id.result (without_root c.args.stack.now (forest c.loop-left.pool))) ≡ t) × IsExpression c.node_at-id.result (without_root c.args.stack.now (forest c.args.pool.now))
+    × (stacked c.args.stack.now (forest c.loop-left.pool) ≡ unsigned_faces (plains (forest_of (drop (suc (c.loop-left.left - 1)) (flatten (tree_at c.args.tree (without_root c.args.stack.now (forest c.args.pool.now))))))))
+next c =
+    let base = without_root c.args.stack.now (forest c.args.pool.now) in
+    let i = c.loop-left.invariant in
+    let n = c.loop-left.left - 1 in
+    let ns = flatten (tree_at c.args.tree base) in
+    let tops = stacked_is i.holds.gives ∙ ap (λ (k : ℕ). unsigned_faces (plains (forest_of (drop k ns)))) (before c.loop-left.left c.loop-left-test.true) in
+    let s = show_next c.args.tree base n _ (base_distinct c.args.pool.now c.requires.stands c.requires.stack.last) c.requires.expression c.requires.showable (less _ _ c.loop-left-test.true i.within) tops in
+    let id : c.node_at-id.result ≡ (first_of (drop n ns)).id = c.node_at-id.ensures ∙ ap (λ (k : ℕ). (first_of (drop n (flatten (tree_at k (forest c.loop-left.pool))))).id) (c.mark_before-mark.ensures.tree ∙ i.tree) ∙ ap (λ (f : Forest). (first_of (drop n (flatten f))).id) (in_base i.holds.gives c.requires.expression).1 in
+    let expression = subst (λ (k : ℕ). IsExpression k base) (sym id) (s.1).expression in
+    let is : plain (tree_at c.node_at-id.result (without_root c.args.stack.now (forest c.loop-left.pool))) ≡ s.0 = ap (λ (f : Forest). plain (tree_at c.node_at-id.result f)) (given_rest i.holds.gives) ∙ ap (λ (k : ℕ). plain (tree_at k base)) id ∙ (s.1).is in
+    (s.0, s.1, is, expression, tops)
+
 pub show_node-requires-clause-stack : goal.show_node-requires-clause-stack
 show_node-requires-clause-stack c = is_stack c.loop-left.invariant.holds.gives
 
 pub show_node-requires-clause-expression : goal.show_node-requires-clause-expression
 show_node-requires-clause-expression c =
-    let base = without_root c.args.stack.now (forest c.args.pool.now) in
-    let i = c.loop-left.invariant in
-    let n = c.loop-left.left - 1 in
-    let ns = flatten (tree_at c.args.tree base) in
-    let tops = stacked_is i.holds.gives ∙ ap (λ (k : ℕ). unsigned_faces (plains (forest_of (drop k ns)))) (before c.loop-left.left c.loop-left-test.true) in
-    let s = show_next c.args.tree base n _ (base_distinct c.args.pool.now c.requires.stands c.requires.stack.last) c.requires.expression c.requires.showable (less _ _ c.loop-left-test.true i.within) tops in
-    let id : c.node_at-id.result ≡ (first_of (drop n ns)).id = c.node_at-id.ensures ∙ ap (λ (k : ℕ). (first_of (drop n (flatten (tree_at k (forest c.loop-left.pool))))).id) (c.mark_before-mark.ensures.tree ∙ i.tree) ∙ ap (λ (f : Forest). (first_of (drop n (flatten f))).id) (in_base i.holds.gives c.requires.expression).1 in
-    let expression = subst (λ (k : ℕ). IsExpression k base) (sym id) (s.1).expression in
-    let is : plain (tree_at c.node_at-id.result (without_root c.args.stack.now (forest c.loop-left.pool))) ≡ s.0 = ap (λ (f : Forest). plain (tree_at c.node_at-id.result f)) (given_rest i.holds.gives) ∙ ap (λ (k : ℕ). plain (tree_at k base)) id ∙ (s.1).is in
-    same_base i.holds expression
+    let s = next (goal.at.show_node-requires-clause-expression c).After-node_at-id in
+    same_base c.loop-left.invariant.holds s.3
 
 pub show_node-requires-clause-showable : goal.show_node-requires-clause-showable
 show_node-requires-clause-showable c =
-    let base = without_root c.args.stack.now (forest c.args.pool.now) in
-    let i = c.loop-left.invariant in
-    let n = c.loop-left.left - 1 in
-    let ns = flatten (tree_at c.args.tree base) in
-    let tops = stacked_is i.holds.gives ∙ ap (λ (k : ℕ). unsigned_faces (plains (forest_of (drop k ns)))) (before c.loop-left.left c.loop-left-test.true) in
-    let s = show_next c.args.tree base n _ (base_distinct c.args.pool.now c.requires.stands c.requires.stack.last) c.requires.expression c.requires.showable (less _ _ c.loop-left-test.true i.within) tops in
-    let id : c.node_at-id.result ≡ (first_of (drop n ns)).id = c.node_at-id.ensures ∙ ap (λ (k : ℕ). (first_of (drop n (flatten (tree_at k (forest c.loop-left.pool))))).id) (c.mark_before-mark.ensures.tree ∙ i.tree) ∙ ap (λ (f : Forest). (first_of (drop n (flatten f))).id) (in_base i.holds.gives c.requires.expression).1 in
-    let expression = subst (λ (k : ℕ). IsExpression k base) (sym id) (s.1).expression in
-    let is : plain (tree_at c.node_at-id.result (without_root c.args.stack.now (forest c.loop-left.pool))) ≡ s.0 = ap (λ (f : Forest). plain (tree_at c.node_at-id.result f)) (given_rest i.holds.gives) ∙ ap (λ (k : ℕ). plain (tree_at k base)) id ∙ (s.1).is in
-    subst IsShowable (sym is) (own_part (s.0) (s.1).parts)
+    let s = next (goal.at.show_node-requires-clause-showable c).After-node_at-id in
+    subst IsShowable (sym s.2) (own_part (s.0) (s.1).parts)
 
 pub show_node-requires-clause-shown : goal.show_node-requires-clause-shown
 show_node-requires-clause-shown c =
-    let base = without_root c.args.stack.now (forest c.args.pool.now) in
-    let i = c.loop-left.invariant in
-    let n = c.loop-left.left - 1 in
-    let ns = flatten (tree_at c.args.tree base) in
-    let tops = stacked_is i.holds.gives ∙ ap (λ (k : ℕ). unsigned_faces (plains (forest_of (drop k ns)))) (before c.loop-left.left c.loop-left-test.true) in
-    let s = show_next c.args.tree base n _ (base_distinct c.args.pool.now c.requires.stands c.requires.stack.last) c.requires.expression c.requires.showable (less _ _ c.loop-left-test.true i.within) tops in
-    let id : c.node_at-id.result ≡ (first_of (drop n ns)).id = c.node_at-id.ensures ∙ ap (λ (k : ℕ). (first_of (drop n (flatten (tree_at k (forest c.loop-left.pool))))).id) (c.mark_before-mark.ensures.tree ∙ i.tree) ∙ ap (λ (f : Forest). (first_of (drop n (flatten f))).id) (in_base i.holds.gives c.requires.expression).1 in
-    let expression = subst (λ (k : ℕ). IsExpression k base) (sym id) (s.1).expression in
-    let is : plain (tree_at c.node_at-id.result (without_root c.args.stack.now (forest c.loop-left.pool))) ≡ s.0 = ap (λ (f : Forest). plain (tree_at c.node_at-id.result f)) (given_rest i.holds.gives) ∙ ap (λ (k : ℕ). plain (tree_at k base)) id ∙ (s.1).is in
-    subst (λ (t : Tree). HoldsFaces (children_of t) (stacked c.args.stack.now (forest c.loop-left.pool))) (sym is) (s.1).faces
+    let s = next (goal.at.show_node-requires-clause-shown c).After-node_at-id in
+    subst (λ (t : Tree). HoldsFaces (children_of t) (stacked c.args.stack.now (forest c.loop-left.pool))) (sym s.2) (s.1).faces
 
 pub returns-in_err-show_node-clause-fails : goal.returns-in_err-show_node-clause-fails
 returns-in_err-show_node-clause-fails c = passed_on c.from_residual.result c.in_err-show_node.field-0.0 _ c.from_residual.ensures.0 c.from_residual.ensures.1 (fails_then c.loop-left.invariant.holds c.in_err-show_node.ensures.fails)
 
 pub returns-in_err-show_node-clause-room : goal.returns-in_err-show_node-clause-room
 returns-in_err-show_node-clause-room c =
-    let base = without_root c.args.stack.now (forest c.args.pool.now) in
+    let s = next (goal.at.returns-in_err-show_node-clause-room c).After-node_at-id in
     let i = c.loop-left.invariant in
-    let n = c.loop-left.left - 1 in
-    let ns = flatten (tree_at c.args.tree base) in
-    let tops = stacked_is i.holds.gives ∙ ap (λ (k : ℕ). unsigned_faces (plains (forest_of (drop k ns)))) (before c.loop-left.left c.loop-left-test.true) in
-    let s = show_next c.args.tree base n _ (base_distinct c.args.pool.now c.requires.stands c.requires.stack.last) c.requires.expression c.requires.showable (less _ _ c.loop-left-test.true i.within) tops in
-    let id : c.node_at-id.result ≡ (first_of (drop n ns)).id = c.node_at-id.ensures ∙ ap (λ (k : ℕ). (first_of (drop n (flatten (tree_at k (forest c.loop-left.pool))))).id) (c.mark_before-mark.ensures.tree ∙ i.tree) ∙ ap (λ (f : Forest). (first_of (drop n (flatten f))).id) (in_base i.holds.gives c.requires.expression).1 in
-    let expression = subst (λ (k : ℕ). IsExpression k base) (sym id) (s.1).expression in
-    let is : plain (tree_at c.node_at-id.result (without_root c.args.stack.now (forest c.loop-left.pool))) ≡ s.0 = ap (λ (f : Forest). plain (tree_at c.node_at-id.result f)) (given_rest i.holds.gives) ∙ ap (λ (k : ℕ). plain (tree_at k base)) id ∙ (s.1).is in
     passed_on c.from_residual.result c.in_err-show_node.field-0.0 _ c.from_residual.ensures.0 c.from_residual.ensures.1
-    (room_left _ _ (s.1) (free_after c.requires.stands i.stands c.requires.stack i.holds) c.requires.empty (sym (stacked_is i.holds.gives)) tops (subst (λ (t : Tree). free_of c.loop-left.pool < node_room t) is c.in_err-show_node.ensures.room))
+    (room_left _ _ (s.1) (free_after c.requires.stands i.stands c.requires.stack i.holds) c.requires.empty (sym (stacked_is i.holds.gives)) s.4 (subst (λ (t : Tree). free_of c.loop-left.pool < node_room t) s.2 c.in_err-show_node.ensures.room))
 
 pub loop-left-preserved : goal.loop-left-preserved
 loop-left-preserved c =
+    let s = next (goal.at.loop-left-preserved c).After-node_at-id in
     let base = without_root c.args.stack.now (forest c.args.pool.now) in
     let i = c.loop-left.invariant in
-    let n = c.loop-left.left - 1 in
-    let ns = flatten (tree_at c.args.tree base) in
-    let tops = stacked_is i.holds.gives ∙ ap (λ (k : ℕ). unsigned_faces (plains (forest_of (drop k ns)))) (before c.loop-left.left c.loop-left-test.true) in
-    let s = show_next c.args.tree base n _ (base_distinct c.args.pool.now c.requires.stands c.requires.stack.last) c.requires.expression c.requires.showable (less _ _ c.loop-left-test.true i.within) tops in
-    let id : c.node_at-id.result ≡ (first_of (drop n ns)).id = c.node_at-id.ensures ∙ ap (λ (k : ℕ). (first_of (drop n (flatten (tree_at k (forest c.loop-left.pool))))).id) (c.mark_before-mark.ensures.tree ∙ i.tree) ∙ ap (λ (f : Forest). (first_of (drop n (flatten f))).id) (in_base i.holds.gives c.requires.expression).1 in
-    let expression = subst (λ (k : ℕ). IsExpression k base) (sym id) (s.1).expression in
-    let is : plain (tree_at c.node_at-id.result (without_root c.args.stack.now (forest c.loop-left.pool))) ≡ s.0 = ap (λ (f : Forest). plain (tree_at c.node_at-id.result f)) (given_rest i.holds.gives) ∙ ap (λ (k : ℕ). plain (tree_at k base)) id ∙ (s.1).is in
     record {
-      holds = restacks_as (then i.holds c.in_ok-show_node.ensures.ok) (ap (λ (t : Tree). more (unsigned_face t) (behind (count (children_of t)) (stacked c.args.stack.now (forest c.loop-left.pool)))) is ∙ (s.1).made);
+      holds = restacks_as (then i.holds c.in_ok-show_node.ensures.ok) (ap (λ (t : Tree). more (unsigned_face t) (behind (count (children_of t)) (stacked c.args.stack.now (forest c.loop-left.pool)))) s.2 ∙ (s.1).made);
       within = omega (arith, i.within);
       tree = c.mark_before-mark.ensures.tree ∙ i.tree;
       mark = still_marked c.mark_before-mark.result (forest c.loop-left.pool) base (same_tree c.mark_before-mark.result.tree c.args.tree (forest c.loop-left.pool) base (c.mark_before-mark.ensures.tree ∙ i.tree) (in_base i.holds.gives c.requires.expression).1) c.mark_before-mark.ensures.mark;

@@ -1,14 +1,12 @@
 use Rattle.std.proofs.Common.{ap, sym, ◌∙◌, arith}
-use Rattle.calc_terms.specs.Trees.{Tree, power, root, none, more, count, root_kind}
-use Rattle.tree_handles.specs.Expressions.{plain, nth, children_of}
-use Rattle.tree_handles.specs.Forest.{Forest}
+use Rattle.tree_handles.specs.Expressions.{plain}
 use Rattle.tree_handles.specs.Inside.{tree_at}
 use Rattle.tree_handles.specs.Roots.{without_root}
 use Rattle.tree_handles.specs.Standing.{forest}
 use Rattle.beautify.specs.Room.{node_room}
 use Rattle.beautify.specs.Stacks.{stacked}
-use Rattle.beautify.proofs.Children.{within_kids, child_of}
-use Rattle.beautify.proofs.NodeKinds.{power_parts, root_parts, add_of_kind, mult_of_kind, mult_room, no_other, shown_as, faces_of, root_shown, one_there}
+use Rattle.beautify.proofs.Children.{kind_seen, power_sides, root_argument}
+use Rattle.beautify.proofs.NodeKinds.{add_of_kind, mult_of_kind, mult_room, no_other, shown_as, faces_of, root_shown, one_there}
 use Rattle.beautify.proofs.Stacking.{in_base, on_ok, if_err, restacks_as}
 use Rattle.beautify.proofs.nodes.show_node.Goals as goal
 
@@ -26,126 +24,72 @@ name-requires-clause-live c =
 
 pub show_sum-requires-clause-sum : goal.show_sum-requires-clause-sum
 show_sum-requires-clause-sum c =
-    let b = in_base c.requires.stack.last c.requires.expression in
-    let kind-is = c.kind.ensures.plain b.0 ∙ ap (λ (f : Forest). root_kind (plain f)) b.1 in
-    add_of_kind (plain (tree_at c.args.id (without_root c.args.stack.now (forest c.args.pool.now)))) (sym kind-is ∙ c.in-Add.is)
+    add_of_kind (plain (tree_at c.args.id (without_root c.args.stack.now (forest c.args.pool.now)))) (kind_seen c.requires.stack.last c.requires.expression c.kind.ensures.plain ∙ c.in-Add.is)
 
 pub show_product-requires-clause-product : goal.show_product-requires-clause-product
 show_product-requires-clause-product c =
-    let b = in_base c.requires.stack.last c.requires.expression in
-    let kind-is = c.kind.ensures.plain b.0 ∙ ap (λ (f : Forest). root_kind (plain f)) b.1 in
-    mult_of_kind (plain (tree_at c.args.id (without_root c.args.stack.now (forest c.args.pool.now)))) (sym kind-is ∙ c.in-Mult.is)
+    mult_of_kind (plain (tree_at c.args.id (without_root c.args.stack.now (forest c.args.pool.now)))) (kind_seen c.requires.stack.last c.requires.expression c.kind.ensures.plain ∙ c.in-Mult.is)
 
 pub child_id-base-requires-clause-within : goal.child_id-base-requires-clause-within
 child_id-base-requires-clause-within c =
-    let b = in_base c.requires.stack.last c.requires.expression in
-    let kind-is = c.kind.ensures.plain b.0 ∙ ap (λ (f : Forest). root_kind (plain f)) b.1 in
-    let t = plain (tree_at c.args.id (without_root c.args.stack.now (forest c.args.pool.now))) in
-    let p = power_parts t (sym kind-is ∙ c.in-Pow.is) in
-    within_kids c.args.pool.now 0 c.requires.stack.last c.requires.expression (omega (arith, ap count p.parts))
+    let p = power_sides c.args.pool.now c.requires.stands c.requires.stack.last c.requires.expression (kind_seen c.requires.stack.last c.requires.expression c.kind.ensures.plain ∙ c.in-Pow.is) in
+    p.first
 
 pub child_id-exponent-requires-clause-within : goal.child_id-exponent-requires-clause-within
 child_id-exponent-requires-clause-within c =
-    let b = in_base c.requires.stack.last c.requires.expression in
-    let kind-is = c.kind.ensures.plain b.0 ∙ ap (λ (f : Forest). root_kind (plain f)) b.1 in
-    let t = plain (tree_at c.args.id (without_root c.args.stack.now (forest c.args.pool.now))) in
-    let p = power_parts t (sym kind-is ∙ c.in-Pow.is) in
-    within_kids c.args.pool.now 1 c.requires.stack.last c.requires.expression (omega (arith, ap count p.parts))
+    let p = power_sides c.args.pool.now c.requires.stands c.requires.stack.last c.requires.expression (kind_seen c.requires.stack.last c.requires.expression c.kind.ensures.plain ∙ c.in-Pow.is) in
+    p.second
 
 pub show_power-requires-clause-base : goal.show_power-requires-clause-base
 show_power-requires-clause-base c =
-    let b = in_base c.requires.stack.last c.requires.expression in
-    let kind-is = c.kind.ensures.plain b.0 ∙ ap (λ (f : Forest). root_kind (plain f)) b.1 in
-    let t = plain (tree_at c.args.id (without_root c.args.stack.now (forest c.args.pool.now))) in
-    let p = power_parts t (sym kind-is ∙ c.in-Pow.is) in
-    (child_of c.args.pool.now 0 _ c.requires.stands c.requires.stack.last c.requires.expression (omega (arith, ap count p.parts)) c.child_id-base.ensures.value).expression
+    let p = power_sides c.args.pool.now c.requires.stands c.requires.stack.last c.requires.expression (kind_seen c.requires.stack.last c.requires.expression c.kind.ensures.plain ∙ c.in-Pow.is) in
+    p.base _ c.child_id-base.ensures.value
 
 pub show_power-requires-clause-exponent : goal.show_power-requires-clause-exponent
 show_power-requires-clause-exponent c =
-    let b = in_base c.requires.stack.last c.requires.expression in
-    let kind-is = c.kind.ensures.plain b.0 ∙ ap (λ (f : Forest). root_kind (plain f)) b.1 in
-    let t = plain (tree_at c.args.id (without_root c.args.stack.now (forest c.args.pool.now))) in
-    let p = power_parts t (sym kind-is ∙ c.in-Pow.is) in
-    (child_of c.args.pool.now 1 _ c.requires.stands c.requires.stack.last c.requires.expression (omega (arith, ap count p.parts)) c.child_id-exponent.ensures.value).expression
+    let p = power_sides c.args.pool.now c.requires.stands c.requires.stack.last c.requires.expression (kind_seen c.requires.stack.last c.requires.expression c.kind.ensures.plain ∙ c.in-Pow.is) in
+    p.exponent _ c.child_id-exponent.ensures.value
 
 pub show_power-requires-clause-shown : goal.show_power-requires-clause-shown
 show_power-requires-clause-shown c =
-    let b = in_base c.requires.stack.last c.requires.expression in
-    let kind-is = c.kind.ensures.plain b.0 ∙ ap (λ (f : Forest). root_kind (plain f)) b.1 in
-    let t = plain (tree_at c.args.id (without_root c.args.stack.now (forest c.args.pool.now))) in
-    let p = power_parts t (sym kind-is ∙ c.in-Pow.is) in
-    let base = child_of c.args.pool.now 0 _ c.requires.stands c.requires.stack.last c.requires.expression (omega (arith, ap count p.parts)) c.child_id-base.ensures.value in
-    let exponent = child_of c.args.pool.now 1 _ c.requires.stands c.requires.stack.last c.requires.expression (omega (arith, ap count p.parts)) c.child_id-exponent.ensures.value in
-    faces_of _ _ (stacked c.args.stack.now (forest c.args.pool.now)) (p.parts ∙ ap (λ (x : Tree). more x (more (nth 1 (children_of t)) none)) (sym base.plain-is) ∙ ap (λ (x : Tree). more (plain (tree_at c.child_id-base.result (without_root c.args.stack.now (forest c.args.pool.now)))) (more x none)) (sym exponent.plain-is)) c.requires.shown
+    let p = power_sides c.args.pool.now c.requires.stands c.requires.stack.last c.requires.expression (kind_seen c.requires.stack.last c.requires.expression c.kind.ensures.plain ∙ c.in-Pow.is) in
+    faces_of _ _ (stacked c.args.stack.now (forest c.args.pool.now)) (p.whole _ _ c.child_id-base.ensures.value c.child_id-exponent.ensures.value).parts c.requires.shown
 
 pub returns-in-Pow-clause-ok : goal.returns-in-Pow-clause-ok
 returns-in-Pow-clause-ok c =
-    let b = in_base c.requires.stack.last c.requires.expression in
-    let kind-is = c.kind.ensures.plain b.0 ∙ ap (λ (f : Forest). root_kind (plain f)) b.1 in
-    let t = plain (tree_at c.args.id (without_root c.args.stack.now (forest c.args.pool.now))) in
-    let p = power_parts t (sym kind-is ∙ c.in-Pow.is) in
-    let base = child_of c.args.pool.now 0 _ c.requires.stands c.requires.stack.last c.requires.expression (omega (arith, ap count p.parts)) c.child_id-base.ensures.value in
-    let exponent = child_of c.args.pool.now 1 _ c.requires.stands c.requires.stack.last c.requires.expression (omega (arith, ap count p.parts)) c.child_id-exponent.ensures.value in
-    on_ok c.show_power.result c.show_power.ensures.ok (λ r. restacks_as r (shown_as t _ (stacked c.args.stack.now (forest c.args.pool.now)) (p.is ∙ ap (λ (x : Tree). power x (nth 1 (children_of t))) (sym base.plain-is) ∙ ap (power (plain (tree_at c.child_id-base.result (without_root c.args.stack.now (forest c.args.pool.now))))) (sym exponent.plain-is))))
+    let p = power_sides c.args.pool.now c.requires.stands c.requires.stack.last c.requires.expression (kind_seen c.requires.stack.last c.requires.expression c.kind.ensures.plain ∙ c.in-Pow.is) in
+    on_ok c.show_power.result c.show_power.ensures.ok (λ r. restacks_as r (shown_as (plain (tree_at c.args.id (without_root c.args.stack.now (forest c.args.pool.now)))) _ (stacked c.args.stack.now (forest c.args.pool.now)) (p.whole _ _ c.child_id-base.ensures.value c.child_id-exponent.ensures.value).is))
 
 pub returns-in-Pow-clause-room : goal.returns-in-Pow-clause-room
 returns-in-Pow-clause-room c =
-    let b = in_base c.requires.stack.last c.requires.expression in
-    let kind-is = c.kind.ensures.plain b.0 ∙ ap (λ (f : Forest). root_kind (plain f)) b.1 in
-    let t = plain (tree_at c.args.id (without_root c.args.stack.now (forest c.args.pool.now))) in
-    let p = power_parts t (sym kind-is ∙ c.in-Pow.is) in
-    let base = child_of c.args.pool.now 0 _ c.requires.stands c.requires.stack.last c.requires.expression (omega (arith, ap count p.parts)) c.child_id-base.ensures.value in
-    let exponent = child_of c.args.pool.now 1 _ c.requires.stands c.requires.stack.last c.requires.expression (omega (arith, ap count p.parts)) c.child_id-exponent.ensures.value in
-    if_err c.show_power.result c.show_power.ensures.room (λ e l. omega (arith, l, ap node_room (p.is ∙ ap (λ (x : Tree). power x (nth 1 (children_of t))) (sym base.plain-is) ∙ ap (power (plain (tree_at c.child_id-base.result (without_root c.args.stack.now (forest c.args.pool.now))))) (sym exponent.plain-is))))
+    let p = power_sides c.args.pool.now c.requires.stands c.requires.stack.last c.requires.expression (kind_seen c.requires.stack.last c.requires.expression c.kind.ensures.plain ∙ c.in-Pow.is) in
+    if_err c.show_power.result c.show_power.ensures.room (λ e l. omega (arith, l, ap node_room (p.whole _ _ c.child_id-base.ensures.value c.child_id-exponent.ensures.value).is))
 
 pub child_id-requires-clause-within : goal.child_id-requires-clause-within
 child_id-requires-clause-within c =
-    let b = in_base c.requires.stack.last c.requires.expression in
-    let kind-is = c.kind.ensures.plain b.0 ∙ ap (λ (f : Forest). root_kind (plain f)) b.1 in
-    let t = plain (tree_at c.args.id (without_root c.args.stack.now (forest c.args.pool.now))) in
-    let p = root_parts t (sym kind-is ∙ c.in-Root.is) in
-    within_kids c.args.pool.now 0 c.requires.stack.last c.requires.expression (omega (arith, ap count p.parts))
+    let p = root_argument c.args.pool.now c.requires.stands c.requires.stack.last c.requires.expression (kind_seen c.requires.stack.last c.requires.expression c.kind.ensures.plain ∙ c.in-Root.is) in
+    p.within
 
 pub show_root-requires-clause-argument : goal.show_root-requires-clause-argument
 show_root-requires-clause-argument c =
-    let b = in_base c.requires.stack.last c.requires.expression in
-    let kind-is = c.kind.ensures.plain b.0 ∙ ap (λ (f : Forest). root_kind (plain f)) b.1 in
-    let t = plain (tree_at c.args.id (without_root c.args.stack.now (forest c.args.pool.now))) in
-    let p = root_parts t (sym kind-is ∙ c.in-Root.is) in
-    (child_of c.args.pool.now 0 _ c.requires.stands c.requires.stack.last c.requires.expression (omega (arith, ap count p.parts)) c.child_id.ensures.value).expression
+    let p = root_argument c.args.pool.now c.requires.stands c.requires.stack.last c.requires.expression (kind_seen c.requires.stack.last c.requires.expression c.kind.ensures.plain ∙ c.in-Root.is) in
+    p.expression _ c.child_id.ensures.value
 
 pub show_root-requires-clause-within : goal.show_root-requires-clause-within
 show_root-requires-clause-within c =
-    let b = in_base c.requires.stack.last c.requires.expression in
-    let kind-is = c.kind.ensures.plain b.0 ∙ ap (λ (f : Forest). root_kind (plain f)) b.1 in
-    let t = plain (tree_at c.args.id (without_root c.args.stack.now (forest c.args.pool.now))) in
-    let p = root_parts t (sym kind-is ∙ c.in-Root.is) in
-    let argument = child_of c.args.pool.now 0 _ c.requires.stands c.requires.stack.last c.requires.expression (omega (arith, ap count p.parts)) c.child_id.ensures.value in
-    let parts = p.parts ∙ ap (λ (x : Tree). more x none) (sym argument.plain-is) in
-    let is = p.is ∙ ap root (sym argument.plain-is) in
-    one_there _ (stacked c.args.stack.now (forest c.args.pool.now)) (faces_of _ _ (stacked c.args.stack.now (forest c.args.pool.now)) parts c.requires.shown)
+    let p = root_argument c.args.pool.now c.requires.stands c.requires.stack.last c.requires.expression (kind_seen c.requires.stack.last c.requires.expression c.kind.ensures.plain ∙ c.in-Root.is) in
+    one_there _ (stacked c.args.stack.now (forest c.args.pool.now)) (faces_of _ _ (stacked c.args.stack.now (forest c.args.pool.now)) (p.whole _ c.child_id.ensures.value).parts c.requires.shown)
 
 pub returns-in-Root-clause-ok : goal.returns-in-Root-clause-ok
 returns-in-Root-clause-ok c =
-    let b = in_base c.requires.stack.last c.requires.expression in
-    let kind-is = c.kind.ensures.plain b.0 ∙ ap (λ (f : Forest). root_kind (plain f)) b.1 in
-    let t = plain (tree_at c.args.id (without_root c.args.stack.now (forest c.args.pool.now))) in
-    let p = root_parts t (sym kind-is ∙ c.in-Root.is) in
-    let argument = child_of c.args.pool.now 0 _ c.requires.stands c.requires.stack.last c.requires.expression (omega (arith, ap count p.parts)) c.child_id.ensures.value in
-    let parts = p.parts ∙ ap (λ (x : Tree). more x none) (sym argument.plain-is) in
-    let is = p.is ∙ ap root (sym argument.plain-is) in
-    on_ok c.show_root.result c.show_root.ensures.ok (λ r. restacks_as r (root_shown _ (stacked c.args.stack.now (forest c.args.pool.now)) (faces_of _ _ (stacked c.args.stack.now (forest c.args.pool.now)) parts c.requires.shown) ∙ shown_as t _ (stacked c.args.stack.now (forest c.args.pool.now)) is))
+    let p = root_argument c.args.pool.now c.requires.stands c.requires.stack.last c.requires.expression (kind_seen c.requires.stack.last c.requires.expression c.kind.ensures.plain ∙ c.in-Root.is) in
+    let w = p.whole _ c.child_id.ensures.value in
+    on_ok c.show_root.result c.show_root.ensures.ok (λ r. restacks_as r (root_shown _ (stacked c.args.stack.now (forest c.args.pool.now)) (faces_of _ _ (stacked c.args.stack.now (forest c.args.pool.now)) w.parts c.requires.shown) ∙ shown_as (plain (tree_at c.args.id (without_root c.args.stack.now (forest c.args.pool.now)))) _ (stacked c.args.stack.now (forest c.args.pool.now)) w.is))
 
 pub returns-in-Root-clause-room : goal.returns-in-Root-clause-room
 returns-in-Root-clause-room c =
-    let b = in_base c.requires.stack.last c.requires.expression in
-    let kind-is = c.kind.ensures.plain b.0 ∙ ap (λ (f : Forest). root_kind (plain f)) b.1 in
-    let t = plain (tree_at c.args.id (without_root c.args.stack.now (forest c.args.pool.now))) in
-    let p = root_parts t (sym kind-is ∙ c.in-Root.is) in
-    let argument = child_of c.args.pool.now 0 _ c.requires.stands c.requires.stack.last c.requires.expression (omega (arith, ap count p.parts)) c.child_id.ensures.value in
-    let parts = p.parts ∙ ap (λ (x : Tree). more x none) (sym argument.plain-is) in
-    let is = p.is ∙ ap root (sym argument.plain-is) in
-    if_err c.show_root.result c.show_root.ensures.room (λ e l. omega (arith, l, ap node_room is))
+    let p = root_argument c.args.pool.now c.requires.stands c.requires.stack.last c.requires.expression (kind_seen c.requires.stack.last c.requires.expression c.kind.ensures.plain ∙ c.in-Root.is) in
+    if_err c.show_root.result c.show_root.ensures.room (λ e l. omega (arith, l, ap node_room (p.whole _ c.child_id.ensures.value).is))
 
 pub returns-in-Num-clause-ok : goal.returns-in-Num-clause-ok
 returns-in-Num-clause-ok c =
@@ -169,12 +113,9 @@ returns-in-Sym-clause-room c =
 
 pub returns-in-Mult-clause-room : goal.returns-in-Mult-clause-room
 returns-in-Mult-clause-room c =
-    let b = in_base c.requires.stack.last c.requires.expression in
-    let kind-is = c.kind.ensures.plain b.0 ∙ ap (λ (f : Forest). root_kind (plain f)) b.1 in
-    if_err c.show_product.result c.show_product.ensures.room (λ e l. omega (arith, l, mult_room (plain (tree_at c.args.id (without_root c.args.stack.now (forest c.args.pool.now)))) (sym kind-is ∙ c.in-Mult.is)))
+    if_err c.show_product.result c.show_product.ensures.room (λ e l. omega (arith, l, mult_room (plain (tree_at c.args.id (without_root c.args.stack.now (forest c.args.pool.now)))) (kind_seen c.requires.stack.last c.requires.expression c.kind.ensures.plain ∙ c.in-Mult.is)))
 
 pub unreachable-requires : goal.unreachable-requires
 unreachable-requires c =
-    let b = in_base c.requires.stack.last c.requires.expression in
-    let kind-is = c.kind.ensures.plain b.0 ∙ ap (λ (f : Forest). root_kind (plain f)) b.1 in
+    let kind-is = sym (kind_seen c.requires.stack.last c.requires.expression c.kind.ensures.plain) in
     no_other (plain (tree_at c.args.id (without_root c.args.stack.now (forest c.args.pool.now)))) c.requires.showable (λ e. c.in_default.not-Num (kind-is ∙ e)) (λ e. c.in_default.not-Sym (kind-is ∙ e)) (λ e. c.in_default.not-Add (kind-is ∙ e)) (λ e. c.in_default.not-Mult (kind-is ∙ e)) (λ e. c.in_default.not-Pow (kind-is ∙ e)) (λ e. c.in_default.not-Root (kind-is ∙ e))

@@ -39,25 +39,21 @@ returns-in_err-copy-clause-front c = front_at (part_front c.loop-at.invariant.pa
 
 pub raise_factor-requires-clause-first : goal.raise_factor-requires-clause-first
 raise_factor-requires-clause-first c =
-    let many = c.children-last.ensures.value ∙ children_at (over_product c.requires.first c.requires.product) c.requires.stands c.id.ensures in
     let g = c.in_ok-copy.ensures.given (expression c.id-in-loop-at.ensures c.loop-at.invariant.stands (exponent_beside c.loop-at.invariant.part c.requires.apart c.requires.second)) in
     product_behind c.loop-at.invariant.part g
 
 pub raise_factor-requires-clause-second : goal.raise_factor-requires-clause-second
 raise_factor-requires-clause-second c =
-    let many = c.children-last.ensures.value ∙ children_at (over_product c.requires.first c.requires.product) c.requires.stands c.id.ensures in
     let g = c.in_ok-copy.ensures.given (expression c.id-in-loop-at.ensures c.loop-at.invariant.stands (exponent_beside c.loop-at.invariant.part c.requires.apart c.requires.second)) in
     given_handed g
 
 pub raise_factor-requires-clause-apart : goal.raise_factor-requires-clause-apart
 raise_factor-requires-clause-apart c =
-    let many = c.children-last.ensures.value ∙ children_at (over_product c.requires.first c.requires.product) c.requires.stands c.id.ensures in
     let g = c.in_ok-copy.ensures.given (expression c.id-in-loop-at.ensures c.loop-at.invariant.stands (exponent_beside c.loop-at.invariant.part c.requires.apart c.requires.second)) in
     eqb-sym _ _ (given_apart g (over_handed c.loop-at.invariant.part.over refl))
 
 pub raise_factor-requires-clause-product : goal.raise_factor-requires-clause-product
 raise_factor-requires-clause-product c =
-    let many = c.children-last.ensures.value ∙ children_at (over_product c.requires.first c.requires.product) c.requires.stands c.id.ensures in
     let g = c.in_ok-copy.ensures.given (expression c.id-in-loop-at.ensures c.loop-at.invariant.stands (exponent_beside c.loop-at.invariant.part c.requires.apart c.requires.second)) in
     ap is_mult (product_tree c.loop-at.invariant.part g)
 
@@ -69,7 +65,6 @@ raise_factor-requires-clause-within c =
 
 pub returns-in_err-raise_factor-clause-front : goal.returns-in_err-raise_factor-clause-front
 returns-in_err-raise_factor-clause-front c =
-    let many = c.children-last.ensures.value ∙ children_at (over_product c.requires.first c.requires.product) c.requires.stands c.id.ensures in
     let g = c.in_ok-copy.ensures.given (expression c.id-in-loop-at.ensures c.loop-at.invariant.stands (exponent_beside c.loop-at.invariant.part c.requires.apart c.requires.second)) in
     let p = part_front c.loop-at.invariant.part in
     front_after_two behind_first (behind_new g.ends p) (front_end g.ends p) c.raise_factor.ensures.front

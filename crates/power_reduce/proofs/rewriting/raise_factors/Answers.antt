@@ -56,7 +56,6 @@ pub raise_each-requires-clause-some : goal.raise_each-requires-clause-some
 raise_each-requires-clause-some c =
     let g = c.take_sides-base.ensures.gives in
     let p = c.in_ok-product.ensures.ok in
-    let e = handed_beside c.take_sides-base.result.0 (eqb-sym _ _ (given_apart g.second-given (given_handed g.first-given))) (given_handed g.second-given) in
     let b = first_tree _ g in
     subst (λ (t : Tree). 1 ≤ count (children_of t)) (sym (given_told p)) (some_parts _ (ap is_mult b ∙ c.requires.base) (ap is_reduced b ∙ c.requires.sides.base) (ap is_number b ∙ c.requires.number))
 
