@@ -42,14 +42,11 @@ pub mod Fitting
 pub mod Steps
 pub mod Quotients
 pub mod Parents
-pub mod Walks
 pub mod ChildRooms
-pub mod Stopping
 pub mod Ready
 pub mod Results
 pub mod Sides
 pub mod Told
-pub mod Port
 pub mod HeldExponents
 pub mod HeldFactors
 pub mod Wholes

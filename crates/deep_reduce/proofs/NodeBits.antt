@@ -16,7 +16,7 @@ use Rattle.calc_terms.proofs.FractionFacts.{zero_test, whole_numerator}
 use Rattle.calc_terms.specs.Trees.{Tree, num, symbol, undef, add, mult, power, root, neg, sub, div, Trees, none, more, is_num, is_add, is_mult, is_root, is_sub, is_div, is_undef, has_undef}
 use Rattle.deep_reduce.specs.Answers.{IsReducedPower, lacks_power}
 use Rattle.deep_reduce.specs.Bits.{HasFewBits}
-use Rattle.deep_reduce.specs.Leaves.{is_leaf}
+use Rattle.reduce_walk.specs.Leaves.{is_leaf}
 use Rattle.deep_reduce.specs.NodeBits.{HoldsPower, holds_whole, holds_half, holds_kept, HoldsDifference, HoldsQuotient, HoldsNode}
 use Rattle.deep_reduce.specs.Nodes.{IsNodeOverflow, is_neg}
 use Rattle.deep_reduce.proofs.HeldFactors.{factor_wider, factor_tree}

@@ -6,14 +6,13 @@ use Rattle.calc_algebra.proofs.MeaningRewrites as rewrites
 use Rattle.calc_terms.specs.Fractions.{Fraction}
 use Rattle.calc_terms.specs.Trees.{Tree, num, symbol, undef, add, mult, power, root, neg, sub, div, Trees, none, more, names, names_of}
 use Rattle.deep_reduce.specs.Reductions.{IsReducedFrom}
+use Rattle.reduce_walk.specs.Answers.{AreAnswers}
 use Rattle.calc_algebra.specs.Rewritings.{Rewrites}
 use Rattle.calc_algebra.proofs.Rewritings.{keeps, kept, Rewrites-refl}
 
 -- each tree is reduced from the one at its place
 abbrev pub AreReducedFrom : Trees → Trees → Type 0
-AreReducedFrom none none = Unit {0}
-AreReducedFrom (more t ts) (more u us) = IsReducedFrom t u × AreReducedFrom ts us
-AreReducedFrom _ _ = ⊥
+AreReducedFrom ts us = AreAnswers IsReducedFrom ts us
 
 -- u is the node t over reduced children
 pub data IsOver : Tree → Tree → Type 0 where

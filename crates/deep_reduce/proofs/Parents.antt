@@ -1,81 +1,23 @@
 -- A root with its children, whatever it holds: a child is taken out.
-use Rattle.std.proofs.Common.{◌≡◌, ℕ, [], ◌∷◌, eqb, cond, Bool, true, refl, sym, ap, ◌∙◌, subst, arith}
+use Rattle.std.proofs.Common.{◌≡◌, ℕ, [], ◌∷◌, eqb, cond, Bool, refl, sym, ap, ◌∙◌, subst, arith}
 use Rattle.calc_terms.specs.Payload.{Payload}
 use Rattle.calc_terms.specs.Trees.{Tree, Trees, none, more, append, count}
-use Rattle.coefficients.proofs.Places.{cut_at, represents_count, once_count, without_put}
+use Rattle.coefficients.proofs.Places.{cut_at, represents_count, without_put}
 use Rattle.coefficients.proofs.Steps.{gives_without}
 use Rattle.deep_reduce.specs.Pairs.{GivesSides}
 use Rattle.node_pool.specs.State.{State}
-use Rattle.tree_handles.proofs.Counted.{all-kids}
+use Rattle.reduce_walk.proofs.Parents.{IsParent, held_at, parent_handed}
 use Rattle.tree_handles.proofs.Fronts.{behind_first, front_same, front_put, front_end}
 use Rattle.tree_handles.proofs.Given.{gives, gives_as}
 use Rattle.tree_handles.proofs.Lasts.{ends_at, kids_of_root, other_root, other_tree}
 use Rattle.tree_handles.proofs.Outcomes.{by_test}
-use Rattle.tree_handles.proofs.Plains.{children_of-plain, count-plains, whole_kids, grown_whole}
 use Rattle.tree_handles.proofs.Roots.{root_arity, root-put, kids-put}
-use Rattle.tree_handles.specs.Expressions.{nth, grown, plain, plains, takes, children_of, AllExpressions}
+use Rattle.tree_handles.specs.Expressions.{nth, plain, children_of}
 use Rattle.tree_handles.specs.Forest.{Forest, empty, tree, arity, kids, root_payload, root_count, with_root_kids, tree_nth, without_nth}
-use Rattle.tree_handles.specs.Handed.{IsOnce, AllOnce, IsOwned, IsHanded, Represents, Ends, Gives, KeepsFront}
+use Rattle.tree_handles.specs.Handed.{AllOnce, IsOwned, IsHanded, Represents, Ends, Gives, KeepsFront}
 use Rattle.tree_handles.specs.Inside.{kids_of}
-use Rattle.tree_handles.specs.Roots.{has_root, root_tree, without_root, put}
+use Rattle.tree_handles.specs.Roots.{root_tree, without_root, put}
 use Rattle.tree_handles.specs.Standing.{Stands, forest}
-
--- a root that holds x over these trees, each node held once
-pub record IsParent (x : Payload) (i : ℕ) (ts : Trees) (f : Forest) : Type 0 where
-  pub root : has_root i f ≡ true
-  pub payload : root_payload (root_tree i f) ≡ x
-  pub count : root_count (root_tree i f) ≡ 1
-  pub kids : Represents (kids (root_tree i f)) ts
-
--- what a handed root holds
-abbrev pub held_at : ℕ → Forest → Payload
-held_at i f = root_payload (root_tree i f)
-
-pub parent_handed : {i : ℕ} {f : Forest} → IsHanded i f → IsParent (held_at i f) i (children_of (plain (root_tree i f))) f
-parent_handed {i = i} {f = f} h = record {
-  root = h.root;
-  payload = refl;
-  count = once_count (root_tree i f) (root_arity i f h.root) h.once;
-  kids = record { once = all-kids IsOnce (root_tree i f) h.once; whole = whole_kids (root_tree i f) h.whole; plain_trees = sym (children_of-plain (root_tree i f) h.whole) };
-}
-
-no_tree : arity empty ≡ 1 → ⊥
-no_tree e = absurd (omega arith)
-
--- it takes that many children, and is the node over them
-pub record IsNodeOf (x : Payload) (ts : Trees) (t : Tree) : Type 0 where
-  pub takes : takes x (count ts) ≡ true
-  pub grown : t ≡ grown x ts
-
-node_of_tree : (t : Forest) → arity t ≡ 1 → AllExpressions t → IsNodeOf (root_payload t) (children_of (plain t)) (plain t)
-node_of_tree empty e h = absurd (no_tree e)
-node_of_tree (tree l k r) e h =
-    let are : children_of (grown l.payload (plains k)) ≡ plains k = (grown_whole l k r h).children-are in
-    record {
-      takes = ap (λ (ts : Trees). takes l.payload (count ts)) are ∙ ap (takes l.payload) (count-plains k) ∙ h.0;
-      grown = ap (grown l.payload) (sym are);
-    }
-
-pub handed_node : {i : ℕ} {f : Forest} → IsHanded i f → IsNodeOf (held_at i f) (children_of (plain (root_tree i f))) (plain (root_tree i f))
-handed_node {i = i} {f = f} h = node_of_tree (root_tree i f) (root_arity i f h.root) h.whole
-
-parent_one : (x : Payload) (ts : Trees) (t : Forest) → arity t ≡ 1 → root_payload t ≡ x → root_count t ≡ 1 → Represents (kids t) ts → takes x (count ts) ≡ true → Represents t (more (grown x ts) none)
-parent_one x ts empty e p c h w = absurd (no_tree e)
-parent_one x ts (tree l b empty) e p c h w = record {
-  once = (c, h.once, tt);
-  whole = (ap (λ (y : Payload). takes y (arity b)) p ∙ ap (takes x) (represents_count h) ∙ w, h.whole, tt);
-  plain_trees = λ i. more (grown (p i) (h.plain_trees i)) none;
-}
-parent_one x ts (tree l b (tree m d s)) e p c h w = absurd (omega arith)
-
-parent_tree : {x : Payload} {i : ℕ} {ts : Trees} {f : Forest} → IsParent x i ts f → takes x (count ts) ≡ true → Represents (root_tree i f) (more (grown x ts) none)
-parent_tree {x = x} {i = i} {ts = ts} {f = f} h w = parent_one x ts (root_tree i f) (root_arity i f h.root) h.payload h.count h.kids w
-
-pub parent_is_handed : {x : Payload} {i : ℕ} {ts : Trees} {f : Forest} → IsParent x i ts f → takes x (count ts) ≡ true → IsHanded i f
-parent_is_handed h w = let t = parent_tree h w in record { root = h.root; once = t.once; whole = t.whole }
-
-pub parent_plain : {x : Payload} {i : ℕ} {ts : Trees} {f : Forest} → IsParent x i ts f → takes x (count ts) ≡ true → plain (root_tree i f) ≡ grown x ts
-parent_plain h w = ap (nth 0) (parent_tree h w).plain_trees
 
 -- how many children a reader finds
 pub parent_children : {s : State} {x : Payload} {i : ℕ} {ts : Trees} → Stands s → IsParent x i ts (forest s) → arity (kids_of i (forest s)) ≡ count ts
@@ -135,7 +77,7 @@ taken_out {i = i} {f = f} n ts t us o e d =
 -- ---- a parent that goes
 
 once_of : (t : Forest) → arity t ≡ 1 → root_count t ≡ 1 → AllOnce (kids t) → AllOnce t
-once_of empty e c h = absurd (no_tree e)
+once_of empty e c h = absurd (omega (arith, e))
 once_of (tree l b empty) e c h = (c, h, tt)
 once_of (tree l b (tree m d s)) e c h = absurd (omega arith)
 

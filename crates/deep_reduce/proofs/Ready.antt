@@ -1,43 +1,59 @@
--- A node whose children are reduced, from the tree as it was handed.
-use Rattle.std.proofs.Common.{◌≡◌, ℕ, ◌+◌, ◌≤◌, ◌<◌, true, Some, None, Err, List, refl, sym, ap, ◌∙◌, subst, arith}
+-- A node over the answers of its children, from the tree as it was.
+use Rattle.std.proofs.Common.{◌≡◌, ℕ, true, Ok, Err, Result, refl, sym, subst, arith}
+use Rattle.std.specs.Prelude.{IfErr, List, length, ◌^◌, ◌+◌, false}
 use Rattle.std.proofs.lemmas.Bool.{eqb-true}
-use Rattle.breakers.proofs.Runs.{CalmChecks-append}
-use Rattle.breakers.specs.Breakers.{Check, CalmChecks}
-use Rattle.breakers.specs.State.{State as BreakerState}
+use Rattle.calc_algebra.specs.Reduced.{is_reduced, are_reduced, is_half_num}
 use Rattle.calc_terms.specs.Fractions.{lowest}
 use Rattle.calc_terms.specs.declared.kind.Kind.{Kind}
 use Rattle.calc_terms.specs.declared.kind.Kind.TheVariants as kind
 use Rattle.calc_terms.specs.Payload.{Payload, rational, named, bare}
-use Rattle.calc_algebra.specs.Reduced.{is_reduced, are_reduced}
-use Rattle.calc_terms.specs.Trees.{Tree, power, root, neg, sub, div, Trees, none, more, count, nodes, nodes_of, size}
+use Rattle.calc_terms.specs.Trees.{Tree, num, symbol, undef, power, root, neg, sub, div, Trees, none, more, count, nodes, nodes_of, root_size, sizes, has_undef}
+use Rattle.deep_reduce.specs.Bits.{HasFewBits}
+use Rattle.deep_reduce.specs.NodeBits.{HoldsNode}
+use Rattle.deep_reduce.specs.NodeRooms.{HasNodesFor, SpansNode}
 use Rattle.deep_reduce.specs.Nodes.{IsNodeAnswer, IsNodeOverflow}
-use Rattle.deep_reduce.specs.Reductions.{IsReducedFrom, Stops}
+use Rattle.deep_reduce.specs.Reductions.{IsReducedFrom, MayLack, MayOverflow}
+use Rattle.deep_reduce.specs.Rooms.{IsCalmAtZero, SpansRootOf}
+use Rattle.deep_reduce.proofs.BitsBeyond.{child_beyond, node_beyond}
+use Rattle.deep_reduce.proofs.ChildRooms.{all_small, child_room, node_lacks}
 use Rattle.deep_reduce.proofs.EasyNodes.{and_true}
 use Rattle.deep_reduce.proofs.NodeAnswers.{node_answered}
 use Rattle.deep_reduce.proofs.NodeRewrites.{AreReducedFrom, IsOver, over_number, over_symbol, over_undef, over_sum, over_product, over_power, over_root, over_neg, over_sub, over_div}
-use Rattle.deep_reduce.proofs.Parents.{held_at, handed_node, parent_is_handed, parent_plain}
-use Rattle.deep_reduce.proofs.Overflowing.{last_overflow}
-use Rattle.deep_reduce.proofs.PlainNodes.{overflowed_plain}
-use Rattle.deep_reduce.proofs.Walks.{AllWalked, nodes_by_children, reduced_count}
-use Rattle.node_pool.specs.State.{State, free_of}
-use Rattle.calc_measures.specs.Measures.{bits, room}
-use Rattle.number_forms.specs.Lacks.{LacksBelow}
-use Rattle.number_forms.proofs.Loops.{kept_after, refuses_after}
+use Rattle.deep_reduce.proofs.Overflowing.{first_overflow, last_overflow}
+use Rattle.deep_reduce.proofs.PlainNodes.{child_overflow, overflowed_plain}
+use Rattle.deep_reduce.proofs.Steps.{number_answer, symbol_answer, undef_answer}
+use Rattle.number_forms.specs.Lacks.{LacksBelow, OfFull}
+use Rattle.power_reduce.specs.PowerAnswers.{base_in, exponent_in}
 use Rattle.rational128.specs.declared.overflow.Overflow.{Overflow}
-use Rattle.reduce_port.proofs.Checks.{one_calm, calm_up_to, trips_at_once, trips_within_after}
-use Rattle.tree_handles.specs.Causes.{IsCaused}
-use Rattle.reduce_port.specs.Checks.{TripsWithin}
-use Rattle.reduce_port.specs.Faults.{fault_of}
-use Rattle.tree_handles.proofs.Given.{gives_as}
-use Rattle.tree_handles.proofs.Plains.{children_of-plain}
-use Rattle.tree_handles.specs.Expressions.{grown, compound, takes, takes_kind, nth, plain, children_of}
-use Rattle.tree_handles.specs.Faults.{Faults, IfOverflow}
-use Rattle.tree_handles.specs.Forest.{Forest}
-use Rattle.tree_handles.specs.Handed.{IsHanded, Gives}
-use Rattle.tree_handles.specs.Roots.{root_tree, without_root}
-use Rattle.tree_handles.specs.Standing.{KeepsRefusals}
+use Rattle.reduce_walk.proofs.Bytes.{root_over}
+use Rattle.reduce_walk.specs.Answers.{IsNext, IsOver as IsOverAnswers}
+use Rattle.reduce_walk.specs.Leaves.{is_leaf}
+use Rattle.tree_handles.specs.Expressions.{grown, compound, takes, takes_kind, nth, children_of}
+use Rattle.tree_handles.specs.Faults.{IfOverflow}
 use Rattle.tree_handles.specs.declared.fault.NumberFault.{NumberFault}
 use Rattle.tree_handles.specs.declared.fault.NumberFault.TheVariants as number
+use Rattle.tree_room.specs.Needs.{simple_room}
+use Rattle.tree_room.proofs.Rooms.{all_written_bytes}
+
+-- ---- leaves
+
+over_leaf : (t : Tree) → is_leaf t ≡ true → IsOver t t
+over_leaf (num q) h = over_number q
+over_leaf (symbol x) h = over_symbol x
+over_leaf undef h = over_undef
+over_leaf t h = cc
+
+leaf_answer : (t : Tree) → is_leaf t ≡ true → IsNodeAnswer t t
+leaf_answer (num q) h = number_answer q
+leaf_answer (symbol x) h = symbol_answer x
+leaf_answer undef h = undef_answer
+leaf_answer t h = absurd (no_leaf h)
+  where
+    no_leaf : false ≡ true → ⊥
+    no_leaf e = cc
+
+pub leaf_reduced : (t : Tree) → is_leaf t ≡ true → IsReducedFrom t t
+leaf_reduced t h = node_answered t t t (over_leaf t h) (leaf_answer t h)
 
 -- ---- the node over its children's answers
 
@@ -71,66 +87,47 @@ over_payload (rational r) ts us e h = over_number (lowest r.num r.den)
 over_payload (named x) ts us e h = over_symbol x
 over_payload (bare k) ts us e h = over_kind k ts us e h
 
-answers_reduced : (ts us : Trees) → AreReducedFrom ts us → are_reduced us ≡ true
+pub answers_reduced : (ts us : Trees) → AreReducedFrom ts us → are_reduced us ≡ true
 answers_reduced none none h = refl
 answers_reduced none (more u us) h = absurd h
 answers_reduced (more t ts) none h = absurd h
 answers_reduced (more t ts) (more u us) h = and_true (is_reduced u) (are_reduced us) h.0.reduces.reduced (answers_reduced ts us h.1)
 
--- ---- before its own step
+pub over_answers : {t u : Tree} → IsOverAnswers IsReducedFrom t u → IsOver t u
+over_answers {t = t} {u = u} o =
+    subst (λ (x : Tree). IsOver x u) (sym o.whole) (subst (IsOver (grown o.holds (children_of t))) (sym o.node) (over_payload o.holds (children_of t) (children_of u) o.takes o.children))
 
-pub record IsReady (i : ℕ) (old new : Forest) : Type 0 where
-  pub handed : IsHanded i new
-  pub reduced : are_reduced (children_of (plain (root_tree i new))) ≡ true
-  pub over : IsOver (plain (root_tree i old)) (plain (root_tree i new))
-  pub rest : without_root i new ≡ without_root i old
+-- ---- a child that is not reduced
 
-pub walked_ready : {i : ℕ} {old new : Forest} {before after : List BreakerState} → IsHanded i old → AllWalked i old new before after → IsReady i old new
-walked_ready {i = i} {old = old} {new = new} h w =
-    let x = held_at i old in
-    let node = handed_node h in
-    let many = reduced_count (children_of (plain (root_tree i old))) w.answers w.reduced in
-    let right : takes x (count w.answers) ≡ true = ap (takes x) (sym many) ∙ node.takes in
-    let handed = parent_is_handed w.parent right in
-    let are : children_of (plain (root_tree i new)) ≡ w.answers = children_of-plain (root_tree i new) handed.whole ∙ w.parent.kids.plain_trees in
-    record {
-      handed = handed;
-      reduced = ap are_reduced are ∙ answers_reduced (children_of (plain (root_tree i old))) w.answers w.reduced;
-      over = subst (λ (t : Tree). IsOver t (plain (root_tree i new))) (sym node.grown)
-          (subst (IsOver (grown x (children_of (plain (root_tree i old))))) (sym (parent_plain w.parent right)) (over_payload x (children_of (plain (root_tree i old))) w.answers node.takes w.reduced));
-      rest = w.rest;
-    }
+pub child_lacks : (t c : Tree) (before done behind : Trees) (bytes : ℕ) → IsNext IsReducedFrom t before done c behind → MayLack c bytes → MayLack t (bytes + (root_size t + sizes done + sizes behind))
+child_lacks t c before done behind bytes n l s =
+    let x = child_room t before c behind n.split s in
+    omega (arith, root_over t before c behind n.split, l x.simple, x.fits, all_small before done x.others n.answered, all_written_bytes behind)
 
-pub ready_gives : {i h : ℕ} {old new f : Forest} → IsReady i old new → Gives (without_root i new) f h (IsNodeAnswer (plain (root_tree i new))) → Gives (without_root i old) f h (IsReducedFrom (plain (root_tree i old)))
-ready_gives {i = i} {old = old} {new = new} r g = gives_as g r.rest (λ t a. node_answered (plain (root_tree i old)) (plain (root_tree i new)) t r.over a)
-
--- ---- checks
-
-pub all_checks : {i : ℕ} {old new : Forest} {before after : List BreakerState} (last : List BreakerState) → AllWalked i old new before after → Check after last None → CalmChecks (nodes (plain (root_tree i old))) before last
-all_checks {i = i} {old = old} {before = before} {after = after} last w c =
-    subst (λ (n : ℕ). CalmChecks n before last) (sym (nodes_by_children (plain (root_tree i old)))) (CalmChecks-append (nodes_of (children_of (plain (root_tree i old)))) 1 before after last w.calm (one_calm after last c))
-
-pub last_trips : {i : ℕ} {old new : Forest} {before after : List BreakerState} (last : List BreakerState) (place : ℕ) → AllWalked i old new before after → Check after last (Some place) → TripsWithin (nodes (plain (root_tree i old))) before last place
-last_trips {i = i} {old = old} {before = before} {after = after} last place w c =
-    subst (λ (n : ℕ). TripsWithin n before last place) (sym (nodes_by_children (plain (root_tree i old))))
-    (trips_within_after (nodes_of (children_of (plain (root_tree i old)))) 1 before after last place w.calm (trips_at_once 1 after last place (omega arith) c))
+pub child_overflows : (t c : Tree) (before done behind : Trees) (place : ℕ) (o : Overflow) → IsNext IsReducedFrom t before done c behind → MayOverflow c place o → MayOverflow t (nodes_of before + place) o
+child_overflows t c before done behind place o n h = record {
+  plain = child_overflow before done c behind o n.answered h.plain t n.split;
+  at_its_node = λ v. let f = first_overflow before done c behind o n.answered h.plain t n.split v in omega (arith, f.many-is, h.at_its_node f.overflows);
+  beyond_bits = child_beyond t before c behind n.split h.beyond_bits;
+}
 
 -- ---- the node's own step is refused
 
-abbrev pub IfNoFit : NumberFault → (Overflow → Type 0) → Type 0
-IfNoFit (number.Full full) P = Unit {0}
-IfNoFit (number.Overflow o) P = P o
+module _ (t u : Tree) (r : Result ℕ NumberFault) (h : IsOver t u) where
+  pub step_lacks : (bytes : ℕ) → ((gs : List ℕ) (ns : List (List ℕ)) (n : ℕ) → HasNodesFor n u → IsCalmAtZero ns u → SpansNode gs u → IfErr r (LacksBelow (simple_room n (2 ^ length gs)) bytes))
+      → ((gs : List ℕ) (n : ℕ) → HasNodesFor n u → is_half_num (exponent_in u) ≡ true → SpansRootOf gs (base_in u) → IfErr r (LacksBelow (simple_room n (2 ^ length gs)) bytes)) → IfErr r (OfFull (λ full. MayLack t bytes))
+  step_lacks bytes room half = by r room half
+    where
+      by : (x : Result ℕ NumberFault) → ((gs : List ℕ) (ns : List (List ℕ)) (n : ℕ) → HasNodesFor n u → IsCalmAtZero ns u → SpansNode gs u → IfErr x (LacksBelow (simple_room n (2 ^ length gs)) bytes))
+          → ((gs : List ℕ) (n : ℕ) → HasNodesFor n u → is_half_num (exponent_in u) ≡ true → SpansRootOf gs (base_in u) → IfErr x (LacksBelow (simple_room n (2 ^ length gs)) bytes)) → IfErr x (OfFull (λ full. MayLack t bytes))
+      by (Ok a) k l = tt
+      by (Err (number.Full full)) k l = λ s. node_lacks t u bytes (number.Full full) h s (record { room = k; root_room = l })
+      by (Err (number.Overflow o)) k l = tt
 
-some_nodes : (t : Tree) → 1 ≤ nodes t
-some_nodes t = omega (arith, nodes_by_children t)
-
-pub node_stops : {s t : State} (u : State) (before after : List BreakerState) (tree node : Tree) (e : NumberFault) → IsOver tree node → CalmChecks (nodes tree) before after → KeepsRefusals s t → Faults t u e → IsCaused u e → IfNoFit e (IsNodeOverflow node)
-    → LacksBelow (room tree) (free_of s + size tree) e → IfNoFit e (λ o. 124 < bits tree) → Stops tree s u before after (fault_of e)
-node_stops u before after tree node (number.Full full) h c k f w x l b = (w, refuses_after k f, calm_up_to (nodes tree) (nodes tree) before after (some_nodes tree) (omega arith) c, l)
-node_stops u before after tree node (number.Overflow o) h c k f w x l b =
-    (w, kept_after k f, calm_up_to (nodes tree) (nodes tree) before after (some_nodes tree) (omega arith) c, overflowed_plain tree node o h x, λ v. subst (λ (n : ℕ). CalmChecks n before after) (sym (last_overflow tree node h v)) c, b)
-
--- what is said of an overflow, where it is the error
-pub no_fit : (e : NumberFault) (P : Overflow → Type 0) → IfOverflow {A = ℕ} (Err e) P → IfNoFit e P
-no_fit (number.Full full) P h = tt
-no_fit (number.Overflow o) P h = h
+  pub step_overflows : IfOverflow r (IsNodeOverflow u) → ((h l : ℕ) → (has_undef (children_of u) ≡ false → HoldsNode u h l) → HasFewBits h l → IfOverflow r (λ o. ⊥)) → IfOverflow r (MayOverflow t (nodes t))
+  step_overflows x fits = by r x fits
+    where
+      by : (y : Result ℕ NumberFault) → IfOverflow y (IsNodeOverflow u) → ((h l : ℕ) → (has_undef (children_of u) ≡ false → HoldsNode u h l) → HasFewBits h l → IfOverflow y (λ o. ⊥)) → IfOverflow y (MayOverflow t (nodes t))
+      by (Ok a) k l = tt
+      by (Err (number.Full full)) k l = tt
+      by (Err (number.Overflow o)) k l = record { plain = overflowed_plain t u o h k; at_its_node = λ v. sym (last_overflow t u h v); beyond_bits = node_beyond t u h l }

@@ -6,7 +6,7 @@ use Rattle.std.proofs.Math.Nat.{pow-le-pow_right}
 use Rattle.calc_measures.specs.Literals.{whole_literal, half_literal, or_literal, is_whole_literal, is_half_literal}
 use Rattle.calc_measures.specs.Measures.{HighLow, all_simple, are_all_simple, is_simple_power, power_bounds, bounds, bounds_of_terms, bounds_of_factors, high, low}
 use Rattle.calc_terms.specs.Trees.{Tree, num, symbol, undef, add, mult, power, root, neg, sub, div, Trees, none, more, is_num, is_symbol, is_undef, has_undef}
-use Rattle.deep_reduce.specs.Leaves.{is_leaf}
+use Rattle.reduce_walk.specs.Leaves.{is_leaf}
 use Rattle.deep_reduce.specs.NodeBits.{HoldsPower, holds_whole, holds_half, holds_kept, HoldsNode}
 use Rattle.deep_reduce.specs.Nodes.{IsNodeAnswer}
 use Rattle.deep_reduce.specs.Reductions.{IsReducedFrom}

@@ -3,7 +3,6 @@ pub mod Halves
 pub mod Unfinished
 pub mod Nodes
 pub mod Reductions
-pub mod Leaves
 pub mod Pairs
 pub mod Rooms
 pub mod NodeRooms

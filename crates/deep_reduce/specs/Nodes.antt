@@ -6,7 +6,7 @@ use Rattle.calc_measures.specs.PlainValues.{plain_value}
 use Rattle.calc_terms.specs.Trees.{Tree, num, undef, add, mult, power, root, neg, sub, div, is_num, is_undef, has_undef, are_rationals}
 use Rattle.calc_algebra.specs.Reduced.{is_half_num}
 use Rattle.deep_reduce.specs.Answers.{lacks_power, is_number_power}
-use Rattle.deep_reduce.specs.Leaves.{is_leaf}
+use Rattle.reduce_walk.specs.Leaves.{is_leaf}
 use Rattle.deep_reduce.specs.NodeBits.{HoldsNode}
 use Rattle.product_reduce.specs.Bits.{IsFactorHeld}
 use Rattle.deep_reduce.specs.NodeRooms.{KeepsNodeRoom, node_count}

@@ -22,7 +22,7 @@ use Rattle.deep_reduce.specs.Nodes.{IsNodeAnswer}
 use Rattle.deep_reduce.specs.Rooms.{IsCalmAtZero}
 use Rattle.deep_reduce.proofs.Lacking.{lacks_as, result_lacks}
 use Rattle.deep_reduce.proofs.NodeBytes.{quotient_sides, right_inverse_lacks, quotient_fits, quotient_keeps, sides_free}
-use Rattle.deep_reduce.proofs.Walks.{stands_last}
+use Rattle.reduce_walk.proofs.Walks.{stands_last}
 use Rattle.node_pool.specs.State.{free_of}
 use Rattle.number_forms.proofs.FreeBytes.{replaced_free}
 use Rattle.number_forms.proofs.Overflows.{passed_on}
@@ -60,15 +60,20 @@ inverse-requires c =
       reduced = ap is_reduced (given_told right) ∙ right_reduced (children_of t) _ _ (div_children t c.requires.quotient) c.requires.reduced;
     }
 
-pub returns-in_err-factor-clause-overflow : goal.returns-in_err-factor-clause-overflow
-returns-in_err-factor-clause-overflow c =
+pub returns-in_err-factor : goal.returns-in_err-factor
+returns-in_err-factor c =
     let t : Tree = tree_of c.args.quotient c.args.pool.now in
-    let fit : (q : Fraction) → nth 1 (children_of t) ≡ num q → fraction_fits q ≡ true = λ q e. root_fits c.take_sides-dividend.result.1 c.take_sides-dividend.new.pool q c.take_sides-dividend.ensures.stands (given_root c.take_sides-dividend.ensures.sides.right-given) (given_told c.take_sides-dividend.ensures.sides.right-given ∙ e) in
-    overflow_on c.inverse.result c.from_residual.result _ _ _ c.in_err-factor.was c.inverse.ensures.overflow c.from_residual.ensures.0 c.from_residual.ensures.1
-    (λ o h. overflow_at o (sym (div_is t c.requires.quotient)) (inverse_overflow (nth 0 (children_of t)) (nth 1 (children_of t)) o fit (overflow_at o (ap (λ (x : Tree). power x (num minus_one_fraction)) (given_told c.take_sides-dividend.ensures.sides.right-given)) h) (ap has_undef (sym (div_children t c.requires.quotient)) ∙ (defined (goal.at.returns-in_err-factor-clause-overflow c).After-has_undefined_child c.if-has_undefined_child.false))))
-
-pub returns-in_err-factor-clause-front : goal.returns-in_err-factor-clause-front
-returns-in_err-factor-clause-front c = rewritten_front c.take_sides-dividend.ensures.sides c.inverse.ensures.front
+    record {
+      ok = search rules;
+      overflow = let fit : (q : Fraction) → nth 1 (children_of t) ≡ num q → fraction_fits q ≡ true = λ q e. root_fits c.take_sides-dividend.result.1 c.take_sides-dividend.new.pool q c.take_sides-dividend.ensures.stands (given_root c.take_sides-dividend.ensures.sides.right-given) (given_told c.take_sides-dividend.ensures.sides.right-given ∙ e) in overflow_on c.inverse.result c.from_residual.result _ _ _ c.in_err-factor.was c.inverse.ensures.overflow c.from_residual.ensures.0 c.from_residual.ensures.1 (λ o h. overflow_at o (sym (div_is t c.requires.quotient)) (inverse_overflow (nth 0 (children_of t)) (nth 1 (children_of t)) o fit (overflow_at o (ap (λ (x : Tree). power x (num minus_one_fraction)) (given_told c.take_sides-dividend.ensures.sides.right-given)) h) (ap has_undef (sym (div_children t c.requires.quotient)) ∙ (defined (goal.at.returns-in_err-factor c).After-has_undefined_child c.if-has_undefined_child.false))));
+      front = rewritten_front c.take_sides-dividend.ensures.sides c.inverse.ensures.front;
+      kept = search rules;
+      faults = search rules;
+      caused = search rules;
+      room = λ gs ns n h k z. let s = c.take_sides-dividend.ensures.sides in let x = quotient_sides gs ns n t c.requires.quotient h k z in let told = given_told s.right-given in let free = sides_free c.requires.stands c.take_sides-dividend.ensures.stands c.take_sides-dividend.ensures.kept c.requires.handed s in let left = left_reduced (children_of t) _ _ (div_children t c.requires.quotient) c.requires.reduced in passed_on c.from_residual.result c.in_err-factor.field-0.0 _ c.from_residual.ensures.0 c.from_residual.ensures.1 (lacks_as c.in_err-factor.field-0.0 (c.in_err-factor.ensures.room gs ns (subst (IsCalmAtZero ns) (sym told) (record { once = x.once; calm = x.right_calm })) (subst (SpansTree gs) (sym told) x.right_spanned)) (λ l. omega (arith, right_inverse_lacks gs (nth 0 (children_of t)) (nth 1 (children_of t)) n x.nodes _ left x.left_spanned (subst (λ (y : Tree). free_of c.take_sides-dividend.new.pool + size y < product_power_room (counted y) (2 ^ length gs)) told l), free)));
+      bits = λ h l k few. let x = quotient_holds t c.requires.quotient (k (defined (goal.at.returns-in_err-factor c).After-has_undefined_child c.if-has_undefined_child.false)) in let told = given_told c.take_sides-dividend.ensures.sides.right-given in overflow_on c.inverse.result c.from_residual.result _ _ _ c.in_err-factor.was (c.inverse.ensures.bits x.k x.n (subst (λ (u : Tree). IsFactorHeld u x.k x.n) (sym told) x.divisor) (omega (arith, few, x.high, x.low))) c.from_residual.ensures.0 c.from_residual.ensures.1 (λ o h. h);
+      stands = search rules;
+    }
 
 pub join_sides-requires : goal.join_sides-requires
 join_sides-requires c =
@@ -121,27 +126,3 @@ returns c =
       caused = search rules;
       stands = search rules;
     }
-
-pub returns-in_err-factor-clause-room : goal.returns-in_err-factor-clause-room
-returns-in_err-factor-clause-room c = λ gs ns n h k z.
-    let t : Tree = tree_of c.args.quotient c.args.pool.now in
-    let s = c.take_sides-dividend.ensures.sides in
-    let x = quotient_sides gs ns n t c.requires.quotient h k z in
-    let told = given_told s.right-given in
-    let free = sides_free c.requires.stands c.take_sides-dividend.ensures.stands c.take_sides-dividend.ensures.kept c.requires.handed s in
-    let left = left_reduced (children_of t) _ _ (div_children t c.requires.quotient) c.requires.reduced in
-    passed_on c.from_residual.result c.in_err-factor.field-0.0 _ c.from_residual.ensures.0 c.from_residual.ensures.1
-    (lacks_as c.in_err-factor.field-0.0 (c.in_err-factor.ensures.room gs ns (subst (IsCalmAtZero ns) (sym told) (record { once = x.once; calm = x.right_calm })) (subst (SpansTree gs) (sym told) x.right_spanned))
-    (λ l. omega (
-      arith,
-      right_inverse_lacks gs (nth 0 (children_of t)) (nth 1 (children_of t)) n x.nodes _ left x.left_spanned (subst (λ (y : Tree). free_of c.take_sides-dividend.new.pool + size y < product_power_room (counted y) (2 ^ length gs)) told l),
-      free,
-    )))
-
-pub returns-in_err-factor-clause-bits : goal.returns-in_err-factor-clause-bits
-returns-in_err-factor-clause-bits c = λ h l k few.
-    let t : Tree = tree_of c.args.quotient c.args.pool.now in
-    let x = quotient_holds t c.requires.quotient (k (defined (goal.at.returns-in_err-factor-clause-bits c).After-has_undefined_child c.if-has_undefined_child.false)) in
-    let told = given_told c.take_sides-dividend.ensures.sides.right-given in
-    overflow_on c.inverse.result c.from_residual.result _ _ _ c.in_err-factor.was
-    (c.inverse.ensures.bits x.k x.n (subst (λ (u : Tree). IsFactorHeld u x.k x.n) (sym told) x.divisor) (omega (arith, few, x.high, x.low))) c.from_residual.ensures.0 c.from_residual.ensures.1 (λ o h. h)

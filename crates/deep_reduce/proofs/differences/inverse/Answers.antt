@@ -59,32 +59,23 @@ reduce_power-requires c =
       exponent = ap (λ (t : Tree). is_reduced (exponent_in t)) (new_second {k = kind.Pow} n c.requires.handed c.in_ok-power.ensures.ok).tree ∙ number_reduced minus_one_fraction;
     }
 
-pub returns-clause-ok : goal.returns-clause-ok
-returns-clause-ok c =
+pub returns : goal.returns
+returns c =
     let n = gives_as c.in_ok-exponent.ensures.given refl (λ t e. e ∙ minus_one_value c.whole.result c.whole.ensures) in
     let p = new_second {k = kind.Pow} n c.requires.handed c.in_ok-power.ensures.ok in
     let power : Tree = tree_of c.in_ok-power.power c.node_over_two.new.pool in
     let words = power_words power _ (num minus_one_fraction) p.tree in
-    answer_as _ _ c.reduce_power.new.pool _ _ _
-    (answered _ (plain_value power) c.reduce_power.new.pool _ _ _ c.reduce_power.ensures.ok
-    (λ h. c.reduce_power.ensures.rationals (power_sides power words h).0 (power_sides power words h).1 (inverse_no_half power _ p.tree)) (λ t a q. power_told power t words a q))
-    p.rest (λ t h. answer_at t p.tree h)
-
-pub returns-clause-overflow : goal.returns-clause-overflow
-returns-clause-overflow c =
-    let n = gives_as c.in_ok-exponent.ensures.given refl (λ t e. e ∙ minus_one_value c.whole.result c.whole.ensures) in
-    let p = new_second {k = kind.Pow} n c.requires.handed c.in_ok-power.ensures.ok in
-    let power : Tree = tree_of c.in_ok-power.power c.node_over_two.new.pool in
-    let words = power_words power _ (num minus_one_fraction) p.tree in
-    overflowed_defined (plain_value power) c.reduce_power.new.pool _ _
-    (λ h. c.reduce_power.ensures.rationals (power_sides power words h).0 (power_sides power words h).1 (inverse_no_half power _ p.tree)) c.reduce_power.ensures.defined
-    (λ o d h. inverse_overflowed power _ o p.tree d h)
-
-pub returns-clause-front : goal.returns-clause-front
-returns-clause-front c =
-    let n = c.in_ok-exponent.ensures.given in
-    let paired = front_after_two behind_first (behind_new n.ends front_same) (front_end n.ends front_same) c.node_over_two.ensures.front in
-    reduced_front paired c.in_ok-power.ensures.ok (given_without n c.requires.handed) c.reduce_power.ensures.front
+    record {
+      ok = answer_as _ _ c.reduce_power.new.pool _ _ _ (answered _ (plain_value power) c.reduce_power.new.pool _ _ _ c.reduce_power.ensures.ok (λ h. c.reduce_power.ensures.rationals (power_sides power words h).0 (power_sides power words h).1 (inverse_no_half power _ p.tree)) (λ t a q. power_told power t words a q)) p.rest (λ t h. answer_at t p.tree h);
+      overflow = overflowed_defined (plain_value power) c.reduce_power.new.pool _ _ (λ h. c.reduce_power.ensures.rationals (power_sides power words h).0 (power_sides power words h).1 (inverse_no_half power _ p.tree)) c.reduce_power.ensures.defined (λ o d h. inverse_overflowed power _ o p.tree d h);
+      front = let n = c.in_ok-exponent.ensures.given in let paired = front_after_two behind_first (behind_new n.ends front_same) (front_end n.ends front_same) c.node_over_two.ensures.front in reduced_front paired c.in_ok-power.ensures.ok (given_without n c.requires.handed) c.reduce_power.ensures.front;
+      kept = search rules;
+      faults = search rules;
+      caused = search rules;
+      room = λ gs ns k s. let b : Tree = tree_of c.args.base c.args.pool.now in let g = c.in_ok-exponent.ensures.given in let n = gives_as g refl (λ t e. e ∙ minus_one_value c.whole.result c.whole.ensures) in let p = new_second {k = kind.Pow} n c.requires.handed c.in_ok-power.ensures.ok in let free = given_free c.requires.stands c.in_ok-exponent.ensures.stands c.in_ok-exponent.ensures.kept g in let both = both_replaced_free c.in_ok-exponent.ensures.stands c.in_ok-power.ensures.stands c.in_ok-power.ensures.kept (apart_second g c.requires.handed) (given_other g c.requires.handed) (given_handed g) c.in_ok-power.ensures.ok in let same = ap size (beside_new c.args.base g c.requires.handed) in let w : Tree = tree_of c.in_ok-power.power c.node_over_two.new.pool in result_lacks c.reduce_power.result (c.reduce_power.ensures.room gs ns (subst (IsCalmAtZero ns) (sym p.tree) (inverse_calm b k)) (subst (SpansTree gs) (sym p.tree) (inverse_spans gs b s)) (ap (λ (x : Tree). is_whole_num (exponent_in x)) p.tree ∙ whole_is (negsuc 0))) (λ l. omega (arith, subst (λ (x : Tree). free_of c.node_over_two.new.pool + size w < whole_power_room (base_in x) (2 ^ length gs)) p.tree l, free, both, same, needs_most b (2 ^ length gs)));
+      bits = λ h l k few. let p = new_second {k = kind.Pow} n c.requires.handed c.in_ok-power.ensures.ok in as_overflow c.reduce_power.result (c.reduce_power.ensures.bits (negsuc 0) h l (ap exponent_in p.tree) (subst (λ (x : Tree). IsFactorHeld (base_in x) h l) (sym p.tree) k) few);
+      stands = search rules;
+    }
 
 pub returns-in_err-exponent-clause-room : goal.returns-in_err-exponent-clause-room
 returns-in_err-exponent-clause-room c = λ gs ns k s.
@@ -98,31 +89,3 @@ returns-in_err-power-clause-room c = λ gs ns k s.
     let few : free_of c.args.pool.now < 48 = omega (arith, free, ap size (given_told g), num_bytes (value_of c.whole.result), refused_below c.in_err-power.ensures.full) in
     passed_on c.from_residual-in_err-power.result (fault.Full c.in_err-power.field-0.0) _ c.from_residual-in_err-power.ensures.0 c.from_residual-in_err-power.ensures.1
     (inverse_lacks gs (tree_of c.args.base c.args.pool.now) (free_of c.args.pool.now) c.requires.reduced s few)
-
-pub returns-clause-room : goal.returns-clause-room
-returns-clause-room c = λ gs ns k s.
-    let b : Tree = tree_of c.args.base c.args.pool.now in
-    let g = c.in_ok-exponent.ensures.given in
-    let n = gives_as g refl (λ t e. e ∙ minus_one_value c.whole.result c.whole.ensures) in
-    let p = new_second {k = kind.Pow} n c.requires.handed c.in_ok-power.ensures.ok in
-    let free = given_free c.requires.stands c.in_ok-exponent.ensures.stands c.in_ok-exponent.ensures.kept g in
-    let both =
-    both_replaced_free c.in_ok-exponent.ensures.stands c.in_ok-power.ensures.stands c.in_ok-power.ensures.kept (apart_second g c.requires.handed) (given_other g c.requires.handed) (given_handed g) c.in_ok-power.ensures.ok in
-    let same = ap size (beside_new c.args.base g c.requires.handed) in
-    let w : Tree = tree_of c.in_ok-power.power c.node_over_two.new.pool in
-    result_lacks c.reduce_power.result
-    (c.reduce_power.ensures.room gs ns (subst (IsCalmAtZero ns) (sym p.tree) (inverse_calm b k)) (subst (SpansTree gs) (sym p.tree) (inverse_spans gs b s)) (ap (λ (x : Tree). is_whole_num (exponent_in x)) p.tree ∙ whole_is (negsuc 0)))
-    (λ l. omega (
-      arith,
-      subst (λ (x : Tree). free_of c.node_over_two.new.pool + size w < whole_power_room (base_in x) (2 ^ length gs)) p.tree l,
-      free,
-      both,
-      same,
-      needs_most b (2 ^ length gs),
-    ))
-
-pub returns-clause-bits : goal.returns-clause-bits
-returns-clause-bits c = λ h l k few.
-    let n = gives_as c.in_ok-exponent.ensures.given refl (λ t e. e ∙ minus_one_value c.whole.result c.whole.ensures) in
-    let p = new_second {k = kind.Pow} n c.requires.handed c.in_ok-power.ensures.ok in
-    as_overflow c.reduce_power.result (c.reduce_power.ensures.bits (negsuc 0) h l (ap exponent_in p.tree) (subst (λ (x : Tree). IsFactorHeld (base_in x) h l) (sym p.tree) k) few)

@@ -65,23 +65,37 @@ multiply-requires c =
     let is : c.args.kind ≡ kind.Mult = elim c.requires.kind [ inl q ↦ absurd (c.in_default.not-Add q) | inr q ↦ q ] in
     record { stands = search rules; handed = given_handed n; product = ap is_mult (given_told n) ∙ ap (λ (k : Kind). is_mult (sides k c.args.left c.args.right c.args.pool.now)) is; reduced = k }
 
-pub returns-in-Add-clause-ok : goal.returns-in-Add-clause-ok
-returns-in-Add-clause-ok c = answer_as _ _ c.add_up.new.pool _ _ _ c.add_up.ensures.ok (given_rest c.in_ok-both.ensures.ok) (λ u h. answer_at u (given_told c.in_ok-both.ensures.ok) h)
+pub returns-in-Add : goal.returns-in-Add
+returns-in-Add c =
+    record {
+      ok = answer_as _ _ c.add_up.new.pool _ _ _ c.add_up.ensures.ok (given_rest c.in_ok-both.ensures.ok) (λ u h. answer_at u (given_told c.in_ok-both.ensures.ok) h);
+      overflow = overflow_as _ _ _ c.add_up.ensures.overflow (λ o h. overflow_at o (given_told c.in_ok-both.ensures.ok) h);
+      front = joined_front c.node_over_two.ensures.front c.in_ok-both.ensures.ok c.add_up.ensures.front;
+      kept = search rules;
+      faults = search rules;
+      caused = search rules;
+      sum_room = λ gs q s. let r : Gives (without_root c.args.right (forest c.args.pool.now)) (forest c.args.pool.now) c.args.right (λ t. t ≡ tree_of c.args.right c.args.pool.now) = gives c.requires.last (represents_handed c.requires.handed) refl in let n = c.in_ok-both.ensures.ok in let e = given_told n ∙ ap (λ (k : Kind). sides k c.args.left c.args.right c.args.pool.now) q in let both = both_replaced_free c.requires.stands c.in_ok-both.ensures.stands c.in_ok-both.ensures.kept (apart_second r c.requires.left) (given_other r c.requires.left) c.requires.handed n in let w : Tree = tree_of c.in_ok-both.both c.node_over_two.new.pool in result_lacks c.add_up.result (c.add_up.ensures.room gs (subst (SpansTree gs) (sym e) s)) (λ l. omega (arith, subst (λ (x : Tree). free_of c.node_over_two.new.pool + size w < sum_room (sum_count (children_of x)) (2 ^ length gs)) e l, both));
+      product_room = λ gs ns q k s. absurd (cc (sym q ∙ c.in-Add.is));
+      sum_bits = λ h l q k few. let e = given_told c.in_ok-both.ensures.ok ∙ ap (λ (k : Kind). sides k c.args.left c.args.right c.args.pool.now) q in c.add_up.ensures.bits h l (λ d. subst (λ (x : Tree). HoldsNode x h l) (sym e) (k (sym (ap (λ (x : Tree). has_undef (children_of x)) e) ∙ d))) few;
+      product_bits = λ h l q k few. absurd (cc (sym q ∙ c.in-Add.is));
+      stands = search rules;
+    }
 
-pub returns-in-Add-clause-overflow : goal.returns-in-Add-clause-overflow
-returns-in-Add-clause-overflow c = overflow_as _ _ _ c.add_up.ensures.overflow (λ o h. overflow_at o (given_told c.in_ok-both.ensures.ok) h)
-
-pub returns-in-Add-clause-front : goal.returns-in-Add-clause-front
-returns-in-Add-clause-front c = joined_front c.node_over_two.ensures.front c.in_ok-both.ensures.ok c.add_up.ensures.front
-
-pub returns-in_default-clause-ok : goal.returns-in_default-clause-ok
-returns-in_default-clause-ok c = answer_as _ _ c.multiply.new.pool _ _ _ c.multiply.ensures.ok (given_rest c.in_ok-both.ensures.ok) (λ u h. answer_at u (given_told c.in_ok-both.ensures.ok) h)
-
-pub returns-in_default-clause-overflow : goal.returns-in_default-clause-overflow
-returns-in_default-clause-overflow c = overflow_as _ _ _ c.multiply.ensures.overflow (λ o h. overflow_at o (given_told c.in_ok-both.ensures.ok) h)
-
-pub returns-in_default-clause-front : goal.returns-in_default-clause-front
-returns-in_default-clause-front c = joined_front c.node_over_two.ensures.front c.in_ok-both.ensures.ok c.multiply.ensures.front
+pub returns-in_default : goal.returns-in_default
+returns-in_default c =
+    record {
+      ok = answer_as _ _ c.multiply.new.pool _ _ _ c.multiply.ensures.ok (given_rest c.in_ok-both.ensures.ok) (λ u h. answer_at u (given_told c.in_ok-both.ensures.ok) h);
+      overflow = overflow_as _ _ _ c.multiply.ensures.overflow (λ o h. overflow_at o (given_told c.in_ok-both.ensures.ok) h);
+      front = joined_front c.node_over_two.ensures.front c.in_ok-both.ensures.ok c.multiply.ensures.front;
+      kept = search rules;
+      faults = search rules;
+      caused = search rules;
+      sum_room = λ gs q s. absurd (c.in_default.not-Add q);
+      product_room = λ gs ns q k s. let r : Gives (without_root c.args.right (forest c.args.pool.now)) (forest c.args.pool.now) c.args.right (λ t. t ≡ tree_of c.args.right c.args.pool.now) = gives c.requires.last (represents_handed c.requires.handed) refl in let n = c.in_ok-both.ensures.ok in let e = given_told n ∙ ap (λ (k : Kind). sides k c.args.left c.args.right c.args.pool.now) q in let both = both_replaced_free c.requires.stands c.in_ok-both.ensures.stands c.in_ok-both.ensures.kept (apart_second r c.requires.left) (given_other r c.requires.left) c.requires.handed n in let w : Tree = tree_of c.in_ok-both.both c.node_over_two.new.pool in result_lacks c.multiply.result (c.multiply.ensures.room gs ns (subst (IsCalmAtZero ns) (sym e) k) (subst (SpansTree gs) (sym e) s)) (λ l. omega (arith, subst (λ (x : Tree). free_of c.node_over_two.new.pool + size w < factors_room (children_of x) (2 ^ length gs)) e l, both));
+      sum_bits = λ h l q k few. absurd (c.in_default.not-Add q);
+      product_bits = λ h l q k few. let e = given_told c.in_ok-both.ensures.ok ∙ ap (λ (k : Kind). sides k c.args.left c.args.right c.args.pool.now) q in c.multiply.ensures.bits h l (λ d. subst (λ (x : Tree). HoldsNode x h l) (sym e) (k (sym (ap (λ (x : Tree). has_undef (children_of x)) e) ∙ d))) few;
+      stands = search rules;
+    }
 
 -- ---- bytes at hand
 
@@ -95,46 +109,4 @@ returns-in_err-both-clause-product_room c = λ gs ns q k s.
     passed_on c.from_residual.result (fault.Full c.in_err-both.field-0.0) _ c.from_residual.ensures.0 c.from_residual.ensures.1
     (product_node_lacks gs (two (tree_of c.args.left c.args.pool.now) (tree_of c.args.right c.args.pool.now)) (free_of c.args.pool.now) (two_reduced _ _ c.requires.left_reduced c.requires.right_reduced) s.1 (below_node c.args.kind c.requires.kind (refused_below c.in_err-both.ensures.full)))
 
-pub returns-in-Add-clause-sum_room : goal.returns-in-Add-clause-sum_room
-returns-in-Add-clause-sum_room c = λ gs q s.
-    let r : Gives (without_root c.args.right (forest c.args.pool.now)) (forest c.args.pool.now) c.args.right (λ t. t ≡ tree_of c.args.right c.args.pool.now) = gives c.requires.last (represents_handed c.requires.handed) refl in
-    let n = c.in_ok-both.ensures.ok in
-    let e = given_told n ∙ ap (λ (k : Kind). sides k c.args.left c.args.right c.args.pool.now) q in
-    let both = both_replaced_free c.requires.stands c.in_ok-both.ensures.stands c.in_ok-both.ensures.kept (apart_second r c.requires.left) (given_other r c.requires.left) c.requires.handed n in
-    let w : Tree = tree_of c.in_ok-both.both c.node_over_two.new.pool in
-    result_lacks c.add_up.result (c.add_up.ensures.room gs (subst (SpansTree gs) (sym e) s))
-    (λ l. omega (arith, subst (λ (x : Tree). free_of c.node_over_two.new.pool + size w < sum_room (sum_count (children_of x)) (2 ^ length gs)) e l, both))
-
-pub returns-in-Add-clause-product_room : goal.returns-in-Add-clause-product_room
-returns-in-Add-clause-product_room c = λ gs ns q k s. absurd (cc (sym q ∙ c.in-Add.is))
-
-pub returns-in_default-clause-sum_room : goal.returns-in_default-clause-sum_room
-returns-in_default-clause-sum_room c = λ gs q s. absurd (c.in_default.not-Add q)
-
-pub returns-in_default-clause-product_room : goal.returns-in_default-clause-product_room
-returns-in_default-clause-product_room c = λ gs ns q k s.
-    let r : Gives (without_root c.args.right (forest c.args.pool.now)) (forest c.args.pool.now) c.args.right (λ t. t ≡ tree_of c.args.right c.args.pool.now) = gives c.requires.last (represents_handed c.requires.handed) refl in
-    let n = c.in_ok-both.ensures.ok in
-    let e = given_told n ∙ ap (λ (k : Kind). sides k c.args.left c.args.right c.args.pool.now) q in
-    let both = both_replaced_free c.requires.stands c.in_ok-both.ensures.stands c.in_ok-both.ensures.kept (apart_second r c.requires.left) (given_other r c.requires.left) c.requires.handed n in
-    let w : Tree = tree_of c.in_ok-both.both c.node_over_two.new.pool in
-    result_lacks c.multiply.result (c.multiply.ensures.room gs ns (subst (IsCalmAtZero ns) (sym e) k) (subst (SpansTree gs) (sym e) s))
-    (λ l. omega (arith, subst (λ (x : Tree). free_of c.node_over_two.new.pool + size w < factors_room (children_of x) (2 ^ length gs)) e l, both))
-
 -- ---- bits
-
-pub returns-in-Add-clause-sum_bits : goal.returns-in-Add-clause-sum_bits
-returns-in-Add-clause-sum_bits c = λ h l q k few.
-    let e = given_told c.in_ok-both.ensures.ok ∙ ap (λ (k : Kind). sides k c.args.left c.args.right c.args.pool.now) q in
-    c.add_up.ensures.bits h l (λ d. subst (λ (x : Tree). HoldsNode x h l) (sym e) (k (sym (ap (λ (x : Tree). has_undef (children_of x)) e) ∙ d))) few
-
-pub returns-in-Add-clause-product_bits : goal.returns-in-Add-clause-product_bits
-returns-in-Add-clause-product_bits c = λ h l q k few. absurd (cc (sym q ∙ c.in-Add.is))
-
-pub returns-in_default-clause-sum_bits : goal.returns-in_default-clause-sum_bits
-returns-in_default-clause-sum_bits c = λ h l q k few. absurd (c.in_default.not-Add q)
-
-pub returns-in_default-clause-product_bits : goal.returns-in_default-clause-product_bits
-returns-in_default-clause-product_bits c = λ h l q k few.
-    let e = given_told c.in_ok-both.ensures.ok ∙ ap (λ (k : Kind). sides k c.args.left c.args.right c.args.pool.now) q in
-    c.multiply.ensures.bits h l (λ d. subst (λ (x : Tree). HoldsNode x h l) (sym e) (k (sym (ap (λ (x : Tree). has_undef (children_of x)) e) ∙ d))) few

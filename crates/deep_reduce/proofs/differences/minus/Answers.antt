@@ -59,27 +59,22 @@ multiply-requires c =
       reduced = ap (λ (t : Tree). are_reduced (children_of t)) (new_first {k = kind.Mult} n c.requires.handed c.in_ok-product.ensures.ok).tree ∙ two_reduced (num minus_one_fraction) _ (number_reduced minus_one_fraction) c.requires.reduced;
     }
 
-pub returns-clause-ok : goal.returns-clause-ok
-returns-clause-ok c =
+pub returns : goal.returns
+returns c =
     let a : Tree = tree_of c.args.argument c.args.pool.now in
     let n = gives_as c.in_ok-minus_one.ensures.given refl (λ t e. e ∙ minus_one_value c.whole.result c.whole.ensures) in
     let p = new_first {k = kind.Mult} n c.requires.handed c.in_ok-product.ensures.ok in
-    answer_as _ _ c.multiply.new.pool _ _ _ c.multiply.ensures.ok p.rest
-    (λ t h. neg_answer a t (λ q e. root_fits c.args.argument c.args.pool.now q c.requires.stands c.requires.handed.root e) (answer_at t p.tree h))
-
-pub returns-clause-overflow : goal.returns-clause-overflow
-returns-clause-overflow c =
-    let a : Tree = tree_of c.args.argument c.args.pool.now in
-    let n = gives_as c.in_ok-minus_one.ensures.given refl (λ t e. e ∙ minus_one_value c.whole.result c.whole.ensures) in
-    let p = new_first {k = kind.Mult} n c.requires.handed c.in_ok-product.ensures.ok in
-    overflow_as _ _ _ c.multiply.ensures.overflow
-    (λ o h. neg_overflow a a (λ q e. root_fits c.args.argument c.args.pool.now q c.requires.stands c.requires.handed.root e) o (overflow_at o p.tree h))
-
-pub returns-clause-front : goal.returns-clause-front
-returns-clause-front c =
-    let n = c.in_ok-minus_one.ensures.given in
-    let paired = front_after_two (behind_new n.ends front_same) behind_first (front_end n.ends front_same) c.node_over_two.ensures.front in
-    reduced_front paired c.in_ok-product.ensures.ok (ap (without_root c.args.argument) (given_rest n)) c.multiply.ensures.front
+    record {
+      ok = answer_as _ _ c.multiply.new.pool _ _ _ c.multiply.ensures.ok p.rest (λ t h. neg_answer a t (λ q e. root_fits c.args.argument c.args.pool.now q c.requires.stands c.requires.handed.root e) (answer_at t p.tree h));
+      overflow = overflow_as _ _ _ c.multiply.ensures.overflow (λ o h. neg_overflow a a (λ q e. root_fits c.args.argument c.args.pool.now q c.requires.stands c.requires.handed.root e) o (overflow_at o p.tree h));
+      front = let n = c.in_ok-minus_one.ensures.given in let paired = front_after_two (behind_new n.ends front_same) behind_first (front_end n.ends front_same) c.node_over_two.ensures.front in reduced_front paired c.in_ok-product.ensures.ok (ap (without_root c.args.argument) (given_rest n)) c.multiply.ensures.front;
+      kept = search rules;
+      faults = search rules;
+      caused = search rules;
+      room = λ gs ns k s. let g = c.in_ok-minus_one.ensures.given in let n = gives_as g refl (λ t e. e ∙ minus_one_value c.whole.result c.whole.ensures) in let p = new_first {k = kind.Mult} n c.requires.handed c.in_ok-product.ensures.ok in let free = given_free c.requires.stands c.in_ok-minus_one.ensures.stands c.in_ok-minus_one.ensures.kept g in let both = both_replaced_free c.in_ok-minus_one.ensures.stands c.in_ok-product.ensures.stands c.in_ok-product.ensures.kept (apart_first g c.requires.handed) (given_handed g) (given_other g c.requires.handed) c.in_ok-product.ensures.ok in let same = ap size (beside_new c.args.argument g c.requires.handed) in let w : Tree = tree_of c.in_ok-product.product c.node_over_two.new.pool in result_lacks c.multiply.result (c.multiply.ensures.room gs ns (subst (IsCalmAtZero ns) (sym p.tree) (opposite_calm a k)) (subst (SpansTree gs) (sym p.tree) (opposite_spans gs a s))) (λ l. omega (arith, subst (λ (x : Tree). free_of c.node_over_two.new.pool + size w < factors_room (children_of x) (2 ^ length gs)) p.tree l, free, both, same, opposite_fits a (2 ^ length gs)));
+      bits = λ h l k few. let p = new_first {k = kind.Mult} n c.requires.handed c.in_ok-product.ensures.ok in c.multiply.ensures.bits h l (λ d. subst (λ (x : Tree). HoldsNode x h l) (sym p.tree) (opposite_factors a (k (second_side (num minus_one_fraction) a (sym (ap (λ (x : Tree). has_undef (children_of x)) p.tree) ∙ d))))) few;
+      stands = search rules;
+    }
 
 pub returns-in_err-minus_one-clause-room : goal.returns-in_err-minus_one-clause-room
 returns-in_err-minus_one-clause-room c = λ gs ns k s.
@@ -93,32 +88,3 @@ returns-in_err-product-clause-room c = λ gs ns k s.
     let few : free_of c.args.pool.now < 48 = omega (arith, free, ap size (given_told g), num_bytes (value_of c.whole.result), refused_below c.in_err-product.ensures.full) in
     passed_on c.from_residual-in_err-product.result (fault.Full c.in_err-product.field-0.0) _ c.from_residual-in_err-product.ensures.0 c.from_residual-in_err-product.ensures.1
     (opposite_lacks gs (tree_of c.args.argument c.args.pool.now) (free_of c.args.pool.now) c.requires.reduced s few)
-
-pub returns-clause-room : goal.returns-clause-room
-returns-clause-room c = λ gs ns k s.
-    let a : Tree = tree_of c.args.argument c.args.pool.now in
-    let g = c.in_ok-minus_one.ensures.given in
-    let n = gives_as g refl (λ t e. e ∙ minus_one_value c.whole.result c.whole.ensures) in
-    let p = new_first {k = kind.Mult} n c.requires.handed c.in_ok-product.ensures.ok in
-    let free = given_free c.requires.stands c.in_ok-minus_one.ensures.stands c.in_ok-minus_one.ensures.kept g in
-    let both =
-    both_replaced_free c.in_ok-minus_one.ensures.stands c.in_ok-product.ensures.stands c.in_ok-product.ensures.kept (apart_first g c.requires.handed) (given_handed g) (given_other g c.requires.handed) c.in_ok-product.ensures.ok in
-    let same = ap size (beside_new c.args.argument g c.requires.handed) in
-    let w : Tree = tree_of c.in_ok-product.product c.node_over_two.new.pool in
-    result_lacks c.multiply.result (c.multiply.ensures.room gs ns (subst (IsCalmAtZero ns) (sym p.tree) (opposite_calm a k)) (subst (SpansTree gs) (sym p.tree) (opposite_spans gs a s)))
-    (λ l. omega (
-      arith,
-      subst (λ (x : Tree). free_of c.node_over_two.new.pool + size w < factors_room (children_of x) (2 ^ length gs)) p.tree l,
-      free,
-      both,
-      same,
-      opposite_fits a (2 ^ length gs),
-    ))
-
-pub returns-clause-bits : goal.returns-clause-bits
-returns-clause-bits c = λ h l k few.
-    let a : Tree = tree_of c.args.argument c.args.pool.now in
-    let n = gives_as c.in_ok-minus_one.ensures.given refl (λ t e. e ∙ minus_one_value c.whole.result c.whole.ensures) in
-    let p = new_first {k = kind.Mult} n c.requires.handed c.in_ok-product.ensures.ok in
-    c.multiply.ensures.bits h l
-    (λ d. subst (λ (x : Tree). HoldsNode x h l) (sym p.tree) (opposite_factors a (k (second_side (num minus_one_fraction) a (sym (ap (λ (x : Tree). has_undef (children_of x)) p.tree) ∙ d))))) few

@@ -17,7 +17,8 @@ use Rattle.tree_handles.specs.Handed.{tree_of}
 use Rattle.tree_handles.proofs.Fronts.{behind_first, behind_new, front_same, front_end, front_without, front_after_one}
 use Rattle.tree_handles.proofs.Given.{given_handed, given_told, given_rest}
 use Rattle.tree_handles.specs.Expressions.{nth, children_of}
-use Rattle.deep_reduce.proofs.Parents.{alone_out, parent_children, parent_handed}
+use Rattle.deep_reduce.proofs.Parents.{alone_out, parent_children}
+use Rattle.reduce_walk.proofs.Parents.{parent_handed}
 use Rattle.deep_reduce.proofs.Results.{answer_as, overflow_as}
 use Rattle.deep_reduce.proofs.Told.{answer_at, overflow_at, neg_is, neg_children, only_reduced}
 use Rattle.deep_reduce.proofs.differences.negate.Goals as goal

@@ -18,7 +18,7 @@ use Rattle.deep_reduce.specs.Nodes.{IsNodeAnswer}
 use Rattle.deep_reduce.specs.Rooms.{IsCalmAtZero}
 use Rattle.deep_reduce.proofs.Lacking.{lacks_as, result_lacks}
 use Rattle.deep_reduce.proofs.NodeBytes.{difference_sides, right_opposite_lacks, difference_fits, difference_keeps, sides_free}
-use Rattle.deep_reduce.proofs.Walks.{stands_last}
+use Rattle.reduce_walk.proofs.Walks.{stands_last}
 use Rattle.node_pool.specs.State.{free_of}
 use Rattle.number_forms.proofs.FreeBytes.{replaced_free}
 use Rattle.number_forms.proofs.Overflows.{passed_on}
@@ -56,14 +56,20 @@ minus-requires c =
       reduced = ap is_reduced (given_told right) ∙ right_reduced (children_of t) _ _ (sub_children t c.requires.difference) c.requires.reduced;
     }
 
-pub returns-in_err-term-clause-overflow : goal.returns-in_err-term-clause-overflow
-returns-in_err-term-clause-overflow c =
+pub returns-in_err-term : goal.returns-in_err-term
+returns-in_err-term c =
     let t : Tree = tree_of c.args.difference c.args.pool.now in
-    overflow_on c.minus.result c.from_residual.result _ _ _ c.in_err-term.was c.minus.ensures.overflow c.from_residual.ensures.0 c.from_residual.ensures.1
-    (λ o h. overflow_at o (sym (sub_is t c.requires.difference)) (opposite_overflow (nth 0 (children_of t)) (nth 1 (children_of t)) o (overflow_at o (ap neg (given_told c.take_sides-left.ensures.sides.right-given)) h) (ap has_undef (sym (sub_children t c.requires.difference)) ∙ (defined (goal.at.returns-in_err-term-clause-overflow c).After-has_undefined_child c.if-has_undefined_child.false))))
-
-pub returns-in_err-term-clause-front : goal.returns-in_err-term-clause-front
-returns-in_err-term-clause-front c = rewritten_front c.take_sides-left.ensures.sides c.minus.ensures.front
+    record {
+      ok = search rules;
+      overflow = overflow_on c.minus.result c.from_residual.result _ _ _ c.in_err-term.was c.minus.ensures.overflow c.from_residual.ensures.0 c.from_residual.ensures.1 (λ o h. overflow_at o (sym (sub_is t c.requires.difference)) (opposite_overflow (nth 0 (children_of t)) (nth 1 (children_of t)) o (overflow_at o (ap neg (given_told c.take_sides-left.ensures.sides.right-given)) h) (ap has_undef (sym (sub_children t c.requires.difference)) ∙ (defined (goal.at.returns-in_err-term c).After-has_undefined_child c.if-has_undefined_child.false))));
+      front = rewritten_front c.take_sides-left.ensures.sides c.minus.ensures.front;
+      kept = search rules;
+      faults = search rules;
+      caused = search rules;
+      room = λ gs ns n h k z. let s = c.take_sides-left.ensures.sides in let x = difference_sides gs ns n t c.requires.difference h k z in let told = given_told s.right-given in let free = sides_free c.requires.stands c.take_sides-left.ensures.stands c.take_sides-left.ensures.kept c.requires.handed s in let left = left_reduced (children_of t) _ _ (sub_children t c.requires.difference) c.requires.reduced in passed_on c.from_residual.result c.in_err-term.field-0.0 _ c.from_residual.ensures.0 c.from_residual.ensures.1 (lacks_as c.in_err-term.field-0.0 (c.in_err-term.ensures.room gs ns (subst (IsCalmAtZero ns) (sym told) (record { once = x.once; calm = x.right_calm })) (subst (SpansTree gs) (sym told) x.right_spanned)) (λ l. omega (arith, right_opposite_lacks gs (nth 0 (children_of t)) (nth 1 (children_of t)) n x.nodes _ left x.left_spanned (subst (λ (y : Tree). free_of c.take_sides-left.new.pool + size y < product_room (2 + counted y) (2 ^ length gs)) told l), free)));
+      bits = λ h l k few. let x = difference_holds t c.requires.difference (k (defined (goal.at.returns-in_err-term c).After-has_undefined_child c.if-has_undefined_child.false)) in let told = given_told c.take_sides-left.ensures.sides.right-given in overflow_on c.minus.result c.from_residual.result _ _ _ c.in_err-term.was (c.minus.ensures.bits x.k x.n (λ d. subst (λ (u : Tree). IsFactorHeld u x.k x.n) (sym told) x.right) (difference_right (nth 0 (children_of t)) (nth 1 (children_of t)) few x)) c.from_residual.ensures.0 c.from_residual.ensures.1 (λ o h. h);
+      stands = search rules;
+    }
 
 pub join_sides-requires : goal.join_sides-requires
 join_sides-requires c =
@@ -114,27 +120,3 @@ returns c =
       caused = search rules;
       stands = search rules;
     }
-
-pub returns-in_err-term-clause-room : goal.returns-in_err-term-clause-room
-returns-in_err-term-clause-room c = λ gs ns n h k z.
-    let t : Tree = tree_of c.args.difference c.args.pool.now in
-    let s = c.take_sides-left.ensures.sides in
-    let x = difference_sides gs ns n t c.requires.difference h k z in
-    let told = given_told s.right-given in
-    let free = sides_free c.requires.stands c.take_sides-left.ensures.stands c.take_sides-left.ensures.kept c.requires.handed s in
-    let left = left_reduced (children_of t) _ _ (sub_children t c.requires.difference) c.requires.reduced in
-    passed_on c.from_residual.result c.in_err-term.field-0.0 _ c.from_residual.ensures.0 c.from_residual.ensures.1
-    (lacks_as c.in_err-term.field-0.0 (c.in_err-term.ensures.room gs ns (subst (IsCalmAtZero ns) (sym told) (record { once = x.once; calm = x.right_calm })) (subst (SpansTree gs) (sym told) x.right_spanned))
-    (λ l. omega (
-      arith,
-      right_opposite_lacks gs (nth 0 (children_of t)) (nth 1 (children_of t)) n x.nodes _ left x.left_spanned (subst (λ (y : Tree). free_of c.take_sides-left.new.pool + size y < product_room (2 + counted y) (2 ^ length gs)) told l),
-      free,
-    )))
-
-pub returns-in_err-term-clause-bits : goal.returns-in_err-term-clause-bits
-returns-in_err-term-clause-bits c = λ h l k few.
-    let t : Tree = tree_of c.args.difference c.args.pool.now in
-    let x = difference_holds t c.requires.difference (k (defined (goal.at.returns-in_err-term-clause-bits c).After-has_undefined_child c.if-has_undefined_child.false)) in
-    let told = given_told c.take_sides-left.ensures.sides.right-given in
-    overflow_on c.minus.result c.from_residual.result _ _ _ c.in_err-term.was
-    (c.minus.ensures.bits x.k x.n (λ d. subst (λ (u : Tree). IsFactorHeld u x.k x.n) (sym told) x.right) (difference_right (nth 0 (children_of t)) (nth 1 (children_of t)) few x)) c.from_residual.ensures.0 c.from_residual.ensures.1 (λ o h. h)

@@ -1,8 +1,9 @@
-use Rattle.std.proofs.Common.{inl, refl, arith}
+use Rattle.std.proofs.Common.{rules, inl, refl, arith}
 use Rattle.tree_handles.specs.Handed.{tree_of}
 use Rattle.tree_handles.proofs.Fronts.{behind_first, front_at, front_without}
 use Rattle.tree_handles.specs.Expressions.{children_of}
-use Rattle.deep_reduce.proofs.Parents.{first_out, both_out, parent_children, parent_end, parent_handed}
+use Rattle.deep_reduce.proofs.Parents.{first_out, both_out, parent_children, parent_end}
+use Rattle.reduce_walk.proofs.Parents.{parent_handed}
 use Rattle.deep_reduce.proofs.differences.take_sides.Goals as goal
 
 pub take_child-left-requires-clause-within : goal.take_child-left-requires-clause-within
@@ -19,14 +20,13 @@ release-requires-clause-releasable c =
     let b = both_out a (c.take_child-right.ensures.last (parent_end a.parent a.gives.ends).root) (children_of (tree_of c.args.tree c.args.pool.now)) refl refl in
     inl b.owned.root
 
-pub returns-clause-sides : goal.returns-clause-sides
-returns-clause-sides c =
+pub returns : goal.returns
+returns c =
     let a = first_out c.requires.handed c.requires.two (c.take_child-left.ensures.last c.requires.handed.root) in
     let b = both_out a (c.take_child-right.ensures.last (parent_end a.parent a.gives.ends).root) (children_of (tree_of c.args.tree c.args.pool.now)) refl refl in
-    rw (c.release.ensures.owned b.owned) b.sides
-
-pub returns-clause-front : goal.returns-clause-front
-returns-clause-front c =
-    let a = first_out c.requires.handed c.requires.two (c.take_child-left.ensures.last c.requires.handed.root) in
-    let b = both_out a (c.take_child-right.ensures.last (parent_end a.parent a.gives.ends).root) (children_of (tree_of c.args.tree c.args.pool.now)) refl refl in
-    front_at (front_without behind_first b.front) (c.release.ensures.owned b.owned)
+    record {
+      sides = rw (c.release.ensures.owned b.owned) b.sides;
+      front = front_at (front_without behind_first b.front) (c.release.ensures.owned b.owned);
+      kept = search rules;
+      stands = search rules;
+    }

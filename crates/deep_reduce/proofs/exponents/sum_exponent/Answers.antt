@@ -39,8 +39,20 @@ reduce_sum-requires c =
       reduced = ap (λ (t : Tree). are_reduced (children_of t)) (given_told a.gives) ∙ c.requires.reduced;
     }
 
-pub returns-in_err-sum-clause-front : goal.returns-in_err-sum-clause-front
-returns-in_err-sum-clause-front c = front_lost _ front_same (c.take_child-exponent.ensures.last c.requires.handed.root) c.reduce_sum.ensures.front
+pub returns-in_err-sum : goal.returns-in_err-sum
+returns-in_err-sum c =
+    let o = over_power _ c.requires.handed refl (power_of_sum _ c.requires.power) in
+    let a = exponent_taken o (c.take_child-exponent.ensures.last c.requires.handed.root) in
+    record {
+      ok = search rules;
+      front = front_lost _ front_same (c.take_child-exponent.ensures.last c.requires.handed.root) c.reduce_sum.ensures.front;
+      kept = search rules;
+      faults = search rules;
+      caused = search rules;
+      room = λ gs s. let e = given_told a.gives in let same = taken_free c.requires.stands c.take_child-exponent.ensures.stands c.take_child-exponent.ensures.kept o a (omega arith) in let x : Tree = tree_of c.take_child-exponent.result c.take_child-exponent.new.pool in let spans : SpansTree gs x = subst (SpansTree gs) (sym e) (exponent_spans gs _ c.requires.power s) in passed_on c.from_residual.result c.in_err-sum.field-0.0 _ c.from_residual.ensures.0 c.from_residual.ensures.1 (exponent_lacks gs (tree_of c.args.power c.args.pool.now) x (free_of c.take_child-exponent.new.pool) (free_of c.args.pool.now) c.in_err-sum.field-0.0 c.requires.power e same (c.in_err-sum.ensures.room gs spans));
+      bits = λ h l s few. passed_on c.from_residual.result c.in_err-sum.field-0.0 _ c.from_residual.ensures.0 c.from_residual.ensures.1 (c.in_err-sum.ensures.bits h l (subst (λ (t : Tree). IsSumHeld (addends_of_each (children_of t)) h l) (sym (given_told a.gives)) s) few);
+      stands = search rules;
+    }
 
 pub add_child-requires : goal.add_child-requires
 add_child-requires c =
@@ -61,42 +73,19 @@ move_last-requires-clause-root c =
     let g = itself c.in_ok-sum.ensures.ok in
     (put_back o a g (c.add_child.ensures.root (over_back o a g).root) refl).over.root
 
-pub returns-clause-ok : goal.returns-clause-ok
-returns-clause-ok c =
+pub returns : goal.returns
+returns c =
     let o = over_power _ c.requires.handed refl (power_of_sum _ c.requires.power) in
     let a = exponent_taken o (c.take_child-exponent.ensures.last c.requires.handed.root) in
     let g = itself c.in_ok-sum.ensures.ok in
     let p = put_back o a g (c.add_child.ensures.root (over_back o a g).root) refl in
-    moved p refl c.move_last.ensures.last (record {
-      exponent = tree_of c.in_ok-sum.sum c.reduce_sum.new.pool;
-      sum = subst (λ (t : Tree). IsSumAnswer (children_of t) (tree_of c.in_ok-sum.sum c.reduce_sum.new.pool)) (given_told a.gives) (given_told c.in_ok-sum.ensures.ok);
-      room = sum_keeps (tree_of c.take_child-exponent.result c.take_child-exponent.new.pool) _ _ (given_told a.gives ∙ ap exponent_in c.requires.power) c.in_ok-sum.ensures.counted c.in_ok-sum.ensures.powers c.in_ok-sum.ensures.spanned;
-      counts = λ k. let w = c.in_ok-sum.ensures.exponents (ap (λ (t : Tree). are_counted (children_of t)) (given_told a.gives) ∙ k) in record { counted = w.0; within = subst (λ (t : Tree). IsWithin (counts_of (tree_of c.in_ok-sum.sum c.reduce_sum.new.pool)) (counts_of_all (children_of t))) (given_told a.gives) w.1 };
-      is = refl;
-    })
-
-pub returns-clause-front : goal.returns-clause-front
-returns-clause-front c =
-    let o = over_power _ c.requires.handed refl (power_of_sum _ c.requires.power) in
-    let a = exponent_taken o (c.take_child-exponent.ensures.last c.requires.handed.root) in
-    let g = itself c.in_ok-sum.ensures.ok in
-    let p = put_back o a g (c.add_child.ensures.root (over_back o a g).root) refl in
-    moved_front p c.move_last.ensures.last
-
-pub returns-in_err-sum-clause-room : goal.returns-in_err-sum-clause-room
-returns-in_err-sum-clause-room c = λ gs s.
-    let o = over_power _ c.requires.handed refl (power_of_sum _ c.requires.power) in
-    let a = exponent_taken o (c.take_child-exponent.ensures.last c.requires.handed.root) in
-    let e = given_told a.gives in
-    let same = taken_free c.requires.stands c.take_child-exponent.ensures.stands c.take_child-exponent.ensures.kept o a (omega arith) in
-    let x : Tree = tree_of c.take_child-exponent.result c.take_child-exponent.new.pool in
-    let spans : SpansTree gs x = subst (SpansTree gs) (sym e) (exponent_spans gs _ c.requires.power s) in
-    passed_on c.from_residual.result c.in_err-sum.field-0.0 _ c.from_residual.ensures.0 c.from_residual.ensures.1
-    (exponent_lacks gs (tree_of c.args.power c.args.pool.now) x (free_of c.take_child-exponent.new.pool) (free_of c.args.pool.now) c.in_err-sum.field-0.0 c.requires.power e same (c.in_err-sum.ensures.room gs spans))
-
-pub returns-in_err-sum-clause-bits : goal.returns-in_err-sum-clause-bits
-returns-in_err-sum-clause-bits c = λ h l s few.
-    let o = over_power _ c.requires.handed refl (power_of_sum _ c.requires.power) in
-    let a = exponent_taken o (c.take_child-exponent.ensures.last c.requires.handed.root) in
-    passed_on c.from_residual.result c.in_err-sum.field-0.0 _ c.from_residual.ensures.0 c.from_residual.ensures.1
-    (c.in_err-sum.ensures.bits h l (subst (λ (t : Tree). IsSumHeld (addends_of_each (children_of t)) h l) (sym (given_told a.gives)) s) few)
+    record {
+      ok = moved p refl c.move_last.ensures.last (record { exponent = tree_of c.in_ok-sum.sum c.reduce_sum.new.pool; sum = subst (λ (t : Tree). IsSumAnswer (children_of t) (tree_of c.in_ok-sum.sum c.reduce_sum.new.pool)) (given_told a.gives) (given_told c.in_ok-sum.ensures.ok); room = sum_keeps (tree_of c.take_child-exponent.result c.take_child-exponent.new.pool) _ _ (given_told a.gives ∙ ap exponent_in c.requires.power) c.in_ok-sum.ensures.counted c.in_ok-sum.ensures.powers c.in_ok-sum.ensures.spanned; counts = λ k. let w = c.in_ok-sum.ensures.exponents (ap (λ (t : Tree). are_counted (children_of t)) (given_told a.gives) ∙ k) in record { counted = w.0; within = subst (λ (t : Tree). IsWithin (counts_of (tree_of c.in_ok-sum.sum c.reduce_sum.new.pool)) (counts_of_all (children_of t))) (given_told a.gives) w.1 }; is = refl });
+      front = moved_front p c.move_last.ensures.last;
+      kept = search rules;
+      faults = search rules;
+      caused = search rules;
+      room = search rules;
+      bits = search rules;
+      stands = search rules;
+    }

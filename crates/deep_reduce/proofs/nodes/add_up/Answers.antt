@@ -1,4 +1,4 @@
-use Rattle.std.proofs.Common.{◌≡◌, ◌^◌, length, ap, ◌∙◌, sym, refl, arith}
+use Rattle.std.proofs.Common.{rules, ◌≡◌, ◌^◌, length, ap, ◌∙◌, sym, refl, arith}
 use Rattle.std.proofs.Common.{ℕ, false}
 use Rattle.calc_terms.specs.Trees.{has_undef}
 use Rattle.deep_reduce.proofs.HeldFits.{product_fits}
@@ -35,30 +35,24 @@ reduce_sum-requires-clause-some c =
     let n = many (goal.at.reduce_sum-requires-clause-some c).After-children in
     omega (arith, n, c.if-children-eq0.false)
 
-pub returns-clause-ok : goal.returns-clause-ok
-returns-clause-ok c =
+pub returns : goal.returns
+returns c =
     let t : Tree = tree_of c.args.sum c.args.pool.now in
-    let facts = sum_facts (children_of t) t c.reduce_sum.new.pool c.reduce_sum.result (sum_words t c.requires.sum) c.reduce_sum.ensures.counted c.reduce_sum.ensures.powers c.reduce_sum.ensures.spanned in
-    answered _ (plain_value t) c.reduce_sum.new.pool _ _ _ (with_facts _ c.reduce_sum.new.pool _ _ (λ u. (h l : ℕ) → has_undef (children_of t) ≡ false → IsSumHeld (addends_of_each (children_of t)) h l → IsTreeHeld u h l)
-    (with_facts _ c.reduce_sum.new.pool _ _ (KeepsSumRoom (children_of t)) c.reduce_sum.ensures.ok facts)
-    (held_facts (children_of t) IsTreeHeld (λ i. tree_of i c.reduce_sum.new.pool) c.reduce_sum.result c.reduce_sum.ensures.held)) c.reduce_sum.ensures.rationals
-    (λ u a p. sum_told t u c.requires.sum a.0.0 a.0.1 a.1 p)
-
-pub returns-clause-overflow : goal.returns-clause-overflow
-returns-clause-overflow c = overflowed_defined (plain_value (tree_of c.args.sum c.args.pool.now)) c.reduce_sum.new.pool _ _ c.reduce_sum.ensures.rationals c.reduce_sum.ensures.defined (λ o d h. record { defined = d; rational = h })
+    record {
+      ok = let facts = sum_facts (children_of t) t c.reduce_sum.new.pool c.reduce_sum.result (sum_words t c.requires.sum) c.reduce_sum.ensures.counted c.reduce_sum.ensures.powers c.reduce_sum.ensures.spanned in answered _ (plain_value t) c.reduce_sum.new.pool _ _ _ (with_facts _ c.reduce_sum.new.pool _ _ (λ u. (h l : ℕ) → has_undef (children_of t) ≡ false → IsSumHeld (addends_of_each (children_of t)) h l → IsTreeHeld u h l) (with_facts _ c.reduce_sum.new.pool _ _ (KeepsSumRoom (children_of t)) c.reduce_sum.ensures.ok facts) (held_facts (children_of t) IsTreeHeld (λ i. tree_of i c.reduce_sum.new.pool) c.reduce_sum.result c.reduce_sum.ensures.held)) c.reduce_sum.ensures.rationals (λ u a p. sum_told t u c.requires.sum a.0.0 a.0.1 a.1 p);
+      overflow = overflowed_defined (plain_value (tree_of c.args.sum c.args.pool.now)) c.reduce_sum.new.pool _ _ c.reduce_sum.ensures.rationals c.reduce_sum.ensures.defined (λ o d h. record { defined = d; rational = h });
+      front = search rules;
+      kept = search rules;
+      faults = search rules;
+      caused = search rules;
+      room = λ gs s. c.reduce_sum.ensures.room gs s;
+      bits = λ h l k few. as_overflow c.reduce_sum.result (product_fits (children_of t) c.reduce_sum.result (λ d. c.reduce_sum.ensures.bits h l (sum_holds t c.requires.sum (k d)) few) c.reduce_sum.ensures.defined);
+      stands = search rules;
+    }
 
 pub returns-then-children-eq0-clause-room : goal.returns-then-children-eq0-clause-room
 returns-then-children-eq0-clause-room c = λ gs s.
     result_lacks c.whole.result c.whole.ensures.room (λ l. omega (arith, l, number_fits_sum (children_of (tree_of c.args.sum c.args.pool.now)) (2 ^ length gs) (pow_pos (length gs))))
 
-pub returns-clause-room : goal.returns-clause-room
-returns-clause-room c = λ gs s. c.reduce_sum.ensures.room gs s
-
 pub returns-then-children-eq0-clause-bits : goal.returns-then-children-eq0-clause-bits
 returns-then-children-eq0-clause-bits c = λ h l k few. c.whole.ensures.overflow
-
-pub returns-clause-bits : goal.returns-clause-bits
-returns-clause-bits c = λ h l k few.
-    let t : Tree = tree_of c.args.sum c.args.pool.now in
-    as_overflow c.reduce_sum.result
-    (product_fits (children_of t) c.reduce_sum.result (λ d. c.reduce_sum.ensures.bits h l (sum_holds t c.requires.sum (k d)) few) c.reduce_sum.ensures.defined)

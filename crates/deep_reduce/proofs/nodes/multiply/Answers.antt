@@ -1,4 +1,4 @@
-use Rattle.std.proofs.Common.{◌≡◌, ◌^◌, length, ap, ◌∙◌, sym, refl, arith}
+use Rattle.std.proofs.Common.{rules, ◌≡◌, ◌^◌, length, ap, ◌∙◌, sym, refl, arith}
 use Rattle.deep_reduce.proofs.HeldFits.{product_fits}
 use Rattle.deep_reduce.proofs.NodeBits.{as_overflow, product_holds}
 use Rattle.calc_measures.specs.PlainValues.{plain_value}
@@ -29,13 +29,19 @@ reduce_product-requires-clause-some c =
     let n = many (goal.at.reduce_product-requires-clause-some c).After-children in
     omega (arith, n, c.if-children-eq0.false)
 
-pub returns-clause-ok : goal.returns-clause-ok
-returns-clause-ok c =
-    answered _ (plain_value (tree_of c.args.product c.args.pool.now)) c.reduce_product.new.pool _ _ _ c.reduce_product.ensures.ok c.reduce_product.ensures.rationals
-    (λ t a p. product_told (tree_of c.args.product c.args.pool.now) t c.requires.product a p)
-
-pub returns-clause-overflow : goal.returns-clause-overflow
-returns-clause-overflow c = overflowed_defined (plain_value (tree_of c.args.product c.args.pool.now)) c.reduce_product.new.pool _ _ c.reduce_product.ensures.rationals c.reduce_product.ensures.defined (λ o d h. record { defined = d; rational = h })
+pub returns : goal.returns
+returns c =
+    record {
+      ok = answered _ (plain_value (tree_of c.args.product c.args.pool.now)) c.reduce_product.new.pool _ _ _ c.reduce_product.ensures.ok c.reduce_product.ensures.rationals (λ t a p. product_told (tree_of c.args.product c.args.pool.now) t c.requires.product a p);
+      overflow = overflowed_defined (plain_value (tree_of c.args.product c.args.pool.now)) c.reduce_product.new.pool _ _ c.reduce_product.ensures.rationals c.reduce_product.ensures.defined (λ o d h. record { defined = d; rational = h });
+      front = search rules;
+      kept = search rules;
+      faults = search rules;
+      caused = search rules;
+      room = λ gs ns k s. let ts = children_of (tree_of c.args.product c.args.pool.now) in let n = many (goal.at.returns c).After-children in result_lacks c.reduce_product.result (c.reduce_product.ensures.room gs ns k s) (λ l. omega (arith, l, some_factors ts (2 ^ length gs) (omega (arith, n, c.if-children-eq0.false))));
+      bits = λ h l k few. let t : Tree = tree_of c.args.product c.args.pool.now in as_overflow c.reduce_product.result (product_fits (children_of t) c.reduce_product.result (λ d. c.reduce_product.ensures.bits h l (product_holds t c.requires.product (k d)) few) c.reduce_product.ensures.defined);
+      stands = search rules;
+    }
 
 pub returns-then-children-eq0-clause-room : goal.returns-then-children-eq0-clause-room
 returns-then-children-eq0-clause-room c = λ gs ns k s.
@@ -43,17 +49,5 @@ returns-then-children-eq0-clause-room c = λ gs ns k s.
     let n = sym (many (goal.at.returns-then-children-eq0-clause-room c).After-children) ∙ c.if-children-eq0.true in
     result_lacks c.whole.result c.whole.ensures.room (λ l. omega (arith, l, no_factors ts (2 ^ length gs) n))
 
-pub returns-clause-room : goal.returns-clause-room
-returns-clause-room c = λ gs ns k s.
-    let ts = children_of (tree_of c.args.product c.args.pool.now) in
-    let n = many (goal.at.returns-clause-room c).After-children in
-    result_lacks c.reduce_product.result (c.reduce_product.ensures.room gs ns k s) (λ l. omega (arith, l, some_factors ts (2 ^ length gs) (omega (arith, n, c.if-children-eq0.false))))
-
 pub returns-then-children-eq0-clause-bits : goal.returns-then-children-eq0-clause-bits
 returns-then-children-eq0-clause-bits c = λ h l k few. c.whole.ensures.overflow
-
-pub returns-clause-bits : goal.returns-clause-bits
-returns-clause-bits c = λ h l k few.
-    let t : Tree = tree_of c.args.product c.args.pool.now in
-    as_overflow c.reduce_product.result
-    (product_fits (children_of t) c.reduce_product.result (λ d. c.reduce_product.ensures.bits h l (product_holds t c.requires.product (k d)) few) c.reduce_product.ensures.defined)

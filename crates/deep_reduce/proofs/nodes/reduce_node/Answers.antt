@@ -53,19 +53,21 @@ pub reduce_root-requires-clause-reduced : goal.reduce_root-requires-clause-reduc
 reduce_root-requires-clause-reduced c =
     argument_reduced (tree_of c.args.tree c.args.pool.now) (root_kind_is (tree_of c.args.tree c.args.pool.now) (sym c.in-Root.is ∙ kind-is (goal.at.reduce_root-requires-clause-reduced c).After-kind)) c.requires.reduced
 
-pub returns-in-Root-clause-ok : goal.returns-in-Root-clause-ok
-returns-in-Root-clause-ok c =
+pub returns-in-Root : goal.returns-in-Root
+returns-in-Root c =
     let t : Tree = tree_of c.args.tree c.args.pool.now in
-    let is = root_kind_is t (sym c.in-Root.is ∙ kind-is (goal.at.returns-in-Root-clause-ok c).After-kind) in
-    answer_as _ _ c.reduce_root.new.pool _ _ _ (with_facts _ c.reduce_root.new.pool _ _ (λ u. IfRational (argument_of t) (λ q. int_is_negative q.num ≡ false → IsNoLargerThanRoot q (value u)))
-    (with_facts _ c.reduce_root.new.pool _ _ (λ u. (gs : List ℕ) → SpansTree gs t → SpansTree gs u) c.reduce_root.ensures.ok (span_facts t c.reduce_root.new.pool _ c.reduce_root.ensures.spanned))
-    (measured_facts (argument_of t) (λ i. tree_of i c.reduce_root.new.pool) c.reduce_root.result c.reduce_root.ensures.measured)) refl (λ u h. root_told t u is (argument_reduced t is c.requires.reduced) h.0.0 h.0.1 h.1)
-
-pub returns-in-Root-clause-overflow : goal.returns-in-Root-clause-overflow
-returns-in-Root-clause-overflow c =
-    let t : Tree = tree_of c.args.tree c.args.pool.now in
-    let k = (goal.at.returns-in-Root-clause-overflow c).After-kind in
-    overflow_as _ _ _ c.reduce_root.ensures.named (λ o h. root_overflow t o (root_kind_is t (sym c.in-Root.is ∙ kind-is k)) h)
+    record {
+      ok = let is = root_kind_is t (sym c.in-Root.is ∙ kind-is (goal.at.returns-in-Root c).After-kind) in answer_as _ _ c.reduce_root.new.pool _ _ _ (with_facts _ c.reduce_root.new.pool _ _ (λ u. IfRational (argument_of t) (λ q. int_is_negative q.num ≡ false → IsNoLargerThanRoot q (value u))) (with_facts _ c.reduce_root.new.pool _ _ (λ u. (gs : List ℕ) → SpansTree gs t → SpansTree gs u) c.reduce_root.ensures.ok (span_facts t c.reduce_root.new.pool _ c.reduce_root.ensures.spanned)) (measured_facts (argument_of t) (λ i. tree_of i c.reduce_root.new.pool) c.reduce_root.result c.reduce_root.ensures.measured)) refl (λ u h. root_told t u is (argument_reduced t is c.requires.reduced) h.0.0 h.0.1 h.1);
+      overflow = let k = (goal.at.returns-in-Root c).After-kind in overflow_as _ _ _ c.reduce_root.ensures.named (λ o h. root_overflow t o (root_kind_is t (sym c.in-Root.is ∙ kind-is k)) h);
+      front = search rules;
+      kept = search rules;
+      faults = search rules;
+      caused = search rules;
+      room = λ gs ns n h k s. let is = root_kind_is t (sym c.in-Root.is ∙ kind-is (goal.at.returns-in-Root c).After-kind) in root_result gs t (free_of c.args.pool.now) n c.reduce_root.result is h c.reduce_root.ensures.full_of_a_rational c.reduce_root.ensures.full_below_96_bytes;
+      root_room = λ gs n h z s. no_half_power (tree_of c.args.tree c.args.pool.now) (sym c.in-Root.is ∙ kind-is (goal.at.returns-in-Root c).After-kind) (λ e. cc) z;
+      bits = λ h l k few. let is = root_kind_is t (sym c.in-Root.is ∙ kind-is (goal.at.returns-in-Root c).After-kind) in node_fits t c.reduce_root.result (overflow_as _ _ _ c.reduce_root.ensures.named (λ o h. root_overflow t o is h)) (λ d. as_overflow c.reduce_root.result (root_node_fits (argument_of t) c.reduce_root.result c.reduce_root.ensures.bits c.reduce_root.ensures.overflows.0 (root_holds t is (k d)) few));
+      stands = search rules;
+    }
 
 pub reduce_power-requires : goal.reduce_power-requires
 reduce_power-requires c = record {
@@ -76,20 +78,21 @@ reduce_power-requires c = record {
   exponent = (power_reduced (tree_of c.args.tree c.args.pool.now) (power_kind (tree_of c.args.tree c.args.pool.now) (sym c.in-Pow.is ∙ kind-is (goal.at.reduce_power-requires c).After-kind)) c.requires.reduced).1;
 }
 
-pub returns-in-Pow-clause-ok : goal.returns-in-Pow-clause-ok
-returns-in-Pow-clause-ok c =
+pub returns-in-Pow : goal.returns-in-Pow
+returns-in-Pow c =
     let t : Tree = tree_of c.args.tree c.args.pool.now in
-    let is = power_kind t (sym c.in-Pow.is ∙ kind-is (goal.at.returns-in-Pow-clause-ok c).After-kind) in
-    answered {C = IsRationalPower t} _ (plain_value t) c.reduce_power.new.pool _ _ _ c.reduce_power.ensures.ok
-    (λ h. c.reduce_power.ensures.rationals (power_sides t is h.rationals).0 (power_sides t is h.rationals).1 h.no_half) (λ u a p. power_told t u is a (rational_answer t u is p))
-
-pub returns-in-Pow-clause-overflow : goal.returns-in-Pow-clause-overflow
-returns-in-Pow-clause-overflow c =
-    let t : Tree = tree_of c.args.tree c.args.pool.now in
-    let k = (goal.at.returns-in-Pow-clause-overflow c).After-kind in
-    let is = power_kind t (sym c.in-Pow.is ∙ kind-is k) in
-    overflowed_defined {C = IsRationalPower t} (plain_value t) c.reduce_power.new.pool _ _
-    (λ h. c.reduce_power.ensures.rationals (power_sides t is h.rationals).0 (power_sides t is h.rationals).1 h.no_half) c.reduce_power.ensures.defined (λ o d h. record { defined = d; rational = rational_overflow t o is h })
+    record {
+      ok = let is = power_kind t (sym c.in-Pow.is ∙ kind-is (goal.at.returns-in-Pow c).After-kind) in answered {C = IsRationalPower t} _ (plain_value t) c.reduce_power.new.pool _ _ _ c.reduce_power.ensures.ok (λ h. c.reduce_power.ensures.rationals (power_sides t is h.rationals).0 (power_sides t is h.rationals).1 h.no_half) (λ u a p. power_told t u is a (rational_answer t u is p));
+      overflow = let k = (goal.at.returns-in-Pow c).After-kind in let is = power_kind t (sym c.in-Pow.is ∙ kind-is k) in overflowed_defined {C = IsRationalPower t} (plain_value t) c.reduce_power.new.pool _ _ (λ h. c.reduce_power.ensures.rationals (power_sides t is h.rationals).0 (power_sides t is h.rationals).1 h.no_half) c.reduce_power.ensures.defined (λ o d h. record { defined = d; rational = rational_overflow t o is h });
+      front = search rules;
+      kept = search rules;
+      faults = search rules;
+      caused = search rules;
+      room = λ gs ns n h k s. let kind = sym c.in-Pow.is ∙ kind-is (goal.at.returns-in-Pow c).After-kind in let is = power_kind t kind in power_result _ _ t c.reduce_power.result is k (λ w. result_lacks c.reduce_power.result (c.reduce_power.ensures.room gs ns k (node_spans gs t kind (λ e. cc) s) w) (λ l. omega (arith, l, power_fits t n (2 ^ length gs) is h))) (λ w z. c.reduce_power.ensures.others w z);
+      root_room = λ gs n h z s. let is = power_kind t (sym c.in-Pow.is ∙ kind-is (goal.at.returns-in-Pow c).After-kind) in result_lacks c.reduce_power.result (c.reduce_power.ensures.root_room gs z s) (λ l. omega (arith, l, half_fits t n (2 ^ length gs) is h));
+      bits = λ h l k few. let is = power_kind t (sym c.in-Pow.is ∙ kind-is (goal.at.returns-in-Pow c).After-kind) in as_overflow c.reduce_power.result (product_fits (children_of t) c.reduce_power.result (λ d. power_node_fits (base_in t) (exponent_in t) c.reduce_power.result h l (power_holds t is (k d)) few c.reduce_power.ensures.bits c.reduce_power.ensures.root_bits c.reduce_power.ensures.others) c.reduce_power.ensures.defined);
+      stands = search rules;
+    }
 
 pub returns-in_default : goal.returns-in_default
 returns-in_default c =
@@ -126,33 +129,11 @@ returns-in-Mult-clause-room c = λ gs ns n h k s.
     let is = product_kind t kind in
     result_lacks c.multiply.result (c.multiply.ensures.room gs ns k (node_spans gs t kind (λ e. cc) s)) (λ l. omega (arith, l, factors_fit t n (2 ^ length gs) (pow_pos (length gs)) is h))
 
-pub returns-in-Pow-clause-room : goal.returns-in-Pow-clause-room
-returns-in-Pow-clause-room c = λ gs ns n h k s.
-    let t : Tree = tree_of c.args.tree c.args.pool.now in
-    let kind = sym c.in-Pow.is ∙ kind-is (goal.at.returns-in-Pow-clause-room c).After-kind in
-    let is = power_kind t kind in
-    power_result _ _ t c.reduce_power.result is k (λ w. result_lacks c.reduce_power.result (c.reduce_power.ensures.room gs ns k (node_spans gs t kind (λ e. cc) s) w) (λ l. omega (arith, l, power_fits t n (2 ^ length gs) is h))) (λ w z. c.reduce_power.ensures.others w z)
-
-pub returns-in-Pow-clause-root_room : goal.returns-in-Pow-clause-root_room
-returns-in-Pow-clause-root_room c = λ gs n h z s.
-    let t : Tree = tree_of c.args.tree c.args.pool.now in
-    let is = power_kind t (sym c.in-Pow.is ∙ kind-is (goal.at.returns-in-Pow-clause-root_room c).After-kind) in
-    result_lacks c.reduce_power.result (c.reduce_power.ensures.root_room gs z s) (λ l. omega (arith, l, half_fits t n (2 ^ length gs) is h))
-
-pub returns-in-Root-clause-room : goal.returns-in-Root-clause-room
-returns-in-Root-clause-room c = λ gs ns n h k s.
-    let t : Tree = tree_of c.args.tree c.args.pool.now in
-    let is = root_kind_is t (sym c.in-Root.is ∙ kind-is (goal.at.returns-in-Root-clause-room c).After-kind) in
-    root_result gs t (free_of c.args.pool.now) n c.reduce_root.result is h c.reduce_root.ensures.full_of_a_rational c.reduce_root.ensures.full_below_96_bytes
-
 pub returns-in-Add-clause-root_room : goal.returns-in-Add-clause-root_room
 returns-in-Add-clause-root_room c = λ gs n h z s. no_half_power (tree_of c.args.tree c.args.pool.now) (sym c.in-Add.is ∙ kind-is (goal.at.returns-in-Add-clause-root_room c).After-kind) (λ e. cc) z
 
 pub returns-in-Mult-clause-root_room : goal.returns-in-Mult-clause-root_room
 returns-in-Mult-clause-root_room c = λ gs n h z s. no_half_power (tree_of c.args.tree c.args.pool.now) (sym c.in-Mult.is ∙ kind-is (goal.at.returns-in-Mult-clause-root_room c).After-kind) (λ e. cc) z
-
-pub returns-in-Root-clause-root_room : goal.returns-in-Root-clause-root_room
-returns-in-Root-clause-root_room c = λ gs n h z s. no_half_power (tree_of c.args.tree c.args.pool.now) (sym c.in-Root.is ∙ kind-is (goal.at.returns-in-Root-clause-root_room c).After-kind) (λ e. cc) z
 
 pub returns-in-Neg-clause-root_room : goal.returns-in-Neg-clause-root_room
 returns-in-Neg-clause-root_room c = λ gs n h z s. no_half_power (tree_of c.args.tree c.args.pool.now) (sym c.in-Neg.is ∙ kind-is (goal.at.returns-in-Neg-clause-root_room c).After-kind) (λ e. cc) z
@@ -191,17 +172,3 @@ returns-in-Sub-clause-bits c = λ h l k few. c.subtract.ensures.bits h l k few
 
 pub returns-in-Div-clause-bits : goal.returns-in-Div-clause-bits
 returns-in-Div-clause-bits c = λ h l k few. c.divide.ensures.bits h l k few
-
-pub returns-in-Pow-clause-bits : goal.returns-in-Pow-clause-bits
-returns-in-Pow-clause-bits c = λ h l k few.
-    let t : Tree = tree_of c.args.tree c.args.pool.now in
-    let is = power_kind t (sym c.in-Pow.is ∙ kind-is (goal.at.returns-in-Pow-clause-bits c).After-kind) in
-    as_overflow c.reduce_power.result
-    (product_fits (children_of t) c.reduce_power.result (λ d. power_node_fits (base_in t) (exponent_in t) c.reduce_power.result h l (power_holds t is (k d)) few c.reduce_power.ensures.bits c.reduce_power.ensures.root_bits c.reduce_power.ensures.others) c.reduce_power.ensures.defined)
-
-pub returns-in-Root-clause-bits : goal.returns-in-Root-clause-bits
-returns-in-Root-clause-bits c = λ h l k few.
-    let t : Tree = tree_of c.args.tree c.args.pool.now in
-    let is = root_kind_is t (sym c.in-Root.is ∙ kind-is (goal.at.returns-in-Root-clause-bits c).After-kind) in
-    node_fits t c.reduce_root.result (overflow_as _ _ _ c.reduce_root.ensures.named (λ o h. root_overflow t o is h))
-    (λ d. as_overflow c.reduce_root.result (root_node_fits (argument_of t) c.reduce_root.result c.reduce_root.ensures.bits c.reduce_root.ensures.overflows.0 (root_holds t is (k d)) few))

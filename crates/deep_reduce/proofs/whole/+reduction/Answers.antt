@@ -1,4 +1,4 @@
-use Rattle.std.proofs.Common.{◌≡◌, ◌<◌, ◌+◌, ◌^◌, ℕ, length, Bool, true, false, ap, ◌∙◌, refl, sym, subst, arith, Option, IfSome, Err}
+use Rattle.std.proofs.Common.{rules, ◌≡◌, ◌<◌, ◌+◌, ◌^◌, ℕ, length, Bool, true, false, ap, ◌∙◌, refl, sym, subst, arith, Option, IfSome, Err}
 use Rattle.calc_terms.specs.Trees.{Tree, Trees, add, mult, count, is_mult, is_undef, size, power as power_tree}
 use Rattle.coefficients.proofs.Places.{over_product}
 use Rattle.coefficients.proofs.Puttings.{on_ok_after, fault_after}
@@ -79,8 +79,22 @@ reduce_product-join_pairs-requires t c =
       (c.in_ok-answer.ensures.stands, (given_handed g, (gathered_product _ _ j, (j.reduced, (place, is_few c.args.product c.args.pool.now c.gather_factors.new.pool c.in-Joined.is c.in_ok-answer.ensures.fits))))),
     )
 
-pub reduce_product-returns-in_err-joined-in-Joined-clause-front : goal.reduce_product-returns-in_err-joined-in-Joined-clause-front
-reduce_product-returns-in_err-joined-in-Joined-clause-front t c = front_next (is_gathered c.args.product c.args.pool.now c.gather_factors.new.pool c.in-Joined.is c.in_ok-answer.ensures.gathered) c.gather_factors.ensures.front c.join_pairs.ensures.front
+pub reduce_product-returns-in_err-joined-in-Joined : goal.reduce_product-returns-in_err-joined-in-Joined
+reduce_product-returns-in_err-joined-in-Joined t c =
+    record {
+      ok = search rules;
+      joined = search rules;
+      written = search rules;
+      rationals = search rules;
+      defined = let j = given_told (is_gathered c.args.product c.args.pool.now c.gather_factors.new.pool c.in-Joined.is c.in_ok-answer.ensures.gathered) in passed_on c.from_residual-in_err-joined-in-Joined.result c.in_err-joined-in-Joined.field-0.0 _ c.from_residual-in_err-joined-in-Joined.ensures.0 c.from_residual-in_err-joined-in-Joined.ensures.1 (any_fault c.in_err-joined-in-Joined.field-0.0 _ j.joinable.defined);
+      front = front_next (is_gathered c.args.product c.args.pool.now c.gather_factors.new.pool c.in-Joined.is c.in_ok-answer.ensures.gathered) c.gather_factors.ensures.front c.join_pairs.ensures.front;
+      kept = search rules;
+      faults = search rules;
+      caused = search rules;
+      room = λ gs ns k s. let g = is_gathered c.args.product c.args.pool.now c.gather_factors.new.pool c.in-Joined.is c.in_ok-answer.ensures.gathered in let u : Tree = tree_of c.in-Joined.product c.gather_factors.new.pool in let x = handed_on (tree_of c.args.product c.args.pool.now) u c.requires.product (product_words u (gathered_product _ _ (given_told g))) (gathered_hands c.args.product c.args.pool.now c.gather_factors.new.pool c.requires.product c.in-Joined.is c.in_ok-answer.ensures.gathered c.in_ok-answer.ensures.counted_among c.in_ok-answer.ensures.few_numbers c.in_ok-answer.ensures.powers c.in_ok-answer.ensures.spanned c.in_ok-answer.ensures.factors_held) gs ns k s in passed_on c.from_residual-in_err-joined-in-Joined.result c.in_err-joined-in-Joined.field-0.0 _ c.from_residual-in_err-joined-in-Joined.ensures.0 c.from_residual-in_err-joined-in-Joined.ensures.1 (lacks_as c.in_err-joined-in-Joined.field-0.0 (c.in_err-joined-in-Joined.ensures.room gs ns x.calm x.spanned) (λ l. omega (arith, l, x.needs, replaced_free c.requires.stands c.in_ok-answer.ensures.stands c.in_ok-answer.ensures.kept c.requires.handed g)));
+      bits = λ h l a few. passed_on c.from_residual-in_err-joined-in-Joined.result c.in_err-joined-in-Joined.field-0.0 _ c.from_residual-in_err-joined-in-Joined.ensures.0 c.from_residual-in_err-joined-in-Joined.ensures.1 (c.in_err-joined-in-Joined.ensures.bits h l ((gathered_hands c.args.product c.args.pool.now c.gather_factors.new.pool c.requires.product c.in-Joined.is c.in_ok-answer.ensures.gathered c.in_ok-answer.ensures.counted_among c.in_ok-answer.ensures.few_numbers c.in_ok-answer.ensures.powers c.in_ok-answer.ensures.spanned c.in_ok-answer.ensures.factors_held).held h l a) few);
+      stands = search rules;
+    }
 
 pub reduce_product-reduce_product-requires : goal.reduce_product-reduce_product-requires
 reduce_product-reduce_product-requires t c =
@@ -88,64 +102,31 @@ reduce_product-reduce_product-requires t c =
     let l = less_gathered _ _ _ (given_told (is_gathered c.args.product c.args.pool.now c.gather_factors.new.pool c.in-Joined.is c.in_ok-answer.ensures.gathered)) (gathered_hands c.args.product c.args.pool.now c.gather_factors.new.pool c.requires.product c.in-Joined.is c.in_ok-answer.ensures.gathered c.in_ok-answer.ensures.counted_among c.in_ok-answer.ensures.few_numbers c.in_ok-answer.ensures.powers c.in_ok-answer.ensures.spanned c.in_ok-answer.ensures.factors_held) (given_told g) in
     (below_measure c.decreases (product_falls (tree_of c.args.product c.args.pool.now) _ l), (c.in_ok-joined-in-Joined.ensures.stands, (given_handed g, (ap is_mult l.is, (l.some, l.reduced)))))
 
-pub reduce_product-returns-in_ok-joined-in-Joined-clause-ok : goal.reduce_product-returns-in_ok-joined-in-Joined-clause-ok
-reduce_product-returns-in_ok-joined-in-Joined-clause-ok t c =
-    let g = c.in_ok-joined-in-Joined.ensures.ok in
+pub reduce_product-returns-in_ok-joined-in-Joined : goal.reduce_product-returns-in_ok-joined-in-Joined
+reduce_product-returns-in_ok-joined-in-Joined t c =
     let first = is_gathered c.args.product c.args.pool.now c.gather_factors.new.pool c.in-Joined.is c.in_ok-answer.ensures.gathered in
-    let j = given_told first in
-    let l = less_gathered _ _ _ j (gathered_hands c.args.product c.args.pool.now c.gather_factors.new.pool c.requires.product c.in-Joined.is c.in_ok-answer.ensures.gathered c.in_ok-answer.ensures.counted_among c.in_ok-answer.ensures.few_numbers c.in_ok-answer.ensures.powers c.in_ok-answer.ensures.spanned c.in_ok-answer.ensures.factors_held) (given_told g) in
-    if_map c.reduce_product.result _ _ c.reduce_product.ensures.ok (λ h x. gives_next (gives_next first g (λ u y. y)) x (λ r a. product_after _ _ _ r c.requires.reduced j.joinable l a))
-
-pub reduce_product-returns-in_ok-joined-in-Joined-clause-joined : goal.reduce_product-returns-in_ok-joined-in-Joined-clause-joined
-reduce_product-returns-in_ok-joined-in-Joined-clause-joined t c =
-    let l = less_gathered _ _ _ (given_told (is_gathered c.args.product c.args.pool.now c.gather_factors.new.pool c.in-Joined.is c.in_ok-answer.ensures.gathered)) (gathered_hands c.args.product c.args.pool.now c.gather_factors.new.pool c.requires.product c.in-Joined.is c.in_ok-answer.ensures.gathered c.in_ok-answer.ensures.counted_among c.in_ok-answer.ensures.few_numbers c.in_ok-answer.ensures.powers c.in_ok-answer.ensures.spanned c.in_ok-answer.ensures.factors_held) (given_told c.in_ok-joined-in-Joined.ensures.ok) in
-    if_map c.reduce_product.result _ _ c.reduce_product.ensures.joined (λ h x. record { us = x.us; joins = joins_then l.joins x.joins; finished = x.finished })
-
-pub reduce_product-returns-in_ok-joined-in-Joined-clause-written : goal.reduce_product-returns-in_ok-joined-in-Joined-clause-written
-reduce_product-returns-in_ok-joined-in-Joined-clause-written t c =
     let j = given_told (is_gathered c.args.product c.args.pool.now c.gather_factors.new.pool c.in-Joined.is c.in_ok-answer.ensures.gathered) in
-    if_map c.reduce_product.result _ _ c.reduce_product.ensures.written (λ h x d n. absurd (n j.coefficient j.joinable))
-
-pub reduce_product-returns-in_ok-joined-in-Joined-clause-front : goal.reduce_product-returns-in_ok-joined-in-Joined-clause-front
-reduce_product-returns-in_ok-joined-in-Joined-clause-front t c =
-    let first = is_gathered c.args.product c.args.pool.now c.gather_factors.new.pool c.in-Joined.is c.in_ok-answer.ensures.gathered in
-    front_next (gives_next first c.in_ok-joined-in-Joined.ensures.ok (λ u y. y)) (front_next first c.gather_factors.ensures.front c.join_pairs.ensures.front) c.reduce_product.ensures.front
+    record {
+      ok = let g = c.in_ok-joined-in-Joined.ensures.ok in let j = given_told first in let l = less_gathered _ _ _ j (gathered_hands c.args.product c.args.pool.now c.gather_factors.new.pool c.requires.product c.in-Joined.is c.in_ok-answer.ensures.gathered c.in_ok-answer.ensures.counted_among c.in_ok-answer.ensures.few_numbers c.in_ok-answer.ensures.powers c.in_ok-answer.ensures.spanned c.in_ok-answer.ensures.factors_held) (given_told g) in if_map c.reduce_product.result _ _ c.reduce_product.ensures.ok (λ h x. gives_next (gives_next first g (λ u y. y)) x (λ r a. product_after _ _ _ r c.requires.reduced j.joinable l a));
+      joined = let l = less_gathered _ _ _ (given_told (is_gathered c.args.product c.args.pool.now c.gather_factors.new.pool c.in-Joined.is c.in_ok-answer.ensures.gathered)) (gathered_hands c.args.product c.args.pool.now c.gather_factors.new.pool c.requires.product c.in-Joined.is c.in_ok-answer.ensures.gathered c.in_ok-answer.ensures.counted_among c.in_ok-answer.ensures.few_numbers c.in_ok-answer.ensures.powers c.in_ok-answer.ensures.spanned c.in_ok-answer.ensures.factors_held) (given_told c.in_ok-joined-in-Joined.ensures.ok) in if_map c.reduce_product.result _ _ c.reduce_product.ensures.joined (λ h x. record { us = x.us; joins = joins_then l.joins x.joins; finished = x.finished });
+      written = if_map c.reduce_product.result _ _ c.reduce_product.ensures.written (λ h x d n. absurd (n j.coefficient j.joinable));
+      rationals = search rules;
+      defined = any_refusal c.reduce_product.result _ j.joinable.defined;
+      front = front_next (gives_next first c.in_ok-joined-in-Joined.ensures.ok (λ u y. y)) (front_next first c.gather_factors.ensures.front c.join_pairs.ensures.front) c.reduce_product.ensures.front;
+      kept = search rules;
+      faults = search rules;
+      caused = search rules;
+      room = λ gs ns k s. let g = gives_next first c.in_ok-joined-in-Joined.ensures.ok (λ u y. y) in let l = less_gathered _ _ _ (given_told first) (gathered_hands c.args.product c.args.pool.now c.gather_factors.new.pool c.requires.product c.in-Joined.is c.in_ok-answer.ensures.gathered c.in_ok-answer.ensures.counted_among c.in_ok-answer.ensures.few_numbers c.in_ok-answer.ensures.powers c.in_ok-answer.ensures.spanned c.in_ok-answer.ensures.factors_held) (given_told c.in_ok-joined-in-Joined.ensures.ok) in let v : Tree = tree_of c.in_ok-joined-in-Joined.joined c.join_pairs.new.pool in let x = handed_on (tree_of c.args.product c.args.pool.now) v c.requires.product l.is l.hands_on gs ns k s in let kept = keeps_after _ _ _ c.in_ok-answer.ensures.kept c.in_ok-joined-in-Joined.ensures.kept in result_lacks c.reduce_product.result (c.reduce_product.ensures.room gs ns x.calm x.spanned) (λ l. omega (arith, l, x.needs, replaced_free c.requires.stands c.in_ok-joined-in-Joined.ensures.stands kept c.requires.handed g));
+      bits = λ h l a few. let k = less_gathered _ _ _ (given_told (is_gathered c.args.product c.args.pool.now c.gather_factors.new.pool c.in-Joined.is c.in_ok-answer.ensures.gathered)) (gathered_hands c.args.product c.args.pool.now c.gather_factors.new.pool c.requires.product c.in-Joined.is c.in_ok-answer.ensures.gathered c.in_ok-answer.ensures.counted_among c.in_ok-answer.ensures.few_numbers c.in_ok-answer.ensures.powers c.in_ok-answer.ensures.spanned c.in_ok-answer.ensures.factors_held) (given_told c.in_ok-joined-in-Joined.ensures.ok) in c.reduce_product.ensures.bits h l (k.hands_on.held h l a) few;
+      stands = search rules;
+    }
 
 pub reduce_product-returns-in_err-answer-clause-room : goal.reduce_product-returns-in_err-answer-clause-room
 reduce_product-returns-in_err-answer-clause-room t c = λ gs ns k s.
     passed_on c.from_residual.result c.in_err-answer.field-0.0 _ c.from_residual.ensures.0 c.from_residual.ensures.1 (lacks_as c.in_err-answer.field-0.0 (c.in_err-answer.ensures.room gs s) (λ l. omega (arith, l)))
 
-pub reduce_product-returns-in_err-joined-in-Joined-clause-room : goal.reduce_product-returns-in_err-joined-in-Joined-clause-room
-reduce_product-returns-in_err-joined-in-Joined-clause-room t c = λ gs ns k s.
-    let g = is_gathered c.args.product c.args.pool.now c.gather_factors.new.pool c.in-Joined.is c.in_ok-answer.ensures.gathered in
-    let u : Tree = tree_of c.in-Joined.product c.gather_factors.new.pool in
-    let x = handed_on (tree_of c.args.product c.args.pool.now) u c.requires.product (product_words u (gathered_product _ _ (given_told g))) (gathered_hands c.args.product c.args.pool.now c.gather_factors.new.pool c.requires.product c.in-Joined.is c.in_ok-answer.ensures.gathered c.in_ok-answer.ensures.counted_among c.in_ok-answer.ensures.few_numbers c.in_ok-answer.ensures.powers c.in_ok-answer.ensures.spanned c.in_ok-answer.ensures.factors_held) gs ns k s in
-    passed_on c.from_residual-in_err-joined-in-Joined.result c.in_err-joined-in-Joined.field-0.0 _ c.from_residual-in_err-joined-in-Joined.ensures.0 c.from_residual-in_err-joined-in-Joined.ensures.1
-    (lacks_as c.in_err-joined-in-Joined.field-0.0 (c.in_err-joined-in-Joined.ensures.room gs ns x.calm x.spanned) (λ l. omega (arith, l, x.needs, replaced_free c.requires.stands c.in_ok-answer.ensures.stands c.in_ok-answer.ensures.kept c.requires.handed g)))
-
-pub reduce_product-returns-in_ok-joined-in-Joined-clause-room : goal.reduce_product-returns-in_ok-joined-in-Joined-clause-room
-reduce_product-returns-in_ok-joined-in-Joined-clause-room t c = λ gs ns k s.
-    let first = is_gathered c.args.product c.args.pool.now c.gather_factors.new.pool c.in-Joined.is c.in_ok-answer.ensures.gathered in
-    let g = gives_next first c.in_ok-joined-in-Joined.ensures.ok (λ u y. y) in
-    let l = less_gathered _ _ _ (given_told first) (gathered_hands c.args.product c.args.pool.now c.gather_factors.new.pool c.requires.product c.in-Joined.is c.in_ok-answer.ensures.gathered c.in_ok-answer.ensures.counted_among c.in_ok-answer.ensures.few_numbers c.in_ok-answer.ensures.powers c.in_ok-answer.ensures.spanned c.in_ok-answer.ensures.factors_held) (given_told c.in_ok-joined-in-Joined.ensures.ok) in
-    let v : Tree = tree_of c.in_ok-joined-in-Joined.joined c.join_pairs.new.pool in
-    let x = handed_on (tree_of c.args.product c.args.pool.now) v c.requires.product l.is l.hands_on gs ns k s in
-    let kept = keeps_after _ _ _ c.in_ok-answer.ensures.kept c.in_ok-joined-in-Joined.ensures.kept in
-    result_lacks c.reduce_product.result (c.reduce_product.ensures.room gs ns x.calm x.spanned) (λ l. omega (arith, l, x.needs, replaced_free c.requires.stands c.in_ok-joined-in-Joined.ensures.stands kept c.requires.handed g))
-
 pub reduce_product-returns-in_err-answer-clause-defined : goal.reduce_product-returns-in_err-answer-clause-defined
 reduce_product-returns-in_err-answer-clause-defined t c = passed_on c.from_residual.result c.in_err-answer.field-0.0 _ c.from_residual.ensures.0 c.from_residual.ensures.1 c.in_err-answer.ensures.defined
-
-pub reduce_product-returns-in_err-joined-in-Joined-clause-defined : goal.reduce_product-returns-in_err-joined-in-Joined-clause-defined
-reduce_product-returns-in_err-joined-in-Joined-clause-defined t c =
-    let j = given_told (is_gathered c.args.product c.args.pool.now c.gather_factors.new.pool c.in-Joined.is c.in_ok-answer.ensures.gathered) in
-    passed_on c.from_residual-in_err-joined-in-Joined.result c.in_err-joined-in-Joined.field-0.0 _ c.from_residual-in_err-joined-in-Joined.ensures.0 c.from_residual-in_err-joined-in-Joined.ensures.1
-    (any_fault c.in_err-joined-in-Joined.field-0.0 _ j.joinable.defined)
-
-pub reduce_product-returns-in_ok-joined-in-Joined-clause-defined : goal.reduce_product-returns-in_ok-joined-in-Joined-clause-defined
-reduce_product-returns-in_ok-joined-in-Joined-clause-defined t c =
-    let j = given_told (is_gathered c.args.product c.args.pool.now c.gather_factors.new.pool c.in-Joined.is c.in_ok-answer.ensures.gathered) in
-    any_refusal c.reduce_product.result _ j.joinable.defined
 
 -- ---- join_pairs
 
@@ -227,16 +208,6 @@ pub reduce_product-returns-in_err-answer-clause-bits : goal.reduce_product-retur
 reduce_product-returns-in_err-answer-clause-bits t c = λ h l a few.
     passed_on c.from_residual.result c.in_err-answer.field-0.0 _ c.from_residual.ensures.0 c.from_residual.ensures.1 (c.in_err-answer.ensures.bits h l a few)
 
-pub reduce_product-returns-in_err-joined-in-Joined-clause-bits : goal.reduce_product-returns-in_err-joined-in-Joined-clause-bits
-reduce_product-returns-in_err-joined-in-Joined-clause-bits t c = λ h l a few.
-    passed_on c.from_residual-in_err-joined-in-Joined.result c.in_err-joined-in-Joined.field-0.0 _ c.from_residual-in_err-joined-in-Joined.ensures.0 c.from_residual-in_err-joined-in-Joined.ensures.1
-    (c.in_err-joined-in-Joined.ensures.bits h l ((gathered_hands c.args.product c.args.pool.now c.gather_factors.new.pool c.requires.product c.in-Joined.is c.in_ok-answer.ensures.gathered c.in_ok-answer.ensures.counted_among c.in_ok-answer.ensures.few_numbers c.in_ok-answer.ensures.powers c.in_ok-answer.ensures.spanned c.in_ok-answer.ensures.factors_held).held h l a) few)
-
-pub reduce_product-returns-in_ok-joined-in-Joined-clause-bits : goal.reduce_product-returns-in_ok-joined-in-Joined-clause-bits
-reduce_product-returns-in_ok-joined-in-Joined-clause-bits t c = λ h l a few.
-    let k = less_gathered _ _ _ (given_told (is_gathered c.args.product c.args.pool.now c.gather_factors.new.pool c.in-Joined.is c.in_ok-answer.ensures.gathered)) (gathered_hands c.args.product c.args.pool.now c.gather_factors.new.pool c.requires.product c.in-Joined.is c.in_ok-answer.ensures.gathered c.in_ok-answer.ensures.counted_among c.in_ok-answer.ensures.few_numbers c.in_ok-answer.ensures.powers c.in_ok-answer.ensures.spanned c.in_ok-answer.ensures.factors_held) (given_told c.in_ok-joined-in-Joined.ensures.ok) in
-    c.reduce_product.ensures.bits h l (k.hands_on.held h l a) few
-
 pub join_pairs-returns-in_err-joined-clause-bits : goal.join_pairs-returns-in_err-joined-clause-bits
 join_pairs-returns-in_err-joined-clause-bits t c = λ h l a few.
     passed_on c.from_residual.result c.in_err-joined.field-0.0 _ c.from_residual.ensures.0 c.from_residual.ensures.1 (c.in_err-joined.ensures.bits h l a few)
@@ -252,21 +223,21 @@ join_two-reduce_joint-requires t c =
     let j = pair_joined c.args.at (children_of (tree_of c.args.product c.args.pool.now)) _ c.requires.reduced c.requires.pair (given_told g) in
     (below_measure c.decreases (joint_falls (tree_of c.args.product c.args.pool.now) _ c.args.at j), (c.in_ok-joined.ensures.stands, (given_handed g, (ap is_mult j.is, j.joint))))
 
-pub join_two-returns-clause-ok : goal.join_two-returns-clause-ok
-join_two-returns-clause-ok t c =
+pub join_two-returns : goal.join_two-returns
+join_two-returns t c =
     let g = c.in_ok-joined.ensures.ok in
-    let ts = children_of (tree_of c.args.product c.args.pool.now) in
-    let j = pair_joined c.args.at ts _ c.requires.reduced c.requires.pair (given_told g) in
-    if_map c.reduce_joint.result _ _ c.reduce_joint.ensures.ok (λ h x. gives_next g x (λ r s. settled_less c.args.at ts _ r j s))
-
-pub join_two-returns-clause-within : goal.join_two-returns-clause-within
-join_two-returns-clause-within t c =
-    let g = c.in_ok-joined.ensures.ok in
-    let j = pair_joined c.args.at (children_of (tree_of c.args.product c.args.pool.now)) _ c.requires.reduced c.requires.pair (given_told g) in
-    if_map c.reduce_joint.result _ _ c.reduce_joint.ensures.ok (λ h x. settled_within c.args.at _ _ j.joint (given_told x))
-
-pub join_two-returns-clause-front : goal.join_two-returns-clause-front
-join_two-returns-clause-front t c = front_next c.in_ok-joined.ensures.ok c.join_neighbours.ensures.front c.reduce_joint.ensures.front
+    let u : Tree = tree_of c.args.product c.args.pool.now in
+    record {
+      ok = let ts = children_of (tree_of c.args.product c.args.pool.now) in let j = pair_joined c.args.at ts _ c.requires.reduced c.requires.pair (given_told g) in if_map c.reduce_joint.result _ _ c.reduce_joint.ensures.ok (λ h x. gives_next g x (λ r s. settled_less c.args.at ts _ r j s));
+      within = let j = pair_joined c.args.at (children_of (tree_of c.args.product c.args.pool.now)) _ c.requires.reduced c.requires.pair (given_told g) in if_map c.reduce_joint.result _ _ c.reduce_joint.ensures.ok (λ h x. settled_within c.args.at _ _ j.joint (given_told x));
+      front = front_next c.in_ok-joined.ensures.ok c.join_neighbours.ensures.front c.reduce_joint.ensures.front;
+      kept = search rules;
+      faults = search rules;
+      caused = search rules;
+      room = λ gs ns k s. let w = product_words u c.requires.product in let j = pair_joined c.args.at (children_of u) _ c.requires.reduced c.requires.pair (given_told g) in let from : IsJoinedFrom c.args.at (children_of u) (children_of (tree_of c.in_ok-joined.joined c.join_neighbours.new.pool)) = record { pair = c.requires.pair; reduced = c.requires.reduced; is = j.whole } in result_lacks c.reduce_joint.result (c.reduce_joint.ensures.room gs ns (children_of u) from (subst (IsCalmAtZero ns) w k) (subst (SpansTree gs) w s)) (λ l. omega (arith, l, replaced_free c.requires.stands c.in_ok-joined.ensures.stands c.in_ok-joined.ensures.kept c.requires.handed g));
+      bits = λ h l a few. let j = pair_joined c.args.at (children_of u) _ c.requires.reduced c.requires.pair (given_told c.in_ok-joined.ensures.ok) in let from : IsJoinedFrom c.args.at (children_of u) (children_of (tree_of c.in_ok-joined.joined c.join_neighbours.new.pool)) = record { pair = c.requires.pair; reduced = c.requires.reduced; is = j.whole } in c.reduce_joint.ensures.bits h l (children_of u) from a few;
+      stands = search rules;
+    }
 
 pub join_two-returns-in_err-joined-clause-room : goal.join_two-returns-in_err-joined-clause-room
 join_two-returns-in_err-joined-clause-room t c = λ gs ns k s.
@@ -275,23 +246,6 @@ join_two-returns-in_err-joined-clause-room t c = λ gs ns k s.
     passed_on c.from_residual.result (fault.Full c.in_err-joined.field-0.0) _ c.from_residual.ensures.0 c.from_residual.ensures.1
     (omega (arith, joint_lacks gs (children_of u) (free_of c.args.pool.now) c.requires.reduced (subst (SpansTree gs) w s).1 c.in_err-joined.ensures.room, ap size w))
 
-pub join_two-returns-clause-room : goal.join_two-returns-clause-room
-join_two-returns-clause-room t c = λ gs ns k s.
-    let g = c.in_ok-joined.ensures.ok in
-    let u : Tree = tree_of c.args.product c.args.pool.now in
-    let w = product_words u c.requires.product in
-    let j = pair_joined c.args.at (children_of u) _ c.requires.reduced c.requires.pair (given_told g) in
-    let from : IsJoinedFrom c.args.at (children_of u) (children_of (tree_of c.in_ok-joined.joined c.join_neighbours.new.pool)) = record { pair = c.requires.pair; reduced = c.requires.reduced; is = j.whole } in
-    result_lacks c.reduce_joint.result (c.reduce_joint.ensures.room gs ns (children_of u) from (subst (IsCalmAtZero ns) w k) (subst (SpansTree gs) w s))
-    (λ l. omega (arith, l, replaced_free c.requires.stands c.in_ok-joined.ensures.stands c.in_ok-joined.ensures.kept c.requires.handed g))
-
-pub join_two-returns-clause-bits : goal.join_two-returns-clause-bits
-join_two-returns-clause-bits t c = λ h l a few.
-    let u : Tree = tree_of c.args.product c.args.pool.now in
-    let j = pair_joined c.args.at (children_of u) _ c.requires.reduced c.requires.pair (given_told c.in_ok-joined.ensures.ok) in
-    let from : IsJoinedFrom c.args.at (children_of u) (children_of (tree_of c.in_ok-joined.joined c.join_neighbours.new.pool)) = record { pair = c.requires.pair; reduced = c.requires.reduced; is = j.whole } in
-    c.reduce_joint.ensures.bits h l (children_of u) from a few
-
 -- ---- reduce_joint
 
 pub reduce_joint-take_child-joint-requires-clause-within : goal.reduce_joint-take_child-joint-requires-clause-within
@@ -299,39 +253,36 @@ reduce_joint-take_child-joint-requires-clause-within t c =
     let o = over_product c.requires.handed c.requires.product in
     omega (arith, children_in c.requires.stands o, c.requires.joint.within)
 
-pub reduce_joint-sum_exponent-requires-clause-handed : goal.reduce_joint-sum_exponent-requires-clause-handed
-reduce_joint-sum_exponent-requires-clause-handed t c =
-    let o = over_product c.requires.handed c.requires.product in
-    let n = placed c.args.at _ c.requires.joint.within in
-    let a = factor_taken c.args.at n o (c.take_child-joint.ensures.last c.requires.handed.root) in
-    given_handed a.gives
-
-pub reduce_joint-sum_exponent-requires-clause-power : goal.reduce_joint-sum_exponent-requires-clause-power
-reduce_joint-sum_exponent-requires-clause-power t c =
+pub reduce_joint-sum_exponent-requires : goal.reduce_joint-sum_exponent-requires
+reduce_joint-sum_exponent-requires t c =
     let o = over_product c.requires.handed c.requires.product in
     let n = placed c.args.at _ c.requires.joint.within in
     let a = factor_taken c.args.at n o (c.take_child-joint.ensures.last c.requires.handed.root) in
     let r = ready_joint _ (joint_at c.requires.joint) in
-    subst (λ (x : Tree). x ≡ power_tree (base_in x) (add (children_of (exponent_in x)))) (sym (given_told a.gives)) r.is
+    record {
+      stands = search rules;
+      handed = given_handed a.gives;
+      power = subst (λ (x : Tree). x ≡ power_tree (base_in x) (add (children_of (exponent_in x)))) (sym (given_told a.gives)) r.is;
+      some = omega (arith, ap (λ (x : Tree). count (children_of (exponent_in x))) (given_told a.gives), r.some);
+      reduced = ap (λ (x : Tree). are_reduced (children_of (exponent_in x))) (given_told a.gives) ∙ r.reduced;
+    }
 
-pub reduce_joint-sum_exponent-requires-clause-some : goal.reduce_joint-sum_exponent-requires-clause-some
-reduce_joint-sum_exponent-requires-clause-some t c =
+pub reduce_joint-returns-in_err-power : goal.reduce_joint-returns-in_err-power
+reduce_joint-returns-in_err-power t c =
     let o = over_product c.requires.handed c.requires.product in
     let n = placed c.args.at _ c.requires.joint.within in
     let a = factor_taken c.args.at n o (c.take_child-joint.ensures.last c.requires.handed.root) in
-    let r = ready_joint _ (joint_at c.requires.joint) in
-    omega (arith, ap (λ (x : Tree). count (children_of (exponent_in x))) (given_told a.gives), r.some)
-
-pub reduce_joint-sum_exponent-requires-clause-reduced : goal.reduce_joint-sum_exponent-requires-clause-reduced
-reduce_joint-sum_exponent-requires-clause-reduced t c =
-    let o = over_product c.requires.handed c.requires.product in
-    let n = placed c.args.at _ c.requires.joint.within in
-    let a = factor_taken c.args.at n o (c.take_child-joint.ensures.last c.requires.handed.root) in
-    let r = ready_joint _ (joint_at c.requires.joint) in
-    ap (λ (x : Tree). are_reduced (children_of (exponent_in x))) (given_told a.gives) ∙ r.reduced
-
-pub reduce_joint-returns-in_err-power-clause-front : goal.reduce_joint-returns-in_err-power-clause-front
-reduce_joint-returns-in_err-power-clause-front t c = front_lost _ front_same (c.take_child-joint.ensures.last c.requires.handed.root) c.sum_exponent.ensures.front
+    let us : Trees = children_of (tree_of c.args.product c.args.pool.now) in
+    record {
+      ok = search rules;
+      front = front_lost _ front_same (c.take_child-joint.ensures.last c.requires.handed.root) c.sum_exponent.ensures.front;
+      kept = search rules;
+      faults = search rules;
+      caused = search rules;
+      room = λ gs ns ts k q s. let w = product_words (tree_of c.args.product c.args.pool.now) c.requires.product in let e = given_told a.gives in let same = taken_free c.requires.stands c.take_child-joint.ensures.stands c.take_child-joint.ensures.kept o a (placed_bytes n) in let x : Tree = tree_of c.take_child-joint.result c.take_child-joint.new.pool in passed_on c.from_residual.result c.in_err-power.field-0.0 _ c.from_residual.ensures.0 c.from_residual.ensures.1 (lacks_as c.in_err-power.field-0.0 (c.in_err-power.ensures.room gs (subst (SpansTree gs) (sym e) (joint_at_spans gs c.args.at ts us k s.1))) (λ l. omega (arith, joint_sum_lacks gs c.args.at ts us k s.1 x (free_of c.take_child-joint.new.pool) (free_of c.args.pool.now) e same l, ap size w)));
+      bits = λ h l ts k b few. passed_on c.from_residual.result c.in_err-power.field-0.0 _ c.from_residual.ensures.0 c.from_residual.ensures.1 (c.in_err-power.ensures.bits 8 0 (joint_exponents c.args.at ts us k (tree_of c.take_child-joint.result c.take_child-joint.new.pool) (given_told a.gives) h l b few) (omega arith));
+      stands = search rules;
+    }
 
 pub reduce_joint-reduce_power-requires : goal.reduce_joint-reduce_power-requires
 reduce_joint-reduce_power-requires t c =
@@ -344,41 +295,38 @@ reduce_joint-reduce_power-requires t c =
     let y = ready_summed _ _ _ r.base_reduced s in
     (below_measure c.decreases (power_falls (tree_of c.args.product c.args.pool.now) _ c.args.at r.is s), (c.in_ok-power.ensures.stands, (given_handed g, (y.is, (y.base_reduced, y.exponent_reduced)))))
 
-pub reduce_joint-returns-in_err-factor-clause-front : goal.reduce_joint-returns-in_err-factor-clause-front
-reduce_joint-returns-in_err-factor-clause-front t c =
+pub reduce_joint-returns-in_err-factor : goal.reduce_joint-returns-in_err-factor
+reduce_joint-returns-in_err-factor t c =
     let o = over_product c.requires.handed c.requires.product in
     let n = placed c.args.at _ c.requires.joint.within in
     let a = factor_taken c.args.at n o (c.take_child-joint.ensures.last c.requires.handed.root) in
-    let lost = front_lost _ front_same (c.take_child-joint.ensures.last c.requires.handed.root) c.sum_exponent.ensures.front in
-    let g = gives_as c.in_ok-power.ensures.ok (given_rest a.gives) (λ u x. x) in
-    front_after_one (behind_new g.ends (front_put a.now behind_first front_same)) lost c.reduce_power.ensures.front
+    let us : Trees = children_of (tree_of c.args.product c.args.pool.now) in
+    let e = given_told a.gives in
+    let v : Tree = tree_of c.in_ok-power.power c.sum_exponent.new.pool in
+    record {
+      ok = search rules;
+      front = let lost = front_lost _ front_same (c.take_child-joint.ensures.last c.requires.handed.root) c.sum_exponent.ensures.front in let g = gives_as c.in_ok-power.ensures.ok (given_rest a.gives) (λ u x. x) in front_after_one (behind_new g.ends (front_put a.now behind_first front_same)) lost c.reduce_power.ensures.front;
+      kept = search rules;
+      faults = search rules;
+      caused = search rules;
+      room = λ gs ns ts k q s. let w = product_words (tree_of c.args.product c.args.pool.now) c.requires.product in let g = c.in_ok-power.ensures.ok in let x : Tree = tree_of c.take_child-joint.result c.take_child-joint.new.pool in let m = subst (λ (y : Tree). IsSummed (base_in y) (children_of (exponent_in y)) v) e (given_told g) in let same = taken_free c.requires.stands c.take_child-joint.ensures.stands c.take_child-joint.ensures.kept o a (placed_bytes n) in let moved = replaced_free c.take_child-joint.ensures.stands c.in_ok-power.ensures.stands c.in_ok-power.ensures.kept (given_handed a.gives) g in let y = joint_ready gs ns c.args.at ts us v k q s m in passed_on c.from_residual-in_err-factor.result c.in_err-factor.field-0.0 _ c.from_residual-in_err-factor.ensures.0 c.from_residual-in_err-factor.ensures.1 (power_refused _ _ v c.in_err-factor.field-0.0 y.is y.calm (λ h. lacks_as c.in_err-factor.field-0.0 (c.in_err-factor.ensures.room gs ns y.calm y.spanned h) (λ l. omega (arith, joint_power_short gs c.args.at ts us k s.1 x v (free_of c.sum_exponent.new.pool + size v) (free_of c.args.pool.now) e (ap base_in m.is ∙ sym (ap base_in e)) (omega (arith, moved, same)) l, ap size w))) (λ h z. c.in_err-factor.ensures.others h z));
+      bits = λ h l ts k b few. let m = given_told c.in_ok-power.ensures.ok in passed_on c.from_residual-in_err-factor.result c.in_err-factor.field-0.0 _ c.from_residual-in_err-factor.ensures.0 c.from_residual-in_err-factor.ensures.1 (joint_fits c.args.at ts us k (tree_of c.take_child-joint.result c.take_child-joint.new.pool) e {A = ℕ} v h l (Err c.in_err-factor.field-0.0) m b few c.in_err-factor.ensures.bits c.in_err-factor.ensures.others);
+      stands = search rules;
+    }
 
-pub reduce_joint-add_child-requires-clause-live : goal.reduce_joint-add_child-requires-clause-live
-reduce_joint-add_child-requires-clause-live t c =
-    let o = over_product c.requires.handed c.requires.product in
-    let n = placed c.args.at _ c.requires.joint.within in
-    let a = factor_taken c.args.at n o (c.take_child-joint.ensures.last c.requires.handed.root) in
-    let g = itself (gives_next c.in_ok-power.ensures.ok c.in_ok-factor.ensures.ok (λ u x. x)) in
-    root_held c.args.product _ (over_back o a g).root
-
-pub reduce_joint-add_child-requires-clause-within : goal.reduce_joint-add_child-requires-clause-within
-reduce_joint-add_child-requires-clause-within t c =
-    let o = over_product c.requires.handed c.requires.product in
-    let n = placed c.args.at _ c.requires.joint.within in
-    let a = factor_taken c.args.at n o (c.take_child-joint.ensures.last c.requires.handed.root) in
-    let g = itself (gives_next c.in_ok-power.ensures.ok c.in_ok-factor.ensures.ok (λ u x. x)) in
-    omega (arith, children_in c.in_ok-factor.ensures.stands (over_back o a g), n.within)
-
-pub reduce_joint-add_child-requires-clause-root : goal.reduce_joint-add_child-requires-clause-root
-reduce_joint-add_child-requires-clause-root t c = given_root c.in_ok-factor.ensures.ok
-
-pub reduce_joint-add_child-requires-clause-apart : goal.reduce_joint-add_child-requires-clause-apart
-reduce_joint-add_child-requires-clause-apart t c =
+pub reduce_joint-add_child-requires : goal.reduce_joint-add_child-requires
+reduce_joint-add_child-requires t c =
     let o = over_product c.requires.handed c.requires.product in
     let n = placed c.args.at _ c.requires.joint.within in
     let a = factor_taken c.args.at n o (c.take_child-joint.ensures.last c.requires.handed.root) in
     let g = itself (gives_next c.in_ok-power.ensures.ok c.in_ok-factor.ensures.ok (λ u x. x)) in
-    apart_back c.in_ok-factor.ensures.stands o a g
+    record {
+      stands = search rules;
+      live = root_held c.args.product _ (over_back o a g).root;
+      within = omega (arith, children_in c.in_ok-factor.ensures.stands (over_back o a g), n.within);
+      root = given_root c.in_ok-factor.ensures.ok;
+      apart = apart_back c.in_ok-factor.ensures.stands o a g;
+    }
 
 pub reduce_joint-move_last-requires-clause-root : goal.reduce_joint-move_last-requires-clause-root
 reduce_joint-move_last-requires-clause-root t c =
@@ -388,88 +336,23 @@ reduce_joint-move_last-requires-clause-root t c =
     let g = itself (gives_next c.in_ok-power.ensures.ok c.in_ok-factor.ensures.ok (λ u x. x)) in
     (put_back o a g (c.add_child.ensures.root (over_back o a g).root) (factor_inserted c.args.at n _)).over.root
 
-pub reduce_joint-returns-clause-ok : goal.reduce_joint-returns-clause-ok
-reduce_joint-returns-clause-ok t c =
+pub reduce_joint-returns : goal.reduce_joint-returns
+reduce_joint-returns t c =
     let o = over_product c.requires.handed c.requires.product in
     let n = placed c.args.at _ c.requires.joint.within in
     let a = factor_taken c.args.at n o (c.take_child-joint.ensures.last c.requires.handed.root) in
     let g = itself (gives_next c.in_ok-power.ensures.ok c.in_ok-factor.ensures.ok (λ u x. x)) in
     let p = put_back o a g (c.add_child.ensures.root (over_back o a g).root) (factor_inserted c.args.at n _) in
-    let s = subst (λ (x : Tree). IsSummed (base_in x) (children_of (exponent_in x)) (tree_of c.in_ok-power.power c.sum_exponent.new.pool)) (given_told a.gives) (given_told c.in_ok-power.ensures.ok) in
-    moved p refl c.move_last.ensures.last (record {
-      exponent = s.exponent;
-      sum = s.sum;
-      room = s.room;
-      counts = s.counts;
-      factor = tree_of c.in_ok-factor.factor c.reduce_power.new.pool;
-      answer = subst (λ (x : Tree). IsReducedPower (base_in x) (exponent_in x) (tree_of c.in_ok-factor.factor c.reduce_power.new.pool)) s.is (given_told c.in_ok-factor.ensures.ok);
-      is = refl;
-    })
-
-pub reduce_joint-returns-clause-front : goal.reduce_joint-returns-clause-front
-reduce_joint-returns-clause-front t c =
-    let o = over_product c.requires.handed c.requires.product in
-    let n = placed c.args.at _ c.requires.joint.within in
-    let a = factor_taken c.args.at n o (c.take_child-joint.ensures.last c.requires.handed.root) in
-    let g = itself (gives_next c.in_ok-power.ensures.ok c.in_ok-factor.ensures.ok (λ u x. x)) in
-    let p = put_back o a g (c.add_child.ensures.root (over_back o a g).root) (factor_inserted c.args.at n _) in
-    moved_front p c.move_last.ensures.last
-
-pub reduce_joint-returns-in_err-power-clause-room : goal.reduce_joint-returns-in_err-power-clause-room
-reduce_joint-returns-in_err-power-clause-room t c = λ gs ns ts k q s.
-    let o = over_product c.requires.handed c.requires.product in
-    let n = placed c.args.at _ c.requires.joint.within in
-    let a = factor_taken c.args.at n o (c.take_child-joint.ensures.last c.requires.handed.root) in
-    let us : Trees = children_of (tree_of c.args.product c.args.pool.now) in
-    let w = product_words (tree_of c.args.product c.args.pool.now) c.requires.product in
-    let e = given_told a.gives in
-    let same = taken_free c.requires.stands c.take_child-joint.ensures.stands c.take_child-joint.ensures.kept o a (placed_bytes n) in
-    let x : Tree = tree_of c.take_child-joint.result c.take_child-joint.new.pool in
-    passed_on c.from_residual.result c.in_err-power.field-0.0 _ c.from_residual.ensures.0 c.from_residual.ensures.1
-    (lacks_as c.in_err-power.field-0.0 (c.in_err-power.ensures.room gs (subst (SpansTree gs) (sym e) (joint_at_spans gs c.args.at ts us k s.1)))
-    (λ l. omega (arith, joint_sum_lacks gs c.args.at ts us k s.1 x (free_of c.take_child-joint.new.pool) (free_of c.args.pool.now) e same l, ap size w)))
-
-pub reduce_joint-returns-in_err-factor-clause-room : goal.reduce_joint-returns-in_err-factor-clause-room
-reduce_joint-returns-in_err-factor-clause-room t c = λ gs ns ts k q s.
-    let o = over_product c.requires.handed c.requires.product in
-    let n = placed c.args.at _ c.requires.joint.within in
-    let a = factor_taken c.args.at n o (c.take_child-joint.ensures.last c.requires.handed.root) in
-    let us : Trees = children_of (tree_of c.args.product c.args.pool.now) in
-    let w = product_words (tree_of c.args.product c.args.pool.now) c.requires.product in
-    let e = given_told a.gives in
-    let g = c.in_ok-power.ensures.ok in
-    let x : Tree = tree_of c.take_child-joint.result c.take_child-joint.new.pool in
-    let v : Tree = tree_of c.in_ok-power.power c.sum_exponent.new.pool in
-    let m = subst (λ (y : Tree). IsSummed (base_in y) (children_of (exponent_in y)) v) e (given_told g) in
-    let same = taken_free c.requires.stands c.take_child-joint.ensures.stands c.take_child-joint.ensures.kept o a (placed_bytes n) in
-    let moved = replaced_free c.take_child-joint.ensures.stands c.in_ok-power.ensures.stands c.in_ok-power.ensures.kept (given_handed a.gives) g in
-    let y = joint_ready gs ns c.args.at ts us v k q s m in
-    passed_on c.from_residual-in_err-factor.result c.in_err-factor.field-0.0 _ c.from_residual-in_err-factor.ensures.0 c.from_residual-in_err-factor.ensures.1
-    (power_refused _ _ v c.in_err-factor.field-0.0 y.is y.calm
-    (λ h. lacks_as c.in_err-factor.field-0.0 (c.in_err-factor.ensures.room gs ns y.calm y.spanned h)
-    (λ l. omega (arith, joint_power_short gs c.args.at ts us k s.1 x v (free_of c.sum_exponent.new.pool + size v) (free_of c.args.pool.now) e (ap base_in m.is ∙ sym (ap base_in e)) (omega (arith, moved, same)) l, ap size w)))
-    (λ h z. c.in_err-factor.ensures.others h z))
-
-pub reduce_joint-returns-in_err-power-clause-bits : goal.reduce_joint-returns-in_err-power-clause-bits
-reduce_joint-returns-in_err-power-clause-bits t c = λ h l ts k b few.
-    let o = over_product c.requires.handed c.requires.product in
-    let n = placed c.args.at _ c.requires.joint.within in
-    let a = factor_taken c.args.at n o (c.take_child-joint.ensures.last c.requires.handed.root) in
-    let us : Trees = children_of (tree_of c.args.product c.args.pool.now) in
-    passed_on c.from_residual.result c.in_err-power.field-0.0 _ c.from_residual.ensures.0 c.from_residual.ensures.1
-    (c.in_err-power.ensures.bits 8 0 (joint_exponents c.args.at ts us k (tree_of c.take_child-joint.result c.take_child-joint.new.pool) (given_told a.gives) h l b few) (omega arith))
-
-pub reduce_joint-returns-in_err-factor-clause-bits : goal.reduce_joint-returns-in_err-factor-clause-bits
-reduce_joint-returns-in_err-factor-clause-bits t c = λ h l ts k b few.
-    let o = over_product c.requires.handed c.requires.product in
-    let n = placed c.args.at _ c.requires.joint.within in
-    let a = factor_taken c.args.at n o (c.take_child-joint.ensures.last c.requires.handed.root) in
-    let us : Trees = children_of (tree_of c.args.product c.args.pool.now) in
-    let e = given_told a.gives in
-    let v : Tree = tree_of c.in_ok-power.power c.sum_exponent.new.pool in
-    let m = given_told c.in_ok-power.ensures.ok in
-    passed_on c.from_residual-in_err-factor.result c.in_err-factor.field-0.0 _ c.from_residual-in_err-factor.ensures.0 c.from_residual-in_err-factor.ensures.1
-    (joint_fits c.args.at ts us k (tree_of c.take_child-joint.result c.take_child-joint.new.pool) e {A = ℕ} v h l (Err c.in_err-factor.field-0.0) m b few c.in_err-factor.ensures.bits c.in_err-factor.ensures.others)
+    record {
+      ok = let s = subst (λ (x : Tree). IsSummed (base_in x) (children_of (exponent_in x)) (tree_of c.in_ok-power.power c.sum_exponent.new.pool)) (given_told a.gives) (given_told c.in_ok-power.ensures.ok) in moved p refl c.move_last.ensures.last (record { exponent = s.exponent; sum = s.sum; room = s.room; counts = s.counts; factor = tree_of c.in_ok-factor.factor c.reduce_power.new.pool; answer = subst (λ (x : Tree). IsReducedPower (base_in x) (exponent_in x) (tree_of c.in_ok-factor.factor c.reduce_power.new.pool)) s.is (given_told c.in_ok-factor.ensures.ok); is = refl });
+      front = moved_front p c.move_last.ensures.last;
+      kept = search rules;
+      faults = search rules;
+      caused = search rules;
+      room = search rules;
+      bits = search rules;
+      stands = search rules;
+    }
 
 -- ---- reduce_power
 
@@ -493,15 +376,24 @@ reduce_power-reduce_rewritten-requires t c =
     let o = opened _ _ _ (sym c.has_half_exponent.ensures ∙ c.if-has_half_exponent.false) c.requires.base c.requires.exponent w.0 in
     (below_measure c.decreases (rewritten_falls _ _ c.requires.power o), (c.in_ok-answer.ensures.stands, (given_handed g, o.unfinished)))
 
-pub reduce_power-returns-in-Again-clause-ok : goal.reduce_power-returns-in-Again-clause-ok
-reduce_power-returns-in-Again-clause-ok t c =
+pub reduce_power-returns-in-Again : goal.reduce_power-returns-in-Again
+reduce_power-returns-in-Again t c =
     let g = is_again c.args.power c.args.pool.now c.power_step.new.pool c.in-Again.is c.in_ok-answer.ensures.ok in
-    let w = given_told g in
-    let same = subst (λ (x : Tree). Rewrites x (tree_of c.in-Again.tree c.power_step.new.pool)) c.requires.power w.1 in
-    if_map c.reduce_rewritten.result _ _ c.reduce_rewritten.ensures.ok (λ h x. gives_next g x (λ r f. power_after _ _ _ r (sym c.has_half_exponent.ensures ∙ c.if-has_half_exponent.false) c.requires.base c.requires.exponent (w.0, same) f))
-
-pub reduce_power-returns-in-Again-clause-front : goal.reduce_power-returns-in-Again-clause-front
-reduce_power-returns-in-Again-clause-front t c = front_next (is_again c.args.power c.args.pool.now c.power_step.new.pool c.in-Again.is c.in_ok-answer.ensures.ok) c.power_step.ensures.front c.reduce_rewritten.ensures.front
+    record {
+      ok = let w = given_told g in let same = subst (λ (x : Tree). Rewrites x (tree_of c.in-Again.tree c.power_step.new.pool)) c.requires.power w.1 in if_map c.reduce_rewritten.result _ _ c.reduce_rewritten.ensures.ok (λ h x. gives_next g x (λ r f. power_after _ _ _ r (sym c.has_half_exponent.ensures ∙ c.if-has_half_exponent.false) c.requires.base c.requires.exponent (w.0, same) f));
+      rationals = search rules;
+      defined = any_refusal c.reduce_rewritten.result _ (rewritten_defined (tree_of c.args.power c.args.pool.now) _ c.requires.power (sym c.has_half_exponent.ensures ∙ c.if-has_half_exponent.false) (given_told g).0);
+      front = front_next (is_again c.args.power c.args.pool.now c.power_step.new.pool c.in-Again.is c.in_ok-answer.ensures.ok) c.power_step.ensures.front c.reduce_rewritten.ensures.front;
+      kept = search rules;
+      faults = search rules;
+      caused = search rules;
+      room = λ gs ns k s w. let n = sym c.has_half_exponent.ensures ∙ c.if-has_half_exponent.false in let r = is_rewritten _ _ _ n c.requires.base c.requires.exponent (given_told g).0 in result_lacks c.reduce_rewritten.result (c.reduce_rewritten.ensures.room gs ns _ _ r (subst (IsCalmAtZero ns) c.requires.power k) (subst (SpansTree gs) c.requires.power s)) (λ l. omega (arith, l, replaced_free c.requires.stands c.in_ok-answer.ensures.stands c.in_ok-answer.ensures.kept c.requires.handed g));
+      root_room = λ gs h s. contrary _ h (sym c.has_half_exponent.ensures ∙ c.if-has_half_exponent.false);
+      others = λ w h. let r = is_rewritten _ _ _ h c.requires.base c.requires.exponent (given_told g).0 in contrary _ r.whole w;
+      bits = λ n h l q a few. let r = is_rewritten _ _ _ (sym c.has_half_exponent.ensures ∙ c.if-has_half_exponent.false) c.requires.base c.requires.exponent (given_told g).0 in c.reduce_rewritten.ensures.bits _ _ n h l r q a few;
+      root_bits = λ h l e z a few more. contrary _ e (sym c.has_half_exponent.ensures ∙ c.if-has_half_exponent.false);
+      stands = search rules;
+    }
 
 pub reduce_power-returns-then-has_half_exponent-clause-room : goal.reduce_power-returns-then-has_half_exponent-clause-room
 reduce_power-returns-then-has_half_exponent-clause-room t c = λ gs ns k s w. contrary _ (sym c.has_half_exponent.ensures ∙ c.if-has_half_exponent.true) (whole_no_half (exponent_in (tree_of c.args.power c.args.pool.now)) w)
@@ -523,32 +415,10 @@ reduce_power-returns-in_err-answer-clause-root_room t c = λ gs h s. contrary _ 
 pub reduce_power-returns-in_err-answer-clause-others : goal.reduce_power-returns-in_err-answer-clause-others
 reduce_power-returns-in_err-answer-clause-others t c = λ w h. let no : false ≡ true = c.in_err-answer.ensures.others w h in cc
 
-pub reduce_power-returns-in-Again-clause-room : goal.reduce_power-returns-in-Again-clause-room
-reduce_power-returns-in-Again-clause-room t c = λ gs ns k s w.
-    let g = is_again c.args.power c.args.pool.now c.power_step.new.pool c.in-Again.is c.in_ok-answer.ensures.ok in
-    let n = sym c.has_half_exponent.ensures ∙ c.if-has_half_exponent.false in
-    let r = is_rewritten _ _ _ n c.requires.base c.requires.exponent (given_told g).0 in
-    result_lacks c.reduce_rewritten.result (c.reduce_rewritten.ensures.room gs ns _ _ r (subst (IsCalmAtZero ns) c.requires.power k) (subst (SpansTree gs) c.requires.power s))
-    (λ l. omega (arith, l, replaced_free c.requires.stands c.in_ok-answer.ensures.stands c.in_ok-answer.ensures.kept c.requires.handed g))
-
-pub reduce_power-returns-in-Again-clause-root_room : goal.reduce_power-returns-in-Again-clause-root_room
-reduce_power-returns-in-Again-clause-root_room t c = λ gs h s. contrary _ h (sym c.has_half_exponent.ensures ∙ c.if-has_half_exponent.false)
-
-pub reduce_power-returns-in-Again-clause-others : goal.reduce_power-returns-in-Again-clause-others
-reduce_power-returns-in-Again-clause-others t c = λ w h.
-    let g = is_again c.args.power c.args.pool.now c.power_step.new.pool c.in-Again.is c.in_ok-answer.ensures.ok in
-    let r = is_rewritten _ _ _ h c.requires.base c.requires.exponent (given_told g).0 in
-    contrary _ r.whole w
-
 pub reduce_power-returns-in_err-answer-clause-defined : goal.reduce_power-returns-in_err-answer-clause-defined
 reduce_power-returns-in_err-answer-clause-defined t c =
     passed_on c.from_residual.result c.in_err-answer.field-0.0 _ c.from_residual.ensures.0 c.from_residual.ensures.1
     (misfit_fault (tree_of c.args.power c.args.pool.now) c.in_err-answer.field-0.0 c.requires.power c.in_err-answer.ensures.overflow)
-
-pub reduce_power-returns-in-Again-clause-defined : goal.reduce_power-returns-in-Again-clause-defined
-reduce_power-returns-in-Again-clause-defined t c =
-    let g = is_again c.args.power c.args.pool.now c.power_step.new.pool c.in-Again.is c.in_ok-answer.ensures.ok in
-    any_refusal c.reduce_rewritten.result _ (rewritten_defined (tree_of c.args.power c.args.pool.now) _ c.requires.power (sym c.has_half_exponent.ensures ∙ c.if-has_half_exponent.false) (given_told g).0)
 
 pub reduce_power-returns-then-has_half_exponent-clause-bits : goal.reduce_power-returns-then-has_half_exponent-clause-bits
 reduce_power-returns-then-has_half_exponent-clause-bits t c = λ n h l q a few. half_no_whole (exponent_in (tree_of c.args.power c.args.pool.now)) n (sym c.has_half_exponent.ensures ∙ c.if-has_half_exponent.true) q
@@ -562,15 +432,6 @@ reduce_power-returns-in_err-answer-clause-bits t c = λ n h l q a few.
 
 pub reduce_power-returns-in_err-answer-clause-root_bits : goal.reduce_power-returns-in_err-answer-clause-root_bits
 reduce_power-returns-in_err-answer-clause-root_bits t c = λ h l e z a few more. contrary _ e (sym c.has_half_exponent.ensures ∙ c.if-has_half_exponent.false)
-
-pub reduce_power-returns-in-Again-clause-bits : goal.reduce_power-returns-in-Again-clause-bits
-reduce_power-returns-in-Again-clause-bits t c = λ n h l q a few.
-    let g = is_again c.args.power c.args.pool.now c.power_step.new.pool c.in-Again.is c.in_ok-answer.ensures.ok in
-    let r = is_rewritten _ _ _ (sym c.has_half_exponent.ensures ∙ c.if-has_half_exponent.false) c.requires.base c.requires.exponent (given_told g).0 in
-    c.reduce_rewritten.ensures.bits _ _ n h l r q a few
-
-pub reduce_power-returns-in-Again-clause-root_bits : goal.reduce_power-returns-in-Again-clause-root_bits
-reduce_power-returns-in-Again-clause-root_bits t c = λ h l e z a few more. contrary _ e (sym c.has_half_exponent.ensures ∙ c.if-has_half_exponent.false)
 
 -- ---- reduce_rewritten
 
@@ -589,14 +450,20 @@ reduce_rewritten-reduce_product-requires t c =
     let y = ready_product _ _ m c.requires.unfinished (given_told g) in
     (below_measure c.decreases (ready_product_falls _ _ y), (c.in_ok-product-in-Mult.ensures.stands, (given_handed g, (y.is, (y.some, y.reduced)))))
 
-pub reduce_rewritten-returns-in_ok-product-in-Mult-clause-ok : goal.reduce_rewritten-returns-in_ok-product-in-Mult-clause-ok
-reduce_rewritten-returns-in_ok-product-in-Mult-clause-ok t c =
+pub reduce_rewritten-returns-in_ok-product-in-Mult : goal.reduce_rewritten-returns-in_ok-product-in-Mult
+reduce_rewritten-returns-in_ok-product-in-Mult t c =
     let m = product_kind _ (sym c.in-Mult.is ∙ kind_of_root {k = c.kind.result} c.id.ensures c.requires.stands c.requires.handed c.kind.ensures.plain) in
     let g = c.in_ok-product-in-Mult.ensures.ok in
-    if_map c.reduce_product.result _ _ c.reduce_product.ensures.ok (λ h x. gives_next g x (λ r a. product_of_powers _ _ r m c.requires.unfinished (given_told g) a))
-
-pub reduce_rewritten-returns-in_ok-product-in-Mult-clause-front : goal.reduce_rewritten-returns-in_ok-product-in-Mult-clause-front
-reduce_rewritten-returns-in_ok-product-in-Mult-clause-front t c = front_next c.in_ok-product-in-Mult.ensures.ok c.reduce_powers.ensures.front c.reduce_product.ensures.front
+    record {
+      ok = if_map c.reduce_product.result _ _ c.reduce_product.ensures.ok (λ h x. gives_next g x (λ r a. product_of_powers _ _ r m c.requires.unfinished (given_told g) a));
+      front = front_next c.in_ok-product-in-Mult.ensures.ok c.reduce_powers.ensures.front c.reduce_product.ensures.front;
+      kept = search rules;
+      faults = search rules;
+      caused = search rules;
+      room = λ gs ns b e r k s. let m = product_kind _ (sym c.in-Mult.is ∙ kind_of_root {k = c.kind.result} c.id.ensures c.requires.stands c.requires.handed c.kind.ensures.plain) in let x = ready_for_product gs ns b e (tree_of c.args.tree c.args.pool.now) (tree_of c.in_ok-product-in-Mult.product c.reduce_powers.new.pool) m r k s (given_told g) in result_lacks c.reduce_product.result (c.reduce_product.ensures.room gs ns x.calm x.spanned) (λ l. omega (arith, x.lacks _ l, replaced_free c.requires.stands c.in_ok-product-in-Mult.ensures.stands c.in_ok-product-in-Mult.ensures.kept c.requires.handed g));
+      bits = λ b e n h l r q a few. let v : Tree = tree_of c.in_ok-product-in-Mult.product c.reduce_powers.new.pool in product_fits (children_of v) c.reduce_product.result (λ d. c.reduce_product.ensures.bits (raised_high n h l) (raised_low n h l) (powers_ready b e (tree_of c.args.tree c.args.pool.now) v n h l m r (given_told c.in_ok-product-in-Mult.ensures.ok) q a d) few) c.reduce_product.ensures.defined;
+      stands = search rules;
+    }
 
 pub reduce_rewritten-reduce_exponent-requires : goal.reduce_rewritten-reduce_exponent-requires
 reduce_rewritten-reduce_exponent-requires t c =
@@ -638,14 +505,6 @@ pub reduce_rewritten-returns-in_err-product-in-Mult-clause-room : goal.reduce_re
 reduce_rewritten-returns-in_err-product-in-Mult-clause-room t c = λ gs ns b e r k s.
     passed_on c.from_residual.result c.in_err-product-in-Mult.field-0.0 _ c.from_residual.ensures.0 c.from_residual.ensures.1 (c.in_err-product-in-Mult.ensures.room gs ns b e r k s)
 
-pub reduce_rewritten-returns-in_ok-product-in-Mult-clause-room : goal.reduce_rewritten-returns-in_ok-product-in-Mult-clause-room
-reduce_rewritten-returns-in_ok-product-in-Mult-clause-room t c = λ gs ns b e r k s.
-    let m = product_kind _ (sym c.in-Mult.is ∙ kind_of_root {k = c.kind.result} c.id.ensures c.requires.stands c.requires.handed c.kind.ensures.plain) in
-    let g = c.in_ok-product-in-Mult.ensures.ok in
-    let x = ready_for_product gs ns b e (tree_of c.args.tree c.args.pool.now) (tree_of c.in_ok-product-in-Mult.product c.reduce_powers.new.pool) m r k s (given_told g) in
-    result_lacks c.reduce_product.result (c.reduce_product.ensures.room gs ns x.calm x.spanned)
-    (λ l. omega (arith, x.lacks _ l, replaced_free c.requires.stands c.in_ok-product-in-Mult.ensures.stands c.in_ok-product-in-Mult.ensures.kept c.requires.handed g))
-
 pub reduce_rewritten-returns-in_err-power-in_default-clause-room : goal.reduce_rewritten-returns-in_err-power-in_default-clause-room
 reduce_rewritten-returns-in_err-power-in_default-clause-room t c = λ gs ns b e r k s.
     passed_on c.from_residual-in_err-power-in_default.result c.in_err-power-in_default.field-0.0 _ c.from_residual-in_err-power-in_default.ensures.0 c.from_residual-in_err-power-in_default.ensures.1 (c.in_err-power-in_default.ensures.room gs ns b e r k s)
@@ -653,14 +512,6 @@ reduce_rewritten-returns-in_err-power-in_default-clause-room t c = λ gs ns b e 
 pub reduce_rewritten-returns-in_err-product-in-Mult-clause-bits : goal.reduce_rewritten-returns-in_err-product-in-Mult-clause-bits
 reduce_rewritten-returns-in_err-product-in-Mult-clause-bits t c = λ b e n h l r q a few.
     passed_on c.from_residual.result c.in_err-product-in-Mult.field-0.0 _ c.from_residual.ensures.0 c.from_residual.ensures.1 (c.in_err-product-in-Mult.ensures.bits b e n h l r q a few)
-
-pub reduce_rewritten-returns-in_ok-product-in-Mult-clause-bits : goal.reduce_rewritten-returns-in_ok-product-in-Mult-clause-bits
-reduce_rewritten-returns-in_ok-product-in-Mult-clause-bits t c = λ b e n h l r q a few.
-    let m = product_kind _ (sym c.in-Mult.is ∙ kind_of_root {k = c.kind.result} c.id.ensures c.requires.stands c.requires.handed c.kind.ensures.plain) in
-    let v : Tree = tree_of c.in_ok-product-in-Mult.product c.reduce_powers.new.pool in
-    product_fits (children_of v) c.reduce_product.result
-    (λ d. c.reduce_product.ensures.bits (raised_high n h l) (raised_low n h l) (powers_ready b e (tree_of c.args.tree c.args.pool.now) v n h l m r (given_told c.in_ok-product-in-Mult.ensures.ok) q a d) few)
-    c.reduce_product.ensures.defined
 
 pub reduce_rewritten-returns-in_err-power-in_default-clause-bits : goal.reduce_rewritten-returns-in_err-power-in_default-clause-bits
 reduce_rewritten-returns-in_err-power-in_default-clause-bits t c = λ b e n h l r q a few.
@@ -692,35 +543,33 @@ reduce_powers-reduce_power-requires t c =
     let q = subst (IsPowerOf (children_of (tree_of c.args.product c.args.pool.now))) (sym (given_told a.gives)) (next_of n c.requires.powers) in
     (below_measure c.decreases (one_power_falls (tree_of c.args.product c.args.pool.now) _ q), (c.take_child-power.ensures.stands, (given_handed a.gives, (q.transparent.is, (q.transparent.base_reduced, q.transparent.exponent_reduced)))))
 
-pub reduce_powers-returns-in_err-reduced-clause-front : goal.reduce_powers-returns-in_err-reduced-clause-front
-reduce_powers-returns-in_err-reduced-clause-front t c =
-    let many = c.children-powers.ensures.value ∙ children_at (over_product c.requires.handed c.requires.product) c.requires.stands c.id.ensures in
-    let n = next_power c.loop-at.invariant.part (omega (arith, many, c.loop-at-test.true)) in
-    front_lost _ (part_front c.loop-at.invariant.part) (c.take_child-power.ensures.last n.over.root) c.reduce_power.ensures.front
+pub reduce_powers-returns-in_err-reduced : goal.reduce_powers-returns-in_err-reduced
+reduce_powers-returns-in_err-reduced t c =
+    let o = over_product c.requires.handed c.requires.product in
+    let many = c.children-powers.ensures.value ∙ children_at o c.requires.stands c.id.ensures in
+    record {
+      ok = search rules;
+      front = let many = c.children-powers.ensures.value ∙ children_at (over_product c.requires.handed c.requires.product) c.requires.stands c.id.ensures in let n = next_power c.loop-at.invariant.part (omega (arith, many, c.loop-at-test.true)) in front_lost _ (part_front c.loop-at.invariant.part) (c.take_child-power.ensures.last n.over.root) c.reduce_power.ensures.front;
+      kept = search rules;
+      faults = search rules;
+      caused = search rules;
+      room = λ gs ns b e r k s. let n = next_power c.loop-at.invariant.part (omega (arith, many, c.loop-at-test.true)) in let a = next_taken n (c.take_child-power.ensures.last n.over.root) in let same = taken_free c.loop-at.invariant.stands c.take_child-power.ensures.stands c.take_child-power.ensures.kept n.over a (next_bytes n) in let free = part_free c.requires.stands c.loop-at.invariant.stands c.loop-at.invariant.kept o (n.whole _) n.over in let q = subst (IsPowerOf (children_of (tree_of c.args.product c.args.pool.now))) (sym (given_told a.gives)) (next_of n c.requires.powers) in let w = product_words (tree_of c.args.product c.args.pool.now) c.requires.product in let x = ready_part gs ns b e (tree_of c.args.product c.args.pool.now) n.t n.done n.rest n.reduced c.requires.product r k s n.split n.are in let u : Tree = tree_of c.take_child-power.result c.take_child-power.new.pool in let told = given_told a.gives in let whole = ap (λ (y : Tree). is_whole_num (exponent_in y)) told ∙ x.whole in passed_on c.from_residual.result c.in_err-reduced.field-0.0 _ c.from_residual.ensures.0 c.from_residual.ensures.1 (lacks_as c.in_err-reduced.field-0.0 (c.in_err-reduced.ensures.room gs ns (subst (IsCalmAtZero ns) (sym told) x.calm) (subst (SpansTree gs) (sym told) x.spanned) whole) (λ l. omega (arith, x.lacks _ (subst (λ (y : Tree). free_of c.take_child-power.new.pool + size y < whole_power_room (base_in y) (2 ^ length gs)) told l), same, free, next_bytes n, ap size w)));
+      bits = λ b e n h l r q f few. let next = next_power c.loop-at.invariant.part (omega (arith, many, c.loop-at-test.true)) in let a = next_taken next (c.take_child-power.ensures.last next.over.root) in let told = given_told a.gives in let x = part_ready b e (tree_of c.args.product c.args.pool.now) next.t next.done next.rest n h l c.requires.product r next.split q f few in passed_on c.from_residual.result c.in_err-reduced.field-0.0 _ c.from_residual.ensures.0 c.from_residual.ensures.1 (c.in_err-reduced.ensures.bits n x.p x.q (ap exponent_in told ∙ x.exponent) (subst (λ (y : Tree). IsFactorHeld (base_in y) x.p x.q) (sym told) x.held) x.few);
+      stands = search rules;
+    }
 
-pub reduce_powers-add_child-requires-clause-live : goal.reduce_powers-add_child-requires-clause-live
-reduce_powers-add_child-requires-clause-live t c =
-    let many = c.children-powers.ensures.value ∙ children_at (over_product c.requires.handed c.requires.product) c.requires.stands c.id.ensures in
-    let n = next_power c.loop-at.invariant.part (omega (arith, many, c.loop-at-test.true)) in
-    let a = next_taken n (c.take_child-power.ensures.last n.over.root) in
-    root_held c.args.product _ (over_back n.over a (itself c.in_ok-reduced.ensures.ok)).root
-
-pub reduce_powers-add_child-requires-clause-within : goal.reduce_powers-add_child-requires-clause-within
-reduce_powers-add_child-requires-clause-within t c =
-    let many = c.children-powers.ensures.value ∙ children_at (over_product c.requires.handed c.requires.product) c.requires.stands c.id.ensures in
-    let n = next_power c.loop-at.invariant.part (omega (arith, many, c.loop-at-test.true)) in
-    let a = next_taken n (c.take_child-power.ensures.last n.over.root) in
-    omega (arith, children_in c.in_ok-reduced.ensures.stands (over_back n.over a (itself c.in_ok-reduced.ensures.ok)), back_within n)
-
-pub reduce_powers-add_child-requires-clause-root : goal.reduce_powers-add_child-requires-clause-root
-reduce_powers-add_child-requires-clause-root t c = given_root c.in_ok-reduced.ensures.ok
-
-pub reduce_powers-add_child-requires-clause-apart : goal.reduce_powers-add_child-requires-clause-apart
-reduce_powers-add_child-requires-clause-apart t c =
+pub reduce_powers-add_child-requires : goal.reduce_powers-add_child-requires
+reduce_powers-add_child-requires t c =
     let many = c.children-powers.ensures.value ∙ children_at (over_product c.requires.handed c.requires.product) c.requires.stands c.id.ensures in
     let n = next_power c.loop-at.invariant.part (omega (arith, many, c.loop-at-test.true)) in
     let a = next_taken n (c.take_child-power.ensures.last n.over.root) in
-    apart_back c.in_ok-reduced.ensures.stands n.over a (itself c.in_ok-reduced.ensures.ok)
+    record {
+      stands = search rules;
+      live = root_held c.args.product _ (over_back n.over a (itself c.in_ok-reduced.ensures.ok)).root;
+      within = omega (arith, children_in c.in_ok-reduced.ensures.stands (over_back n.over a (itself c.in_ok-reduced.ensures.ok)), back_within n);
+      root = given_root c.in_ok-reduced.ensures.ok;
+      apart = apart_back c.in_ok-reduced.ensures.stands n.over a (itself c.in_ok-reduced.ensures.ok);
+    }
 
 pub reduce_powers-loop-at-preserved : goal.reduce_powers-loop-at-preserved
 reduce_powers-loop-at-preserved t c =
@@ -747,35 +596,6 @@ reduce_powers-returns-clause-front t c =
     let x = all_reduced c.loop-at.invariant.part (omega (arith, many, c.loop-at-test.false)) in
     moved_front x.added c.move_last.ensures.last
 
-pub reduce_powers-returns-in_err-reduced-clause-room : goal.reduce_powers-returns-in_err-reduced-clause-room
-reduce_powers-returns-in_err-reduced-clause-room t c = λ gs ns b e r k s.
-    let o = over_product c.requires.handed c.requires.product in
-    let many = c.children-powers.ensures.value ∙ children_at o c.requires.stands c.id.ensures in
-    let n = next_power c.loop-at.invariant.part (omega (arith, many, c.loop-at-test.true)) in
-    let a = next_taken n (c.take_child-power.ensures.last n.over.root) in
-    let same = taken_free c.loop-at.invariant.stands c.take_child-power.ensures.stands c.take_child-power.ensures.kept n.over a (next_bytes n) in
-    let free = part_free c.requires.stands c.loop-at.invariant.stands c.loop-at.invariant.kept o (n.whole _) n.over in
-    let q = subst (IsPowerOf (children_of (tree_of c.args.product c.args.pool.now))) (sym (given_told a.gives)) (next_of n c.requires.powers) in
-    let w = product_words (tree_of c.args.product c.args.pool.now) c.requires.product in
-    let x = ready_part gs ns b e (tree_of c.args.product c.args.pool.now) n.t n.done n.rest n.reduced c.requires.product r k s n.split n.are in
-    let u : Tree = tree_of c.take_child-power.result c.take_child-power.new.pool in
-    let told = given_told a.gives in
-    let whole = ap (λ (y : Tree). is_whole_num (exponent_in y)) told ∙ x.whole in
-    passed_on c.from_residual.result c.in_err-reduced.field-0.0 _ c.from_residual.ensures.0 c.from_residual.ensures.1
-    (lacks_as c.in_err-reduced.field-0.0 (c.in_err-reduced.ensures.room gs ns (subst (IsCalmAtZero ns) (sym told) x.calm) (subst (SpansTree gs) (sym told) x.spanned) whole)
-    (λ l. omega (arith, x.lacks _ (subst (λ (y : Tree). free_of c.take_child-power.new.pool + size y < whole_power_room (base_in y) (2 ^ length gs)) told l), same, free, next_bytes n, ap size w)))
-
-pub reduce_powers-returns-in_err-reduced-clause-bits : goal.reduce_powers-returns-in_err-reduced-clause-bits
-reduce_powers-returns-in_err-reduced-clause-bits t c = λ b e n h l r q f few.
-    let o = over_product c.requires.handed c.requires.product in
-    let many = c.children-powers.ensures.value ∙ children_at o c.requires.stands c.id.ensures in
-    let next = next_power c.loop-at.invariant.part (omega (arith, many, c.loop-at-test.true)) in
-    let a = next_taken next (c.take_child-power.ensures.last next.over.root) in
-    let told = given_told a.gives in
-    let x = part_ready b e (tree_of c.args.product c.args.pool.now) next.t next.done next.rest n h l c.requires.product r next.split q f few in
-    passed_on c.from_residual.result c.in_err-reduced.field-0.0 _ c.from_residual.ensures.0 c.from_residual.ensures.1
-    (c.in_err-reduced.ensures.bits n x.p x.q (ap exponent_in told ∙ x.exponent) (subst (λ (y : Tree). IsFactorHeld (base_in y) x.p x.q) (sym told) x.held) x.few)
-
 -- ---- reduce_exponent
 
 pub reduce_exponent-child_id-exponent-requires-clause-within : goal.reduce_exponent-child_id-exponent-requires-clause-within
@@ -799,29 +619,36 @@ reduce_exponent-reduce_product-requires t c =
       (stands, (handed, (is, (omega (arith, ap (λ (x : Tree). count (children_of x)) told, p.nested.some), ap (λ (x : Tree). are_reduced (children_of x)) told ∙ p.nested.reduced)))),
     )
 
-pub reduce_exponent-returns-in_err-product-in-Mult-clause-front : goal.reduce_exponent-returns-in_err-product-in-Mult-clause-front
-reduce_exponent-returns-in_err-product-in-Mult-clause-front t c = front_lost _ front_same (c.take_child-exponent.ensures.last c.requires.handed.root) c.reduce_product.ensures.front
+pub reduce_exponent-returns-in_err-product-in-Mult : goal.reduce_exponent-returns-in_err-product-in-Mult
+reduce_exponent-returns-in_err-product-in-Mult t c =
+    let o = over_power _ c.requires.handed refl c.requires.power in
+    let child = c.child_id-exponent.ensures in
+    let z = exponent_seen {x = c.kind.result} c.id.ensures c.requires.stands c.requires.handed c.requires.power child.expression child.plain c.kind.ensures.plain in
+    let m = product_kind _ (sym c.in-Mult.is ∙ z) in
+    let a = exponent_taken o (c.take_child-exponent.ensures.last c.requires.handed.root) in
+    let told = given_told a.gives in
+    record {
+      ok = search rules;
+      front = front_lost _ front_same (c.take_child-exponent.ensures.last c.requires.handed.root) c.reduce_product.ensures.front;
+      kept = search rules;
+      faults = search rules;
+      caused = search rules;
+      room = λ gs ns b e r k s. let same = taken_free c.requires.stands c.take_child-exponent.ensures.stands c.take_child-exponent.ensures.kept o a (omega arith) in let x = ready_exponent gs ns b e (tree_of c.args.power c.args.pool.now) (tree_of c.take_child-exponent.result c.take_child-exponent.new.pool) (ap is_mult c.requires.power) (ap is_mult told ∙ m) told r k s in passed_on c.from_residual.result c.in_err-product-in-Mult.field-0.0 _ c.from_residual.ensures.0 c.from_residual.ensures.1 (lacks_as c.in_err-product-in-Mult.field-0.0 (c.in_err-product-in-Mult.ensures.room gs ns x.0 x.1) (λ l. omega (arith, x.2 _ l, same, ap size c.requires.power, ap size told)));
+      bits = λ b e n h l r q f few. passed_on c.from_residual.result c.in_err-product-in-Mult.field-0.0 _ c.from_residual.ensures.0 c.from_residual.ensures.1 (c.in_err-product-in-Mult.ensures.bits 14 0 (exponent_ready b e (tree_of c.args.power c.args.pool.now) (tree_of c.take_child-exponent.result c.take_child-exponent.new.pool) n h l (ap is_mult c.requires.power) (ap is_mult told ∙ m) told r q f few) (omega arith));
+      stands = search rules;
+    }
 
-pub reduce_exponent-add_child-requires-clause-live : goal.reduce_exponent-add_child-requires-clause-live
-reduce_exponent-add_child-requires-clause-live t c =
+pub reduce_exponent-add_child-requires : goal.reduce_exponent-add_child-requires
+reduce_exponent-add_child-requires t c =
     let o = over_power _ c.requires.handed refl c.requires.power in
     let a = exponent_taken o (c.take_child-exponent.ensures.last c.requires.handed.root) in
-    root_held c.args.power _ (over_back o a (itself c.in_ok-product-in-Mult.ensures.ok)).root
-
-pub reduce_exponent-add_child-requires-clause-within : goal.reduce_exponent-add_child-requires-clause-within
-reduce_exponent-add_child-requires-clause-within t c =
-    let o = over_power _ c.requires.handed refl c.requires.power in
-    let a = exponent_taken o (c.take_child-exponent.ensures.last c.requires.handed.root) in
-    omega (arith, children_in c.in_ok-product-in-Mult.ensures.stands (over_back o a (itself c.in_ok-product-in-Mult.ensures.ok)))
-
-pub reduce_exponent-add_child-requires-clause-root : goal.reduce_exponent-add_child-requires-clause-root
-reduce_exponent-add_child-requires-clause-root t c = given_root c.in_ok-product-in-Mult.ensures.ok
-
-pub reduce_exponent-add_child-requires-clause-apart : goal.reduce_exponent-add_child-requires-clause-apart
-reduce_exponent-add_child-requires-clause-apart t c =
-    let o = over_power _ c.requires.handed refl c.requires.power in
-    let a = exponent_taken o (c.take_child-exponent.ensures.last c.requires.handed.root) in
-    apart_back c.in_ok-product-in-Mult.ensures.stands o a (itself c.in_ok-product-in-Mult.ensures.ok)
+    record {
+      stands = search rules;
+      live = root_held c.args.power _ (over_back o a (itself c.in_ok-product-in-Mult.ensures.ok)).root;
+      within = omega (arith, children_in c.in_ok-product-in-Mult.ensures.stands (over_back o a (itself c.in_ok-product-in-Mult.ensures.ok)));
+      root = given_root c.in_ok-product-in-Mult.ensures.ok;
+      apart = apart_back c.in_ok-product-in-Mult.ensures.stands o a (itself c.in_ok-product-in-Mult.ensures.ok);
+    }
 
 pub reduce_exponent-move_last-requires-clause-root : goal.reduce_exponent-move_last-requires-clause-root
 reduce_exponent-move_last-requires-clause-root t c =
@@ -830,29 +657,22 @@ reduce_exponent-move_last-requires-clause-root t c =
     let g = itself c.in_ok-product-in-Mult.ensures.ok in
     (put_back o a g (c.add_child.ensures.root (over_back o a g).root) refl).over.root
 
-pub reduce_exponent-returns-in_ok-product-in-Mult-clause-ok : goal.reduce_exponent-returns-in_ok-product-in-Mult-clause-ok
-reduce_exponent-returns-in_ok-product-in-Mult-clause-ok t c =
-    let o = over_power _ c.requires.handed refl c.requires.power in
-    let child = c.child_id-exponent.ensures in
-    let k = exponent_seen {x = c.kind.result} c.id.ensures c.requires.stands c.requires.handed c.requires.power child.expression child.plain c.kind.ensures.plain in
-    let p = with_product _ c.requires.power (product_kind _ (sym c.in-Mult.is ∙ k)) c.requires.unfinished in
-    let a = exponent_taken o (c.take_child-exponent.ensures.last c.requires.handed.root) in
-    let g = itself c.in_ok-product-in-Mult.ensures.ok in
-    let q = put_back o a g (c.add_child.ensures.root (over_back o a g).root) refl in
-    let v = tree_of c.in_ok-product-in-Mult.product c.reduce_product.new.pool in
-    moved q refl c.move_last.ensures.last (p.lifted _ (record {
-      exponent = v;
-      product = subst (λ (x : Tree). IsReducedProduct (children_of x) v) (given_told a.gives) (given_told c.in_ok-product-in-Mult.ensures.ok);
-      is = refl;
-    }))
-
-pub reduce_exponent-returns-in_ok-product-in-Mult-clause-front : goal.reduce_exponent-returns-in_ok-product-in-Mult-clause-front
-reduce_exponent-returns-in_ok-product-in-Mult-clause-front t c =
+pub reduce_exponent-returns-in_ok-product-in-Mult : goal.reduce_exponent-returns-in_ok-product-in-Mult
+reduce_exponent-returns-in_ok-product-in-Mult t c =
     let o = over_power _ c.requires.handed refl c.requires.power in
     let a = exponent_taken o (c.take_child-exponent.ensures.last c.requires.handed.root) in
     let g = itself c.in_ok-product-in-Mult.ensures.ok in
     let q = put_back o a g (c.add_child.ensures.root (over_back o a g).root) refl in
-    moved_front q c.move_last.ensures.last
+    record {
+      ok = let child = c.child_id-exponent.ensures in let k = exponent_seen {x = c.kind.result} c.id.ensures c.requires.stands c.requires.handed c.requires.power child.expression child.plain c.kind.ensures.plain in let p = with_product _ c.requires.power (product_kind _ (sym c.in-Mult.is ∙ k)) c.requires.unfinished in let v = tree_of c.in_ok-product-in-Mult.product c.reduce_product.new.pool in moved q refl c.move_last.ensures.last (p.lifted _ (record { exponent = v; product = subst (λ (x : Tree). IsReducedProduct (children_of x) v) (given_told a.gives) (given_told c.in_ok-product-in-Mult.ensures.ok); is = refl }));
+      front = moved_front q c.move_last.ensures.last;
+      kept = search rules;
+      faults = search rules;
+      caused = search rules;
+      room = search rules;
+      bits = search rules;
+      stands = search rules;
+    }
 
 pub reduce_exponent-returns-in_default : goal.reduce_exponent-returns-in_default
 reduce_exponent-returns-in_default t c =
@@ -870,27 +690,3 @@ reduce_exponent-returns-in_default t c =
       bits = λ b e n h l r q a few. tt;
       stands = c.move_last-in_default.ensures.stands;
     }
-
-pub reduce_exponent-returns-in_err-product-in-Mult-clause-room : goal.reduce_exponent-returns-in_err-product-in-Mult-clause-room
-reduce_exponent-returns-in_err-product-in-Mult-clause-room t c = λ gs ns b e r k s.
-    let o = over_power _ c.requires.handed refl c.requires.power in
-    let child = c.child_id-exponent.ensures in
-    let z = exponent_seen {x = c.kind.result} c.id.ensures c.requires.stands c.requires.handed c.requires.power child.expression child.plain c.kind.ensures.plain in
-    let m = product_kind _ (sym c.in-Mult.is ∙ z) in
-    let a = exponent_taken o (c.take_child-exponent.ensures.last c.requires.handed.root) in
-    let told = given_told a.gives in
-    let same = taken_free c.requires.stands c.take_child-exponent.ensures.stands c.take_child-exponent.ensures.kept o a (omega arith) in
-    let x = ready_exponent gs ns b e (tree_of c.args.power c.args.pool.now) (tree_of c.take_child-exponent.result c.take_child-exponent.new.pool) (ap is_mult c.requires.power) (ap is_mult told ∙ m) told r k s in
-    passed_on c.from_residual.result c.in_err-product-in-Mult.field-0.0 _ c.from_residual.ensures.0 c.from_residual.ensures.1
-    (lacks_as c.in_err-product-in-Mult.field-0.0 (c.in_err-product-in-Mult.ensures.room gs ns x.0 x.1) (λ l. omega (arith, x.2 _ l, same, ap size c.requires.power, ap size told)))
-
-pub reduce_exponent-returns-in_err-product-in-Mult-clause-bits : goal.reduce_exponent-returns-in_err-product-in-Mult-clause-bits
-reduce_exponent-returns-in_err-product-in-Mult-clause-bits t c = λ b e n h l r q f few.
-    let o = over_power _ c.requires.handed refl c.requires.power in
-    let child = c.child_id-exponent.ensures in
-    let z = exponent_seen {x = c.kind.result} c.id.ensures c.requires.stands c.requires.handed c.requires.power child.expression child.plain c.kind.ensures.plain in
-    let m = product_kind _ (sym c.in-Mult.is ∙ z) in
-    let a = exponent_taken o (c.take_child-exponent.ensures.last c.requires.handed.root) in
-    let told = given_told a.gives in
-    passed_on c.from_residual.result c.in_err-product-in-Mult.field-0.0 _ c.from_residual.ensures.0 c.from_residual.ensures.1
-    (c.in_err-product-in-Mult.ensures.bits 14 0 (exponent_ready b e (tree_of c.args.power c.args.pool.now) (tree_of c.take_child-exponent.result c.take_child-exponent.new.pool) n h l (ap is_mult c.requires.power) (ap is_mult told ∙ m) told r q f few) (omega arith))

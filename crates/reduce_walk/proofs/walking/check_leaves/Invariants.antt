@@ -1,13 +1,13 @@
 use Rattle.std.proofs.Common.{◌≡◌, length}
 use Rattle.breakers.specs.Breakers.{CalmChecks}
 use Rattle.breakers.specs.Watch.{states}
-use Rattle.deep_reduce.specs.Leaves.{BeginWithLeaves}
+use Rattle.reduce_walk.specs.Leaves.{BeginWithLeaves}
 use Rattle.tree_handles.specs.Children.{root_ids}
 use Rattle.tree_handles.specs.Expressions.{plain, children_of}
 use Rattle.tree_handles.specs.Forest.{rest_trees}
 use Rattle.tree_handles.specs.Inside.{tree_at, kids_of}
 use Rattle.tree_handles.specs.Standing.{forest}
-use Rattle.deep_reduce.proofs.driver.check_leaves.Given as goal
+use Rattle.reduce_walk.proofs.walking.check_leaves.Given as goal
 
 abbrev pub invariant-loop-child : goal.invariant-loop-child
 invariant-loop-child g l = record {

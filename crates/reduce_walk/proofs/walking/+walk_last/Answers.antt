@@ -1,24 +1,21 @@
-use Rattle.std.proofs.Common.{rules, ◌<◌, sym, ap, ◌∙◌, arith, subst}
+use Rattle.std.proofs.Common.{◌<◌, sym, ap, ◌∙◌, arith, subst}
 use Rattle.breakers.specs.Watch.{states}
 use Rattle.calc_terms.specs.Trees.{Tree, nodes}
-use Rattle.deep_reduce.specs.Nodes.{IsNodeOverflow}
+use Rattle.coefficients.proofs.Steps.{live, expression, seen}
+use Rattle.reduce_port.specs.Checks.{TripsWithin}
 use Rattle.reduce_port.specs.Faults.{fault_of}
-use Rattle.tree_handles.specs.Handed.{tree_of}
 use Rattle.reduce_port.specs.declared.fault.ReduceFault.TheVariants as fault
+use Rattle.reduce_walk.specs.Leaves.{is_leaf, BeginWithLeaves}
+use Rattle.reduce_walk.proofs.Bytes.{child_free, last_free}
+use Rattle.reduce_walk.proofs.Ready.{walked_ready}
+use Rattle.reduce_walk.proofs.Stopping.{StopsParent, all_checks, child_stops, handed_on, last_trips, leaf_calm, leaf_trips, step_stops}
+use Rattle.reduce_walk.proofs.Walks.{all_walked, child_front, fewer_nodes, leaves_walked, leaves_within, many_children, next_child, next_taken, next_taken_too, next_there, next_walked, next_within, stands_last, to_adopt}
 use Rattle.tree_handles.specs.Expressions.{children_of}
+use Rattle.tree_handles.specs.Handed.{tree_of}
 use Rattle.tree_handles.proofs.Forests.{keeps_none, keeps_after}
 use Rattle.tree_handles.proofs.Fronts.{behind_first, front_same, front_after_one}
-use Rattle.tree_handles.proofs.Given.{gives, given_handed, given_told, represents_handed}
-use Rattle.coefficients.proofs.Steps.{live, expression, seen}
-use Rattle.deep_reduce.specs.Leaves.{is_leaf, BeginWithLeaves}
-use Rattle.reduce_port.specs.Checks.{TripsWithin}
-use Rattle.deep_reduce.proofs.BitsBeyond.{node_unfit}
-use Rattle.deep_reduce.proofs.ChildRooms.{child_short, node_short}
-use Rattle.power_reduce.proofs.RaisedBytes.{kept_free}
-use Rattle.deep_reduce.proofs.Ready.{walked_ready, ready_gives, all_checks, last_trips, node_stops, no_fit}
-use Rattle.deep_reduce.proofs.Stopping.{child_stops, handed_on, leaf_calm, leaf_trips}
-use Rattle.deep_reduce.proofs.Walks.{leaf_reduced, leaves_walked, leaves_within, next_child, next_there, next_within, fewer_nodes, next_taken, stands_last, next_walked, to_adopt, all_walked, many_children, child_front}
-use Rattle.deep_reduce.proofs.driver.+reduce_last.Goals as goal
+use Rattle.tree_handles.proofs.Given.{gives, gives_as, given_handed, given_told, represents_handed}
+use Rattle.reduce_walk.proofs.walking.+walk_last.Goals as goal
 
 pub is_leaf-requires-clause-expression : goal.is_leaf-requires-clause-expression
 is_leaf-requires-clause-expression g t c = expression c.id.ensures c.requires.stands c.requires.handed
@@ -26,7 +23,7 @@ is_leaf-requires-clause-expression g t c = expression c.id.ensures c.requires.st
 pub returns-in-Ok-clause-ok : goal.returns-in-Ok-clause-ok
 returns-in-Ok-clause-ok g t c =
     let leaf = ap is_leaf (sym (seen c.id.ensures c.requires.stands c.requires.handed)) ∙ sym c.is_leaf.ensures ∙ c.if-is_leaf.true in
-    gives c.requires.last (represents_handed c.requires.handed) (leaf_reduced (tree_of c.args.tree c.args.pool.now) leaf)
+    gives c.requires.last (represents_handed c.requires.handed) (c.laws.ensures.leaf (tree_of c.args.tree c.args.pool.now) c.requires.taken leaf)
 
 pub returns-in-Ok-clause-checks : goal.returns-in-Ok-clause-checks
 returns-in-Ok-clause-checks g t c =
@@ -57,33 +54,45 @@ pub children-count-requires-clause-live : goal.children-count-requires-clause-li
 children-count-requires-clause-live g t c = live c.args.pool.now c.id-3.ensures c.requires.handed.root
 
 pub loop-at-init : goal.loop-at-init
-loop-at-init g t c = record { many = many_children c.id-3.ensures c.requires.stands c.requires.handed c.children-count.ensures.plain; stands = c.requires.stands; kept = keeps_none c.args.pool.now; walked = leaves_walked c.requires.handed c.requires.last (subst (λ (u : Tree). BeginWithLeaves c.in_ok-leaves.leaves (children_of u)) (seen c.id-2.ensures c.requires.stands c.requires.handed) c.in_ok-leaves.ensures.leaves) c.in_ok-leaves.ensures.checks }
+loop-at-init g t c =
+    let leaves = subst (λ (u : Tree). BeginWithLeaves c.in_ok-leaves.leaves (children_of u)) (seen c.id-2.ensures c.requires.stands c.requires.handed) c.in_ok-leaves.ensures.leaves in
+    record {
+      many = many_children c.id-3.ensures c.requires.stands c.requires.handed c.children-count.ensures.plain;
+      stands = c.requires.stands;
+      kept = keeps_none c.args.pool.now;
+      walked = leaves_walked g.S.NodeStep.answers g.S.NodeStep.can_take c.laws.ensures.leaf (c.laws.ensures.children (tree_of c.args.tree c.args.pool.now) c.requires.taken) c.requires.handed c.requires.last leaves c.in_ok-leaves.ensures.checks;
+    }
 
 pub take_child-child-requires-clause-within : goal.take_child-child-requires-clause-within
 take_child-child-requires-clause-within g t c =
     let n = next_child c.loop-at.invariant.walked (omega (arith, c.loop-at.invariant.many, c.loop-at-test.true)) in
     next_within n c.loop-at.invariant.stands
 
-pub reduce_last-requires : goal.reduce_last-requires
-reduce_last-requires g t c =
+pub walk_last-requires : goal.walk_last-requires
+walk_last-requires g t c =
     let n = next_child c.loop-at.invariant.walked (omega (arith, c.loop-at.invariant.many, c.loop-at-test.true)) in
     let a = next_taken n (c.take_child-child.ensures.last (next_there n).root) in
     let smaller : nodes (tree_of c.take_child-child.result c.take_child-child.new.pool) < t = omega (arith, ap nodes (given_told a), fewer_nodes n, c.decreases) in
-    λ κs l. (smaller, (l, (c.take_child-child.ensures.stands, (given_handed a, stands_last a))))
+    let taken = subst g.S.NodeStep.can_take (sym (given_told a)) (next_taken_too g.S.NodeStep.can_take n (c.laws.ensures.children (tree_of c.args.tree c.args.pool.now) c.requires.taken)) in
+    λ κs l. (smaller, (l.0, (l.1, (c.take_child-child.ensures.stands, (given_handed a, (stands_last a, taken))))))
 
 pub returns-in_err-_answer-clause-stops : goal.returns-in_err-_answer-clause-stops
 returns-in_err-_answer-clause-stops g t c =
     let n = next_child c.loop-at.invariant.walked (omega (arith, c.loop-at.invariant.many, c.loop-at-test.true)) in
     let a = next_taken n (c.take_child-child.ensures.last (next_there n).root) in
+    let kept = keeps_after _ _ _ c.loop-at.invariant.kept c.take_child-child.ensures.kept in
+    let parent : StopsParent g.S.NodeStep.answers g.S.NodeStep.may_lack g.S.NodeStep.may_overflow (tree_of c.args.tree c.args.pool.now) = record {
+      lacks = λ u before done behind bytes. c.laws.ensures.child_lacks (tree_of c.args.tree c.args.pool.now) u before done behind bytes c.requires.taken;
+      overflows = λ u before done behind place o. c.laws.ensures.child_overflows (tree_of c.args.tree c.args.pool.now) u before done behind place o c.requires.taken;
+    } in
     handed_on c.from_residual-in_err-_answer.result c.in_err-_answer.field-0.0 _ c.from_residual-in_err-_answer.ensures.0 c.from_residual-in_err-_answer.ensures.1
-    (child_stops _ _ n _ c.in_err-_answer.field-0.0 (given_told a) (keeps_after _ _ _ c.loop-at.invariant.kept c.take_child-child.ensures.kept)
-    (child_short c.loop-at.pool n c.requires.stands c.take_child-child.ensures.stands (keeps_after _ _ _ c.loop-at.invariant.kept c.take_child-child.ensures.kept) c.requires.handed a) c.in_err-_answer.ensures.stops)
+    (child_stops _ _ n _ c.in_err-_answer.field-0.0 parent (given_told a) kept (child_free n c.requires.stands c.take_child-child.ensures.stands kept c.requires.handed a) c.in_err-_answer.ensures.stops)
 
 pub returns-in_err-_answer-clause-front : goal.returns-in_err-_answer-clause-front
 returns-in_err-_answer-clause-front g t c =
     let n = next_child c.loop-at.invariant.walked (omega (arith, c.loop-at.invariant.many, c.loop-at-test.true)) in
     let a = next_taken n (c.take_child-child.ensures.last (next_there n).root) in
-    child_front _ a c.reduce_last.ensures.front
+    child_front _ a c.walk_last.ensures.front
 
 pub loop-at-preserved : goal.loop-at-preserved
 loop-at-preserved g t c =
@@ -116,38 +125,43 @@ pub returns-in_err-check-clause-front : goal.returns-in_err-check-clause-front
 returns-in_err-check-clause-front g t c =
     (all_walked c.loop-at.invariant.walked c.loop-at.invariant.many (omega (arith, c.loop-at-test.false)) c.adopt.ensures.forest).front
 
-pub reduce_node-requires : goal.reduce_node-requires
-reduce_node-requires g t c =
+pub step-requires : goal.step-requires
+step-requires g t c =
     let w = all_walked c.loop-at.invariant.walked c.loop-at.invariant.many (omega (arith, c.loop-at-test.false)) c.adopt.ensures.forest in
     let r = walked_ready c.requires.handed w in
-    record { stands = c.adopt.ensures.stands; handed = r.handed; last = w.last; reduced = r.reduced }
+    record { stands = c.adopt.ensures.stands; handed = r.handed; last = w.last; over = record { whole = tree_of c.args.tree c.args.pool.now; taken = c.requires.taken; over = r.over } }
 
 pub returns-in_err-answer-clause-stops : goal.returns-in_err-answer-clause-stops
 returns-in_err-answer-clause-stops g t c =
     let w = all_walked c.loop-at.invariant.walked c.loop-at.invariant.many (omega (arith, c.loop-at-test.false)) c.adopt.ensures.forest in
     let r = walked_ready c.requires.handed w in
     let e = c.in_err-answer.field-0.0 in
+    let whole = tree_of c.args.tree c.args.pool.now in
+    let kept = keeps_after _ _ _ c.loop-at.invariant.kept c.adopt.ensures.kept in
     handed_on c.from_residual-in_err-answer.result (fault_of e) _ c.from_residual-in_err-answer.ensures.0 c.from_residual-in_err-answer.ensures.1
-    (node_stops _ _ _ (tree_of c.args.tree c.args.pool.now) (tree_of c.args.tree c.adopt.new.pool) e r.over (all_checks _ w c.in_ok-check.ensures.calm) (keeps_after _ _ _ c.loop-at.invariant.kept c.adopt.ensures.kept)
-    c.in_err-answer.ensures.faults c.in_err-answer.ensures.caused (no_fit e (IsNodeOverflow (tree_of c.args.tree c.adopt.new.pool)) c.in_err-answer.ensures.overflow)
-    (node_short c.args.tree c.args.pool.now (tree_of c.args.tree c.adopt.new.pool) _ e c.requires.stands c.requires.handed r.over
-    (kept_free c.requires.stands c.adopt.ensures.stands (keeps_after _ _ _ c.loop-at.invariant.kept c.adopt.ensures.kept) c.requires.handed r.handed r.rest)
-    (record { room = c.in_err-answer.ensures.room; root_room = c.in_err-answer.ensures.root_room }))
-    (node_unfit (tree_of c.args.tree c.args.pool.now) (tree_of c.args.tree c.adopt.new.pool) e r.over c.in_err-answer.ensures.bits))
+    (step_stops g.S.NodeStep.may_lack g.S.NodeStep.may_overflow _ _ _ whole e (all_checks _ w c.in_ok-check.ensures.calm) kept c.in_err-answer.ensures.faults c.in_err-answer.ensures.caused
+    (last_free c.requires.stands c.adopt.ensures.stands kept c.requires.handed r.handed w.last w.rest) (c.in_err-answer.ensures.lacks whole c.requires.taken r.over) (c.in_err-answer.ensures.overflow whole c.requires.taken r.over))
 
 pub returns-in_err-answer-clause-front : goal.returns-in_err-answer-clause-front
 returns-in_err-answer-clause-front g t c =
     let w = all_walked c.loop-at.invariant.walked c.loop-at.invariant.many (omega (arith, c.loop-at-test.false)) c.adopt.ensures.forest in
-    front_after_one behind_first w.front c.reduce_node.ensures.front
+    front_after_one behind_first w.front c.step.ensures.front
 
-pub returns : goal.returns
-returns g t c =
+pub returns-clause-ok : goal.returns-clause-ok
+returns-clause-ok g t c =
     let w = all_walked c.loop-at.invariant.walked c.loop-at.invariant.many (omega (arith, c.loop-at-test.false)) c.adopt.ensures.forest in
-    record {
-      ok = ready_gives (walked_ready c.requires.handed w) c.in_ok-answer.ensures.ok;
-      checks = all_checks _ w c.in_ok-check.ensures.calm;
-      kept = keeps_after _ _ _ c.loop-at.invariant.kept (keeps_after _ _ _ c.adopt.ensures.kept c.in_ok-answer.ensures.kept);
-      stops = search rules;
-      front = front_after_one behind_first w.front c.reduce_node.ensures.front;
-      stands = search rules;
-    }
+    let r = walked_ready c.requires.handed w in
+    gives_as (c.in_ok-answer.ensures.ok (tree_of c.args.tree c.args.pool.now) c.requires.taken r.over) w.rest (λ u a. a)
+
+pub returns-clause-checks : goal.returns-clause-checks
+returns-clause-checks g t c =
+    let w = all_walked c.loop-at.invariant.walked c.loop-at.invariant.many (omega (arith, c.loop-at-test.false)) c.adopt.ensures.forest in
+    all_checks _ w c.in_ok-check.ensures.calm
+
+pub returns-clause-kept : goal.returns-clause-kept
+returns-clause-kept g t c = keeps_after _ _ _ c.loop-at.invariant.kept (keeps_after _ _ _ c.adopt.ensures.kept c.in_ok-answer.ensures.kept)
+
+pub returns-clause-front : goal.returns-clause-front
+returns-clause-front g t c =
+    let w = all_walked c.loop-at.invariant.walked c.loop-at.invariant.many (omega (arith, c.loop-at-test.false)) c.adopt.ensures.forest in
+    front_after_one behind_first w.front c.step.ensures.front

@@ -8,13 +8,9 @@ use Rattle.breakers.specs.State.{State as BreakerState}
 use Rattle.calc_terms.specs.Trees.{Tree, num, symbol, undef, Trees, none, more, append, count, nodes, nodes_of}
 use Rattle.coefficients.proofs.Places.{cut, cut_rest, represents_count}
 use Rattle.coefficients.proofs.Steps.{expression, seen}
-use Rattle.deep_reduce.specs.Leaves.{is_leaf, BeginWithLeaves}
-use Rattle.deep_reduce.specs.Reductions.{IsReducedFrom}
-use Rattle.deep_reduce.proofs.NodeAnswers.{node_answered}
-use Rattle.deep_reduce.proofs.NodeRewrites.{AreReducedFrom, IsOver, over_number, over_symbol, over_undef}
-use Rattle.deep_reduce.specs.Nodes.{IsNodeAnswer}
-use Rattle.deep_reduce.proofs.Parents.{IsParent, held_at, parent_handed}
-use Rattle.deep_reduce.proofs.Steps.{number_answer, symbol_answer, undef_answer}
+use Rattle.reduce_walk.specs.Answers.{AreAnswers, EachTree, IsNext}
+use Rattle.reduce_walk.specs.Leaves.{is_leaf, BeginWithLeaves}
+use Rattle.reduce_walk.proofs.Parents.{IsParent, held_at, parent_handed}
 use Rattle.node_pool.specs.State.{State}
 use Rattle.tree_handles.specs.Handed.{AllOnce, tree_of, IsHanded, Represents, Ends, Gives, KeepsFront}
 use Rattle.tree_handles.proofs.Adopting.{behind_there, adopted_all}
@@ -38,11 +34,11 @@ append_assoc : (ts us vs : Trees) → append (append ts us) vs ≡ append ts (ap
 append_assoc none us vs = refl
 append_assoc (more t ts) us vs = ap (more t) (append_assoc ts us vs)
 
-count_append : (ts us : Trees) → count (append ts us) ≡ count ts + count us
+pub count_append : (ts us : Trees) → count (append ts us) ≡ count ts + count us
 count_append none us = omega arith
 count_append (more t ts) us = omega (arith, count_append ts us)
 
-nodes_append : (ts us : Trees) → nodes_of (append ts us) ≡ nodes_of ts + nodes_of us
+pub nodes_append : (ts us : Trees) → nodes_of (append ts us) ≡ nodes_of ts + nodes_of us
 nodes_append none us = omega arith
 nodes_append (more t ts) us = omega (arith, nodes_append ts us)
 
@@ -51,37 +47,24 @@ pub nodes_by_children : (t : Tree) → nodes t ≡ nodes_of (children_of t) + 1
 nodes_by_children (num q) = omega arith
 nodes_by_children t = omega arith
 
-reduced_append : (ts us : Trees) (t u : Tree) → AreReducedFrom ts us → IsReducedFrom t u → AreReducedFrom (append ts (more t none)) (append us (more u none))
-reduced_append none none t u h k = (k, tt)
-reduced_append none (more v vs) t u h k = absurd h
-reduced_append (more s ss) none t u h k = absurd h
-reduced_append (more s ss) (more v vs) t u h k = (h.0, reduced_append ss vs t u h.1 k)
+answers_append : (A : Tree → Tree → Type 0) (ts us : Trees) (t u : Tree) → AreAnswers A ts us → A t u → AreAnswers A (append ts (more t none)) (append us (more u none))
+answers_append A none none t u h k = (k, tt)
+answers_append A none (more v vs) t u h k = absurd h
+answers_append A (more s ss) none t u h k = absurd h
+answers_append A (more s ss) (more v vs) t u h k = (h.0, answers_append A ss vs t u h.1 k)
 
-pub reduced_count : (ts us : Trees) → AreReducedFrom ts us → count ts ≡ count us
-reduced_count none none h = refl
-reduced_count none (more v vs) h = absurd h
-reduced_count (more s ss) none h = absurd h
-reduced_count (more s ss) (more v vs) h = ap suc (reduced_count ss vs h.1)
+pub answers_count : (A : Tree → Tree → Type 0) (ts us : Trees) → AreAnswers A ts us → count ts ≡ count us
+answers_count A none none h = refl
+answers_count A none (more v vs) h = absurd h
+answers_count A (more s ss) none h = absurd h
+answers_count A (more s ss) (more v vs) h = ap suc (answers_count A ss vs h.1)
+
+-- one of these trees
+among : (P : Tree → Type 0) (ts : Trees) (t : Tree) (us : Trees) → EachTree P (append ts (more t us)) → P t
+among P none t us h = h.0
+among P (more s ss) t us h = among P ss t us h.1
 
 -- ---- leaves
-
-over_leaf : (t : Tree) → is_leaf t ≡ true → IsOver t t
-over_leaf (num q) h = over_number q
-over_leaf (symbol x) h = over_symbol x
-over_leaf undef h = over_undef
-over_leaf t h = cc
-
-no_leaf : false ≡ true → ⊥
-no_leaf e = cc
-
-leaf_answer : (t : Tree) → is_leaf t ≡ true → IsNodeAnswer t t
-leaf_answer (num q) h = number_answer q
-leaf_answer (symbol x) h = symbol_answer x
-leaf_answer undef h = undef_answer
-leaf_answer t h = absurd (no_leaf h)
-
-pub leaf_reduced : (t : Tree) → is_leaf t ≡ true → IsReducedFrom t t
-leaf_reduced t h = node_answered t t t (over_leaf t h) (leaf_answer t h)
 
 pub leaf_nodes : (t : Tree) → is_leaf t ≡ true → nodes t ≡ 1
 leaf_nodes (num q) h = refl
@@ -89,31 +72,33 @@ leaf_nodes (symbol x) h = refl
 leaf_nodes undef h = refl
 leaf_nodes t h = cc
 
--- the leaves in front, and the other trees
-pub record AreSplit (n : ℕ) (ts : Trees) : Type 0 where
+-- the leaves in front, which are their own answers, and the other trees
+pub record AreSplit (A : Tree → Tree → Type 0) (n : ℕ) (ts : Trees) : Type 0 where
   pub leaves : Trees
   pub rest : Trees
   pub split : ts ≡ append leaves rest
   pub count-is : n ≡ count leaves
-  pub reduced : AreReducedFrom leaves leaves
+  pub become : AreAnswers A leaves leaves
   pub nodes-are : nodes_of leaves ≡ n
 
-pub leaves_split : (n : ℕ) (ts : Trees) → BeginWithLeaves n ts → AreSplit n ts
-leaves_split zero ts h = record { leaves = none; rest = ts; split = refl; count-is = refl; reduced = tt; nodes-are = refl }
-leaves_split (suc n) none h = absurd h
-leaves_split (suc n) (more t ts) h =
-    let s = leaves_split n ts h.1 in
+leaves_split : (A : Tree → Tree → Type 0) (P : Tree → Type 0) (n : ℕ) (ts : Trees) → ((t : Tree) → P t → is_leaf t ≡ true → A t t) → EachTree P ts → BeginWithLeaves n ts → AreSplit A n ts
+leaves_split A P zero ts own p h = record { leaves = none; rest = ts; split = refl; count-is = refl; become = tt; nodes-are = refl }
+leaves_split A P (suc n) none own p h = absurd h
+leaves_split A P (suc n) (more t ts) own p h =
+    let s = leaves_split A P n ts own p.1 h.1 in
     record {
       leaves = more t s.leaves;
       rest = s.rest;
       split = ap (more t) s.split;
       count-is = ap suc s.count-is;
-      reduced = (leaf_reduced t h.0, s.reduced);
+      become = (own t p.0 h.0, s.become);
       nodes-are = omega (arith, leaf_nodes t h.0, s.nodes-are);
     }
 
 pub leaves_within : (n : ℕ) (ts : Trees) → BeginWithLeaves n ts → n ≤ count ts
-leaves_within n ts h = let s = leaves_split n ts h in omega (arith, ap count s.split, s.count-is, count_append s.leaves s.rest)
+leaves_within zero ts h = omega arith
+leaves_within (suc n) none h = absurd h
+leaves_within (suc n) (more t ts) h = omega (arith, leaves_within n ts h.1)
 
 -- one more
 pub leaves_more : (n : ℕ) (ts : Trees) → BeginWithLeaves n ts → n < count ts → is_leaf (nth n ts) ≡ true → BeginWithLeaves (suc n) ts
@@ -132,15 +117,15 @@ few_children {s = s} i st h =
 
 -- ---- the loop
 
--- the first children are reduced, each after one check for each of its nodes: the leaves in front stay in their parent, and
+-- the first children have their answers, each after one check for each of its nodes: the leaves in front stay in their parent, and
 -- the answers of the others stand behind it; nothing else is changed
-pub record IsWalked (i leaves at : ℕ) (old new : Forest) (before after : List BreakerState) : Type 0 where
+pub record IsWalked (A : Tree → Tree → Type 0) (i leaves at : ℕ) (old new : Forest) (before after : List BreakerState) : Type 0 where
   pub done : Trees
   pub answers : Trees
   pub rest : Trees
   pub split : children_of (plain (root_tree i old)) ≡ append done rest
   pub count-is : at ≡ count done
-  pub reduced : AreReducedFrom done answers
+  pub become : AreAnswers A done answers
   pub calm : CalmChecks (nodes_of done) before after
   pub label : Label
   pub id-is : label.id ≡ i
@@ -156,13 +141,13 @@ pub record IsWalked (i leaves at : ℕ) (old new : Forest) (before after : List 
   pub answered : Represents (join front behind) answers
   pub left : Represents back rest
 
-pub leaves_walked : {i n : ℕ} {old : Forest} {before after : List BreakerState} → IsHanded i old → Ends i (root_tree i old) (without_root i old) old → BeginWithLeaves n (children_of (plain (root_tree i old))) → CalmChecks n before after
-    → IsWalked i n n old old before after
-leaves_walked {i = i} {n = n} {old = old} {before = before} {after = after} h e b c =
+pub leaves_walked : (A : Tree → Tree → Type 0) (P : Tree → Type 0) {i n : ℕ} {old : Forest} {before after : List BreakerState} → ((t : Tree) → P t → is_leaf t ≡ true → A t t) → EachTree P (children_of (plain (root_tree i old))) → IsHanded i old → Ends i (root_tree i old) (without_root i old) old → BeginWithLeaves n (children_of (plain (root_tree i old))) → CalmChecks n before after
+    → IsWalked A i n n old old before after
+leaves_walked A P {i = i} {n = n} {old = old} {before = before} {after = after} own taken h e b c =
     let p = top i old h.root in
     let k = p.kids-are in
     let ts = children_of (plain (root_tree i old)) in
-    let s = leaves_split n ts b in
+    let s = leaves_split A P n ts own taken b in
     let all : Represents k (append s.leaves s.rest) = represents_as (parent_handed h).kids (ap kids p.tree-is) s.split in
     let first : Represents (first_trees n k) s.leaves = subst (λ (m : ℕ). Represents (first_trees m k) s.leaves) (sym s.count-is) (cut s.leaves s.rest k all) in
     let once : AllOnce (tree p.label k empty) = subst AllOnce p.tree-is h.once in
@@ -172,7 +157,7 @@ leaves_walked {i = i} {n = n} {old = old} {before = before} {after = after} h e 
       rest = s.rest;
       split = s.split;
       count-is = s.count-is;
-      reduced = s.reduced;
+      become = s.become;
       calm = subst (λ (m : ℕ). CalmChecks m before after) (sym s.nodes-are) c;
       label = p.label;
       id-is = p.id-is;
@@ -193,7 +178,7 @@ starts_behind : {i : ℕ} {old new : Forest} (g : Forest) → new ≡ join (with
 starts_behind {i = i} {old = old} {new = new} g e = record { keeps = λ p s n. starts_same p (join (without_root i old) g) new e (starts_join p (without_root i old) g (starts_without i p old n.0 s)) }
 
 -- the next child, which is not among the leaves in front
-pub record IsNextChild {i leaves at : ℕ} {old new : Forest} {before after : List BreakerState} (w : IsWalked i leaves at old new before after) : Type 0 where
+pub record IsNextChild {A : Tree → Tree → Type 0} {i leaves at : ℕ} {old new : Forest} {before after : List BreakerState} (w : IsWalked A i leaves at old new before after) : Type 0 where
   pub child : Tree
   pub rest : Trees
   pub split : children_of (plain (root_tree i old)) ≡ append w.done (more child rest)
@@ -207,7 +192,7 @@ pub record IsNextChild {i leaves at : ℕ} {old new : Forest} {before after : Li
 no_node : {t : Tree} {ts : Trees} → none ≡ more t ts → ⊥
 no_node e = cc
 
-pub next_child : {i leaves at : ℕ} {old new : Forest} {before after : List BreakerState} (w : IsWalked i leaves at old new before after) → at < count (children_of (plain (root_tree i old))) → IsNextChild w
+pub next_child : {A : Tree → Tree → Type 0} {i leaves at : ℕ} {old new : Forest} {before after : List BreakerState} (w : IsWalked A i leaves at old new before after) → at < count (children_of (plain (root_tree i old))) → IsNextChild w
 next_child {i = i} {at = at} {old = old} {new = new} w l = by w.rest w.back w.split w.whole w.left
   where
     by : (rest : Trees) (back : Forest) → children_of (plain (root_tree i old)) ≡ append w.done rest → new ≡ join (without_root i old) (tree w.label (join w.front back) w.behind) → Represents back rest → IsNextChild w
@@ -225,8 +210,15 @@ next_child {i = i} {at = at} {old = old} {new = new} w l = by w.rest w.back w.sp
       left = cut_rest (more t none) rest (tree m b k) r;
     }
 
+pub is_next : {A : Tree → Tree → Type 0} {i leaves at : ℕ} {old new : Forest} {before after : List BreakerState} {w : IsWalked A i leaves at old new before after} (n : IsNextChild w) → IsNext A (plain (root_tree i old)) w.done w.answers n.child n.rest
+is_next {w = w} n = record { split = n.split; answered = w.become }
+
+-- what holds of each child holds of it
+pub next_taken_too : {A : Tree → Tree → Type 0} (P : Tree → Type 0) {i leaves at : ℕ} {old new : Forest} {before after : List BreakerState} {w : IsWalked A i leaves at old new before after} (n : IsNextChild w) → EachTree P (children_of (plain (root_tree i old))) → P n.child
+next_taken_too P {w = w} n h = among P w.done n.child n.rest (subst (EachTree P) n.split h)
+
 -- it has fewer nodes than its parent
-pub fewer_nodes : {i leaves at : ℕ} {old new : Forest} {before after : List BreakerState} {w : IsWalked i leaves at old new before after} (n : IsNextChild w) → nodes_of w.done + nodes n.child < nodes (plain (root_tree i old))
+pub fewer_nodes : {A : Tree → Tree → Type 0} {i leaves at : ℕ} {old new : Forest} {before after : List BreakerState} {w : IsWalked A i leaves at old new before after} (n : IsNextChild w) → nodes_of w.done + nodes n.child < nodes (plain (root_tree i old))
 fewer_nodes {i = i} {old = old} {w = w} n = omega (arith, nodes_by_children (plain (root_tree i old)), ap nodes_of n.split, nodes_append w.done (more n.child n.rest))
 
 -- the parent, and its tree
@@ -244,18 +236,18 @@ there {i = i} {label = l} {below = k} {others = o} {behind = r} {f = f} c q e =
       put-is = λ n. ap (put i n) e ∙ put-right i n o (tree l k r) c ∙ ap (λ (t : Bool). join o (cond t (tree l n r) (tree l k (put i n r)))) here;
     }
 
-pub next_there : {i leaves at : ℕ} {old new : Forest} {before after : List BreakerState} {w : IsWalked i leaves at old new before after} (n : IsNextChild w)
+pub next_there : {A : Tree → Tree → Type 0} {i leaves at : ℕ} {old new : Forest} {before after : List BreakerState} {w : IsWalked A i leaves at old new before after} (n : IsNextChild w)
     → IsThere i w.label (join w.front (tree n.label n.below n.others)) (without_root i old) w.behind new
 next_there {w = w} n = there w.clear w.id-is n.whole
 
 -- it is among its children
-pub next_within : {i leaves at : ℕ} {s : State} {old : Forest} {before after : List BreakerState} {w : IsWalked i leaves at old (forest s) before after} (n : IsNextChild w) → Stands s → leaves < arity (kids_of i (forest s))
+pub next_within : {A : Tree → Tree → Type 0} {i leaves at : ℕ} {s : State} {old : Forest} {before after : List BreakerState} {w : IsWalked A i leaves at old (forest s) before after} (n : IsNextChild w) → Stands s → leaves < arity (kids_of i (forest s))
 next_within {i = i} {w = w} n st =
     let p = next_there n in
     omega (arith, ap arity (kids_of_root i st p.root), ap (λ (x : Forest). arity (kids x)) p.tree-is, arity-join w.front (tree n.label n.below n.others), w.leaves-are)
 
 -- it is taken out
-pub next_taken : {i leaves at h : ℕ} {old new g : Forest} {before after : List BreakerState} {w : IsWalked i leaves at old new before after} (n : IsNextChild w)
+pub next_taken : {A : Tree → Tree → Type 0} {i leaves at h : ℕ} {old new g : Forest} {before after : List BreakerState} {w : IsWalked A i leaves at old new before after} (n : IsNextChild w)
     → Ends h (tree_nth leaves (kids (root_tree i new))) (put i (without_nth leaves (kids (root_tree i new))) new) g
     → Gives (join (without_root i old) (tree w.label (join w.front n.others) w.behind)) g h (λ u. u ≡ n.child)
 next_taken {i = i} {leaves = leaves} {new = new} {w = w} n d =
@@ -272,11 +264,11 @@ next_taken {i = i} {leaves = leaves} {new = new} {w = w} n d =
 pub stands_last : {others f : Forest} {j : ℕ} {Told : Tree → Type 0} → Gives others f j Told → Ends j (root_tree j f) (without_root j f) f
 stands_last g = ends_as g.ends (sym (last_tree g.ends)) (sym (last_rest g.ends))
 
--- and reduced
-pub next_walked : {i leaves at h j : ℕ} {old new g end : Forest} {before after last : List BreakerState} {w : IsWalked i leaves at old new before after} (n : IsNextChild w)
+-- and has its answer
+pub next_walked : {A : Tree → Tree → Type 0} {i leaves at h j : ℕ} {old new g end : Forest} {before after last : List BreakerState} {w : IsWalked A i leaves at old new before after} (n : IsNextChild w)
     → Gives (join (without_root i old) (tree w.label (join w.front n.others) w.behind)) g h (λ u. u ≡ n.child)
-    → Gives (without_root h g) end j (IsReducedFrom (plain (root_tree h g))) → CalmChecks (nodes (plain (root_tree h g))) after last → IsWalked i leaves (at + 1) old end before last
-next_walked {i = i} {leaves = leaves} {h = h} {old = old} {g = g} {end = end} {before = before} {after = after} {last = last} {w = w} n a r c =
+    → Gives (without_root h g) end j (A (plain (root_tree h g))) → CalmChecks (nodes (plain (root_tree h g))) after last → IsWalked A i leaves (at + 1) old end before last
+next_walked {A = A} {i = i} {leaves = leaves} {h = h} {old = old} {g = g} {end = end} {before = before} {after = after} {last = last} {w = w} n a r c =
     let child : plain (root_tree h g) ≡ n.child = given_told a in
     let x = gives_as r (given_rest a) (λ t k. k) in
     let done = append w.done (more n.child none) in
@@ -289,7 +281,7 @@ next_walked {i = i} {leaves = leaves} {h = h} {old = old} {g = g} {end = end} {b
       rest = n.rest;
       split = n.split ∙ sym (append_assoc w.done (more n.child none) n.rest);
       count-is = omega (arith, w.count-is, count_append w.done (more n.child none));
-      reduced = reduced_append w.done w.answers n.child answer w.reduced (subst (λ (t : Tree). IsReducedFrom t answer) child x.told);
+      become = answers_append A w.done w.answers n.child answer w.become (subst (λ (t : Tree). A t answer) child x.told);
       calm = subst (λ (m : ℕ). CalmChecks m before last) all (CalmChecks-append (nodes_of w.done) (nodes n.child) before after last w.calm checks);
       label = w.label;
       id-is = w.id-is;
@@ -308,9 +300,9 @@ next_walked {i = i} {leaves = leaves} {h = h} {old = old} {g = g} {end = end} {b
 
 -- ---- all children
 
-pub record AllWalked (i : ℕ) (old new : Forest) (before after : List BreakerState) : Type 0 where
+pub record AllWalked (A : Tree → Tree → Type 0) (i : ℕ) (old new : Forest) (before after : List BreakerState) : Type 0 where
   pub answers : Trees
-  pub reduced : AreReducedFrom (children_of (plain (root_tree i old))) answers
+  pub become : AreAnswers A (children_of (plain (root_tree i old))) answers
   pub calm : CalmChecks (nodes_of (children_of (plain (root_tree i old)))) before after
   pub parent : IsParent (held_at i old) i answers new
   pub last : Ends i (root_tree i new) (without_root i new) new
@@ -330,7 +322,7 @@ pub record IsLeft (i leaves at : ℕ) (f : Forest) : Type 0 where
   pub root : has_root i f ≡ true
   pub within : at - leaves ≤ arity (behind_root i f)
 
-pub to_adopt : {i leaves at count : ℕ} {old new : Forest} {before after : List BreakerState} (w : IsWalked i leaves at old new before after) → count ≤ at → IsLeft i leaves count new
+pub to_adopt : {A : Tree → Tree → Type 0} {i leaves at count : ℕ} {old new : Forest} {before after : List BreakerState} (w : IsWalked A i leaves at old new before after) → count ≤ at → IsLeft i leaves count new
 to_adopt {i = i} {leaves = leaves} {old = old} {new = new} w l =
     let p = there w.clear w.id-is w.whole in
     record {
@@ -338,9 +330,9 @@ to_adopt {i = i} {leaves = leaves} {old = old} {new = new} w l =
       within = omega (arith, l, w.behind-are, ap arity (ap (behind_root i) w.whole ∙ behind_there i (without_root i old) w.behind (join w.front w.back) w.label w.clear w.id-is));
     }
 
-pub all_walked : {i leaves at n : ℕ} {old new end : Forest} {before after : List BreakerState} (w : IsWalked i leaves at old new before after) → n ≡ count (children_of (plain (root_tree i old))) → n ≤ at
-    → end ≡ adopted i (n - leaves) new → AllWalked i old end before after
-all_walked {i = i} {leaves = leaves} {n = n} {old = old} {new = new} {end = end} {before = before} {after = after} w m l e =
+pub all_walked : {A : Tree → Tree → Type 0} {i leaves at n : ℕ} {old new end : Forest} {before after : List BreakerState} (w : IsWalked A i leaves at old new before after) → n ≡ count (children_of (plain (root_tree i old))) → n ≤ at
+    → end ≡ adopted i (n - leaves) new → AllWalked A i old end before after
+all_walked {A = A} {i = i} {leaves = leaves} {n = n} {old = old} {new = new} {end = end} {before = before} {after = after} w m l e =
     let few : count (append w.done w.rest) ≤ count w.done = omega (arith, ap count w.split, w.count-is, m, l) in
     let none_is : w.rest ≡ none = none_left w.done w.rest few in
     let empty_is : w.back ≡ empty = no_trees w.back (represents_count w.left ∙ ap count none_is) in
@@ -353,7 +345,7 @@ all_walked {i = i} {leaves = leaves} {n = n} {old = old} {new = new} {end = end}
     let is = last_tree ends in
     record {
       answers = w.answers;
-      reduced = subst (λ (ts : Trees). AreReducedFrom ts w.answers) (sym whole) w.reduced;
+      become = subst (λ (ts : Trees). AreAnswers A ts w.answers) (sym whole) w.become;
       calm = subst (λ (ts : Trees). CalmChecks (nodes_of ts) before after) (sym whole) w.calm;
       parent = record {
         root = last_root ends;

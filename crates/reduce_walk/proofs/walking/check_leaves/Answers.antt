@@ -3,9 +3,9 @@ use Rattle.std.proofs.lemmas.List.{length-append}
 use Rattle.breakers.specs.Breakers.{CalmChecks}
 use Rattle.breakers.specs.Watch.{states}
 use Rattle.breakers.proofs.Runs.{CalmChecks-append}
-use Rattle.deep_reduce.proofs.Stopping.{handed_on, trips_more, leaf_counts}
-use Rattle.deep_reduce.proofs.Walks.{leaves_more, few_children}
-use Rattle.deep_reduce.specs.Leaves.{is_leaf, BeginWithLeaves}
+use Rattle.reduce_walk.proofs.Stopping.{handed_on, trips_more, leaf_counts}
+use Rattle.reduce_walk.proofs.Walks.{leaves_more, few_children}
+use Rattle.reduce_walk.specs.Leaves.{is_leaf, BeginWithLeaves}
 use Rattle.reduce_port.proofs.Checks.{one_calm, trips_at_once, trips_within_after}
 use Rattle.tree_handles.proofs.NextChildren.{next_child}
 use Rattle.tree_handles.proofs.Readings.{expression_children}
@@ -14,7 +14,7 @@ use Rattle.tree_handles.specs.Expressions.{plain, children_of}
 use Rattle.tree_handles.specs.Forest.{rest_trees}
 use Rattle.tree_handles.specs.Inside.{tree_at, kids_of}
 use Rattle.tree_handles.specs.Standing.{forest}
-use Rattle.deep_reduce.proofs.driver.check_leaves.Goals as goal
+use Rattle.reduce_walk.proofs.walking.check_leaves.Goals as goal
 
 pub is_leaf-requires-clause-expression : goal.is_leaf-requires-clause-expression
 is_leaf-requires-clause-expression g c = (next_child c.requires.stands c.requires.expression c.loop-child.invariant.ids c.in-Some.ensures.steps).expression

@@ -1,0 +1,23 @@
+use Rattle.std.proofs.Common.{rules, refl}
+use Rattle.coefficients.proofs.Steps.{if_map}
+use Rattle.deep_reduce.proofs.NodeAnswers.{node_answered}
+use Rattle.deep_reduce.proofs.Ready.{answers_reduced, over_answers, step_lacks, step_overflows}
+use Rattle.tree_handles.specs.Expressions.{children_of}
+use Rattle.tree_handles.specs.Handed.{tree_of}
+use Rattle.tree_handles.proofs.Given.{gives_as}
+use Rattle.deep_reduce.proofs.driver.NodeReducerNodeStep.step.Goals as goal
+
+pub reduce_node-requires-clause-reduced : goal.reduce_node-requires-clause-reduced
+reduce_node-requires-clause-reduced c = let o = c.requires.over in answers_reduced (children_of o.whole) (children_of (tree_of c.args.tree c.args.pool.now)) o.over.children
+
+pub returns : goal.returns
+returns c = let now = tree_of c.args.tree c.args.pool.now in record {
+  ok = λ whole p o. if_map c.reduce_node.result _ _ c.reduce_node.ensures.ok (λ h x. gives_as x refl (λ t a. node_answered whole now t (over_answers o) a));
+  lacks = λ whole p o. step_lacks whole now c.reduce_node.result (over_answers o) _ c.reduce_node.ensures.room c.reduce_node.ensures.root_room;
+  overflow = λ whole p o. step_overflows whole now c.reduce_node.result (over_answers o) c.reduce_node.ensures.overflow c.reduce_node.ensures.bits;
+  kept = search rules;
+  faults = search rules;
+  caused = search rules;
+  front = search rules;
+  stands = search rules;
+}

@@ -1,0 +1,7 @@
+pub mod Parents
+pub mod Walks
+pub mod Bits
+pub mod Bytes
+pub mod Stopping
+pub mod Ready
+pub mod Port

@@ -1,0 +1,69 @@
+-- A root with its children, whatever it holds.
+use Rattle.std.proofs.Common.{◌≡◌, ℕ, true, refl, sym, ap, ◌∙◌, arith}
+use Rattle.calc_terms.specs.Payload.{Payload}
+use Rattle.calc_terms.specs.Trees.{Tree, Trees, none, more, count}
+use Rattle.coefficients.proofs.Places.{represents_count, once_count}
+use Rattle.tree_handles.proofs.Counted.{all-kids}
+use Rattle.tree_handles.proofs.Plains.{children_of-plain, count-plains, whole_kids, grown_whole}
+use Rattle.tree_handles.proofs.Roots.{root_arity}
+use Rattle.tree_handles.specs.Expressions.{nth, grown, plain, plains, takes, children_of, AllExpressions}
+use Rattle.tree_handles.specs.Forest.{Forest, empty, tree, arity, kids, root_payload, root_count}
+use Rattle.tree_handles.specs.Handed.{IsOnce, IsHanded, Represents}
+use Rattle.tree_handles.specs.Roots.{has_root, root_tree}
+
+-- a root that holds x over these trees, each node held once
+pub record IsParent (x : Payload) (i : ℕ) (ts : Trees) (f : Forest) : Type 0 where
+  pub root : has_root i f ≡ true
+  pub payload : root_payload (root_tree i f) ≡ x
+  pub count : root_count (root_tree i f) ≡ 1
+  pub kids : Represents (kids (root_tree i f)) ts
+
+-- what a handed root holds
+abbrev pub held_at : ℕ → Forest → Payload
+held_at i f = root_payload (root_tree i f)
+
+pub parent_handed : {i : ℕ} {f : Forest} → IsHanded i f → IsParent (held_at i f) i (children_of (plain (root_tree i f))) f
+parent_handed {i = i} {f = f} h = record {
+  root = h.root;
+  payload = refl;
+  count = once_count (root_tree i f) (root_arity i f h.root) h.once;
+  kids = record { once = all-kids IsOnce (root_tree i f) h.once; whole = whole_kids (root_tree i f) h.whole; plain_trees = sym (children_of-plain (root_tree i f) h.whole) };
+}
+
+no_tree : arity empty ≡ 1 → ⊥
+no_tree e = absurd (omega arith)
+
+-- it takes that many children, and is the node over them
+pub record IsNodeOf (x : Payload) (ts : Trees) (t : Tree) : Type 0 where
+  pub takes : takes x (count ts) ≡ true
+  pub grown : t ≡ grown x ts
+
+node_of_tree : (t : Forest) → arity t ≡ 1 → AllExpressions t → IsNodeOf (root_payload t) (children_of (plain t)) (plain t)
+node_of_tree empty e h = absurd (no_tree e)
+node_of_tree (tree l k r) e h =
+    let are : children_of (grown l.payload (plains k)) ≡ plains k = (grown_whole l k r h).children-are in
+    record {
+      takes = ap (λ (ts : Trees). takes l.payload (count ts)) are ∙ ap (takes l.payload) (count-plains k) ∙ h.0;
+      grown = ap (grown l.payload) (sym are);
+    }
+
+pub handed_node : {i : ℕ} {f : Forest} → IsHanded i f → IsNodeOf (held_at i f) (children_of (plain (root_tree i f))) (plain (root_tree i f))
+handed_node {i = i} {f = f} h = node_of_tree (root_tree i f) (root_arity i f h.root) h.whole
+
+parent_one : (x : Payload) (ts : Trees) (t : Forest) → arity t ≡ 1 → root_payload t ≡ x → root_count t ≡ 1 → Represents (kids t) ts → takes x (count ts) ≡ true → Represents t (more (grown x ts) none)
+parent_one x ts empty e p c h w = absurd (no_tree e)
+parent_one x ts (tree l b empty) e p c h w = record {
+  once = (c, h.once, tt);
+  whole = (ap (λ (y : Payload). takes y (arity b)) p ∙ ap (takes x) (represents_count h) ∙ w, h.whole, tt);
+  plain_trees = λ i. more (grown (p i) (h.plain_trees i)) none;
+}
+parent_one x ts (tree l b (tree m d s)) e p c h w = absurd (omega arith)
+
+parent_tree : {x : Payload} {i : ℕ} {ts : Trees} {f : Forest} → IsParent x i ts f → takes x (count ts) ≡ true → Represents (root_tree i f) (more (grown x ts) none)
+parent_tree {x = x} {i = i} {ts = ts} {f = f} h w = parent_one x ts (root_tree i f) (root_arity i f h.root) h.payload h.count h.kids w
+
+pub parent_is_handed : {x : Payload} {i : ℕ} {ts : Trees} {f : Forest} → IsParent x i ts f → takes x (count ts) ≡ true → IsHanded i f
+parent_is_handed h w = let t = parent_tree h w in record { root = h.root; once = t.once; whole = t.whole }
+
+pub parent_plain : {x : Payload} {i : ℕ} {ts : Trees} {f : Forest} → IsParent x i ts f → takes x (count ts) ≡ true → plain (root_tree i f) ≡ grown x ts
+parent_plain h w = ap (nth 0) (parent_tree h w).plain_trees

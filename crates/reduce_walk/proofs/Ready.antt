@@ -1,0 +1,35 @@
+-- A node over the answers of its children, before its own step.
+use Rattle.std.proofs.Common.{◌≡◌, ℕ, List, true, sym, ap, ◌∙◌, subst}
+use Rattle.breakers.specs.State.{State as BreakerState}
+use Rattle.calc_terms.specs.Payload.{Payload}
+use Rattle.calc_terms.specs.Trees.{Tree, count}
+use Rattle.reduce_walk.specs.Answers.{AreAnswers, IsOver}
+use Rattle.reduce_walk.proofs.Parents.{held_at, handed_node, parent_is_handed}
+use Rattle.reduce_walk.proofs.Walks.{AllWalked, answers_count}
+use Rattle.tree_handles.proofs.Plains.{children_of-plain}
+use Rattle.tree_handles.specs.Expressions.{children_of, grown, plain, takes}
+use Rattle.tree_handles.specs.Forest.{Forest}
+use Rattle.tree_handles.specs.Handed.{IsHanded}
+use Rattle.tree_handles.specs.Roots.{root_tree}
+
+pub record IsReady (A : Tree → Tree → Type 0) (i : ℕ) (old new : Forest) : Type 0 where
+  pub handed : IsHanded i new
+  pub over : IsOver A (plain (root_tree i old)) (plain (root_tree i new))
+
+pub walked_ready : {A : Tree → Tree → Type 0} {i : ℕ} {old new : Forest} {before after : List BreakerState} → IsHanded i old → AllWalked A i old new before after → IsReady A i old new
+walked_ready {A = A} {i = i} {old = old} {new = new} h w =
+    let x = held_at i old in
+    let node = handed_node h in
+    let right : takes x (count w.answers) ≡ true = ap (takes x) (sym (answers_count A (children_of (plain (root_tree i old))) w.answers w.become)) ∙ node.takes in
+    let handed = parent_is_handed w.parent right in
+    let are : children_of (plain (root_tree i new)) ≡ w.answers = children_of-plain (root_tree i new) handed.whole ∙ w.parent.kids.plain_trees in
+    record {
+      handed = handed;
+      over = record {
+        holds = x;
+        takes = node.takes;
+        whole = node.grown;
+        node = (handed_node handed).grown ∙ ap (λ (y : Payload). grown y (children_of (plain (root_tree i new)))) w.parent.payload;
+        children = subst (AreAnswers A (children_of (plain (root_tree i old)))) (sym are) w.become;
+      };
+    }

@@ -1,0 +1,123 @@
+-- A walk that ends without an answer.
+use Rattle.std.proofs.Common.{◌≡◌, ℕ, ◌+◌, ◌<◌, ◌≤◌, List, Some, None, Result, Ok, Err, true, false, sym, ap, subst, arith}
+use Rattle.std.specs.Prelude.{IfErr, OnOk, IsErr, IsErrAnd}
+use Rattle.breakers.proofs.Runs.{CalmChecks-append}
+use Rattle.breakers.specs.Breakers.{Check, CalmChecks}
+use Rattle.breakers.specs.State.{State as BreakerState}
+use Rattle.calc_terms.specs.Trees.{Tree, Trees, none, more, count, nodes, nodes_of, size, sizes, root_size}
+use Rattle.node_pool.specs.State.{State, free_of}
+use Rattle.number_forms.proofs.Loops.{kept_after, refuses_after}
+use Rattle.number_forms.specs.Lacks.{OfFull}
+use Rattle.rational128.specs.declared.overflow.Overflow.{Overflow}
+use Rattle.reduce_port.proofs.Checks.{one_calm, calm_up_to, trips_at_once, calm_up_to_after, trips_within_after}
+use Rattle.reduce_port.specs.Checks.{CalmUpTo, TripsWithin}
+use Rattle.reduce_port.specs.Faults.{fault_of}
+use Rattle.reduce_port.specs.declared.fault.ReduceFault.{ReduceFault}
+use Rattle.reduce_port.specs.declared.fault.ReduceFault.TheVariants as fault
+use Rattle.reduce_walk.specs.Answers.{IsNext}
+use Rattle.reduce_walk.specs.Leaves.{is_leaf}
+use Rattle.reduce_walk.specs.Stops.{IsUnfitAt, Stops}
+use Rattle.reduce_walk.proofs.Walks.{AllWalked, IsWalked, IsNextChild, fewer_nodes, is_next, leaf_nodes, nodes_by_children}
+use Rattle.tree_handles.specs.Causes.{IsCaused}
+use Rattle.tree_handles.specs.Expressions.{plain, children_of}
+use Rattle.tree_handles.specs.Faults.{Faults, IfOverflow}
+use Rattle.tree_handles.specs.Forest.{Forest}
+use Rattle.tree_handles.specs.Roots.{root_tree}
+use Rattle.tree_handles.specs.Standing.{KeepsRefusals}
+use Rattle.tree_handles.specs.declared.fault.NumberFault.{NumberFault}
+use Rattle.tree_handles.specs.declared.fault.NumberFault.TheVariants as number
+
+-- ---- checks
+
+calm_more : {n m : ℕ} {before after : List BreakerState} → CalmUpTo n before after → n ≤ m → CalmUpTo m before after
+calm_more h l = record { checks = h.checks; some = h.some; few = omega (arith, h.few); calm = h.calm }
+
+pub trips_more : {n m p : ℕ} {before after : List BreakerState} → TripsWithin n before after p → n ≤ m → TripsWithin m before after p
+trips_more h l = record { passed = h.passed; few = omega (arith, h.few); between = h.between; calm = h.calm; trips = h.trips }
+
+some_nodes : (t : Tree) → 1 ≤ nodes t
+some_nodes t = omega (arith, nodes_by_children t)
+
+count_nodes : (ts : Trees) → count ts ≤ nodes_of ts
+count_nodes none = omega arith
+count_nodes (more t ts) = omega (arith, nodes_by_children t, count_nodes ts)
+
+-- a check at a child is among those for each node
+pub leaf_counts : (n : ℕ) (t : Tree) → n < count (children_of t) → n + 1 ≤ nodes t
+leaf_counts n t l = omega (arith, l, nodes_by_children t, count_nodes (children_of t))
+
+-- the one check at a leaf
+pub leaf_calm : (before after : List BreakerState) (t : Tree) → is_leaf t ≡ true → Check before after None → CalmChecks (nodes t) before after
+leaf_calm before after t h c = subst (λ (n : ℕ). CalmChecks n before after) (sym (leaf_nodes t h)) (one_calm before after c)
+
+pub leaf_trips : {before after : List BreakerState} {place : ℕ} (t : Tree) → Check before after (Some place) → TripsWithin (nodes t) before after place
+leaf_trips {before = before} {after = after} {place = place} t c = trips_at_once (nodes t) before after place (some_nodes t) c
+
+-- the one before a node's own step
+pub all_checks : {A : Tree → Tree → Type 0} {i : ℕ} {old new : Forest} {before after : List BreakerState} (last : List BreakerState) → AllWalked A i old new before after → Check after last None → CalmChecks (nodes (plain (root_tree i old))) before last
+all_checks {i = i} {old = old} {before = before} {after = after} last w c =
+    subst (λ (n : ℕ). CalmChecks n before last) (sym (nodes_by_children (plain (root_tree i old)))) (CalmChecks-append (nodes_of (children_of (plain (root_tree i old)))) 1 before after last w.calm (one_calm after last c))
+
+pub last_trips : {A : Tree → Tree → Type 0} {i : ℕ} {old new : Forest} {before after : List BreakerState} (last : List BreakerState) (place : ℕ) → AllWalked A i old new before after → Check after last (Some place) → TripsWithin (nodes (plain (root_tree i old))) before last place
+last_trips {i = i} {old = old} {before = before} {after = after} last place w c =
+    subst (λ (n : ℕ). TripsWithin n before last place) (sym (nodes_by_children (plain (root_tree i old))))
+    (trips_within_after (nodes_of (children_of (plain (root_tree i old)))) 1 before after last place w.calm (trips_at_once 1 after last place (omega arith) c))
+
+-- ---- a child has no answer
+
+-- what stops a child stops its parent
+pub record StopsParent (A : Tree → Tree → Type 0) (L : Tree → ℕ → Type 0) (U : Tree → ℕ → Overflow → Type 0) (t : Tree) : Type 0 where
+  pub lacks : (c : Tree) (before done behind : Trees) (bytes : ℕ) → IsNext A t before done c behind → L c bytes → L t (bytes + (root_size t + sizes done + sizes behind))
+  pub overflows : (c : Tree) (before done behind : Trees) (place : ℕ) (o : Overflow) → IsNext A t before done c behind → U c place o → U t (nodes_of before + place) o
+
+pub child_stops : {A : Tree → Tree → Type 0} {L : Tree → ℕ → Type 0} {U : Tree → ℕ → Overflow → Type 0} {i leaves at : ℕ} {old new : Forest} {before after : List BreakerState} {s t : State} {w : IsWalked A i leaves at old new before after} (last : List BreakerState) (u : State) (n : IsNextChild w) (c : Tree) (e : ReduceFault)
+    → StopsParent A L U (plain (root_tree i old)) → c ≡ n.child → KeepsRefusals s t → free_of t + size c + (root_size (plain (root_tree i old)) + sizes w.answers + sizes n.rest) ≡ free_of s + size (plain (root_tree i old)) → Stops L U c t u after last e → Stops L U (plain (root_tree i old)) s u before last e
+child_stops {L = L} {i = i} {old = old} {before = before} {after = after} {t = t} {w = w} last u n c (fault.Full full) p same k free (l, r, m, x) = (
+  l,
+  refuses_after k r,
+  calm_more (calm_up_to_after (nodes_of w.done) (nodes c) before after last w.calm m) (omega (arith, fewer_nodes n, ap nodes same)),
+  subst (L (plain (root_tree i old))) free (p.lacks n.child w.done w.answers n.rest (free_of t + size c) (is_next n) (subst (λ (x : Tree). L x (free_of t + size c)) same x)),
+)
+child_stops {U = U} {before = before} {after = after} {w = w} last u n c (fault.Overflow o) p same k free (x, r, m) = (
+  x,
+  kept_after k r,
+  record {
+    place = nodes_of w.done + m.place;
+    some = omega (arith, m.some);
+    few = omega (arith, m.few, fewer_nodes n, ap nodes same);
+    calm = CalmChecks-append (nodes_of w.done) m.place before after last w.calm m.calm;
+    unfit = p.overflows n.child w.done w.answers n.rest m.place o (is_next n) (subst (λ (x : Tree). U x m.place o) same m.unfit);
+  },
+)
+child_stops {before = before} {after = after} {w = w} last u n c (fault.Interrupted by) p same k free (r, m) =
+    (kept_after k r, trips_more (trips_within_after (nodes_of w.done) (nodes c) before after last by.by w.calm m) (omega (arith, fewer_nodes n, ap nodes same)))
+
+-- ---- a node's own step is refused
+
+pub step_stops : (L : Tree → ℕ → Type 0) (U : Tree → ℕ → Overflow → Type 0) {s t : State} {bytes : ℕ} (u : State) (before after : List BreakerState) (tree : Tree) (e : NumberFault) → CalmChecks (nodes tree) before after → KeepsRefusals s t → Faults t u e → IsCaused u e
+    → bytes ≡ free_of s + size tree → OfFull (λ full. L tree bytes) e → IfOverflow {A = ℕ} (Err e) (U tree (nodes tree)) → Stops L U tree s u before after (fault_of e)
+step_stops L U u before after tree (number.Full full) c k f w same lacks unfit = (w, refuses_after k f, calm_up_to (nodes tree) (nodes tree) before after (some_nodes tree) (omega arith) c, subst (L tree) same lacks)
+step_stops L U u before after tree (number.Overflow o) c k f w same lacks unfit = (w, kept_after k f, record { place = nodes tree; some = some_nodes tree; few = omega arith; calm = c; unfit = unfit })
+
+-- ---- where it is the error
+
+-- what an error tells, where a `?` hands it on
+pub handed_on : {A E : Type 0} (r : Result A E) (e : E) (P : E → Type 0) → IsErr r → IsErrAnd r (λ x. x ≡ e) → P e → IfErr r P
+handed_on (Ok x) e P n a h = let no : false ≡ true = n in cc
+handed_on (Err f) e P n a h = subst P (sym a) h
+
+-- after a call that kept the refusals and all bytes
+stops_after : (L : Tree → ℕ → Type 0) (U : Tree → ℕ → Overflow → Type 0) {s t : State} {x y : Tree} (u : State) (before after : List BreakerState) (e : ReduceFault) → x ≡ y → KeepsRefusals s t → free_of t + size x ≡ free_of s + size y → Stops L U x t u before after e → Stops L U y s u before after e
+stops_after L U {t = t} {x = x} {y = y} u before after (fault.Full full) q k free (l, r, m, few) =
+    (l, refuses_after k r, subst (λ (z : Tree). CalmUpTo (nodes z) before after) q m, subst (L y) free (subst (λ (z : Tree). L z (free_of t + size x)) q few))
+stops_after L U u before after (fault.Overflow o) q k free (w, r, m) = (w, kept_after k r, subst (λ (z : Tree). IsUnfitAt U z before after o) q m)
+stops_after L U u before after (fault.Interrupted by) q k free (r, m) = (kept_after k r, subst (λ (z : Tree). TripsWithin (nodes z) before after by.by) q m)
+
+pub stopped : (L : Tree → ℕ → Type 0) (U : Tree → ℕ → Overflow → Type 0) {s t : State} {x y : Tree} (r : Result ℕ ReduceFault) (u : State) (before after : List BreakerState) → x ≡ y → KeepsRefusals s t → free_of t + size x ≡ free_of s + size y
+    → IfErr r (Stops L U x t u before after) → IfErr r (Stops L U y s u before after)
+stopped L U (Ok a) u before after q k free h = tt
+stopped L U (Err f) u before after q k free h = stops_after L U u before after f q k free h
+
+pub kept_from : {s t : State} (u : State) (r : Result ℕ ReduceFault) → KeepsRefusals s t → OnOk r (KeepsRefusals t u) → OnOk r (KeepsRefusals s u)
+kept_from u (Ok a) k h = kept_after k h
+kept_from u (Err f) k h = tt

@@ -1,0 +1,18 @@
+use Rattle.std.proofs.Common.{refl}
+use Rattle.std.specs.Prelude.{⊤}
+use Rattle.calc_terms.specs.Trees.{Tree, Trees, none, more}
+use Rattle.reduce_walk.specs.Answers.{EachTree}
+use Rattle.tree_handles.specs.Expressions.{children_of}
+use Rattle.reduce_walk.proofs.tests.UnchangedNodeStep.laws.Goals as goal
+
+any : (ts : Trees) → EachTree (λ (t : Tree). ⊤) ts
+any none = tt
+any (more t ts) = (tt, any ts)
+
+pub returns : goal.returns
+returns c = record {
+  leaf = λ t p l. refl;
+  children = λ t p. any (children_of t);
+  child_lacks = λ t u before done behind bytes p n l. absurd l;
+  child_overflows = λ t u before done behind place o p n h. absurd h;
+}
