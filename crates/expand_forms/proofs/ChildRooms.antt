@@ -10,7 +10,7 @@ use Rattle.calc_terms.specs.Trees.{Tree, num, symbol, undef, add, mult, power, r
 use Rattle.expand_forms.specs.ExpansionRoom.{count_distinct, expansion_room, most_terms, most_terms_of, node_bytes, sum_bytes, terms}
 use Rattle.expand_forms.specs.PolynomialTrees.{are_polynomials, is_polynomial}
 use Rattle.expand_forms.specs.Walks.{AreExpandedFrom}
-use Rattle.expand_forms.proofs.ChildWalks.{nodes_append, nodes_by_children}
+use Rattle.reduce_walk.proofs.Walks.{nodes_append, nodes_by_children}
 use Rattle.expand_forms.proofs.TermCounts.{answer_most, most_of_all, some_nodes, some_terms}
 use Rattle.expand_forms.proofs.Widths.{names_rise}
 use Rattle.tree_handles.specs.Expressions.{children_of}

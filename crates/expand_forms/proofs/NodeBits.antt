@@ -1,18 +1,17 @@
 -- By what bits the step of a node over expanded children is held.
-use Rattle.std.proofs.Common.{◌≡◌, ◌<◌, ◌≤◌, ◌+◌, ◌*◌, ℕ, zero, suc, max, Result, Ok, Err, Bool, true, false, refl, sym, ap, subst, arith}
+use Rattle.std.proofs.Common.{◌≡◌, ◌<◌, ◌≤◌, ◌+◌, ◌*◌, ℕ, zero, suc, Result, Ok, Err, Bool, true, false, refl, sym, ap, ◌∙◌, subst, arith}
 use Rattle.std.specs.Prelude.{IfErr, nat_le, if◌then◌else◌}
-use Rattle.std.proofs.Math.Nat.{le-max_left, le-max_right}
 use Rattle.std.proofs.lemmas.Bool.{and_parts, leb-false, leb-true}
-use Rattle.calc_measures.specs.Measures.{all_simple, bits, bits_of, high, low, most_bits, most_bits_of}
+use Rattle.calc_measures.specs.Measures.{all_simple, bits, bits_of, high, low, most_bits}
 use Rattle.calc_terms.specs.declared.kind.Kind.{Kind}
 use Rattle.calc_terms.specs.declared.kind.Kind.TheVariants as kind
 use Rattle.calc_terms.specs.Fractions.{Fraction, inverse, minus_one_fraction}
 use Rattle.calc_terms.specs.Payload.{Payload, rational, named, bare}
-use Rattle.calc_terms.specs.Trees.{Tree, num, symbol, undef, add, mult, power, root, neg, sub, div, Trees, none, more, append, count, root_kind}
+use Rattle.calc_terms.specs.Trees.{Tree, add, mult, power, neg, sub, div, Trees, none, more, count, root_kind}
 use Rattle.expand_forms.specs.ExpansionBits.{AreHeldTogether, IsHeld, IsNoOverflow}
 use Rattle.expand_forms.specs.Polynomials.{scaled}
 use Rattle.expand_forms.specs.PolynomialTrees.{divisor_of, exponent_of, is_divisor, is_exponent, is_polynomial, polynomial_of, product_of}
-use Rattle.expand_forms.specs.Walks.{AreExpandedFrom}
+use Rattle.expand_forms.specs.Walks.{AreExpandedFrom, IsOver}
 use Rattle.expand_forms.proofs.ChildExpansions.{divisor_same, exponent_same}
 use Rattle.expand_forms.proofs.Held.{held_more, held_opposite, held_product, one_held}
 use Rattle.expand_forms.proofs.Nodes.{from}
@@ -119,7 +118,7 @@ together_next (suc k) (more t ts) {h} {l} few (a, b, c, d, x, y, m, n) =
 
 -- ---- nodes that hold the same
 
-pub same_root : (x : Payload) (ts us : Trees) → root_kind (grown x us) ≡ root_kind (grown x ts)
+same_root : (x : Payload) (ts us : Trees) → root_kind (grown x us) ≡ root_kind (grown x ts)
 same_root (rational r) ts us = refl
 same_root (named x) ts us = refl
 same_root (bare k) ts us = by k
@@ -134,41 +133,10 @@ same_root (bare k) ts us = by k
     by kind.Div = refl
     by k = refl
 
--- ---- parts have no more bits
+pub over_kind : (t now : Tree) → IsOver t now → root_kind now ≡ root_kind t
+over_kind t now o = ap root_kind o.node ∙ same_root o.holds (children_of t) (children_of now) ∙ sym (ap root_kind o.whole)
 
-pub own_bits : (t : Tree) → bits_of t ≤ most_bits t
-own_bits (num q) = omega arith
-own_bits (symbol x) = omega arith
-own_bits undef = omega arith
-own_bits (add ts) = le-max_left (bits_of (add ts)) (most_bits_of ts)
-own_bits (mult ts) = le-max_left (bits_of (mult ts)) (most_bits_of ts)
-own_bits (power b e) = le-max_left (bits_of (power b e)) (max (most_bits b) (most_bits e))
-own_bits (root a) = le-max_left (bits_of (root a)) (most_bits a)
-own_bits (neg a) = le-max_left (bits_of (neg a)) (most_bits a)
-own_bits (sub a b) = le-max_left (bits_of (sub a b)) (max (most_bits a) (most_bits b))
-own_bits (div a b) = le-max_left (bits_of (div a b)) (max (most_bits a) (most_bits b))
-
-one_child : (a : Tree) → most_bits_of (more a none) ≤ most_bits a
-one_child a = omega arith
-
-children_bits : (t : Tree) → most_bits_of (children_of t) ≤ most_bits t
-children_bits (num q) = omega arith
-children_bits (symbol x) = omega arith
-children_bits undef = omega arith
-children_bits (add ts) = le-max_right (bits_of (add ts)) (most_bits_of ts)
-children_bits (mult ts) = le-max_right (bits_of (mult ts)) (most_bits_of ts)
-children_bits (power b e) = omega arith
-children_bits (root a) = omega arith
-children_bits (neg a) = omega arith
-children_bits (sub a b) = omega arith
-children_bits (div a b) = omega arith
-
-one_bits : (ts : Trees) (t : Tree) (us : Trees) → most_bits t ≤ most_bits_of (append ts (more t us))
-one_bits none t us = le-max_left (most_bits t) (most_bits_of us)
-one_bits (more x ts) t us = omega (arith, one_bits ts t us, le-max_right (most_bits x) (most_bits_of (append ts (more t us))))
-
-pub child_bits : (t : Tree) (ts : Trees) (c : Tree) (us : Trees) → children_of t ≡ append ts (more c us) → 124 < most_bits c → 124 < most_bits t
-child_bits t ts c us e l = omega (arith, l, one_bits ts c us, ap most_bits_of e, children_bits t)
+-- ---- more bits
 
 pub beyond_bits : (t : Tree) → 124 < most_bits t → 124 < bits t
 beyond_bits t l = by (all_simple t)

@@ -9,13 +9,15 @@ use Rattle.expand_forms.proofs.TermReadings.{sum_children}
 use Rattle.calc_terms.specs.Trees.{Tree, Trees, none, more, add, count}
 use Rattle.expand_forms.specs.Sums.{IsSum}
 use Rattle.number_forms.specs.Sums.{removed}
-use Rattle.number_forms.proofs.LastSums.{gives_at, kids_represented, represents_without, resum}
+use Rattle.number_forms.proofs.LastSums.{gives_at, kids_represented, once_nth, represents_without, resum}
 use Rattle.tree_handles.specs.Expressions.{children_of, inserted, nth, plain}
-use Rattle.tree_handles.specs.Forest.{Forest, kids, tree_nth, with_nth, without_nth}
-use Rattle.tree_handles.specs.Handed.{Ends, Gives, Represents}
+use Rattle.tree_handles.specs.Forest.{Forest, arity, kids, set_nth, tree_nth, with_nth, without_nth}
+use Rattle.tree_handles.specs.Handed.{AllOnce, Ends, Gives, IsHanded, IsOwned, Represents}
 use Rattle.tree_handles.specs.Roots.{put, root_tree, without_root}
-use Rattle.tree_handles.proofs.Given.{given_handed, given_rest, given_root, given_same, given_told, represents_handed, represents_with}
-use Rattle.tree_handles.proofs.Lasts.{last_rest, last_tree}
+use Rattle.tree_handles.proofs.Given.{given_handed, given_rest, given_root, given_same, given_told, represents_as, represents_handed, represents_with}
+use Rattle.tree_handles.proofs.Lasts.{last_rest, last_root, last_tree}
+use Rattle.tree_handles.proofs.Nths.{with_nth-without_nth}
+use Rattle.tree_handles.proofs.Plains.{alone, count-plains}
 
 pub sum_is : {t : Tree} → IsSum t → t ≡ add (children_of t)
 sum_is s = s.tree ∙ sym (ap (λ (u : Tree). add (children_of u)) s.tree)
@@ -47,6 +49,25 @@ add_inserted {i} {h} {g} {f} {f1} at e s p q =
     let rest = given_rest p in
     gives_at (resum e (with_nth at (root_tree h f1) (kids tree)) (inserted at (more (plain (root_tree h f1)) none) ts) ts (ap plain (sym (last_tree e.ends)) ∙ s) all refl)
     (q ∙ (λ j. put i (with_nth at (root_tree h f1) (kids (same j))) (rest j)))
+
+-- another tree comes in the place of one
+pub exchanged_terms : {i h : ℕ} {g f f1 f3 : Forest} {P Q : Tree → Type 0} (at : ℕ) (e : Gives g f i P) → plain (root_tree i f) ≡ add (children_of (plain (root_tree i f))) → (p : Gives f f1 h Q) → at < count (children_of (plain (root_tree i f)))
+    → f3 ≡ put i (set_nth at p.tree (kids (root_tree i f))) f → Gives g f3 i (λ t. t ≡ add (inserted at (more (plain p.tree) none) (removed at (children_of (plain (root_tree i f))))))
+exchanged_terms {i} {h} {g} {f} at e s p l q =
+    let tree = root_tree i f in
+    let ts = children_of (plain tree) in
+    let handed = given_handed e in
+    let one : Represents p.tree (more (plain p.tree) none) = record { once = p.once; whole = p.whole; plain_trees = alone p.tree p.ends.alone } in
+    let kids-are : Represents (kids tree) ts = kids_represented tree handed.once handed.whole in
+    let many : count ts ≡ arity (kids tree) = ap count (sym kids-are.plain_trees) ∙ count-plains (kids tree) in
+    let all : Represents (set_nth at p.tree (kids tree)) (inserted at (more (plain p.tree) none) (removed at ts)) = represents_as (represents_with at one (represents_without at kids-are)) (with_nth-without_nth at p.tree (kids tree) (omega (arith, l, many))) refl in
+    gives_at (resum e (set_nth at p.tree (kids tree)) (inserted at (more (plain p.tree) none) (removed at ts)) ts (ap plain (sym (last_tree e.ends)) ∙ s) all refl) q
+
+-- a child that was taken out is owned
+pub taken_owned : {i h : ℕ} {f g f1 : Forest} (at : ℕ) → IsHanded i f → Ends h (tree_nth at (kids (root_tree i f))) g f1 → IsOwned h f1
+taken_owned {i} {h} {f} at handed x =
+    let tree = root_tree i f in
+    record { root = last_root x; once = subst AllOnce (sym (last_tree x)) (once_nth at (kids tree) (kids_represented tree handed.once handed.whole).once) }
 
 -- ---- its order
 

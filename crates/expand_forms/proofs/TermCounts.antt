@@ -11,6 +11,7 @@ use Rattle.expand_forms.specs.ExpandedTrees.{expanded}
 use Rattle.expand_forms.specs.ExpansionRoom.{IsNamed, count_distinct, expansion_room, most_terms, most_terms_of, product_of_terms, sum_bytes, sum_of_terms, terms}
 use Rattle.expand_forms.specs.Polynomials.{IsMonomial, Polynomial, Summand, product, raised, scaled, summand, summand_times}
 use Rattle.expand_forms.specs.PolynomialTrees.{are_polynomials, divisor_of, exponent_of, is_divisor, is_exponent, is_polynomial, polynomial_of, product_of, sum_of}
+use Rattle.reduce_walk.proofs.Walks.{nodes_by_children}
 use Rattle.expand_forms.proofs.AllMonomials.{AllHave}
 use Rattle.expand_forms.proofs.Names.{tree_named}
 use Rattle.expand_forms.proofs.TermBytes.{IsNamedMonomial, expanded_most}
@@ -98,16 +99,7 @@ answer_most ns n t p h l =
     expanded_most ns (polynomial_of t) n (tree_named_monomials ns t h) (omega (arith, few_terms t, most_of_all t, l)) (omega (arith, some_terms t p, most_of_all t, l))
 
 pub some_nodes : (t : Tree) → 1 ≤ nodes t
-some_nodes (num q) = omega arith
-some_nodes (symbol x) = omega arith
-some_nodes undef = omega arith
-some_nodes (add ts) = omega arith
-some_nodes (mult ts) = omega arith
-some_nodes (power b e) = omega arith
-some_nodes (root a) = omega arith
-some_nodes (neg a) = omega arith
-some_nodes (sub a b) = omega arith
-some_nodes (div a b) = omega arith
+some_nodes t = omega (arith, nodes_by_children t)
 
 pub within_room : (t : Tree) → is_polynomial t ≡ true → 5 * size (expanded (polynomial_of t)) ≤ expansion_room t
 within_room t p =

@@ -7,6 +7,7 @@ ghost use Rattle.calc_algebra.specs.Rewritings.{HasNoNewName};
 ghost use Rattle.calc_terms.specs.Fractions.{inverse, one_fraction};
 ghost use Rattle.calc_terms.specs.Rat.{value_of};
 ghost use Rattle.calc_terms.specs.Trees.{Tree, is_add, is_mult, names, num, size, sub};
+ghost use Rattle.child_lists.specs.Lists.{Lists};
 ghost use Rattle.expand_forms.specs.ExpandedTrees.{expanded};
 ghost use Rattle.expand_forms.specs.ExpansionRoom.{HasFewTerms, node_bytes, sum_bytes};
 ghost use Rattle.expand_forms.specs.PolynomialTrees.{divisor_of, exponent_of as natural_exponent, has_polynomial_root, is_divisor, is_exponent, polynomial_of, sum_of, is_polynomial};
@@ -24,6 +25,7 @@ ghost use Rattle.tree_handles.specs.Standing.{KeepsRefusals, Stands, forest};
 use crate::joining::join_products;
 use crate::products::{finished, place_power, place_scaled, times};
 use calc_terms::{Kind, Rat};
+use child_lists::{ChildList, MANY};
 use node_pool::{Id, Pool};
 use rational128::invert;
 use tree_handles::{
@@ -107,7 +109,8 @@ fn inverse_divisor(pool: &Pool, divisor: Id) -> Rat
     invert(rational(pool, divisor))
 }
 
-/// The sum of a node's expanded children.
+/// The sum of a node's expanded children. Its terms are listed.
+#[inline(never)]
 fn place_sum(pool: &mut Pool, id: Id) -> Result<Handle, NumberFault>
     requires stands { Stands pool.old }
     requires expression { IsExpression id (forest pool.old) }
@@ -125,22 +128,31 @@ fn place_sum(pool: &mut Pool, id: Id) -> Result<Handle, NumberFault>
 {
     let one = number(pool, Rat::whole(1))?;
     let sum = node(pool, Kind::Add)?;
-    join_children(pool, &sum, one.id(), id)?;
+    let mut list: ChildList<MANY> = ChildList::new();
+    join_children(pool, &sum, &mut list, one.id(), id)?;
     let answer = finished(pool, sum)?;
     release(pool, one);
     Ok(answer)
 }
 
 /// Joins the terms of a node's expanded children to a sum, each of them times 1.
-fn join_children(pool: &mut Pool, sum: &Handle, one: Id, id: Id) -> Result<(), NumberFault>
+fn join_children<const N: usize>(
+    pool: &mut Pool,
+    sum: &Handle,
+    list: &mut ChildList<N>,
+    one: Id,
+    id: Id,
+) -> Result<(), NumberFault>
     requires stands { Stands pool.old }
     requires sum { Gives (without_root sum.now (forest pool.old)) (forest pool.old) sum.now IsSum }
+    requires lists { Lists list.old sum.now (forest pool.old) }
     requires one { IsExpression one (without_root sum.now (forest pool.old)) }
     requires is_one { plain (tree_at one (without_root sum.now (forest pool.old))) ≡ num one_fraction }
     requires expression { IsExpression id (without_root sum.now (forest pool.old)) }
     requires children { AreExpanded (children_of (plain (tree_at id (without_root sum.now (forest pool.old))))) }
     ensures ok { let others = without_root sum.now (forest pool.old) in
         OnOk result (Gives others (forest pool.new) sum.now (IsSumOf (sum_of (children_of (plain (tree_at id others))) ++ polynomial_of (tree_of sum.now pool.old)))) }
+    ensures lists { OnOk result (Lists list.new sum.now (forest pool.new)) }
     ensures front { KeepsFront (sum.now ∷ []) (forest pool.old) (forest pool.new) }
     ensures kept { OnOk result (KeepsRefusals pool.old pool.new) }
     ensures faults { IfErr result (Faults pool.old pool.new) }
@@ -154,12 +166,13 @@ fn join_children(pool: &mut Pool, sum: &Handle, one: Id, id: Id) -> Result<(), N
 {
     for at in 0..children(pool, id) {
         let child = child_id(pool, id, at);
-        join_products(pool, sum, one, child)?;
+        join_products(pool, sum, list, one, child)?;
     }
     Ok(())
 }
 
-/// A new last tree: the difference of two expanded trees, which stay.
+/// A new last tree: the difference of two expanded trees, which stay. Its terms are listed.
+#[inline(never)]
 fn place_difference(pool: &mut Pool, a: Id, b: Id) -> Result<Handle, NumberFault>
     requires stands { Stands pool.old }
     requires first { IsExpression a (forest pool.old) }
@@ -182,8 +195,9 @@ fn place_difference(pool: &mut Pool, a: Id, b: Id) -> Result<Handle, NumberFault
     let one = number(pool, Rat::whole(1))?;
     let opposite = place_scaled(pool, Rat::whole(-1), b)?;
     let sum = node(pool, Kind::Add)?;
-    join_products(pool, &sum, one.id(), opposite.id())?;
-    join_products(pool, &sum, one.id(), a)?;
+    let mut list: ChildList<MANY> = ChildList::new();
+    join_products(pool, &sum, &mut list, one.id(), opposite.id())?;
+    join_products(pool, &sum, &mut list, one.id(), a)?;
     let answer = finished(pool, sum)?;
     release(pool, opposite);
     release(pool, one);

@@ -4,6 +4,7 @@ ghost use Rattle.std.specs.declared.cmp.Ordering.TheVariants.{Equal};
 ghost use Rattle.std.specs.Ordering.{is_lt};
 ghost use Rattle.calc_terms.specs.Rat.{value_of};
 ghost use Rattle.calc_terms.specs.Trees.{count, is_num};
+ghost use Rattle.child_lists.specs.Lists.{Lists};
 ghost use Rattle.expand_forms.specs.Sums.{IsPlace, IsSum};
 ghost use Rattle.expand_forms.specs.Terms.{IsTerm, coefficient_in, monomial_in, term_cmp};
 ghost use Rattle.node_order.specs.Keys.{IsKey, key_tree};
@@ -13,10 +14,11 @@ ghost use Rattle.tree_handles.specs.Standing.{Stands, forest};
 
 use crate::factors::{coefficient, first_factor};
 use calc_terms::{Kind, Rat};
+use child_lists::ChildList;
 use node_order::{Key, compare_keys};
 use node_pool::{Id, Pool};
 use std::cmp::Ordering;
-use tree_handles::{child_id, children, kind};
+use tree_handles::{children, kind};
 
 /// The order of two terms, which is that of their monomials.
 fn compare_terms(pool: &Pool, a: Id, b: Id) -> Ordering
@@ -80,10 +82,11 @@ fn monomial_key(pool: &Pool, term: Id) -> Key
 }
 
 /// The place of a term among those of a sum, by halving.
-pub(crate) fn place_of(pool: &Pool, sum: Id, term: Id) -> u16
+pub(crate) fn place_of<const N: usize>(pool: &Pool, sum: Id, list: &ChildList<N>, term: Id) -> u16
     requires stands { Stands pool.now }
     requires expression { IsExpression sum (forest pool.now) }
     requires sum { IsSum (plain (tree_at sum (forest pool.now))) }
+    requires lists { Lists list.now sum (forest pool.now) }
     requires second { IsExpression term (forest pool.now) }
     requires term { IsTerm (plain (tree_at term (forest pool.now))) }
     ensures { IsPlace result (plain (tree_at term (forest pool.now))) (children_of (plain (tree_at sum (forest pool.now)))) }
@@ -92,7 +95,7 @@ pub(crate) fn place_of(pool: &Pool, sum: Id, term: Id) -> u16
     let mut high = children(pool, sum);
     while low < high {
         let mid = low + (high - low) / 2;
-        if is_below(pool, child_id(pool, sum, mid), term) {
+        if is_below(pool, list.child(pool, sum, mid), term) {
             low = mid + 1;
         } else {
             high = mid;
@@ -114,10 +117,17 @@ fn is_below(pool: &Pool, a: Id, b: Id) -> bool
 }
 
 /// The coefficient of the term at a place of a sum, where it has the monomial of another term.
-pub(crate) fn coefficient_beside(pool: &Pool, sum: Id, at: u16, term: Id) -> Option<Rat>
+pub(crate) fn coefficient_beside<const N: usize>(
+    pool: &Pool,
+    sum: Id,
+    list: &ChildList<N>,
+    at: u16,
+    term: Id,
+) -> Option<Rat>
     requires stands { Stands pool.now }
     requires expression { IsExpression sum (forest pool.now) }
     requires sum { IsSum (plain (tree_at sum (forest pool.now))) }
+    requires lists { Lists list.now sum (forest pool.now) }
     requires second { IsExpression term (forest pool.now) }
     requires term { IsTerm (plain (tree_at term (forest pool.now))) }
     ensures { let ts = children_of (plain (tree_at sum (forest pool.now))) in
@@ -127,7 +137,7 @@ pub(crate) fn coefficient_beside(pool: &Pool, sum: Id, at: u16, term: Id) -> Opt
     if at >= children(pool, sum) {
         return None;
     }
-    let other = child_id(pool, sum, at);
+    let other = list.child(pool, sum, at);
     match compare_terms(pool, other, term) {
         Ordering::Equal => Some(coefficient(pool, other)),
         _ => None,

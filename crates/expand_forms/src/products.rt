@@ -19,7 +19,9 @@ ghost use Rattle.tree_handles.specs.Roots.{without_root};
 ghost use Rattle.tree_handles.specs.Standing.{KeepsRefusals, LacksBytes, Refuses, Stands, forest};
 
 use crate::joining::join_products;
+use crate::terms::term_count;
 use calc_terms::{Kind, Rat};
+use child_lists::{ChildList, FEW, MANY};
 use node_pool::{Full, Id, Pool};
 use tree_handles::{Handle, NumberFault, children, node, number, release, take_child};
 
@@ -48,7 +50,7 @@ pub(crate) fn finished(pool: &mut Pool, sum: Handle) -> Result<Handle, Full>
     }
 }
 
-/// A new last tree: the product of two expanded trees, which stay.
+/// A new last tree: the product of two expanded trees, which stay. Its terms are listed.
 pub(crate) fn place_product(pool: &mut Pool, a: Id, b: Id) -> Result<Handle, NumberFault>
     requires stands { Stands pool.old }
     requires first { IsExpression a (forest pool.old) }
@@ -68,8 +70,39 @@ pub(crate) fn place_product(pool: &mut Pool, a: Id, b: Id) -> Result<Handle, Num
         → IfErr result (OfFull (λ full. free_of pool.old < sum_bytes ns (m * n))) }
     ensures stands { Stands pool.new }
 {
+    let terms = term_count(pool, a).saturating_mul(term_count(pool, b));
+    if usize::from(terms) <= FEW {
+        product_within::<FEW>(pool, a, b)
+    } else {
+        product_within::<MANY>(pool, a, b)
+    }
+}
+
+/// The same with a list that has room for so many terms.
+#[inline(never)]
+fn product_within<const N: usize>(pool: &mut Pool, a: Id, b: Id) -> Result<Handle, NumberFault>
+    requires few { N < 2 ^ 16 }
+    requires stands { Stands pool.old }
+    requires first { IsExpression a (forest pool.old) }
+    requires second { IsExpression b (forest pool.old) }
+    requires first_expanded { IsExpanded (plain (tree_at a (forest pool.old))) }
+    requires second_expanded { IsExpanded (plain (tree_at b (forest pool.old))) }
+    ensures ok { let old = forest pool.old in
+        IfOk result (λ h. Gives old (forest pool.new) h (λ t. t ≡ expanded (product (polynomial_of (plain (tree_at a old))) (polynomial_of (plain (tree_at b old)))))) }
+    ensures front { KeepsFront [] (forest pool.old) (forest pool.new) }
+    ensures kept { OnOk result (KeepsRefusals pool.old pool.new) }
+    ensures faults { IfErr result (Faults pool.old pool.new) }
+    ensures caused { IfErr result (IsCaused pool.new) }
+    ensures fits { let old = forest pool.old in
+        (h l : ℕ) → IsHeld (product (polynomial_of (plain (tree_at a old))) (polynomial_of (plain (tree_at b old)))) h l → h + l < 127 → IfErr result IsNoOverflow }
+    ensures room { let old = forest pool.old in
+        (ns : List (List ℕ)) (m n : ℕ) → HasFewTerms ns m (polynomial_of (plain (tree_at a old))) → HasFewTerms ns n (polynomial_of (plain (tree_at b old)))
+        → IfErr result (OfFull (λ full. free_of pool.old < sum_bytes ns (m * n))) }
+    ensures stands { Stands pool.new }
+{
     let sum = node(pool, Kind::Add)?;
-    join_products(pool, &sum, a, b)?;
+    let mut list: ChildList<N> = ChildList::new();
+    join_products(pool, &sum, &mut list, a, b)?;
     Ok(finished(pool, sum)?)
 }
 

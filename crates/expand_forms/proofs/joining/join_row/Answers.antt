@@ -1,10 +1,11 @@
-use Rattle.std.proofs.Common.{◌≡◌, ◌+◌, ◌∙◌, ◌∷◌, [], ◌++◌, drop, ap, refl, sym, subst, arith, ◌<◌, length}
+use Rattle.std.proofs.Common.{rules, ◌≡◌, ◌+◌, ◌∙◌, ◌∷◌, [], ◌++◌, drop, ap, refl, sym, subst, arith, ◌<◌, length}
 use Rattle.calc_terms.specs.Trees.{Tree, count, size}
 use Rattle.expand_forms.specs.ExpandedTrees.{normal}
 use Rattle.expand_forms.specs.Polynomials.{Polynomial, product}
 use Rattle.expand_forms.specs.PolynomialTrees.{polynomial_of}
 use Rattle.expand_forms.specs.Sums.{IsSumOf}
 use Rattle.expand_forms.specs.Terms.{IsTerm, terms_in, HasMonomial}
+use Rattle.expand_forms.proofs.ListedTerms.{lists_beside}
 use Rattle.expand_forms.proofs.JoinLoops.{term_read_at, terms_read}
 use Rattle.expand_forms.proofs.Joins.{column_split, expanded_term, joined_all, joined_more, joined_none, next_summand, no_summands, polynomial_at}
 use Rattle.expand_forms.proofs.SameCoefficients.{product_nil, product_right, same_append, same_normal, same_refl}
@@ -32,31 +33,30 @@ use Rattle.expand_forms.proofs.Splits.{held_part, held_rest, right_normal, split
 use Rattle.expand_forms.proofs.joining.join_row.Goals as goal
 
 pub term_count-at-end-requires-clause-expression : goal.term_count-at-end-requires-clause-expression
-term_count-at-end-requires-clause-expression c = (beside c.requires.sum c.requires.second).expression
+term_count-at-end-requires-clause-expression g c = (beside c.requires.sum c.requires.second).expression
 
 pub loop-at-init : goal.loop-at-init
-loop-at-init c =
+loop-at-init g c =
     let o = without_root c.args.sum.now (forest c.args.pool.now) in
     let v = polynomial_of (plain (tree_at c.args.term o)) in
     let w = polynomial_of (plain (tree_at c.args.b o)) in
     record {
+      lists = c.requires.lists;
       joined = joined_none c.args.sum.now (product v (normal w)) (product v w ++ polynomial_of (tree_of c.args.sum.now c.args.pool.now)) c.args.pool.now c.requires.stands c.requires.sum
           (same_append (product_right v (same_normal w)) (same_refl (polynomial_of (tree_of c.args.sum.now c.args.pool.now))));
       few = λ ns k n hs ht hb. few_as hs (omega arith);
       held = λ h low x. right_normal (plain (tree_at c.args.b o)) v (polynomial_of (tree_of c.args.sum.now c.args.pool.now)) c.requires.second_expanded x;
     }
 
-pub term_id-other-requires-clause-expression : goal.term_id-other-requires-clause-expression
-term_id-other-requires-clause-expression c = (beside c.loop-at.invariant.joined.gives c.requires.second).expression
-
-pub term_id-other-requires-clause-within : goal.term_id-other-requires-clause-within
-term_id-other-requires-clause-within c =
-    let now = ap (λ (t : Tree). count (terms_in t)) (beside c.loop-at.invariant.joined.gives c.requires.second).same in
+pub term_id-other-requires : goal.term_id-other-requires
+term_id-other-requires g c =
+    let j = c.loop-at.invariant.joined in
+    let now = ap (λ (t : Tree). count (terms_in t)) (beside j.gives c.requires.second).same in
     let then = ap (λ (t : Tree). count (terms_in t)) (beside c.requires.sum c.requires.second).same in
-    omega (arith, now, then, c.term_count-at-end.ensures, c.loop-at-test.true)
+    (search rules, (j.stands, ((beside j.gives c.requires.second).expression, (lists_beside c.args.seconds.now c.requires.sum j.gives c.requires.second c.requires.seconds, omega (arith, now, then, c.term_count-at-end.ensures, c.loop-at-test.true)))))
 
 pub join_product-requires : goal.join_product-requires
-join_product-requires c =
+join_product-requires g c =
     let o = without_root c.args.sum.now (forest c.args.pool.now) in
     let j = c.loop-at.invariant.joined in
     let r = given_rest j.gives in
@@ -64,20 +64,13 @@ join_product-requires c =
     let many = terms_read c.requires.sum c.requires.second c.requires.second_expanded c.term_count-at-end.ensures in
     let (s, x) = next_summand c.loop-at.at (normal (polynomial_of (plain (tree_at c.args.b o)))) (omega (arith, many, c.loop-at-test.true)) in
     let is = expanded_term (plain (tree_at c.args.b o)) (plain (tree_at c.term_id-other.result o)) c.loop-at.at s x (term_read_at c.loop-at.at j.gives c.requires.second c.requires.second_expanded w c.term_id-other.ensures.tree) in
-    record {
-      stands = j.stands;
-      sum = gives_rest j.gives (λ t h. h.sum);
-      first = subst (IsExpression c.args.term) (sym r) c.requires.first;
-      second = subst (IsExpression c.term_id-other.result) (sym r) w.expression;
-      first_term = subst (λ (f : Forest). IsTerm (plain (tree_at c.args.term f))) (sym r) c.requires.first_term;
-      second_term = subst (λ (f : Forest). IsTerm (plain (tree_at c.term_id-other.result f))) (sym r) is;
-    }
+    (search rules, (j.stands, (gives_rest j.gives (λ t h. h.sum), (c.loop-at.invariant.lists, (subst (IsExpression c.args.term) (sym r) c.requires.first, (subst (IsExpression c.term_id-other.result) (sym r) w.expression, (subst (λ (f : Forest). IsTerm (plain (tree_at c.args.term f))) (sym r) c.requires.first_term, subst (λ (f : Forest). IsTerm (plain (tree_at c.term_id-other.result f))) (sym r) is)))))))
 
 pub returns-in_err-join_product-clause-front : goal.returns-in_err-join_product-clause-front
-returns-in_err-join_product-clause-front c = front_after_one behind_first c.loop-at.invariant.joined.front c.join_product.ensures.front
+returns-in_err-join_product-clause-front g c = front_after_one behind_first c.loop-at.invariant.joined.front c.join_product.ensures.front
 
 pub loop-at-preserved : goal.loop-at-preserved
-loop-at-preserved c =
+loop-at-preserved g c =
     let o = without_root c.args.sum.now (forest c.args.pool.now) in
     let j = c.loop-at.invariant.joined in
     let r = given_rest j.gives in
@@ -91,6 +84,7 @@ loop-at-preserved c =
     (λ i. product (polynomial_of (plain (tree_at c.args.term (r i)))) (polynomial_of (plain (tree_at c.term_id-other.result (r i))))) ∙ ap (product v) (polynomial_at (plain (tree_at c.args.b o)) (plain (tree_at c.term_id-other.result o)) c.loop-at.at s x (term_read_at c.loop-at.at j.gives c.requires.second c.requires.second_expanded w c.term_id-other.ensures.tree)) in
     let more = gives_as c.in_ok-join_product.ensures.ok refl (λ t h. subst (λ (p : Polynomial). IsSumOf (p ++ polynomial_of (tree_of c.args.sum.now c.loop-at.pool)) t) same h) in
     record {
+      lists = c.in_ok-join_product.ensures.lists;
       joined = joined_more c.args.sum.now (product v (drop c.loop-at.at b)) (product v (s ∷ [])) (product v (drop (c.loop-at.at + 1) b)) _ c.args.pool.now c.loop-at.pool c.join_product.new.pool j (column_split v b c.loop-at.at s x)
           more c.join_product.ensures.front c.in_ok-join_product.ensures.kept c.join_product.ensures.stands;
       few = λ ns k n hs ht hb. few_as (joined_few (given_told more) ht (few_at c.loop-at.at x (few_normal hb)) (c.loop-at.invariant.few ns k n hs ht hb)) (omega arith);
@@ -98,7 +92,7 @@ loop-at-preserved c =
     }
 
 pub returns-clause-ok : goal.returns-clause-ok
-returns-clause-ok c =
+returns-clause-ok g c =
     let o = without_root c.args.sum.now (forest c.args.pool.now) in
     let v = polynomial_of (plain (tree_at c.args.term o)) in
     let b = normal (polynomial_of (plain (tree_at c.args.b o))) in
@@ -108,7 +102,7 @@ returns-clause-ok c =
 -- ---- few bytes
 
 pub returns-in_err-join_product-clause-room : goal.returns-in_err-join_product-clause-room
-returns-in_err-join_product-clause-room c = λ ns k n hs ht hb.
+returns-in_err-join_product-clause-room g c = λ ns k n hs ht hb.
     let o = without_root c.args.sum.now (forest c.args.pool.now) in
     let j = c.loop-at.invariant.joined in
     let r = given_rest j.gives in
@@ -131,7 +125,7 @@ returns-in_err-join_product-clause-room c = λ ns k n hs ht hb.
 -- ---- what fits
 
 pub returns-in_err-join_product-clause-fits : goal.returns-in_err-join_product-clause-fits
-returns-in_err-join_product-clause-fits c = λ h low y k.
+returns-in_err-join_product-clause-fits g c = λ h low y k.
     let o = without_root c.args.sum.now (forest c.args.pool.now) in
     let j = c.loop-at.invariant.joined in
     let r = given_rest j.gives in

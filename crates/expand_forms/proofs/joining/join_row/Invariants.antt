@@ -1,4 +1,5 @@
 use Rattle.std.proofs.Common.{ℕ, List, ◌+◌, ◌++◌, drop}
+use Rattle.child_lists.specs.Lists.{Lists}
 use Rattle.expand_forms.specs.ExpandedTrees.{normal}
 use Rattle.expand_forms.specs.ExpansionBits.{IsHeld}
 use Rattle.expand_forms.specs.ExpansionRoom.{HasFewTerms}
@@ -13,7 +14,8 @@ use Rattle.tree_handles.specs.Standing.{forest}
 use Rattle.expand_forms.proofs.joining.join_row.Given as goal
 
 abbrev pub invariant-loop-at : goal.invariant-loop-at
-invariant-loop-at l = record {
+invariant-loop-at g l = record {
+  lists : Lists l.list l.sum (forest l.pool);
   joined : IsJoined l.sum (product (polynomial_of (plain (tree_at l.term (without_root l.sum (forest l.fn.pool))))) (drop l.at (normal (polynomial_of (plain (tree_at l.b (without_root l.sum (forest l.fn.pool))))))))
       (product (polynomial_of (plain (tree_at l.term (without_root l.sum (forest l.fn.pool))))) (polynomial_of (plain (tree_at l.b (without_root l.sum (forest l.fn.pool))))) ++ polynomial_of (tree_of l.sum l.fn.pool))
       l.fn.pool l.pool;

@@ -1,4 +1,4 @@
-use Rattle.std.proofs.Common.{◌∙◌, ap, refl, arith, suc, drop, subst}
+use Rattle.std.proofs.Common.{rules, ◌∙◌, ap, refl, arith, suc, drop, subst}
 use Rattle.expand_forms.proofs.TermReadings.{drop_all, factor_in, has_count, if_ok_map, next_first, next_left}
 use Rattle.tree_handles.specs.Expressions.{nth}
 use Rattle.expand_forms.specs.ExpansionBits.{HasExponents}
@@ -35,36 +35,19 @@ factor_at-right-requires-clause-factor c =
     let (f, a) = factor_in c.args.j n hn.monomial (omega (arith, has_count hn, c.factor_count.ensures, c.if-j-factor_count.false, j)) in
     (f, a.positive, c.factor_id-2.ensures.tree ∙ ap (nth c.args.j) hn.factors ∙ a.tree)
 
-pub first_of-requires-clause-first : goal.first_of-requires-clause-first
-first_of-requires-clause-first c =
+pub first_of-requires : goal.first_of-requires
+first_of-requires c =
     let (m, n, hm, hn, i, j) = c.requires.monomials in
-    let (f, a) = factor_in c.args.i m hm.monomial i in
-    (f, c.factor_at-left.ensures f a.positive (c.factor_id.ensures.tree ∙ ap (nth c.args.i) hm.factors ∙ a.tree))
+    record {
+      first = let (f, a) = factor_in c.args.i m hm.monomial i in (f, c.factor_at-left.ensures f a.positive (c.factor_id.ensures.tree ∙ ap (nth c.args.i) hm.factors ∙ a.tree));
+      second = let (f, a) = factor_in c.args.j n hn.monomial (omega (arith, has_count hn, c.factor_count.ensures, c.if-j-factor_count.false, j)) in (f, c.factor_at-right.ensures f a.positive (c.factor_id-2.ensures.tree ∙ ap (nth c.args.j) hn.factors ∙ a.tree));
+    }
 
-pub first_of-requires-clause-second : goal.first_of-requires-clause-second
-first_of-requires-clause-second c =
-    let (m, n, hm, hn, i, j) = c.requires.monomials in
-    let (f, a) = factor_in c.args.j n hn.monomial (omega (arith, has_count hn, c.factor_count.ensures, c.if-j-factor_count.false, j)) in
-    (f, c.factor_at-right.ensures f a.positive (c.factor_id-2.ensures.tree ∙ ap (nth c.args.j) hn.factors ∙ a.tree))
-
-pub returns-clause-next : goal.returns-clause-next
-returns-clause-next c = λ m n hm hn.
+pub returns : goal.returns
+returns c =
     let (m', n', hm', hn', i, j) = c.requires.monomials in
-    let (f, a) = factor_in c.args.i m hm.monomial (omega (arith, has_count hm, has_count hm', i)) in
-    let (g, b) = factor_in c.args.j n hn.monomial (omega (arith, has_count hn, has_count hn', c.factor_count.ensures, c.if-j-factor_count.false, j)) in
-    let r = c.factor_at-left.ensures f a.positive (c.factor_id.ensures.tree ∙ ap (nth c.args.i) hm.factors ∙ a.tree) in
-    let s = c.factor_at-right.ensures g b.positive (c.factor_id-2.ensures.tree ∙ ap (nth c.args.j) hn.factors ∙ b.tree) in
-    if_ok_map c.first_of.result (c.first_of.ensures.next f g r s) (λ x h. next_first f g (drop c.args.i m) (drop c.args.j n) (drop (suc c.args.i) m) (drop (suc c.args.j) n) x a.monomial b.monomial a.rest b.rest h)
-
-pub returns-clause-fits : goal.returns-clause-fits
-returns-clause-fits c = λ m n k hm hn x l.
-    let (m', n', hm', hn', i, j) = c.requires.monomials in
-    let (f, a) = factor_in c.args.i m hm.monomial (omega (arith, has_count hm, has_count hm', i)) in
-    let (g, b) = factor_in c.args.j n hn.monomial (omega (arith, has_count hn, has_count hn', c.factor_count.ensures, c.if-j-factor_count.false, j)) in
-    let r = c.factor_at-left.ensures f a.positive (c.factor_id.ensures.tree ∙ ap (nth c.args.i) hm.factors ∙ a.tree) in
-    let s = c.factor_at-right.ensures g b.positive (c.factor_id-2.ensures.tree ∙ ap (nth c.args.j) hn.factors ∙ b.tree) in
-    c.first_of.ensures.fits f g r s
-    (λ e.
-    let first = both_first f g (drop (suc c.args.i) m) (drop (suc c.args.j) n) (subst IsMonomial a.rest a.monomial) (subst IsMonomial b.rest b.monomial) e in
-    let y = subst (HasExponents k) ((λ t. monomial_times (a.rest t) (b.rest t)) ∙ first) x in
-    omega (arith, y.0, l))
+    record {
+      next = λ m n hm hn. let (f, a) = factor_in c.args.i m hm.monomial (omega (arith, has_count hm, has_count hm', i)) in let (g, b) = factor_in c.args.j n hn.monomial (omega (arith, has_count hn, has_count hn', c.factor_count.ensures, c.if-j-factor_count.false, j)) in let r = c.factor_at-left.ensures f a.positive (c.factor_id.ensures.tree ∙ ap (nth c.args.i) hm.factors ∙ a.tree) in let s = c.factor_at-right.ensures g b.positive (c.factor_id-2.ensures.tree ∙ ap (nth c.args.j) hn.factors ∙ b.tree) in if_ok_map c.first_of.result (c.first_of.ensures.next f g r s) (λ x h. next_first f g (drop c.args.i m) (drop c.args.j n) (drop (suc c.args.i) m) (drop (suc c.args.j) n) x a.monomial b.monomial a.rest b.rest h);
+      overflow = search rules;
+      fits = λ m n k hm hn x l. let (f, a) = factor_in c.args.i m hm.monomial (omega (arith, has_count hm, has_count hm', i)) in let (g, b) = factor_in c.args.j n hn.monomial (omega (arith, has_count hn, has_count hn', c.factor_count.ensures, c.if-j-factor_count.false, j)) in let r = c.factor_at-left.ensures f a.positive (c.factor_id.ensures.tree ∙ ap (nth c.args.i) hm.factors ∙ a.tree) in let s = c.factor_at-right.ensures g b.positive (c.factor_id-2.ensures.tree ∙ ap (nth c.args.j) hn.factors ∙ b.tree) in c.first_of.ensures.fits f g r s (λ e. let first = both_first f g (drop (suc c.args.i) m) (drop (suc c.args.j) n) (subst IsMonomial a.rest a.monomial) (subst IsMonomial b.rest b.monomial) e in let y = subst (HasExponents k) ((λ t. monomial_times (a.rest t) (b.rest t)) ∙ first) x in omega (arith, y.0, l));
+    }

@@ -1,4 +1,4 @@
-use Rattle.std.proofs.Common.{◌∙◌, sym, ap, refl, ◌<◌, arith}
+use Rattle.std.proofs.Common.{rules, ◌∙◌, sym, ap, refl, ◌<◌, arith}
 use Rattle.calc_terms.specs.Trees.{power, size}
 use Rattle.expand_forms.proofs.TermReadings.{factor_one, factor_other}
 use Rattle.tree_handles.specs.Expressions.{plain}
@@ -27,19 +27,17 @@ node_over_two-requires-clause-second c = given_handed c.in_ok-exponent.ensures.g
 pub node_over_two-requires-clause-apart : goal.node_over_two-requires-clause-apart
 node_over_two-requires-clause-apart c = eqb-sym c.in_ok-exponent.exponent c.in_ok-base.base (given_apart c.in_ok-exponent.ensures.given (given_handed c.in_ok-base.ensures.given))
 
-pub returns-clause-ok : goal.returns-clause-ok
-returns-clause-ok c = λ f r.
-    let b = c.in_ok-base.ensures.given in
-    let e = c.in_ok-exponent.ensures.given in
-    let left = ap plain (given_same c.in_ok-base.base e (given_root b)) ∙ given_told b in
-    gives_as c.in_ok-power.ensures.ok (given_without e (given_handed b) ∙ given_rest b)
-    (λ t q. q ∙ (λ i. power (left i) (given_told e i)) ∙ factor_other c.args.factor f r (sym c.is_one.ensures ∙ c.if-is_one.false))
-
-pub returns-clause-front : goal.returns-clause-front
-returns-clause-front c =
-    let b = behind_new c.in_ok-base.ensures.given.ends front_same in
-    let e = behind_new c.in_ok-exponent.ensures.given.ends c.symbol.ensures.front in
-    front_after_two b e (front_after c.symbol.ensures.front c.number.ensures.front) c.node_over_two.ensures.front
+pub returns : goal.returns
+returns c =
+    record {
+      ok = λ f r. let b = c.in_ok-base.ensures.given in let e = c.in_ok-exponent.ensures.given in let left = ap plain (given_same c.in_ok-base.base e (given_root b)) ∙ given_told b in gives_as c.in_ok-power.ensures.ok (given_without e (given_handed b) ∙ given_rest b) (λ t q. q ∙ (λ i. power (left i) (given_told e i)) ∙ factor_other c.args.factor f r (sym c.is_one.ensures ∙ c.if-is_one.false));
+      front = let b = behind_new c.in_ok-base.ensures.given.ends front_same in let e = behind_new c.in_ok-exponent.ensures.given.ends c.symbol.ensures.front in front_after_two b e (front_after c.symbol.ensures.front c.number.ensures.front) c.node_over_two.ensures.front;
+      kept = search rules;
+      full = search rules;
+      caused = search rules;
+      room = search rules;
+      stands = search rules;
+    }
 
 -- ---- few bytes
 

@@ -1,4 +1,4 @@
-use Rattle.std.proofs.Common.{◌≡◌, ◌∙◌, ap, refl, arith}
+use Rattle.std.proofs.Common.{rules, ◌≡◌, ◌∙◌, ap, refl, arith}
 use Rattle.calc_terms.specs.Trees.{Tree, count, more, none}
 use Rattle.coefficients.proofs.Places.{over_product}
 use Rattle.coefficients.proofs.Steps.{added_as, expression, live, moved, moved_front, seen}
@@ -48,16 +48,14 @@ move_last-requires-clause-root c =
     let g = c.in_ok-child.ensures.ok f r in
     (added_as c.children-at.result (over_product c.requires.handed c.requires.product) g (c.add_child.ensures.root (other_root c.args.product.now g.ends c.requires.handed.root)) refl).over.root
 
-pub returns-clause-ok : goal.returns-clause-ok
-returns-clause-ok c = λ f r.
-    let g = c.in_ok-child.ensures.ok f r in
-    let at : c.children-at.result ≡ count (children_of (tree_of c.args.product.now c.args.pool.now)) =
-    c.children-at.ensures.plain (expression c.id.ensures c.requires.stands c.requires.handed) ∙ ap (λ (t : Tree). count (children_of t)) (seen c.id.ensures c.requires.stands c.requires.handed) in
-    let last = inserted_last c.children-at.result (more (factor_tree f) none) (children_of (tree_of c.args.product.now c.args.pool.now)) at in
-    moved (added_as c.children-at.result (over_product c.requires.handed c.requires.product) g (c.add_child.ensures.root (other_root c.args.product.now g.ends c.requires.handed.root)) last) refl c.move_last.ensures.last refl
-
-pub returns-clause-front : goal.returns-clause-front
-returns-clause-front c =
-    let (f, r) = c.requires.read in
-    let g = c.in_ok-child.ensures.ok f r in
-    moved_front (added_as c.children-at.result (over_product c.requires.handed c.requires.product) g (c.add_child.ensures.root (other_root c.args.product.now g.ends c.requires.handed.root)) refl) c.move_last.ensures.last
+pub returns : goal.returns
+returns c =
+    record {
+      ok = λ f r. let g = c.in_ok-child.ensures.ok f r in let at : c.children-at.result ≡ count (children_of (tree_of c.args.product.now c.args.pool.now)) = c.children-at.ensures.plain (expression c.id.ensures c.requires.stands c.requires.handed) ∙ ap (λ (t : Tree). count (children_of t)) (seen c.id.ensures c.requires.stands c.requires.handed) in let last = inserted_last c.children-at.result (more (factor_tree f) none) (children_of (tree_of c.args.product.now c.args.pool.now)) at in moved (added_as c.children-at.result (over_product c.requires.handed c.requires.product) g (c.add_child.ensures.root (other_root c.args.product.now g.ends c.requires.handed.root)) last) refl c.move_last.ensures.last refl;
+      front = let (f, r) = c.requires.read in let g = c.in_ok-child.ensures.ok f r in moved_front (added_as c.children-at.result (over_product c.requires.handed c.requires.product) g (c.add_child.ensures.root (other_root c.args.product.now g.ends c.requires.handed.root)) refl) c.move_last.ensures.last;
+      kept = search rules;
+      full = search rules;
+      caused = search rules;
+      room = search rules;
+      stands = search rules;
+    }

@@ -1,4 +1,4 @@
-use Rattle.std.proofs.Common.{◌∙◌, ap, sym, subst, arith, ◌<◌, ◌*◌, length, drop}
+use Rattle.std.proofs.Common.{rules, ◌∙◌, ap, sym, subst, arith, ◌<◌, ◌*◌, length, drop}
 use Rattle.calc_terms.specs.Trees.{Tree, count, is_mult}
 use Rattle.expand_forms.specs.Terms.{HasMonomial, factors_in}
 use Rattle.expand_forms.proofs.Merged.{merged_all, merged_more, merged_none}
@@ -36,42 +36,25 @@ loop-i-init c = record {
   stands = c.requires.stands;
 }
 
-pub next_factor-requires-clause-first : goal.next_factor-requires-clause-first
-next_factor-requires-clause-first c =
+pub next_factor-requires : goal.next_factor-requires
+next_factor-requires c =
     let (m, n, hm, hn) = c.requires.monomials in
-    (beside (c.loop-i.invariant.merged m n hm hn).gives c.requires.first).expression
+    record {
+      stands = search rules;
+      first = (beside (c.loop-i.invariant.merged m n hm hn).gives c.requires.first).expression;
+      second = (beside (c.loop-i.invariant.merged m n hm hn).gives c.requires.second).expression;
+      monomials = let w = c.loop-i.invariant.merged m n hm hn in let x = (beside w.gives c.requires.first).same in let y = (beside w.gives c.requires.second).same in (m, n, subst (HasMonomial m) (sym x) hm, subst (HasMonomial n) (sym y) hn, omega (arith, has_count hm, c.loop-i.invariant.lefts, c.loop-i-test.true), w.right);
+    }
 
-pub next_factor-requires-clause-second : goal.next_factor-requires-clause-second
-next_factor-requires-clause-second c =
+pub push_factor-requires : goal.push_factor-requires
+push_factor-requires c =
     let (m, n, hm, hn) = c.requires.monomials in
-    (beside (c.loop-i.invariant.merged m n hm hn).gives c.requires.second).expression
-
-pub next_factor-requires-clause-monomials : goal.next_factor-requires-clause-monomials
-next_factor-requires-clause-monomials c =
-    let (m, n, hm, hn) = c.requires.monomials in
-    let w = c.loop-i.invariant.merged m n hm hn in
-    let x = (beside w.gives c.requires.first).same in
-    let y = (beside w.gives c.requires.second).same in
-    (m, n, subst (HasMonomial m) (sym x) hm, subst (HasMonomial n) (sym y) hn, omega (arith, has_count hm, c.loop-i.invariant.lefts, c.loop-i-test.true), w.right)
-
-pub push_factor-requires-clause-handed : goal.push_factor-requires-clause-handed
-push_factor-requires-clause-handed c =
-    let (m, n, hm, hn) = c.requires.monomials in
-    given_handed (c.loop-i.invariant.merged m n hm hn).gives
-
-pub push_factor-requires-clause-product : goal.push_factor-requires-clause-product
-push_factor-requires-clause-product c =
-    let (m, n, hm, hn) = c.requires.monomials in
-    ap is_mult (given_told (c.loop-i.invariant.merged m n hm hn).gives)
-
-pub push_factor-requires-clause-read : goal.push_factor-requires-clause-read
-push_factor-requires-clause-read c =
-    let (m, n, hm, hn) = c.requires.monomials in
-    let w = c.loop-i.invariant.merged m n hm hn in
-    let x = (beside w.gives c.requires.first).same in
-    let y = (beside w.gives c.requires.second).same in
-    let h = c.in_ok-next.ensures.next m n (subst (HasMonomial m) (sym x) hm) (subst (HasMonomial n) (sym y) hn) in
-    (h.factor, h.read)
+    record {
+      stands = search rules;
+      handed = given_handed (c.loop-i.invariant.merged m n hm hn).gives;
+      product = ap is_mult (given_told (c.loop-i.invariant.merged m n hm hn).gives);
+      read = let w = c.loop-i.invariant.merged m n hm hn in let x = (beside w.gives c.requires.first).same in let y = (beside w.gives c.requires.second).same in let h = c.in_ok-next.ensures.next m n (subst (HasMonomial m) (sym x) hm) (subst (HasMonomial n) (sym y) hn) in (h.factor, h.read);
+    }
 
 pub overflow_add-i : goal.overflow_add-i
 overflow_add-i c =
@@ -118,25 +101,16 @@ loop-i-preserved c = record {
 pub returns-in_err-push_factor-clause-front : goal.returns-in_err-push_factor-clause-front
 returns-in_err-push_factor-clause-front c = front_after_one behind_first c.loop-i.invariant.front c.push_factor.ensures.front
 
-pub push_rest-requires-clause-product : goal.push_rest-requires-clause-product
-push_rest-requires-clause-product c =
+pub push_rest-requires : goal.push_rest-requires
+push_rest-requires c =
     let (m, n, hm, hn) = c.requires.monomials in
-    gives_rest (c.loop-i.invariant.merged m n hm hn).gives (λ t e. ap is_mult e)
-
-pub push_rest-requires-clause-expression : goal.push_rest-requires-clause-expression
-push_rest-requires-clause-expression c =
-    let (m, n, hm, hn) = c.requires.monomials in
-    subst (IsExpression c.args.t) (sym (given_rest (c.loop-i.invariant.merged m n hm hn).gives)) c.requires.second
-
-pub push_rest-requires-clause-end : goal.push_rest-requires-clause-end
-push_rest-requires-clause-end c =
-    let (m, n, hm, hn) = c.requires.monomials in
-    c.loop-i.invariant.rights ∙ ap (λ (f : Forest). count (factors_in (plain (tree_at c.args.t f)))) (sym (given_rest (c.loop-i.invariant.merged m n hm hn).gives))
-
-pub push_rest-requires-clause-monomial : goal.push_rest-requires-clause-monomial
-push_rest-requires-clause-monomial c =
-    let (m, n, hm, hn) = c.requires.monomials in
-    (n, subst (λ (f : Forest). HasMonomial n (plain (tree_at c.args.t f))) (sym (given_rest (c.loop-i.invariant.merged m n hm hn).gives)) hn)
+    record {
+      stands = search rules;
+      product = gives_rest (c.loop-i.invariant.merged m n hm hn).gives (λ t e. ap is_mult e);
+      expression = subst (IsExpression c.args.t) (sym (given_rest (c.loop-i.invariant.merged m n hm hn).gives)) c.requires.second;
+      end = c.loop-i.invariant.rights ∙ ap (λ (f : Forest). count (factors_in (plain (tree_at c.args.t f)))) (sym (given_rest (c.loop-i.invariant.merged m n hm hn).gives));
+      monomial = (n, subst (λ (f : Forest). HasMonomial n (plain (tree_at c.args.t f))) (sym (given_rest (c.loop-i.invariant.merged m n hm hn).gives)) hn);
+    }
 
 pub returns-in_err-push_rest-clause-front : goal.returns-in_err-push_rest-clause-front
 returns-in_err-push_rest-clause-front c = front_after_one behind_first c.loop-i.invariant.front c.push_rest.ensures.front

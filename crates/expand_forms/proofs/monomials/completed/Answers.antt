@@ -1,4 +1,4 @@
-use Rattle.std.proofs.Common.{◌≤◌, ◌∙◌, ap, sym, subst}
+use Rattle.std.proofs.Common.{rules, ◌≤◌, ◌∙◌, ap, sym, subst}
 use Rattle.calc_algebra.specs.Reduced.{product_tree}
 use Rattle.calc_terms.specs.Rat.{value_of}
 use Rattle.calc_terms.specs.Trees.{Tree, count, is_mult}
@@ -10,15 +10,14 @@ use Rattle.tree_handles.proofs.Fronts.{behind_first, behind_new, front_after_one
 use Rattle.tree_handles.proofs.Given.{given_handed, given_rest, given_told, gives_as}
 use Rattle.expand_forms.proofs.monomials.completed.Goals as goal
 
-pub unwrapped-requires-clause-handed : goal.unwrapped-requires-clause-handed
-unwrapped-requires-clause-handed c = given_handed c.in_ok-led.ensures.ok
-
-pub unwrapped-requires-clause-product : goal.unwrapped-requires-clause-product
-unwrapped-requires-clause-product c = ap is_mult (given_told c.in_ok-led.ensures.ok)
-
-pub unwrapped-requires-clause-some : goal.unwrapped-requires-clause-some
-unwrapped-requires-clause-some c =
-    subst (λ (t : Tree). 1 ≤ count (children_of t)) (sym (given_told c.in_ok-led.ensures.ok)) (led_some (value_of c.args.coefficient) (children_of (tree_of c.args.product c.args.pool.now)))
+pub unwrapped-requires : goal.unwrapped-requires
+unwrapped-requires c =
+    record {
+      stands = search rules;
+      handed = given_handed c.in_ok-led.ensures.ok;
+      product = ap is_mult (given_told c.in_ok-led.ensures.ok);
+      some = subst (λ (t : Tree). 1 ≤ count (children_of t)) (sym (given_told c.in_ok-led.ensures.ok)) (led_some (value_of c.args.coefficient) (children_of (tree_of c.args.product c.args.pool.now)));
+    }
 
 pub returns-clause-ok : goal.returns-clause-ok
 returns-clause-ok c = λ m e.

@@ -1,4 +1,4 @@
-use Rattle.std.proofs.Common.{◌∙◌, ap, refl, sym, ◌<◌}
+use Rattle.std.proofs.Common.{rules, ◌∙◌, ap, refl, sym, ◌<◌}
 use Rattle.std.specs.Prelude.{if◌then◌else◌}
 use Rattle.calc_terms.specs.Rat.{value_of}
 use Rattle.calc_terms.specs.Trees.{Tree, mult, more, num}
@@ -33,16 +33,15 @@ returns-then-not-is_written-clause-ok c =
 pub returns-then-not-is_written-clause-front : goal.returns-then-not-is_written-clause-front
 returns-then-not-is_written-clause-front c = front_end c.move_last.ensures.last (front_without behind_first front_same)
 
-pub add_child-requires-clause-live : goal.add_child-requires-clause-live
-add_child-requires-clause-live c = root_held c.args.product _ (other_root c.args.product c.in_ok-first.ensures.ok c.requires.handed.root)
-
-pub add_child-requires-clause-root : goal.add_child-requires-clause-root
-add_child-requires-clause-root c = given_root c.in_ok-first.ensures.given
-
-pub add_child-requires-clause-apart : goal.add_child-requires-clause-apart
-add_child-requires-clause-apart c =
-    apart c.args.product c.in_ok-first.first c.in_ok-first.ensures.stands (eqb-sym c.in_ok-first.first c.args.product (given_apart c.in_ok-first.ensures.given c.requires.handed))
-    (other_root c.args.product c.in_ok-first.ensures.ok c.requires.handed.root) (given_root c.in_ok-first.ensures.given)
+pub add_child-requires : goal.add_child-requires
+add_child-requires c =
+    record {
+      stands = search rules;
+      live = root_held c.args.product _ (other_root c.args.product c.in_ok-first.ensures.ok c.requires.handed.root);
+      within = search rules;
+      root = given_root c.in_ok-first.ensures.given;
+      apart = apart c.args.product c.in_ok-first.first c.in_ok-first.ensures.stands (eqb-sym c.in_ok-first.first c.args.product (given_apart c.in_ok-first.ensures.given c.requires.handed)) (other_root c.args.product c.in_ok-first.ensures.ok c.requires.handed.root) (given_root c.in_ok-first.ensures.given);
+    }
 
 pub move_last-requires-2-clause-root : goal.move_last-requires-2-clause-root
 move_last-requires-2-clause-root c =

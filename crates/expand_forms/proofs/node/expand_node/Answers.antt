@@ -1,4 +1,4 @@
-use Rattle.std.proofs.Common.{◌∙◌, inl, ap, refl, sym, subst, ◌<◌, ◌≤◌, length}
+use Rattle.std.proofs.Common.{rules, ◌∙◌, inl, ap, refl, sym, subst, ◌<◌, ◌≤◌, length}
 use Rattle.calc_terms.specs.Trees.{Tree, names}
 use Rattle.coefficients.proofs.Steps.{expression, seen}
 use Rattle.expand_forms.specs.ExpandedTrees.{expanded}
@@ -31,8 +31,19 @@ place_expansion-requires c =
 pub release-requires-clause-releasable : goal.release-requires-clause-releasable
 release-requires-clause-releasable c = inl (given_other c.in_ok-answer.ensures.ok c.requires.handed).root
 
-pub returns-in_err-answer-clause-front : goal.returns-in_err-answer-clause-front
-returns-in_err-answer-clause-front c = front_after front_same c.place_expansion.ensures.front
+pub returns-in_err-answer : goal.returns-in_err-answer
+returns-in_err-answer c =
+    let s = sym (seen c.id.ensures c.requires.stands c.requires.handed) in
+    record {
+      ok = search rules;
+      front = front_after front_same c.place_expansion.ensures.front;
+      kept = search rules;
+      faults = search rules;
+      caused = search rules;
+      fits = λ whole o p. passed_on c.from_residual.result c.in_err-answer.field-0.0 (OfOverflow (λ x. 124 < bits_of whole)) c.from_residual.ensures.0 c.from_residual.ensures.1 (c.in_err-answer.ensures.fits whole (subst (λ (t : Tree). IsOver whole t) s o) p);
+      room = λ whole n h l. passed_on c.from_residual.result c.in_err-answer.field-0.0 (OfFull (λ full. free_of c.args.pool.now < node_bytes (names whole) n)) c.from_residual.ensures.0 c.from_residual.ensures.1 (c.in_err-answer.ensures.room whole n (subst (HasNoNewName whole) s h) (subst (λ (t : Tree). length (polynomial_of t) ≤ n) s l));
+      stands = search rules;
+    }
 
 pub returns-clause-ok : goal.returns-clause-ok
 returns-clause-ok c =
@@ -43,16 +54,4 @@ returns-clause-ok c =
 pub returns-clause-front : goal.returns-clause-front
 returns-clause-front c = front_at (front_without behind_first (front_after front_same c.place_expansion.ensures.front)) (c.release.ensures.owned (owned (given_other c.in_ok-answer.ensures.ok c.requires.handed)))
 
-pub returns-in_err-answer-clause-room : goal.returns-in_err-answer-clause-room
-returns-in_err-answer-clause-room c = λ whole n h l.
-    let s = sym (seen c.id.ensures c.requires.stands c.requires.handed) in
-    passed_on c.from_residual.result c.in_err-answer.field-0.0 (OfFull (λ full. free_of c.args.pool.now < node_bytes (names whole) n)) c.from_residual.ensures.0 c.from_residual.ensures.1
-    (c.in_err-answer.ensures.room whole n (subst (HasNoNewName whole) s h) (subst (λ (t : Tree). length (polynomial_of t) ≤ n) s l))
-
 -- ---- what fits
-
-pub returns-in_err-answer-clause-fits : goal.returns-in_err-answer-clause-fits
-returns-in_err-answer-clause-fits c = λ whole o p.
-    let s = sym (seen c.id.ensures c.requires.stands c.requires.handed) in
-    passed_on c.from_residual.result c.in_err-answer.field-0.0 (OfOverflow (λ x. 124 < bits_of whole)) c.from_residual.ensures.0 c.from_residual.ensures.1
-    (c.in_err-answer.ensures.fits whole (subst (IsOver whole) s o) p)

@@ -1,4 +1,4 @@
-use Rattle.std.proofs.Common.{◌≡◌, ◌<◌, ◌+◌, ◌∙◌, ◌++◌, ap, refl, sym, subst, arith, ℕ, ◌≤◌, ◌*◌, ◌-◌, length}
+use Rattle.std.proofs.Common.{rules, ◌≡◌, ◌<◌, ◌+◌, ◌∙◌, ◌++◌, ap, refl, sym, subst, arith, ℕ, ◌≤◌, ◌*◌, ◌-◌, length}
 use Rattle.calc_terms.specs.Fractions.{one_fraction}
 use Rattle.calc_terms.specs.Trees.{Tree, count, size}
 use Rattle.expand_forms.specs.Polynomials.{Polynomial, product}
@@ -33,26 +33,28 @@ use Rattle.number_forms.proofs.FreeBytes.{replaced_free}
 use Rattle.expand_forms.specs.ExpansionBits.{IsHeld, IsNoOverflow}
 use Rattle.expand_forms.proofs.Splits.{held_part, held_rest, split_append}
 use Rattle.expand_forms.proofs.node.join_children.Goals as goal
+use Rattle.expand_forms.proofs.node.join_children.Given.{Over}
 use Rattle.expand_forms.proofs.node.join_children.Goals.{After-child_id-child}
 
 pub children-at-end-requires-clause-live : goal.children-at-end-requires-clause-live
-children-at-end-requires-clause-live c = (beside c.requires.sum c.requires.expression).expression.live
+children-at-end-requires-clause-live g c = (beside c.requires.sum c.requires.expression).expression.live
 
 pub loop-at-init : goal.loop-at-init
-loop-at-init c = record {
+loop-at-init g c = record {
+  lists = c.requires.lists;
   joined = joined_none c.args.sum.now _ _ c.args.pool.now c.requires.stands c.requires.sum (same_refl _);
   few = λ ns k n hs ht. few_as hs (omega arith);
   held = λ h low x. x;
 }
 
 pub child_id-child-requires-clause-within : goal.child_id-child-requires-clause-within
-child_id-child-requires-clause-within c =
+child_id-child-requires-clause-within g c =
     let now = beside c.loop-at.invariant.joined.gives c.requires.expression in
     let then = beside c.requires.sum c.requires.expression in
     omega (arith, ap (λ (t : Tree). count (children_of t)) now.same, ap (λ (t : Tree). count (children_of t)) then.same, c.children-at-end.ensures.plain then.expression, children_number c.args.id (forest c.loop-at.pool) now.expression, c.loop-at-test.true)
 
 pub join_products-requires : goal.join_products-requires
-join_products-requires c =
+join_products-requires g c =
     let o = without_root c.args.sum.now (forest c.args.pool.now) in
     let j = c.loop-at.invariant.joined in
     let r = given_rest j.gives in
@@ -62,21 +64,14 @@ join_products-requires c =
     let few : c.loop-at.at < arity (kids_of c.args.id (forest c.loop-at.pool)) = omega (arith, ap (λ (t : Tree). count (children_of t)) now.same, many, children_number c.args.id (forest c.loop-at.pool) now.expression, c.loop-at-test.true) in
     let w = within j.gives c.requires.expression (inside_child c.loop-at.at c.args.id c.child_id-child.result (forest c.loop-at.pool) now.expression.live few c.child_id-child.ensures.value) (c.child_id-child.ensures.expression now.expression) in
     let child : plain (tree_at c.child_id-child.result o) ≡ nth c.loop-at.at (children_of (plain (tree_at c.args.id o))) = sym w.same ∙ c.child_id-child.ensures.plain now.expression ∙ ap (λ (t : Tree). nth c.loop-at.at (children_of t)) now.same in
-    record {
-      stands = j.stands;
-      sum = gives_rest j.gives (λ t h. h.sum);
-      first = subst (IsExpression c.args.one) (sym r) c.requires.one;
-      second = subst (IsExpression c.child_id-child.result) (sym r) w.expression;
-      first_expanded = subst (λ (f : Forest). IsExpanded (plain (tree_at c.args.one f))) (sym r) (subst IsExpanded (sym c.requires.is_one) (constant_is_expanded one_fraction));
-      second_expanded = subst (λ (f : Forest). IsExpanded (plain (tree_at c.child_id-child.result f))) (sym r) (subst IsExpanded (sym child) (expanded_nth c.loop-at.at (children_of (plain (tree_at c.args.id o))) c.requires.children (omega (arith, many, c.loop-at-test.true))));
-    }
+    (search rules, (j.stands, (gives_rest j.gives (λ t h. h.sum), (c.loop-at.invariant.lists, (subst (IsExpression c.args.one) (sym r) c.requires.one, (subst (IsExpression c.child_id-child.result) (sym r) w.expression, (subst (λ (f : Forest). IsExpanded (plain (tree_at c.args.one f))) (sym r) (subst IsExpanded (sym c.requires.is_one) (constant_is_expanded one_fraction)), subst (λ (f : Forest). IsExpanded (plain (tree_at c.child_id-child.result f))) (sym r) (subst IsExpanded (sym child) (expanded_nth c.loop-at.at (children_of (plain (tree_at c.args.id o))) c.requires.children (omega (arith, many, c.loop-at-test.true)))))))))))
 
 pub returns-in_err-join_products-clause-front : goal.returns-in_err-join_products-clause-front
-returns-in_err-join_products-clause-front c = front_after_one behind_first c.loop-at.invariant.joined.front c.join_products.ensures.front
+returns-in_err-join_products-clause-front g c = front_after_one behind_first c.loop-at.invariant.joined.front c.join_products.ensures.front
 
 -- the child, as it was handed
-child_is : (c : After-child_id-child) → plain (tree_at c.child_id-child.result (without_root c.args.sum.now (forest c.args.pool.now))) ≡ nth c.loop-at.at (children_of (plain (tree_at c.args.id (without_root c.args.sum.now (forest c.args.pool.now)))))
-child_is c =
+child_is : (g : Over) (c : After-child_id-child g) → plain (tree_at c.child_id-child.result (without_root c.args.sum.now (forest c.args.pool.now))) ≡ nth c.loop-at.at (children_of (plain (tree_at c.args.id (without_root c.args.sum.now (forest c.args.pool.now)))))
+child_is g c =
     let o = without_root c.args.sum.now (forest c.args.pool.now) in
     let j = c.loop-at.invariant.joined in
     let now = beside j.gives c.requires.expression in
@@ -87,25 +82,26 @@ child_is c =
     sym w.same ∙ c.child_id-child.ensures.plain now.expression ∙ ap (λ (t : Tree). nth c.loop-at.at (children_of t)) now.same
 
 -- 1 times it
-next_joined : (c : After-child_id-child) → product (polynomial_of (plain (tree_at c.args.one (without_root c.args.sum.now (forest c.loop-at.pool))))) (polynomial_of (plain (tree_at c.child_id-child.result (without_root c.args.sum.now (forest c.loop-at.pool)))))
+next_joined : (g : Over) (c : After-child_id-child g) → product (polynomial_of (plain (tree_at c.args.one (without_root c.args.sum.now (forest c.loop-at.pool))))) (polynomial_of (plain (tree_at c.child_id-child.result (without_root c.args.sum.now (forest c.loop-at.pool)))))
     ≡ polynomial_of (nth c.loop-at.at (children_of (plain (tree_at c.args.id (without_root c.args.sum.now (forest c.args.pool.now))))))
-next_joined c =
+next_joined g c =
     let r = given_rest c.loop-at.invariant.joined.gives in
-    let child = child_is c in
+    let child = child_is g c in
     (λ i. product (polynomial_of (plain (tree_at c.args.one (r i)))) (polynomial_of (plain (tree_at c.child_id-child.result (r i))))) ∙ (λ i. product (polynomial_of (c.requires.is_one i)) (polynomial_of (child i)))
     ∙ times_one_polynomial (polynomial_of (nth c.loop-at.at (children_of (plain (tree_at c.args.id (without_root c.args.sum.now (forest c.args.pool.now)))))))
 
 pub loop-at-preserved : goal.loop-at-preserved
-loop-at-preserved c =
+loop-at-preserved g c =
     let o = without_root c.args.sum.now (forest c.args.pool.now) in
     let j = c.loop-at.invariant.joined in
     let then = beside c.requires.sum c.requires.expression in
     let ts = children_of (plain (tree_at c.args.id o)) in
     let many : c.children-at-end.result ≡ count ts = c.children-at-end.ensures.plain then.expression ∙ ap (λ (t : Tree). count (children_of t)) then.same in
-    let same = next_joined (goal.at.loop-at-preserved c).After-child_id-child in
+    let same = next_joined g (goal.at.loop-at-preserved g c).After-child_id-child in
     let more = gives_as c.in_ok-join_products.ensures.ok refl (λ t h. subst (λ (p : Polynomial). IsSumOf (p ++ polynomial_of (tree_of c.args.sum.now c.loop-at.pool)) t) same h) in
     let next = from_next c.loop-at.at ts (omega (arith, many, c.loop-at-test.true)) in
     record {
+      lists = c.in_ok-join_products.ensures.lists;
       joined = joined_more c.args.sum.now (sum_of (from c.loop-at.at ts)) (polynomial_of (nth c.loop-at.at ts)) (sum_of (from (c.loop-at.at + 1) ts)) _ c.args.pool.now c.loop-at.pool c.join_products.new.pool j (same_is next)
           more c.join_products.ensures.front c.in_ok-join_products.ensures.kept c.join_products.ensures.stands;
       few = λ ns k n hs ht.
@@ -115,7 +111,7 @@ loop-at-preserved c =
     }
 
 pub returns-clause-ok : goal.returns-clause-ok
-returns-clause-ok c =
+returns-clause-ok g c =
     let o = without_root c.args.sum.now (forest c.args.pool.now) in
     let ts = children_of (plain (tree_at c.args.id o)) in
     let then = beside c.requires.sum c.requires.expression in
@@ -125,14 +121,14 @@ returns-clause-ok c =
 -- ---- few bytes
 
 pub returns-in_err-join_products-clause-room : goal.returns-in_err-join_products-clause-room
-returns-in_err-join_products-clause-room c = λ ns k n hs ht.
+returns-in_err-join_products-clause-room g c = λ ns k n hs ht.
     let o = without_root c.args.sum.now (forest c.args.pool.now) in
     let j = c.loop-at.invariant.joined in
     let r = sym (given_rest j.gives) in
     let then = beside c.requires.sum c.requires.expression in
     let ts = children_of (plain (tree_at c.args.id o)) in
     let many : c.children-at-end.result ≡ count ts = c.children-at-end.ensures.plain then.expression ∙ ap (λ (t : Tree). count (children_of t)) then.same in
-    let child = child_is (goal.at.returns-in_err-join_products-clause-room c).After-child_id-child in
+    let child = child_is g (goal.at.returns-in_err-join_products-clause-room g c).After-child_id-child in
     let next = from_next c.loop-at.at ts (omega (arith, many, c.loop-at-test.true)) in
     let rest = few_from c.loop-at.at ts ht in
     let m = length (polynomial_of (nth c.loop-at.at ts)) in
@@ -149,13 +145,13 @@ returns-in_err-join_products-clause-room c = λ ns k n hs ht.
 -- ---- what fits
 
 pub returns-in_err-join_products-clause-fits : goal.returns-in_err-join_products-clause-fits
-returns-in_err-join_products-clause-fits c = λ h l x k.
+returns-in_err-join_products-clause-fits g c = λ h l x k.
     let ts = children_of (plain (tree_at c.args.id (without_root c.args.sum.now (forest c.args.pool.now)))) in
     let then = beside c.requires.sum c.requires.expression in
     let many : c.children-at-end.result ≡ count ts = c.children-at-end.ensures.plain then.expression ∙ ap (λ (t : Tree). count (children_of t)) then.same in
     let next = from_next c.loop-at.at ts (omega (arith, many, c.loop-at-test.true)) in
     let now = polynomial_of (tree_of c.args.sum.now c.loop-at.pool) in
     let part = held_part now (split_append (polynomial_of (nth c.loop-at.at ts)) (sum_of (from (c.loop-at.at + 1) ts))) (subst (λ (u : Polynomial). IsHeld (u ++ now) h l) next (c.loop-at.invariant.held h l x)) in
-    let same = next_joined (goal.at.returns-in_err-join_products-clause-fits c).After-child_id-child in
+    let same = next_joined g (goal.at.returns-in_err-join_products-clause-fits g c).After-child_id-child in
     passed_on c.from_residual.result c.in_err-join_products.field-0.0 IsNoOverflow c.from_residual.ensures.0 c.from_residual.ensures.1
     (c.in_err-join_products.ensures.fits h l (subst (λ (u : Polynomial). IsHeld (u ++ now) h l) (sym same) part) k)

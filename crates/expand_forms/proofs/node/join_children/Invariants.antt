@@ -1,4 +1,5 @@
 use Rattle.std.proofs.Common.{ℕ, List, ◌+◌, ◌-◌, ◌++◌, length}
+use Rattle.child_lists.specs.Lists.{Lists}
 use Rattle.expand_forms.specs.ExpansionBits.{IsHeld}
 use Rattle.expand_forms.specs.ExpansionRoom.{HasFewTerms}
 use Rattle.expand_forms.specs.PolynomialTrees.{polynomial_of, sum_of}
@@ -12,7 +13,8 @@ use Rattle.tree_handles.specs.Standing.{forest}
 use Rattle.expand_forms.proofs.node.join_children.Given as goal
 
 abbrev pub invariant-loop-at : goal.invariant-loop-at
-invariant-loop-at l = record {
+invariant-loop-at g l = record {
+  lists : Lists l.list l.sum (forest l.pool);
   joined : IsJoined l.sum (sum_of (from l.at (children_of (plain (tree_at l.id (without_root l.sum (forest l.fn.pool)))))))
       (sum_of (children_of (plain (tree_at l.id (without_root l.sum (forest l.fn.pool))))) ++ polynomial_of (tree_of l.sum l.fn.pool)) l.fn.pool l.pool;
   few : (ns : List (List ℕ)) (k n : ℕ) → HasFewTerms ns k (polynomial_of (tree_of l.sum l.fn.pool)) → HasFewTerms ns n (sum_of (children_of (plain (tree_at l.id (without_root l.sum (forest l.fn.pool))))))

@@ -11,6 +11,8 @@ use Rattle.expand_forms.proofs.Expansions.{constant_is_expanded, empty_sum, noth
 use Rattle.expand_forms.proofs.NodeAnswers.{difference_is, opposite_value, scaled_expanded}
 use Rattle.expand_forms.proofs.TermReadings.{beside}
 use Rattle.number_forms.proofs.Loops.{gives_rest, gives_without, kept_after}
+use Rattle.tree_handles.specs.Children.{root_ids}
+use Rattle.tree_handles.proofs.Lasts.{kids_of_last}
 use Rattle.tree_handles.specs.Expressions.{IsExpression, plain}
 use Rattle.tree_handles.specs.Forest.{Forest}
 use Rattle.tree_handles.specs.Inside.{tree_at}
@@ -62,14 +64,7 @@ join_products-requires c =
     let h = given_other o (given_handed k) in
     let one = seen c.id.ensures st h ∙ ap plain (given_same c.in_ok-one.one o (given_root k)) ∙ given_told k ∙ ap num (one_value c.whole.result c.whole.ensures) in
     let opposite = seen c.id-2.ensures st (given_handed o) ∙ given_told o in
-    record {
-      stands = c.in_ok-sum.ensures.stands;
-      sum = gives_rest new (λ t e. empty_sum e);
-      first = subst (IsExpression c.id.result) back (expression c.id.ensures st h);
-      second = subst (IsExpression c.id-2.result) back (expression c.id-2.ensures st (given_handed o));
-      first_expanded = subst (λ (f : Forest). IsExpanded (plain (tree_at c.id.result f))) back (subst IsExpanded (sym one) (constant_is_expanded one_fraction));
-      second_expanded = subst (λ (f : Forest). IsExpanded (plain (tree_at c.id-2.result f))) back (scaled_expanded (value_of c.whole-2.result) (plain (tree_at c.args.b (forest c.number.new.pool))) opposite);
-    }
+    (omega arith, (c.in_ok-sum.ensures.stands, (gives_rest new (λ t e. empty_sum e), (c.new-list.ensures c.in_ok-sum.sum (forest c.node.new.pool) (ap root_ids (kids_of_last c.in_ok-sum.ensures.stands c.in_ok-sum.ensures.ok)), (subst (IsExpression c.id.result) back (expression c.id.ensures st h), (subst (IsExpression c.id-2.result) back (expression c.id-2.ensures st (given_handed o)), (subst (λ (f : Forest). IsExpanded (plain (tree_at c.id.result f))) back (subst IsExpanded (sym one) (constant_is_expanded one_fraction)), subst (λ (f : Forest). IsExpanded (plain (tree_at c.id-2.result f))) back (scaled_expanded (value_of c.whole-2.result) (plain (tree_at c.args.b (forest c.number.new.pool))) opposite))))))))
 
 pub returns-in_err-join_products-clause-front : goal.returns-in_err-join_products-clause-front
 returns-in_err-join_products-clause-front c =
@@ -87,14 +82,7 @@ join_products-requires-2 c =
     let one = seen c.id-3.ensures st h ∙ ap plain (given_same c.in_ok-one.one o (given_root k)) ∙ given_told k ∙ ap num (one_value c.whole.result c.whole.ensures) in
     let early = beside k c.requires.first in
     let a = beside o early.expression in
-    record {
-      stands = c.in_ok-join_products.ensures.stands;
-      sum = gives_rest joined (λ t h. h.sum);
-      first = subst (IsExpression c.id-3.result) back (expression c.id-3.ensures st h);
-      second = subst (IsExpression c.args.a) back a.expression;
-      first_expanded = subst (λ (f : Forest). IsExpanded (plain (tree_at c.id-3.result f))) back (subst IsExpanded (sym one) (constant_is_expanded one_fraction));
-      second_expanded = subst (λ (f : Forest). IsExpanded (plain (tree_at c.args.a f))) back (subst IsExpanded (sym (a.same ∙ early.same)) c.requires.first_expanded);
-    }
+    (omega arith, (c.in_ok-join_products.ensures.stands, (gives_rest joined (λ t h. h.sum), (c.in_ok-join_products.ensures.lists, (subst (IsExpression c.id-3.result) back (expression c.id-3.ensures st h), (subst (IsExpression c.args.a) back a.expression, (subst (λ (f : Forest). IsExpanded (plain (tree_at c.id-3.result f))) back (subst IsExpanded (sym one) (constant_is_expanded one_fraction)), subst (λ (f : Forest). IsExpanded (plain (tree_at c.args.a f))) back (subst IsExpanded (sym (a.same ∙ early.same)) c.requires.first_expanded))))))))
 
 pub returns-in_err-join_products-2-clause-front : goal.returns-in_err-join_products-2-clause-front
 returns-in_err-join_products-2-clause-front c =

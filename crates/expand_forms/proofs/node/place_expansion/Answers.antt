@@ -33,7 +33,7 @@ use Rattle.tree_handles.specs.declared.fault.NumberFault.TheVariants as fault
 use Rattle.calc_measures.specs.Measures.{bits_of, high, low}
 use Rattle.tree_handles.specs.Faults.{OfOverflow}
 use Rattle.expand_forms.specs.ExpansionBits.{IsHeld}
-use Rattle.expand_forms.proofs.NodeBits.{few_bits, within_bits, sum_over, product_over, power_over, opposite_over, difference_over, quotient_over}
+use Rattle.expand_forms.proofs.NodeBits.{few_bits, over_kind, within_bits, sum_over, product_over, power_over, opposite_over, difference_over, quotient_over}
 use Rattle.expand_forms.proofs.node.place_expansion.Goals as goal
 
 -- ---- sums and products
@@ -52,20 +52,15 @@ child_id-requires-clause-within c =
     let two : count (children_of t) ≡ 2 = many_children (power_node t (sym c.in-Pow.is ∙ c.kind.ensures.plain c.requires.expression)) refl in
     omega (arith, two, children_number c.args.id (forest c.args.pool.now) c.requires.expression)
 
-pub exponent_of-exponent-requires-clause-expression : goal.exponent_of-exponent-requires-clause-expression
-exponent_of-exponent-requires-clause-expression c = c.child_id.ensures.expression c.requires.expression
-
-pub exponent_of-exponent-requires-clause-expanded : goal.exponent_of-exponent-requires-clause-expanded
-exponent_of-exponent-requires-clause-expanded c =
+pub exponent_of-exponent-requires : goal.exponent_of-exponent-requires
+exponent_of-exponent-requires c =
     let t = plain (tree_at c.args.id (forest c.args.pool.now)) in
-    let two : count (children_of t) ≡ 2 = many_children (power_node t (sym c.in-Pow.is ∙ c.kind.ensures.plain c.requires.expression)) refl in
-    subst IsExpanded (sym (c.child_id.ensures.plain c.requires.expression)) (second_expanded t c.requires.children two)
-
-pub exponent_of-exponent-requires-clause-small : goal.exponent_of-exponent-requires-clause-small
-exponent_of-exponent-requires-clause-small c =
-    let t = plain (tree_at c.args.id (forest c.args.pool.now)) in
-    let node = power_node t (sym c.in-Pow.is ∙ c.kind.ensures.plain c.requires.expression) in
-    ap is_exponent (c.child_id.ensures.plain c.requires.expression) ∙ ap has_polynomial_root (sym node) ∙ c.requires.polynomial
+    record {
+      stands = search rules;
+      expression = c.child_id.ensures.expression c.requires.expression;
+      expanded = let two : count (children_of t) ≡ 2 = many_children (power_node t (sym c.in-Pow.is ∙ c.kind.ensures.plain c.requires.expression)) refl in subst IsExpanded (sym (c.child_id.ensures.plain c.requires.expression)) (second_expanded t c.requires.children two);
+      small = let node = power_node t (sym c.in-Pow.is ∙ c.kind.ensures.plain c.requires.expression) in ap is_exponent (c.child_id.ensures.plain c.requires.expression) ∙ ap has_polynomial_root (sym node) ∙ c.requires.polynomial;
+    }
 
 pub child_id-requires-in-Pow-clause-within : goal.child_id-requires-in-Pow-clause-within
 child_id-requires-in-Pow-clause-within c =
@@ -73,23 +68,30 @@ child_id-requires-in-Pow-clause-within c =
     let two : count (children_of t) ≡ 2 = many_children (power_node t (sym c.in-Pow.is ∙ c.kind.ensures.plain c.requires.expression)) refl in
     omega (arith, two, children_number c.args.id (forest c.args.pool.now) c.requires.expression)
 
-pub place_power-requires-clause-expression : goal.place_power-requires-clause-expression
-place_power-requires-clause-expression c = c.child_id-in-Pow.ensures.expression c.requires.expression
+pub place_power-requires : goal.place_power-requires
+place_power-requires c =
+    record {
+      stands = search rules;
+      expression = c.child_id-in-Pow.ensures.expression c.requires.expression;
+      expanded = let t = plain (tree_at c.args.id (forest c.args.pool.now)) in let two : count (children_of t) ≡ 2 = many_children (power_node t (sym c.in-Pow.is ∙ c.kind.ensures.plain c.requires.expression)) refl in subst IsExpanded (sym (c.child_id-in-Pow.ensures.plain c.requires.expression)) (first_expanded t c.requires.children two);
+    }
 
-pub place_power-requires-clause-expanded : goal.place_power-requires-clause-expanded
-place_power-requires-clause-expanded c =
-    let t = plain (tree_at c.args.id (forest c.args.pool.now)) in
-    let two : count (children_of t) ≡ 2 = many_children (power_node t (sym c.in-Pow.is ∙ c.kind.ensures.plain c.requires.expression)) refl in
-    subst IsExpanded (sym (c.child_id-in-Pow.ensures.plain c.requires.expression)) (first_expanded t c.requires.children two)
-
-pub returns-in-Pow-clause-ok : goal.returns-in-Pow-clause-ok
-returns-in-Pow-clause-ok c =
+pub returns-in-Pow : goal.returns-in-Pow
+returns-in-Pow c =
     let t = plain (tree_at c.args.id (forest c.args.pool.now)) in
     let node = power_node t (sym c.in-Pow.is ∙ c.kind.ensures.plain c.requires.expression) in
     let base = c.child_id-in-Pow.ensures.plain c.requires.expression in
     let exponent = c.exponent_of-exponent.ensures ∙ ap exponent_of (c.child_id.ensures.plain c.requires.expression) in
-    if_ok_map c.place_power.result c.place_power.ensures.ok
-    (λ h g. gives_as g refl (λ u e. e ∙ (λ i. expanded (raised (polynomial_of (base i)) (exponent i))) ∙ sym (ap (λ (x : Tree). expanded (polynomial_of x)) node)))
+    record {
+      ok = if_ok_map c.place_power.result c.place_power.ensures.ok (λ h g. gives_as g refl (λ u e. e ∙ (λ i. expanded (raised (polynomial_of (base i)) (exponent i))) ∙ sym (ap (λ (x : Tree). expanded (polynomial_of x)) node)));
+      front = search rules;
+      kept = search rules;
+      faults = search rules;
+      caused = search rules;
+      fits = λ whole o p. let k = sym c.in-Pow.is ∙ c.kind.ensures.plain c.requires.expression in within_bits c.place_power.result whole (λ few. let (h, l, held, less) = power_over whole t (k ∙ over_kind whole t o) k p o.children few in c.place_power.ensures.fits h l (subst (λ (x : Tree). IsHeld (polynomial_of x) h l) (sym base) held) (omega (arith, ap (λ (n : ℕ). n * (h + l)) exponent, less)));
+      room = λ whole n h l. let ns = names whole in let m = length (polynomial_of (plain (tree_at c.child_id-in-Pow.result (forest c.args.pool.now)))) in let all : m ^ c.exponent_of-exponent.result ≡ length (polynomial_of t) = (λ i. length (polynomial_of (base i)) ^ exponent i) ∙ sym (raised_length (polynomial_of (nth 0 (children_of t))) (exponent_of (nth 1 (children_of t)))) ∙ sym (ap (λ (x : Tree). length (polynomial_of x)) node) in refusal_as c.place_power.result (c.place_power.ensures.room ns m (few_child 0 h base)) (λ e lacks. full_as e lacks (λ full few. omega (arith, terms_rise ns (m ^ c.exponent_of-exponent.result) n (omega (arith, all, l)), few)));
+      stands = search rules;
+    }
 
 -- ---- opposites
 
@@ -99,23 +101,30 @@ child_id-requires-in-Neg-clause-within c =
     let one : count (children_of t) ≡ 1 = many_children (opposite_node t (sym c.in-Neg.is ∙ c.kind.ensures.plain c.requires.expression)) refl in
     omega (arith, one, children_number c.args.id (forest c.args.pool.now) c.requires.expression)
 
-pub place_scaled-requires-clause-expression : goal.place_scaled-requires-clause-expression
-place_scaled-requires-clause-expression c = c.child_id-in-Neg.ensures.expression c.requires.expression
+pub place_scaled-requires : goal.place_scaled-requires
+place_scaled-requires c =
+    record {
+      stands = search rules;
+      expression = c.child_id-in-Neg.ensures.expression c.requires.expression;
+      expanded = let t = plain (tree_at c.args.id (forest c.args.pool.now)) in let one : count (children_of t) ≡ 1 = many_children (opposite_node t (sym c.in-Neg.is ∙ c.kind.ensures.plain c.requires.expression)) refl in subst IsExpanded (sym (c.child_id-in-Neg.ensures.plain c.requires.expression)) (first_expanded t c.requires.children one);
+    }
 
-pub place_scaled-requires-clause-expanded : goal.place_scaled-requires-clause-expanded
-place_scaled-requires-clause-expanded c =
-    let t = plain (tree_at c.args.id (forest c.args.pool.now)) in
-    let one : count (children_of t) ≡ 1 = many_children (opposite_node t (sym c.in-Neg.is ∙ c.kind.ensures.plain c.requires.expression)) refl in
-    subst IsExpanded (sym (c.child_id-in-Neg.ensures.plain c.requires.expression)) (first_expanded t c.requires.children one)
-
-pub returns-in-Neg-clause-ok : goal.returns-in-Neg-clause-ok
-returns-in-Neg-clause-ok c =
+pub returns-in-Neg : goal.returns-in-Neg
+returns-in-Neg c =
     let t = plain (tree_at c.args.id (forest c.args.pool.now)) in
     let node = opposite_node t (sym c.in-Neg.is ∙ c.kind.ensures.plain c.requires.expression) in
     let child = c.child_id-in-Neg.ensures.plain c.requires.expression in
     let minus = opposite_value c.whole.result c.whole.ensures in
-    if_ok_map c.place_scaled.result c.place_scaled.ensures.ok
-    (λ h g. gives_as g refl (λ u e. e ∙ (λ i. expanded (scaled (minus i) (polynomial_of (child i)))) ∙ sym (ap (λ (x : Tree). expanded (polynomial_of x)) node)))
+    record {
+      ok = if_ok_map c.place_scaled.result c.place_scaled.ensures.ok (λ h g. gives_as g refl (λ u e. e ∙ (λ i. expanded (scaled (minus i) (polynomial_of (child i)))) ∙ sym (ap (λ (x : Tree). expanded (polynomial_of x)) node)));
+      front = search rules;
+      kept = search rules;
+      faults = search rules;
+      caused = search rules;
+      fits = λ whole o p. let k = sym c.in-Neg.is ∙ c.kind.ensures.plain c.requires.expression in let held = opposite_over whole t (k ∙ over_kind whole t o) k p o.children in within_bits c.place_scaled.result whole (λ few. c.place_scaled.ensures.fits (high whole) (low whole) (subst (λ (q : Fraction). IsHeld (scaled q (polynomial_of (plain (tree_at c.child_id-in-Neg.result (forest c.args.pool.now))))) (high whole) (low whole)) (sym minus) (subst (λ (x : Tree). IsHeld (scaled minus_one_fraction (polynomial_of x)) (high whole) (low whole)) (sym child) held)) (few_bits whole few));
+      room = λ whole n h l. let ns = names whole in let m = length (polynomial_of (plain (tree_at c.child_id-in-Neg.result (forest c.args.pool.now)))) in let all : m ≡ length (polynomial_of t) = ap (λ (x : Tree). length (polynomial_of x)) child ∙ sym (scaled_length minus_one_fraction (polynomial_of (nth 0 (children_of t)))) ∙ sym (ap (λ (x : Tree). length (polynomial_of x)) node) in refusal_as c.place_scaled.result (c.place_scaled.ensures.room ns m (few_child 0 h child)) (λ e lacks. full_as e lacks (λ full few. omega (arith, terms_rise ns m n (omega (arith, all, l)), few)));
+      stands = search rules;
+    }
 
 -- ---- differences
 
@@ -131,32 +140,34 @@ child_id-requires-in-Sub-2-clause-within c =
     let two : count (children_of t) ≡ 2 = many_children (difference_node t (sym c.in-Sub.is ∙ c.kind.ensures.plain c.requires.expression)) refl in
     omega (arith, two, children_number c.args.id (forest c.args.pool.now) c.requires.expression)
 
-pub place_difference-requires-clause-first : goal.place_difference-requires-clause-first
-place_difference-requires-clause-first c = c.child_id-in-Sub.ensures.expression c.requires.expression
-
-pub place_difference-requires-clause-second : goal.place_difference-requires-clause-second
-place_difference-requires-clause-second c = c.child_id-in-Sub-2.ensures.expression c.requires.expression
-
-pub place_difference-requires-clause-first_expanded : goal.place_difference-requires-clause-first_expanded
-place_difference-requires-clause-first_expanded c =
+pub place_difference-requires : goal.place_difference-requires
+place_difference-requires c =
     let t = plain (tree_at c.args.id (forest c.args.pool.now)) in
     let two : count (children_of t) ≡ 2 = many_children (difference_node t (sym c.in-Sub.is ∙ c.kind.ensures.plain c.requires.expression)) refl in
-    subst IsExpanded (sym (c.child_id-in-Sub.ensures.plain c.requires.expression)) (first_expanded t c.requires.children two)
+    record {
+      stands = search rules;
+      first = c.child_id-in-Sub.ensures.expression c.requires.expression;
+      second = c.child_id-in-Sub-2.ensures.expression c.requires.expression;
+      first_expanded = subst IsExpanded (sym (c.child_id-in-Sub.ensures.plain c.requires.expression)) (first_expanded t c.requires.children two);
+      second_expanded = subst IsExpanded (sym (c.child_id-in-Sub-2.ensures.plain c.requires.expression)) (second_expanded t c.requires.children two);
+    }
 
-pub place_difference-requires-clause-second_expanded : goal.place_difference-requires-clause-second_expanded
-place_difference-requires-clause-second_expanded c =
-    let t = plain (tree_at c.args.id (forest c.args.pool.now)) in
-    let two : count (children_of t) ≡ 2 = many_children (difference_node t (sym c.in-Sub.is ∙ c.kind.ensures.plain c.requires.expression)) refl in
-    subst IsExpanded (sym (c.child_id-in-Sub-2.ensures.plain c.requires.expression)) (second_expanded t c.requires.children two)
-
-pub returns-in-Sub-clause-ok : goal.returns-in-Sub-clause-ok
-returns-in-Sub-clause-ok c =
+pub returns-in-Sub : goal.returns-in-Sub
+returns-in-Sub c =
     let t = plain (tree_at c.args.id (forest c.args.pool.now)) in
     let node = difference_node t (sym c.in-Sub.is ∙ c.kind.ensures.plain c.requires.expression) in
     let first = c.child_id-in-Sub.ensures.plain c.requires.expression in
     let second = c.child_id-in-Sub-2.ensures.plain c.requires.expression in
-    if_ok_map c.place_difference.result c.place_difference.ensures.ok
-    (λ h g. gives_as g refl (λ u e. e ∙ (λ i. expanded (polynomial_of (sub (first i) (second i)))) ∙ sym (ap (λ (x : Tree). expanded (polynomial_of x)) node)))
+    record {
+      ok = if_ok_map c.place_difference.result c.place_difference.ensures.ok (λ h g. gives_as g refl (λ u e. e ∙ (λ i. expanded (polynomial_of (sub (first i) (second i)))) ∙ sym (ap (λ (x : Tree). expanded (polynomial_of x)) node)));
+      front = search rules;
+      kept = search rules;
+      faults = search rules;
+      caused = search rules;
+      fits = λ whole o p. let k = sym c.in-Sub.is ∙ c.kind.ensures.plain c.requires.expression in let held = difference_over whole t (k ∙ over_kind whole t o) k p o.children in within_bits c.place_difference.result whole (λ few. c.place_difference.ensures.fits (high whole) (low whole) (subst (λ (x : Tree). IsHeld (polynomial_of (sub (plain (tree_at c.child_id-in-Sub.result (forest c.args.pool.now))) x)) (high whole) (low whole)) (sym second) (subst (λ (x : Tree). IsHeld (polynomial_of (sub x (nth 1 (children_of t)))) (high whole) (low whole)) (sym first) held)) (few_bits whole few));
+      room = λ whole n h l. let ns = names whole in let a = polynomial_of (nth 0 (children_of t)) in let b = polynomial_of (nth 1 (children_of t)) in let i = length (polynomial_of (plain (tree_at c.child_id-in-Sub.result (forest c.args.pool.now)))) in let j = length (polynomial_of (plain (tree_at c.child_id-in-Sub-2.result (forest c.args.pool.now)))) in let all : i + j ≤ n = omega (arith, l, ap (λ (x : Tree). length (polynomial_of x)) first, ap (λ (x : Tree). length (polynomial_of x)) second, ap (λ (x : Tree). length (polynomial_of x)) node, length-append a (scaled minus_one_fraction b), scaled_length minus_one_fraction b) in refusal_as c.place_difference.result (c.place_difference.ensures.room ns i j (few_child 0 h first) (few_child 1 h second)) (λ e lacks. full_as e lacks (λ full few. omega (arith, terms_rise ns (i + j) n all, few)));
+      stands = search rules;
+    }
 
 -- ---- quotients
 
@@ -166,20 +177,15 @@ child_id-requires-in-Div-clause-within c =
     let two : count (children_of t) ≡ 2 = many_children (quotient_node t (sym c.in-Div.is ∙ c.kind.ensures.plain c.requires.expression)) refl in
     omega (arith, two, children_number c.args.id (forest c.args.pool.now) c.requires.expression)
 
-pub inverse_divisor-factor-requires-clause-expression : goal.inverse_divisor-factor-requires-clause-expression
-inverse_divisor-factor-requires-clause-expression c = c.child_id-in-Div.ensures.expression c.requires.expression
-
-pub inverse_divisor-factor-requires-clause-expanded : goal.inverse_divisor-factor-requires-clause-expanded
-inverse_divisor-factor-requires-clause-expanded c =
+pub inverse_divisor-factor-requires : goal.inverse_divisor-factor-requires
+inverse_divisor-factor-requires c =
     let t = plain (tree_at c.args.id (forest c.args.pool.now)) in
-    let two : count (children_of t) ≡ 2 = many_children (quotient_node t (sym c.in-Div.is ∙ c.kind.ensures.plain c.requires.expression)) refl in
-    subst IsExpanded (sym (c.child_id-in-Div.ensures.plain c.requires.expression)) (second_expanded t c.requires.children two)
-
-pub inverse_divisor-factor-requires-clause-divisor : goal.inverse_divisor-factor-requires-clause-divisor
-inverse_divisor-factor-requires-clause-divisor c =
-    let t = plain (tree_at c.args.id (forest c.args.pool.now)) in
-    let node = quotient_node t (sym c.in-Div.is ∙ c.kind.ensures.plain c.requires.expression) in
-    ap is_divisor (c.child_id-in-Div.ensures.plain c.requires.expression) ∙ ap has_polynomial_root (sym node) ∙ c.requires.polynomial
+    record {
+      stands = search rules;
+      expression = c.child_id-in-Div.ensures.expression c.requires.expression;
+      expanded = let two : count (children_of t) ≡ 2 = many_children (quotient_node t (sym c.in-Div.is ∙ c.kind.ensures.plain c.requires.expression)) refl in subst IsExpanded (sym (c.child_id-in-Div.ensures.plain c.requires.expression)) (second_expanded t c.requires.children two);
+      divisor = let node = quotient_node t (sym c.in-Div.is ∙ c.kind.ensures.plain c.requires.expression) in ap is_divisor (c.child_id-in-Div.ensures.plain c.requires.expression) ∙ ap has_polynomial_root (sym node) ∙ c.requires.polynomial;
+    }
 
 pub child_id-requires-in-Div-2-clause-within : goal.child_id-requires-in-Div-2-clause-within
 child_id-requires-in-Div-2-clause-within c =
@@ -187,23 +193,30 @@ child_id-requires-in-Div-2-clause-within c =
     let two : count (children_of t) ≡ 2 = many_children (quotient_node t (sym c.in-Div.is ∙ c.kind.ensures.plain c.requires.expression)) refl in
     omega (arith, two, children_number c.args.id (forest c.args.pool.now) c.requires.expression)
 
-pub place_scaled-requires-in-Div-clause-expression : goal.place_scaled-requires-in-Div-clause-expression
-place_scaled-requires-in-Div-clause-expression c = c.child_id-in-Div-2.ensures.expression c.requires.expression
+pub place_scaled-requires-in-Div : goal.place_scaled-requires-in-Div
+place_scaled-requires-in-Div c =
+    record {
+      stands = search rules;
+      expression = c.child_id-in-Div-2.ensures.expression c.requires.expression;
+      expanded = let t = plain (tree_at c.args.id (forest c.args.pool.now)) in let two : count (children_of t) ≡ 2 = many_children (quotient_node t (sym c.in-Div.is ∙ c.kind.ensures.plain c.requires.expression)) refl in subst IsExpanded (sym (c.child_id-in-Div-2.ensures.plain c.requires.expression)) (first_expanded t c.requires.children two);
+    }
 
-pub place_scaled-requires-in-Div-clause-expanded : goal.place_scaled-requires-in-Div-clause-expanded
-place_scaled-requires-in-Div-clause-expanded c =
-    let t = plain (tree_at c.args.id (forest c.args.pool.now)) in
-    let two : count (children_of t) ≡ 2 = many_children (quotient_node t (sym c.in-Div.is ∙ c.kind.ensures.plain c.requires.expression)) refl in
-    subst IsExpanded (sym (c.child_id-in-Div-2.ensures.plain c.requires.expression)) (first_expanded t c.requires.children two)
-
-pub returns-in-Div-clause-ok : goal.returns-in-Div-clause-ok
-returns-in-Div-clause-ok c =
+pub returns-in-Div : goal.returns-in-Div
+returns-in-Div c =
     let t = plain (tree_at c.args.id (forest c.args.pool.now)) in
     let node = quotient_node t (sym c.in-Div.is ∙ c.kind.ensures.plain c.requires.expression) in
     let child = c.child_id-in-Div-2.ensures.plain c.requires.expression in
     let factor = c.inverse_divisor-factor.ensures ∙ ap (λ (d : Tree). inverse (divisor_of d)) (c.child_id-in-Div.ensures.plain c.requires.expression) in
-    if_ok_map c.place_scaled-in-Div.result c.place_scaled-in-Div.ensures.ok
-    (λ h g. gives_as g refl (λ u e. e ∙ (λ i. expanded (scaled (factor i) (polynomial_of (child i)))) ∙ sym (ap (λ (x : Tree). expanded (polynomial_of x)) node)))
+    record {
+      ok = if_ok_map c.place_scaled-in-Div.result c.place_scaled-in-Div.ensures.ok (λ h g. gives_as g refl (λ u e. e ∙ (λ i. expanded (scaled (factor i) (polynomial_of (child i)))) ∙ sym (ap (λ (x : Tree). expanded (polynomial_of x)) node)));
+      front = search rules;
+      kept = search rules;
+      faults = search rules;
+      caused = search rules;
+      fits = λ whole o p. let k = sym c.in-Div.is ∙ c.kind.ensures.plain c.requires.expression in let held = quotient_over whole t (k ∙ over_kind whole t o) k p o.children in within_bits c.place_scaled-in-Div.result whole (λ few. c.place_scaled-in-Div.ensures.fits (high whole) (low whole) (subst (λ (q : Fraction). IsHeld (scaled q (polynomial_of (plain (tree_at c.child_id-in-Div-2.result (forest c.args.pool.now))))) (high whole) (low whole)) (sym factor) (subst (λ (x : Tree). IsHeld (scaled (inverse (divisor_of (nth 1 (children_of t)))) (polynomial_of x)) (high whole) (low whole)) (sym child) held)) (few_bits whole few));
+      room = λ whole n h l. let ns = names whole in let m = length (polynomial_of (plain (tree_at c.child_id-in-Div-2.result (forest c.args.pool.now)))) in let all : m ≡ length (polynomial_of t) = ap (λ (x : Tree). length (polynomial_of x)) child ∙ sym (scaled_length (inverse (divisor_of (nth 1 (children_of t)))) (polynomial_of (nth 0 (children_of t)))) ∙ sym (ap (λ (x : Tree). length (polynomial_of x)) node) in refusal_as c.place_scaled-in-Div.result (c.place_scaled-in-Div.ensures.room ns m (few_child 0 h child)) (λ e lacks. full_as e lacks (λ full few. omega (arith, terms_rise ns m n (omega (arith, all, l)), few)));
+      stands = search rules;
+    }
 
 -- ---- leaves
 
@@ -250,106 +263,16 @@ returns-in_err-copy_tree-in_default c =
 pub returns-in-Add-clause-room : goal.returns-in-Add-clause-room
 returns-in-Add-clause-room c = λ whole n h l. c.place_sum.ensures.room (names whole) n (few_names whole (plain (tree_at c.args.id (forest c.args.pool.now))) n h l)
 
-pub returns-in-Pow-clause-room : goal.returns-in-Pow-clause-room
-returns-in-Pow-clause-room c = λ whole n h l.
-    let ns = names whole in
-    let t = plain (tree_at c.args.id (forest c.args.pool.now)) in
-    let node = power_node t (sym c.in-Pow.is ∙ c.kind.ensures.plain c.requires.expression) in
-    let base = c.child_id-in-Pow.ensures.plain c.requires.expression in
-    let exponent = c.exponent_of-exponent.ensures ∙ ap exponent_of (c.child_id.ensures.plain c.requires.expression) in
-    let m = length (polynomial_of (plain (tree_at c.child_id-in-Pow.result (forest c.args.pool.now)))) in
-    let all : m ^ c.exponent_of-exponent.result ≡ length (polynomial_of t) =
-    (λ i. length (polynomial_of (base i)) ^ exponent i) ∙ sym (raised_length (polynomial_of (nth 0 (children_of t))) (exponent_of (nth 1 (children_of t)))) ∙ sym (ap (λ (x : Tree). length (polynomial_of x)) node) in
-    refusal_as c.place_power.result (c.place_power.ensures.room ns m (few_child 0 h base)) (λ e lacks. full_as e lacks (λ full few. omega (arith, terms_rise ns (m ^ c.exponent_of-exponent.result) n (omega (arith, all, l)), few)))
-
-pub returns-in-Neg-clause-room : goal.returns-in-Neg-clause-room
-returns-in-Neg-clause-room c = λ whole n h l.
-    let ns = names whole in
-    let t = plain (tree_at c.args.id (forest c.args.pool.now)) in
-    let node = opposite_node t (sym c.in-Neg.is ∙ c.kind.ensures.plain c.requires.expression) in
-    let child = c.child_id-in-Neg.ensures.plain c.requires.expression in
-    let m = length (polynomial_of (plain (tree_at c.child_id-in-Neg.result (forest c.args.pool.now)))) in
-    let all : m ≡ length (polynomial_of t) =
-    ap (λ (x : Tree). length (polynomial_of x)) child ∙ sym (scaled_length minus_one_fraction (polynomial_of (nth 0 (children_of t)))) ∙ sym (ap (λ (x : Tree). length (polynomial_of x)) node) in
-    refusal_as c.place_scaled.result (c.place_scaled.ensures.room ns m (few_child 0 h child)) (λ e lacks. full_as e lacks (λ full few. omega (arith, terms_rise ns m n (omega (arith, all, l)), few)))
-
-pub returns-in-Sub-clause-room : goal.returns-in-Sub-clause-room
-returns-in-Sub-clause-room c = λ whole n h l.
-    let ns = names whole in
-    let t = plain (tree_at c.args.id (forest c.args.pool.now)) in
-    let node = difference_node t (sym c.in-Sub.is ∙ c.kind.ensures.plain c.requires.expression) in
-    let first = c.child_id-in-Sub.ensures.plain c.requires.expression in
-    let second = c.child_id-in-Sub-2.ensures.plain c.requires.expression in
-    let a = polynomial_of (nth 0 (children_of t)) in
-    let b = polynomial_of (nth 1 (children_of t)) in
-    let i = length (polynomial_of (plain (tree_at c.child_id-in-Sub.result (forest c.args.pool.now)))) in
-    let j = length (polynomial_of (plain (tree_at c.child_id-in-Sub-2.result (forest c.args.pool.now)))) in
-    let all : i + j ≤ n =
-    omega (arith, l, ap (λ (x : Tree). length (polynomial_of x)) first, ap (λ (x : Tree). length (polynomial_of x)) second, ap (λ (x : Tree). length (polynomial_of x)) node, length-append a (scaled minus_one_fraction b), scaled_length minus_one_fraction b) in
-    refusal_as c.place_difference.result (c.place_difference.ensures.room ns i j (few_child 0 h first) (few_child 1 h second)) (λ e lacks. full_as e lacks (λ full few. omega (arith, terms_rise ns (i + j) n all, few)))
-
-pub returns-in-Div-clause-room : goal.returns-in-Div-clause-room
-returns-in-Div-clause-room c = λ whole n h l.
-    let ns = names whole in
-    let t = plain (tree_at c.args.id (forest c.args.pool.now)) in
-    let node = quotient_node t (sym c.in-Div.is ∙ c.kind.ensures.plain c.requires.expression) in
-    let child = c.child_id-in-Div-2.ensures.plain c.requires.expression in
-    let m = length (polynomial_of (plain (tree_at c.child_id-in-Div-2.result (forest c.args.pool.now)))) in
-    let all : m ≡ length (polynomial_of t) =
-    ap (λ (x : Tree). length (polynomial_of x)) child ∙ sym (scaled_length (inverse (divisor_of (nth 1 (children_of t)))) (polynomial_of (nth 0 (children_of t)))) ∙ sym (ap (λ (x : Tree). length (polynomial_of x)) node) in
-    refusal_as c.place_scaled-in-Div.result (c.place_scaled-in-Div.ensures.room ns m (few_child 0 h child)) (λ e lacks. full_as e lacks (λ full few. omega (arith, terms_rise ns m n (omega (arith, all, l)), few)))
-
 -- ---- what fits
 
 pub returns-in-Add-clause-fits : goal.returns-in-Add-clause-fits
 returns-in-Add-clause-fits c = λ whole o p.
     let t = plain (tree_at c.args.id (forest c.args.pool.now)) in
     let k = sym c.in-Add.is ∙ c.kind.ensures.plain c.requires.expression in
-    within_bits c.place_sum.result whole (λ few. c.place_sum.ensures.fits (high whole) (low whole) (sum_over whole t (k ∙ o.kind) k p o.children) (few_bits whole few))
+    within_bits c.place_sum.result whole (λ few. c.place_sum.ensures.fits (high whole) (low whole) (sum_over whole t (k ∙ over_kind whole t o) k p o.children) (few_bits whole few))
 
 pub returns-in-Mult-clause-fits : goal.returns-in-Mult-clause-fits
 returns-in-Mult-clause-fits c = λ whole o p.
     let t = plain (tree_at c.args.id (forest c.args.pool.now)) in
     let k = sym c.in-Mult.is ∙ c.kind.ensures.plain c.requires.expression in
-    within_bits c.place_products.result whole (λ few. c.place_products.ensures.fits (high whole) (low whole) (product_over whole t (k ∙ o.kind) p o.children) (few_bits whole few))
-
-pub returns-in-Pow-clause-fits : goal.returns-in-Pow-clause-fits
-returns-in-Pow-clause-fits c = λ whole o p.
-    let t = plain (tree_at c.args.id (forest c.args.pool.now)) in
-    let k = sym c.in-Pow.is ∙ c.kind.ensures.plain c.requires.expression in
-    let base = c.child_id-in-Pow.ensures.plain c.requires.expression in
-    let exponent = c.exponent_of-exponent.ensures ∙ ap exponent_of (c.child_id.ensures.plain c.requires.expression) in
-    within_bits c.place_power.result whole
-    (λ few.
-    let (h, l, held, less) = power_over whole t (k ∙ o.kind) k p o.children few in
-    c.place_power.ensures.fits h l (subst (λ (x : Tree). IsHeld (polynomial_of x) h l) (sym base) held) (omega (arith, ap (λ (n : ℕ). n * (h + l)) exponent, less)))
-
-pub returns-in-Neg-clause-fits : goal.returns-in-Neg-clause-fits
-returns-in-Neg-clause-fits c = λ whole o p.
-    let t = plain (tree_at c.args.id (forest c.args.pool.now)) in
-    let k = sym c.in-Neg.is ∙ c.kind.ensures.plain c.requires.expression in
-    let child = c.child_id-in-Neg.ensures.plain c.requires.expression in
-    let minus = opposite_value c.whole.result c.whole.ensures in
-    let held = opposite_over whole t (k ∙ o.kind) k p o.children in
-    within_bits c.place_scaled.result whole
-    (λ few. c.place_scaled.ensures.fits (high whole) (low whole) (subst (λ (q : Fraction). IsHeld (scaled q (polynomial_of (plain (tree_at c.child_id-in-Neg.result (forest c.args.pool.now))))) (high whole) (low whole)) (sym minus) (subst (λ (x : Tree). IsHeld (scaled minus_one_fraction (polynomial_of x)) (high whole) (low whole)) (sym child) held)) (few_bits whole few))
-
-pub returns-in-Sub-clause-fits : goal.returns-in-Sub-clause-fits
-returns-in-Sub-clause-fits c = λ whole o p.
-    let t = plain (tree_at c.args.id (forest c.args.pool.now)) in
-    let k = sym c.in-Sub.is ∙ c.kind.ensures.plain c.requires.expression in
-    let first = c.child_id-in-Sub.ensures.plain c.requires.expression in
-    let second = c.child_id-in-Sub-2.ensures.plain c.requires.expression in
-    let held = difference_over whole t (k ∙ o.kind) k p o.children in
-    within_bits c.place_difference.result whole
-    (λ few. c.place_difference.ensures.fits (high whole) (low whole) (subst (λ (x : Tree). IsHeld (polynomial_of (sub (plain (tree_at c.child_id-in-Sub.result (forest c.args.pool.now))) x)) (high whole) (low whole)) (sym second) (subst (λ (x : Tree). IsHeld (polynomial_of (sub x (nth 1 (children_of t)))) (high whole) (low whole)) (sym first) held)) (few_bits whole few))
-
-pub returns-in-Div-clause-fits : goal.returns-in-Div-clause-fits
-returns-in-Div-clause-fits c = λ whole o p.
-    let t = plain (tree_at c.args.id (forest c.args.pool.now)) in
-    let k = sym c.in-Div.is ∙ c.kind.ensures.plain c.requires.expression in
-    let child = c.child_id-in-Div-2.ensures.plain c.requires.expression in
-    let factor = c.inverse_divisor-factor.ensures ∙ ap (λ (d : Tree). inverse (divisor_of d)) (c.child_id-in-Div.ensures.plain c.requires.expression) in
-    let held = quotient_over whole t (k ∙ o.kind) k p o.children in
-    within_bits c.place_scaled-in-Div.result whole
-    (λ few. c.place_scaled-in-Div.ensures.fits (high whole) (low whole) (subst (λ (q : Fraction). IsHeld (scaled q (polynomial_of (plain (tree_at c.child_id-in-Div-2.result (forest c.args.pool.now))))) (high whole) (low whole)) (sym factor) (subst (λ (x : Tree). IsHeld (scaled (inverse (divisor_of (nth 1 (children_of t)))) (polynomial_of x)) (high whole) (low whole)) (sym child) held)) (few_bits whole few))
+    within_bits c.place_products.result whole (λ few. c.place_products.ensures.fits (high whole) (low whole) (product_over whole t (k ∙ over_kind whole t o) p o.children) (few_bits whole few))

@@ -1,4 +1,4 @@
-use Rattle.std.proofs.Common.{◌≡◌, ◌<◌, ◌+◌, ◌-◌, ◌∙◌, ℕ, ap, refl, sym, subst, arith, ◌≤◌, ◌*◌, length}
+use Rattle.std.proofs.Common.{rules, ◌≡◌, ◌<◌, ◌+◌, ◌-◌, ◌∙◌, ℕ, ap, refl, sym, subst, arith, ◌≤◌, ◌*◌, length}
 use Rattle.calc_terms.specs.Trees.{Tree, count, mult, names}
 use Rattle.coefficients.proofs.Steps.{one_value}
 use Rattle.expand_forms.specs.ExpandedTrees.{expanded}
@@ -74,22 +74,16 @@ child_is c =
     let now = beside c.loop-left.invariant.given c.requires.expression in
     sym (child_within c).same ∙ c.child_id.ensures.plain now.expression ∙ ap (λ (t : Tree). nth (c.loop-left.left - 1) (children_of t)) now.same
 
-pub times-requires-clause-second : goal.times-requires-clause-second
-times-requires-clause-second c = given_handed c.loop-left.invariant.given
-
-pub times-requires-clause-first : goal.times-requires-clause-first
-times-requires-clause-first c = subst (IsExpression c.child_id.result) (sym (given_rest c.loop-left.invariant.given)) (child_within (goal.at.times-requires-clause-first c).After-child_id).expression
-
-pub times-requires-clause-first_expanded : goal.times-requires-clause-first_expanded
-times-requires-clause-first_expanded c =
-    let j = c.loop-left.invariant in
+pub times-requires : goal.times-requires
+times-requires c =
     let ts = children_of (plain (tree_at c.args.id (forest c.args.pool.now))) in
-    subst (λ (f : Forest). IsExpanded (plain (tree_at c.child_id.result f))) (sym (given_rest j.given)) (subst IsExpanded (sym (child_is (goal.at.times-requires-clause-first_expanded c).After-child_id)) (expanded_nth (c.loop-left.left - 1) ts c.requires.children (omega (arith, j.within, c.loop-left-test.true))))
-
-pub times-requires-clause-last : goal.times-requires-clause-last
-times-requires-clause-last c =
-    let ts = children_of (plain (tree_at c.args.id (forest c.args.pool.now))) in
-    gives_rest c.loop-left.invariant.given (λ t e. product_expanded (from c.loop-left.left ts) e)
+    record {
+      stands = search rules;
+      second = given_handed c.loop-left.invariant.given;
+      first = subst (IsExpression c.child_id.result) (sym (given_rest c.loop-left.invariant.given)) (child_within (goal.at.times-requires c).After-child_id).expression;
+      first_expanded = let j = c.loop-left.invariant in subst (λ (f : Forest). IsExpanded (plain (tree_at c.child_id.result f))) (sym (given_rest j.given)) (subst IsExpanded (sym (child_is (goal.at.times-requires c).After-child_id)) (expanded_nth (c.loop-left.left - 1) ts c.requires.children (omega (arith, j.within, c.loop-left-test.true))));
+      last = gives_rest c.loop-left.invariant.given (λ t e. product_expanded (from c.loop-left.left ts) e);
+    }
 
 pub loop-left-preserved : goal.loop-left-preserved
 loop-left-preserved c =
@@ -107,10 +101,21 @@ loop-left-preserved c =
       stands = c.in-Ok.ensures.stands;
     }
 
-pub returns-in-Err-clause-front : goal.returns-in-Err-clause-front
-returns-in-Err-clause-front c =
+pub returns-in-Err : goal.returns-in-Err
+returns-in-Err c =
     let j = c.loop-left.invariant in
-    front_after_one (behind_new j.given.ends front_same) j.front c.times.ensures.front
+    let at = c.loop-left.left - 1 in
+    let next : c.loop-left.left ≡ at + 1 = omega (arith, c.loop-left-test.true) in
+    record {
+      ok = search rules;
+      front = front_after_one (behind_new j.given.ends front_same) j.front c.times.ensures.front;
+      kept = search rules;
+      faults = search rules;
+      caused = search rules;
+      fits = λ h l x k. let inv = c.loop-left.invariant in let ts = children_of (plain (tree_at c.args.id (forest c.args.pool.now))) in let (i, j, p, q, y, z, m, n) = together_next at ts (omega (arith, inv.within, c.loop-left-test.true)) x in let child = (λ i. plain (tree_at c.child_id.result (given_rest inv.given i))) ∙ child_is (goal.at.returns-in-Err c).After-child_id in let one = subst (λ (t : Tree). IsHeld (polynomial_of t) i j) (sym child) y in let rest = answer_held (tree_monomials (mult (from c.loop-left.left ts))) (given_told inv.given) (subst (λ (k : ℕ). IsHeld (product_of (from k ts)) p q) (sym next) z) in c.in-Err.ensures.fits (i + p) (j + q) (held_product (tree_monomials (plain (tree_at c.child_id.result (without_root c.loop-left.product (forest c.loop-left.pool))))) one rest) (omega (arith, m, n, k));
+      room = λ whole n h l. let ns = names whole in let t = plain (tree_at c.args.id (forest c.args.pool.now)) in let ts = children_of t in let v = product_of (from c.loop-left.left ts) in let child = (λ i. plain (tree_at c.child_id.result (given_rest j.given i))) ∙ child_is (goal.at.returns-in-Err c).After-child_id in let some = some_product (from c.loop-left.left ts) (expanded_from c.loop-left.left ts c.requires.children) in let one = few_child at h child in let rest = few_rest c.loop-left.left h in let monomials = tree_monomials (mult (from c.loop-left.left ts)) in let lacks = c.in-Err.ensures.room ns (length (polynomial_of (plain (tree_at c.child_id.result (without_root c.loop-left.product (forest c.loop-left.pool)))))) (length v) one (answer_few monomials (given_told j.given) rest some) in let most = answer_size monomials (given_told j.given) rest some in let all : length (product_of ts) ≤ n = omega (arith, l, ap (λ (x : Polynomial). length x) (product_polynomial_of t c.requires.product)) in let whole_product : length (polynomial_of (plain (tree_at c.child_id.result (without_root c.loop-left.product (forest c.loop-left.pool))))) * length v ≡ length (product_of (from at ts)) = ap (λ (u : Tree). length (polynomial_of u) * length v) child ∙ ap (λ (k : ℕ). length (polynomial_of (nth at ts)) * length (product_of (from k ts))) next ∙ sym (product_length (polynomial_of (nth at ts)) (product_of (from (at + 1) ts))) ∙ sym (ap (λ (x : Polynomial). length x) (product_from at ts (omega (arith, j.within, c.loop-left-test.true)))) in let free = given_free c.requires.stands j.stands j.kept j.given in full_as c.in-Err.fault lacks (λ full few. omega (arith, free, most, terms_rise ns (length v) n (omega (arith, rest_product c.loop-left.left ts c.requires.children, all)), terms_rise ns (length (product_of (from at ts))) n (omega (arith, rest_product at ts c.requires.children, all)), ap (λ (k : ℕ). sum_bytes ns k) whole_product, few));
+      stands = search rules;
+    }
 
 pub returns-clause-ok : goal.returns-clause-ok
 returns-clause-ok c =
@@ -124,40 +129,4 @@ pub returns-in_err-product-clause-room : goal.returns-in_err-product-clause-room
 returns-in_err-product-clause-room c = λ whole n h l.
     passed_on c.from_residual.result (fault.Full c.in_err-product.field-0.0) (OfFull (λ full. free_of c.args.pool.now < node_bytes (names whole) n)) c.from_residual.ensures.0 c.from_residual.ensures.1 (omega (arith, number_refused c.whole.result c.in_err-product.ensures.full))
 
-pub returns-in-Err-clause-room : goal.returns-in-Err-clause-room
-returns-in-Err-clause-room c = λ whole n h l.
-    let ns = names whole in
-    let j = c.loop-left.invariant in
-    let t = plain (tree_at c.args.id (forest c.args.pool.now)) in
-    let ts = children_of t in
-    let at = c.loop-left.left - 1 in
-    let next : c.loop-left.left ≡ at + 1 = omega (arith, c.loop-left-test.true) in
-    let v = product_of (from c.loop-left.left ts) in
-    let child = (λ i. plain (tree_at c.child_id.result (given_rest j.given i))) ∙ child_is (goal.at.returns-in-Err-clause-room c).After-child_id in
-    let some = some_product (from c.loop-left.left ts) (expanded_from c.loop-left.left ts c.requires.children) in
-    let one = few_child at h child in
-    let rest = few_rest c.loop-left.left h in
-    let monomials = tree_monomials (mult (from c.loop-left.left ts)) in
-    let lacks = c.in-Err.ensures.room ns (length (polynomial_of (plain (tree_at c.child_id.result (without_root c.loop-left.product (forest c.loop-left.pool)))))) (length v) one (answer_few monomials (given_told j.given) rest some) in
-    let most = answer_size monomials (given_told j.given) rest some in
-    let all : length (product_of ts) ≤ n = omega (arith, l, ap (λ (x : Polynomial). length x) (product_polynomial_of t c.requires.product)) in
-    let whole_product : length (polynomial_of (plain (tree_at c.child_id.result (without_root c.loop-left.product (forest c.loop-left.pool))))) * length v ≡ length (product_of (from at ts)) =
-    ap (λ (u : Tree). length (polynomial_of u) * length v) child ∙ ap (λ (k : ℕ). length (polynomial_of (nth at ts)) * length (product_of (from k ts))) next
-    ∙ sym (product_length (polynomial_of (nth at ts)) (product_of (from (at + 1) ts))) ∙ sym (ap (λ (x : Polynomial). length x) (product_from at ts (omega (arith, j.within, c.loop-left-test.true)))) in
-    let free = given_free c.requires.stands j.stands j.kept j.given in
-    full_as c.in-Err.fault lacks
-    (λ full few. omega (arith, free, most, terms_rise ns (length v) n (omega (arith, rest_product c.loop-left.left ts c.requires.children, all)), terms_rise ns (length (product_of (from at ts))) n (omega (arith, rest_product at ts c.requires.children, all)), ap (λ (k : ℕ). sum_bytes ns k) whole_product, few))
-
 -- ---- what fits
-
-pub returns-in-Err-clause-fits : goal.returns-in-Err-clause-fits
-returns-in-Err-clause-fits c = λ h l x k.
-    let inv = c.loop-left.invariant in
-    let ts = children_of (plain (tree_at c.args.id (forest c.args.pool.now))) in
-    let at = c.loop-left.left - 1 in
-    let next : c.loop-left.left ≡ at + 1 = omega (arith, c.loop-left-test.true) in
-    let (i, j, p, q, y, z, m, n) = together_next at ts (omega (arith, inv.within, c.loop-left-test.true)) x in
-    let child = (λ i. plain (tree_at c.child_id.result (given_rest inv.given i))) ∙ child_is (goal.at.returns-in-Err-clause-fits c).After-child_id in
-    let one = subst (λ (t : Tree). IsHeld (polynomial_of t) i j) (sym child) y in
-    let rest = answer_held (tree_monomials (mult (from c.loop-left.left ts))) (given_told inv.given) (subst (λ (k : ℕ). IsHeld (product_of (from k ts)) p q) (sym next) z) in
-    c.in-Err.ensures.fits (i + p) (j + q) (held_product (tree_monomials (plain (tree_at c.child_id.result (without_root c.loop-left.product (forest c.loop-left.pool))))) one rest) (omega (arith, m, n, k))

@@ -1,4 +1,4 @@
-use Rattle.std.proofs.Common.{◌∙◌, inl, ap, refl, sym, subst, ◌<◌, arith, ◌≡◌}
+use Rattle.std.proofs.Common.{rules, ◌∙◌, inl, ap, refl, sym, subst, ◌<◌, arith, ◌≡◌}
 use Rattle.calc_terms.specs.Trees.{Tree, num, size}
 use Rattle.coefficients.proofs.Steps.{expression, one_value, seen}
 use Rattle.expand_forms.specs.ExpandedTrees.{expanded}
@@ -8,6 +8,8 @@ use Rattle.expand_forms.proofs.Expansions.{empty_sum, nothing_added, sum_same}
 use Rattle.expand_forms.proofs.NodeChildren.{sum_polynomial_of}
 use Rattle.expand_forms.proofs.TermReadings.{beside}
 use Rattle.number_forms.proofs.Loops.{gives_rest, gives_without, kept_after}
+use Rattle.tree_handles.specs.Children.{root_ids}
+use Rattle.tree_handles.proofs.Lasts.{kids_of_last}
 use Rattle.tree_handles.specs.Expressions.{IsExpression, children_of, plain}
 use Rattle.tree_handles.specs.Forest.{Forest}
 use Rattle.tree_handles.specs.Inside.{tree_at}
@@ -38,27 +40,38 @@ join_children-requires c =
     let r = given_rest new in
     let st = c.in_ok-one.ensures.stands in
     let x = beside k c.requires.expression in
-    record {
-      stands = c.in_ok-sum.ensures.stands;
-      sum = gives_rest new (λ t e. empty_sum e);
-      one = subst (IsExpression c.id.result) (sym r) (expression c.id.ensures st (given_handed k));
-      is_one = ap (λ (f : Forest). plain (tree_at c.id.result f)) r ∙ seen c.id.ensures st (given_handed k) ∙ given_told k ∙ ap num (one_value c.whole.result c.whole.ensures);
-      expression = subst (IsExpression c.args.id) (sym r) x.expression;
-      children = subst (λ (f : Forest). AreExpanded (children_of (plain (tree_at c.args.id f)))) (sym r) (subst (λ (t : Tree). AreExpanded (children_of t)) (sym x.same) c.requires.children);
-    }
+    (omega arith, (c.in_ok-sum.ensures.stands, (gives_rest new (λ t e. empty_sum e), (c.new-list.ensures c.in_ok-sum.sum (forest c.node.new.pool) (ap root_ids (kids_of_last c.in_ok-sum.ensures.stands c.in_ok-sum.ensures.ok)), (subst (IsExpression c.id.result) (sym r) (expression c.id.ensures st (given_handed k)), (ap (λ (f : Forest). plain (tree_at c.id.result f)) r ∙ seen c.id.ensures st (given_handed k) ∙ given_told k ∙ ap num (one_value c.whole.result c.whole.ensures), (subst (IsExpression c.args.id) (sym r) x.expression, subst (λ (f : Forest). AreExpanded (children_of (plain (tree_at c.args.id f)))) (sym r) (subst (λ (t : Tree). AreExpanded (children_of t)) (sym x.same) c.requires.children))))))))
 
-pub returns-in_err-join_children-clause-front : goal.returns-in_err-join_children-clause-front
-returns-in_err-join_children-clause-front c =
-    let sum = behind_new (c.in_ok-sum.ensures.given refl).ends c.number.ensures.front in
-    front_after_one sum (front_after c.number.ensures.front c.node.ensures.front) c.join_children.ensures.front
+pub returns-in_err-join_children : goal.returns-in_err-join_children
+returns-in_err-join_children c =
+    let new = c.in_ok-sum.ensures.given refl in
+    let r = given_rest new in
+    record {
+      ok = search rules;
+      front = let sum = behind_new (c.in_ok-sum.ensures.given refl).ends c.number.ensures.front in front_after_one sum (front_after c.number.ensures.front c.node.ensures.front) c.join_children.ensures.front;
+      kept = search rules;
+      faults = search rules;
+      caused = search rules;
+      fits = λ h l x k. let t = plain (tree_at c.args.id (forest c.args.pool.now)) in let v = sum_of (children_of (plain (tree_at c.args.id (without_root c.in_ok-sum.sum (forest c.node.new.pool))))) in let children : v ≡ polynomial_of t = ap (λ (f : Forest). sum_of (children_of (plain (tree_at c.args.id f)))) r ∙ ap (λ (u : Tree). sum_of (children_of u)) (beside c.in_ok-one.ensures.given c.requires.expression).same ∙ sum_polynomial_of t c.requires.sum in passed_on c.from_residual-in_err-join_children.result c.in_err-join_children.field-0.0 IsNoOverflow c.from_residual-in_err-join_children.ensures.0 c.from_residual-in_err-join_children.ensures.1 (c.in_err-join_children.ensures.fits h l (subst (λ (u : Polynomial). IsHeld u h l) (sym (nothing_added v (given_told new) ∙ children)) x) k);
+      room = λ ns n h. let k = c.in_ok-one.ensures.given in let st = c.in_ok-one.ensures.stands in let x = beside k c.requires.expression in let free = given_free c.requires.stands st c.in_ok-one.ensures.kept k in let left = given_free st c.in_ok-sum.ensures.stands c.in_ok-sum.ensures.kept new in let children : sum_of (children_of (plain (tree_at c.args.id (without_root c.in_ok-sum.sum (forest c.node.new.pool))))) ≡ polynomial_of (plain (tree_at c.args.id (forest c.args.pool.now))) = ap (λ (f : Forest). sum_of (children_of (plain (tree_at c.args.id f)))) r ∙ ap (λ (u : Tree). sum_of (children_of u)) x.same ∙ sum_polynomial_of (plain (tree_at c.args.id (forest c.args.pool.now))) c.requires.sum in let lacks = c.in_err-join_children.ensures.room ns 0 n (few_none ns (given_told new)) (subst (HasFewTerms ns n) (sym children) h) in passed_on c.from_residual-in_err-join_children.result c.in_err-join_children.field-0.0 (OfFull (λ full. free_of c.args.pool.now < node_bytes ns n)) c.from_residual-in_err-join_children.ensures.0 c.from_residual-in_err-join_children.ensures.1 (full_as c.in_err-join_children.field-0.0 lacks (λ full few. omega (arith, free, left, ap size (given_told k), num_most (value_of c.whole.result), few)));
+      stands = search rules;
+    }
 
 pub finished-requires-clause-sum : goal.finished-requires-clause-sum
 finished-requires-clause-sum c = gives_rest c.in_ok-join_children.ensures.ok (λ t h. h.sum)
 
-pub returns-in_err-answer-clause-front : goal.returns-in_err-answer-clause-front
-returns-in_err-answer-clause-front c =
-    let sum = behind_new (c.in_ok-sum.ensures.given refl).ends c.number.ensures.front in
-    front_after_one sum (front_after_one sum (front_after c.number.ensures.front c.node.ensures.front) c.join_children.ensures.front) c.finished.ensures.front
+pub returns-in_err-answer : goal.returns-in_err-answer
+returns-in_err-answer c =
+    record {
+      ok = search rules;
+      front = let sum = behind_new (c.in_ok-sum.ensures.given refl).ends c.number.ensures.front in front_after_one sum (front_after_one sum (front_after c.number.ensures.front c.node.ensures.front) c.join_children.ensures.front) c.finished.ensures.front;
+      kept = search rules;
+      faults = search rules;
+      caused = search rules;
+      fits = search rules;
+      room = λ ns n h. let k = c.in_ok-one.ensures.given in let st = c.in_ok-one.ensures.stands in let sum = gives_as c.in_ok-join_children.ensures.ok (given_rest (c.in_ok-sum.ensures.given refl)) (λ t e. e) in let free = given_free c.requires.stands st c.in_ok-one.ensures.kept k in let left = given_free st c.in_ok-join_children.ensures.stands (kept_after c.in_ok-sum.ensures.kept c.in_ok-join_children.ensures.kept) sum in passed_on c.from_residual-in_err-answer.result (fault.Full c.in_err-answer.field-0.0) (OfFull (λ full. free_of c.args.pool.now < node_bytes ns n)) c.from_residual-in_err-answer.ensures.0 c.from_residual-in_err-answer.ensures.1 (omega (arith, free, left, ap size (given_told k), num_most (value_of c.whole.result), c.in_err-answer.ensures.room));
+      stands = search rules;
+    }
 
 pub release-requires-clause-releasable : goal.release-requires-clause-releasable
 release-requires-clause-releasable c =
@@ -66,27 +79,19 @@ release-requires-clause-releasable c =
     let back = given_rest c.in_ok-join_children.ensures.ok ∙ given_rest (c.in_ok-sum.ensures.given refl) in
     inl (given_other c.in_ok-answer.ensures.ok (handed_at (given_handed k) back)).root
 
-pub returns-clause-ok : goal.returns-clause-ok
-returns-clause-ok c =
+pub returns : goal.returns
+returns c =
     let k = c.in_ok-one.ensures.given in
-    let new = c.in_ok-sum.ensures.given refl in
-    let joined = c.in_ok-join_children.ensures.ok in
-    let back = given_rest joined ∙ given_rest new in
-    let answer = gives_as c.in_ok-answer.ensures.ok back (λ t e. e) in
-    let one = given_handed k in
-    let r = given_rest new in
-    let x = beside k c.requires.expression in
-    gives_as (gives_without c.in_ok-one.one answer one.root (c.release.ensures.owned (owned (given_other answer one)))) (given_rest k)
-    (λ t e. e ∙ sum_same (given_told joined) ∙ ap expanded (nothing_added (sum_of (children_of (plain (tree_at c.args.id (without_root c.in_ok-sum.sum (forest c.node.new.pool)))))) (given_told new)) ∙ (λ i. expanded (sum_of (children_of (plain (tree_at c.args.id (r i)))))) ∙ ap (λ (u : Tree). expanded (sum_of (children_of u))) x.same
-    ∙ ap expanded (sum_polynomial_of (plain (tree_at c.args.id (forest c.args.pool.now))) c.requires.sum))
-
-pub returns-clause-front : goal.returns-clause-front
-returns-clause-front c =
-    let k = c.in_ok-one.ensures.given in
-    let sum = behind_new (c.in_ok-sum.ensures.given refl).ends c.number.ensures.front in
-    let back = given_rest c.in_ok-join_children.ensures.ok ∙ given_rest (c.in_ok-sum.ensures.given refl) in
-    front_at (front_without (behind_new k.ends front_same) (front_after_one sum (front_after_one sum (front_after c.number.ensures.front c.node.ensures.front) c.join_children.ensures.front) c.finished.ensures.front))
-    (c.release.ensures.owned (owned (given_other c.in_ok-answer.ensures.ok (handed_at (given_handed k) back))))
+    record {
+      ok = let new = c.in_ok-sum.ensures.given refl in let joined = c.in_ok-join_children.ensures.ok in let back = given_rest joined ∙ given_rest new in let answer = gives_as c.in_ok-answer.ensures.ok back (λ t e. e) in let one = given_handed k in let r = given_rest new in let x = beside k c.requires.expression in gives_as (gives_without c.in_ok-one.one answer one.root (c.release.ensures.owned (owned (given_other answer one)))) (given_rest k) (λ t e. e ∙ sum_same (given_told joined) ∙ ap expanded (nothing_added (sum_of (children_of (plain (tree_at c.args.id (without_root c.in_ok-sum.sum (forest c.node.new.pool)))))) (given_told new)) ∙ (λ i. expanded (sum_of (children_of (plain (tree_at c.args.id (r i)))))) ∙ ap (λ (u : Tree). expanded (sum_of (children_of u))) x.same ∙ ap expanded (sum_polynomial_of (plain (tree_at c.args.id (forest c.args.pool.now))) c.requires.sum));
+      front = let sum = behind_new (c.in_ok-sum.ensures.given refl).ends c.number.ensures.front in let back = given_rest c.in_ok-join_children.ensures.ok ∙ given_rest (c.in_ok-sum.ensures.given refl) in front_at (front_without (behind_new k.ends front_same) (front_after_one sum (front_after_one sum (front_after c.number.ensures.front c.node.ensures.front) c.join_children.ensures.front) c.finished.ensures.front)) (c.release.ensures.owned (owned (given_other c.in_ok-answer.ensures.ok (handed_at (given_handed k) back))));
+      kept = search rules;
+      faults = search rules;
+      caused = search rules;
+      fits = search rules;
+      room = search rules;
+      stands = search rules;
+    }
 
 -- ---- few bytes
 
@@ -101,38 +106,4 @@ returns-in_err-sum-clause-room c = λ ns n h.
     let few : free_of c.number.new.pool < 8 = refused_below c.in_err-sum.ensures.full in
     passed_on c.from_residual-in_err-sum.result (fault.Full c.in_err-sum.field-0.0) (OfFull (λ full. free_of c.args.pool.now < node_bytes ns n)) c.from_residual-in_err-sum.ensures.0 c.from_residual-in_err-sum.ensures.1 (omega (arith, free, ap size (given_told k), num_most (value_of c.whole.result), few))
 
-pub returns-in_err-join_children-clause-room : goal.returns-in_err-join_children-clause-room
-returns-in_err-join_children-clause-room c = λ ns n h.
-    let k = c.in_ok-one.ensures.given in
-    let new = c.in_ok-sum.ensures.given refl in
-    let r = given_rest new in
-    let st = c.in_ok-one.ensures.stands in
-    let x = beside k c.requires.expression in
-    let free = given_free c.requires.stands st c.in_ok-one.ensures.kept k in
-    let left = given_free st c.in_ok-sum.ensures.stands c.in_ok-sum.ensures.kept new in
-    let children : sum_of (children_of (plain (tree_at c.args.id (without_root c.in_ok-sum.sum (forest c.node.new.pool))))) ≡ polynomial_of (plain (tree_at c.args.id (forest c.args.pool.now))) =
-    ap (λ (f : Forest). sum_of (children_of (plain (tree_at c.args.id f)))) r ∙ ap (λ (u : Tree). sum_of (children_of u)) x.same ∙ sum_polynomial_of (plain (tree_at c.args.id (forest c.args.pool.now))) c.requires.sum in
-    let lacks = c.in_err-join_children.ensures.room ns 0 n (few_none ns (given_told new)) (subst (HasFewTerms ns n) (sym children) h) in
-    passed_on c.from_residual-in_err-join_children.result c.in_err-join_children.field-0.0 (OfFull (λ full. free_of c.args.pool.now < node_bytes ns n)) c.from_residual-in_err-join_children.ensures.0 c.from_residual-in_err-join_children.ensures.1
-    (full_as c.in_err-join_children.field-0.0 lacks (λ full few. omega (arith, free, left, ap size (given_told k), num_most (value_of c.whole.result), few)))
-
-pub returns-in_err-answer-clause-room : goal.returns-in_err-answer-clause-room
-returns-in_err-answer-clause-room c = λ ns n h.
-    let k = c.in_ok-one.ensures.given in
-    let st = c.in_ok-one.ensures.stands in
-    let sum = gives_as c.in_ok-join_children.ensures.ok (given_rest (c.in_ok-sum.ensures.given refl)) (λ t e. e) in
-    let free = given_free c.requires.stands st c.in_ok-one.ensures.kept k in
-    let left = given_free st c.in_ok-join_children.ensures.stands (kept_after c.in_ok-sum.ensures.kept c.in_ok-join_children.ensures.kept) sum in
-    passed_on c.from_residual-in_err-answer.result (fault.Full c.in_err-answer.field-0.0) (OfFull (λ full. free_of c.args.pool.now < node_bytes ns n)) c.from_residual-in_err-answer.ensures.0 c.from_residual-in_err-answer.ensures.1 (omega (arith, free, left, ap size (given_told k), num_most (value_of c.whole.result), c.in_err-answer.ensures.room))
-
 -- ---- what fits
-
-pub returns-in_err-join_children-clause-fits : goal.returns-in_err-join_children-clause-fits
-returns-in_err-join_children-clause-fits c = λ h l x k.
-    let new = c.in_ok-sum.ensures.given refl in
-    let r = given_rest new in
-    let t = plain (tree_at c.args.id (forest c.args.pool.now)) in
-    let v = sum_of (children_of (plain (tree_at c.args.id (without_root c.in_ok-sum.sum (forest c.node.new.pool))))) in
-    let children : v ≡ polynomial_of t = ap (λ (f : Forest). sum_of (children_of (plain (tree_at c.args.id f)))) r ∙ ap (λ (u : Tree). sum_of (children_of u)) (beside c.in_ok-one.ensures.given c.requires.expression).same ∙ sum_polynomial_of t c.requires.sum in
-    passed_on c.from_residual-in_err-join_children.result c.in_err-join_children.field-0.0 IsNoOverflow c.from_residual-in_err-join_children.ensures.0 c.from_residual-in_err-join_children.ensures.1
-    (c.in_err-join_children.ensures.fits h l (subst (λ (u : Polynomial). IsHeld u h l) (sym (nothing_added v (given_told new) ∙ children)) x) k)

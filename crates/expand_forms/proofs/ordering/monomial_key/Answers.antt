@@ -8,18 +8,11 @@ use Rattle.tree_handles.specs.Inside.{tree_at}
 use Rattle.tree_handles.specs.Standing.{forest}
 use Rattle.expand_forms.proofs.ordering.monomial_key.Goals as goal
 
-pub returns-in-Mult-clause-valid : goal.returns-in-Mult-clause-valid
-returns-in-Mult-clause-valid c =
+pub returns-in-Mult : goal.returns-in-Mult
+returns-in-Mult c =
     let t = plain (tree_at c.args.term (forest c.args.pool.now)) in
     let m : is_mult t ≡ true = product_kind t (sym c.in-Mult.is ∙ c.kind.ensures.plain c.requires.expression) in
     record {
-      tree = c.requires.expression;
-      product = λ l. m;
-      some = λ l. omega (arith, first_count t m, c.first_factor.ensures.value, some_factor t c.requires.term c.requires.named);
+      valid = record { tree = c.requires.expression; product = λ l. m; some = λ l. omega (arith, first_count t m, c.first_factor.ensures.value, some_factor t c.requires.term c.requires.named) };
+      value = keyed t c.first_factor.result m c.first_factor.ensures.value (λ e. whole_product t m c.requires.term c.requires.named e);
     }
-
-pub returns-in-Mult-clause-value : goal.returns-in-Mult-clause-value
-returns-in-Mult-clause-value c =
-    let t = plain (tree_at c.args.term (forest c.args.pool.now)) in
-    let m : is_mult t ≡ true = product_kind t (sym c.in-Mult.is ∙ c.kind.ensures.plain c.requires.expression) in
-    keyed t c.first_factor.result m c.first_factor.ensures.value (λ e. whole_product t m c.requires.term c.requires.named e)

@@ -8,7 +8,7 @@ use Rattle.tree_handles.specs.Standing.{forest}
 use Rattle.expand_forms.proofs.ordering.place_of.Given as goal
 
 abbrev pub invariant-loop-low : goal.invariant-loop-low
-invariant-loop-low l = record {
+invariant-loop-low g l = record {
   order : l.low ≤ l.high;
   within : l.high ≤ count (children_of (plain (tree_at l.sum (forest l.pool))));
   below : (k : ℕ) → k < l.low → term_cmp (nth k (children_of (plain (tree_at l.sum (forest l.pool))))) (plain (tree_at l.term (forest l.pool))) ≡ Less;
@@ -16,4 +16,4 @@ invariant-loop-low l = record {
 }
 
 abbrev pub decreases-loop-low : goal.decreases-loop-low
-decreases-loop-low l = l.high - l.low
+decreases-loop-low g l = l.high - l.low

@@ -1,4 +1,4 @@
-use Rattle.std.proofs.Common.{◌≡◌, ◌≤◌, inl, sym, ap, ◌∙◌, refl, arith}
+use Rattle.std.proofs.Common.{rules, ◌≡◌, ◌≤◌, inl, sym, ap, ◌∙◌, refl, arith}
 use Rattle.calc_terms.specs.Trees.{Tree, count, num}
 use Rattle.expand_forms.proofs.Expansions.{more_sum, none_sum, one_sum, zero_value}
 use Rattle.expand_forms.proofs.Sums.{sum_is}
@@ -27,35 +27,31 @@ release-requires-then-terms-eq1-clause-releasable c =
     let sum = tree_of c.args.sum c.args.pool.now in
     inl (only_owned c.requires.sum (children_of sum) (sum_is (given_told c.requires.sum)) (c.take_child-term.ensures.last (given_root c.requires.sum))).root
 
-pub returns-then-terms-eq0-clause-ok : goal.returns-then-terms-eq0-clause-ok
-returns-then-terms-eq0-clause-ok c =
-    let sum = tree_of c.args.sum c.args.pool.now in
-    let expression = read_expression _ c.args.sum c.args.pool.now c.id.ensures c.requires.stands (given_handed c.requires.sum) in
-    let many = ap (λ (t : Tree). count (children_of t)) (same_plain _ c.args.sum c.args.pool.now c.id.ensures c.requires.stands (given_root c.requires.sum)) in
-    let none : count (children_of sum) ≡ 0 = sym (c.children-terms.ensures.plain expression ∙ many) ∙ c.if-terms-eq0.true in
-    if_given _ _ _ _ _ c.number.result c.number.ensures.given (c.release.ensures.owned (owned (given_handed c.requires.sum)))
-    (λ t e. e ∙ ap num (zero_value c.whole.result c.whole.ensures) ∙ sym (none_sum (given_told c.requires.sum) none))
+pub returns-then-terms-eq0 : goal.returns-then-terms-eq0
+returns-then-terms-eq0 c =
+    record {
+      ok = let sum = tree_of c.args.sum c.args.pool.now in let expression = read_expression _ c.args.sum c.args.pool.now c.id.ensures c.requires.stands (given_handed c.requires.sum) in let many = ap (λ (t : Tree). count (children_of t)) (same_plain _ c.args.sum c.args.pool.now c.id.ensures c.requires.stands (given_root c.requires.sum)) in let none : count (children_of sum) ≡ 0 = sym (c.children-terms.ensures.plain expression ∙ many) ∙ c.if-terms-eq0.true in if_given _ _ _ _ _ c.number.result c.number.ensures.given (c.release.ensures.owned (owned (given_handed c.requires.sum))) (λ t e. e ∙ ap num (zero_value c.whole.result c.whole.ensures) ∙ sym (none_sum (given_told c.requires.sum) none));
+      front = front_after (front_at (front_without behind_first front_same) (c.release.ensures.owned (owned (given_handed c.requires.sum)))) c.number.ensures.front;
+      kept = search rules;
+      full = search rules;
+      caused = search rules;
+      room = let h = given_handed c.requires.sum in let free = released_free c.requires.stands c.release.ensures.stands c.release.ensures.kept h (c.release.ensures.owned (owned h)) in refusal_as c.number.result c.number.ensures.full (λ full r. omega (arith, free, number_refused c.whole.result r));
+      stands = search rules;
+    }
 
-pub returns-then-terms-eq0-clause-front : goal.returns-then-terms-eq0-clause-front
-returns-then-terms-eq0-clause-front c = front_after (front_at (front_without behind_first front_same) (c.release.ensures.owned (owned (given_handed c.requires.sum)))) c.number.ensures.front
-
-pub returns-then-terms-eq1-clause-ok : goal.returns-then-terms-eq1-clause-ok
-returns-then-terms-eq1-clause-ok c =
-    let sum = tree_of c.args.sum c.args.pool.now in
-    let told = given_told c.requires.sum in
-    let expression = read_expression _ c.args.sum c.args.pool.now c.id.ensures c.requires.stands (given_handed c.requires.sum) in
-    let many = ap (λ (t : Tree). count (children_of t)) (same_plain _ c.args.sum c.args.pool.now c.id.ensures c.requires.stands (given_root c.requires.sum)) in
-    let one : count (children_of sum) ≡ 1 = sym (c.children-terms.ensures.plain expression ∙ many) ∙ c.if-terms-eq1.true in
-    let taken = c.take_child-term.ensures.last (given_root c.requires.sum) in
-    let gone = c.release-then-terms-eq1.ensures.owned (owned (only_owned c.requires.sum (children_of sum) (sum_is told) taken)) in
-    only_child c.requires.sum (children_of sum) (sum_is told) (omega (arith, one)) taken gone (one_sum told one)
-
-pub returns-then-terms-eq1-clause-front : goal.returns-then-terms-eq1-clause-front
-returns-then-terms-eq1-clause-front c =
+pub returns-then-terms-eq1 : goal.returns-then-terms-eq1
+returns-then-terms-eq1 c =
     let sum = tree_of c.args.sum c.args.pool.now in
     let taken = c.take_child-term.ensures.last (given_root c.requires.sum) in
-    let gone = c.release-then-terms-eq1.ensures.owned (owned (only_owned c.requires.sum (children_of sum) (sum_is (given_told c.requires.sum)) taken)) in
-    front_at (front_without behind_first (front_end taken (front_put _ behind_first front_same))) gone
+    record {
+      ok = let told = given_told c.requires.sum in let expression = read_expression _ c.args.sum c.args.pool.now c.id.ensures c.requires.stands (given_handed c.requires.sum) in let many = ap (λ (t : Tree). count (children_of t)) (same_plain _ c.args.sum c.args.pool.now c.id.ensures c.requires.stands (given_root c.requires.sum)) in let one : count (children_of sum) ≡ 1 = sym (c.children-terms.ensures.plain expression ∙ many) ∙ c.if-terms-eq1.true in let gone = c.release-then-terms-eq1.ensures.owned (owned (only_owned c.requires.sum (children_of sum) (sum_is told) taken)) in only_child c.requires.sum (children_of sum) (sum_is told) (omega (arith, one)) taken gone (one_sum told one);
+      front = let gone = c.release-then-terms-eq1.ensures.owned (owned (only_owned c.requires.sum (children_of sum) (sum_is (given_told c.requires.sum)) taken)) in front_at (front_without behind_first (front_end taken (front_put _ behind_first front_same))) gone;
+      kept = search rules;
+      full = search rules;
+      caused = search rules;
+      room = search rules;
+      stands = search rules;
+    }
 
 pub returns-else-terms-eq1-clause-ok : goal.returns-else-terms-eq1-clause-ok
 returns-else-terms-eq1-clause-ok c =
@@ -66,9 +62,3 @@ returns-else-terms-eq1-clause-ok c =
     let all : c.children-terms.result ≡ count (children_of sum) = c.children-terms.ensures.plain expression ∙ many in
     let two : 2 ≤ c.children-terms.result = two_from c.children-terms.result c.if-terms-eq0.false c.if-terms-eq1.false in
     gives_as (gives_itself c.requires.sum) refl (λ t h. h.1 ∙ more_sum told (omega (arith, all, two)))
-
-pub returns-then-terms-eq0-clause-room : goal.returns-then-terms-eq0-clause-room
-returns-then-terms-eq0-clause-room c =
-    let h = given_handed c.requires.sum in
-    let free = released_free c.requires.stands c.release.ensures.stands c.release.ensures.kept h (c.release.ensures.owned (owned h)) in
-    refusal_as c.number.result c.number.ensures.full (λ full r. omega (arith, free, number_refused c.whole.result r))

@@ -1,4 +1,4 @@
-use Rattle.std.proofs.Common.{◌∙◌, inl, refl, sym, subst, ◌<◌, ◌*◌}
+use Rattle.std.proofs.Common.{rules, ◌∙◌, inl, refl, sym, subst, ◌<◌, ◌*◌}
 use Rattle.coefficients.proofs.Steps.{expression, seen}
 use Rattle.expand_forms.specs.ExpandedTrees.{expanded}
 use Rattle.expand_forms.specs.Polynomials.{product}
@@ -46,21 +46,20 @@ pub returns-clause-front : goal.returns-clause-front
 returns-clause-front c =
     front_at (front_without behind_first (front_after front_same c.place_product.ensures.front)) (c.release.ensures.owned (owned (given_other c.in_ok-square.ensures.ok (given_handed c.requires.last))))
 
-pub returns-in_err-square-clause-room : goal.returns-in_err-square-clause-room
-returns-in_err-square-clause-room c = λ ns n h.
+pub returns-in_err-square : goal.returns-in_err-square
+returns-in_err-square c =
     let o = given_handed c.requires.last in
     let a = seen c.id.ensures c.requires.stands o in
     let b = seen c.id-2.ensures c.requires.stands o in
-    passed_on c.from_residual.result c.in_err-square.field-0.0 (OfFull (λ full. free_of c.args.pool.now < sum_bytes ns (n * n))) c.from_residual.ensures.0 c.from_residual.ensures.1
-    (c.in_err-square.ensures.room ns n n (subst (λ (t : Tree). HasFewTerms ns n (polynomial_of t)) (sym a) h) (subst (λ (t : Tree). HasFewTerms ns n (polynomial_of t)) (sym b) h))
+    record {
+      ok = search rules;
+      front = search rules;
+      kept = search rules;
+      faults = search rules;
+      caused = search rules;
+      fits = λ h l x k. let v = polynomial_of (tree_of c.args.a c.args.pool.now) in passed_on c.from_residual.result c.in_err-square.field-0.0 IsNoOverflow c.from_residual.ensures.0 c.from_residual.ensures.1 (c.in_err-square.ensures.fits h l (subst (λ (t : Tree). IsHeld (product (polynomial_of (plain (tree_at c.id.result (forest c.args.pool.now)))) (polynomial_of t)) h l) (sym b) (subst (λ (t : Tree). IsHeld (product (polynomial_of t) v) h l) (sym a) x)) k);
+      room = λ ns n h. passed_on c.from_residual.result c.in_err-square.field-0.0 (OfFull (λ full. free_of c.args.pool.now < sum_bytes ns (n * n))) c.from_residual.ensures.0 c.from_residual.ensures.1 (c.in_err-square.ensures.room ns n n (subst (λ (t : Tree). HasFewTerms ns n (polynomial_of t)) (sym a) h) (subst (λ (t : Tree). HasFewTerms ns n (polynomial_of t)) (sym b) h));
+      stands = search rules;
+    }
 
 -- ---- what fits
-
-pub returns-in_err-square-clause-fits : goal.returns-in_err-square-clause-fits
-returns-in_err-square-clause-fits c = λ h l x k.
-    let o = given_handed c.requires.last in
-    let a = seen c.id.ensures c.requires.stands o in
-    let b = seen c.id-2.ensures c.requires.stands o in
-    let v = polynomial_of (tree_of c.args.a c.args.pool.now) in
-    passed_on c.from_residual.result c.in_err-square.field-0.0 IsNoOverflow c.from_residual.ensures.0 c.from_residual.ensures.1
-    (c.in_err-square.ensures.fits h l (subst (λ (t : Tree). IsHeld (product (polynomial_of (plain (tree_at c.id.result (forest c.args.pool.now)))) (polynomial_of t)) h l) (sym b) (subst (λ (t : Tree). IsHeld (product (polynomial_of t) v) h l) (sym a) x)) k)

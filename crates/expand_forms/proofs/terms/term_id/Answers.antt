@@ -1,25 +1,21 @@
-use Rattle.std.proofs.Common.{◌∙◌, sym, arith, ap}
-use Rattle.calc_terms.specs.Trees.{count}
+use Rattle.std.proofs.Common.{rules, ◌<◌, sym, ◌∙◌, subst}
+use Rattle.calc_terms.specs.Trees.{Trees, count}
 use Rattle.coefficients.proofs.Steps.{sum_kind}
 use Rattle.expand_forms.proofs.TermReadings.{sum_terms_in}
 use Rattle.expand_forms.proofs.Within.{inside_child, inside_itself}
-use Rattle.number_forms.proofs.ByKind.{children_number}
 use Rattle.tree_handles.specs.Expressions.{plain}
 use Rattle.tree_handles.specs.Inside.{tree_at}
 use Rattle.tree_handles.specs.Standing.{forest}
 use Rattle.expand_forms.proofs.terms.term_id.Goals as goal
 
-pub child_id-requires-clause-within : goal.child_id-requires-clause-within
-child_id-requires-clause-within c =
+pub child-requires : goal.child-requires
+child-requires g c =
     let t = plain (tree_at c.args.tree (forest c.args.pool.now)) in
     let m = sum_kind t (sym c.in-Add.is ∙ c.kind.ensures.plain c.requires.expression) in
-    omega (arith, c.requires.within, ap count (sum_terms_in t m), children_number c.args.tree (forest c.args.pool.now) c.requires.expression)
+    (search rules, (c.requires.stands, (c.requires.expression, (c.requires.lists, subst (λ (ts : Trees). c.args.at < count ts) (sum_terms_in t m) c.requires.within))))
 
 pub returns-in-Add-clause-inside : goal.returns-in-Add-clause-inside
-returns-in-Add-clause-inside c =
-    let t = plain (tree_at c.args.tree (forest c.args.pool.now)) in
-    let m = sum_kind t (sym c.in-Add.is ∙ c.kind.ensures.plain c.requires.expression) in
-    inside_child c.args.at c.args.tree c.child_id.result (forest c.args.pool.now) c.requires.expression.live (omega (arith, c.requires.within, ap count (sum_terms_in t m), children_number c.args.tree (forest c.args.pool.now) c.requires.expression)) c.child_id.ensures.value
+returns-in-Add-clause-inside g c = inside_child c.args.at c.args.tree c.child.result (forest c.args.pool.now) c.requires.expression.live c.child.ensures.child.within c.child.ensures.child.id-is
 
 pub returns-in_default-clause-inside : goal.returns-in_default-clause-inside
-returns-in_default-clause-inside c = inside_itself c.args.tree (forest c.args.pool.now) c.requires.expression.live
+returns-in_default-clause-inside g c = inside_itself c.args.tree (forest c.args.pool.now) c.requires.expression.live

@@ -1,0 +1,31 @@
+-- Lists of terms beside a sum that stands last.
+use Rattle.std.proofs.Common.{◌≡◌, ◌<◌, ℕ, sym, ap, ◌∙◌, subst}
+use Rattle.std.specs.Prelude.{Option, Some, None}
+use Rattle.calc_terms.specs.Trees.{Tree}
+use Rattle.child_lists.specs.Lists.{IsNextAt, Lists}
+use Rattle.child_lists.specs.declared.list.ChildList.{ChildList}
+use Rattle.child_lists.proofs.PutBefore.{kept_kids}
+use Rattle.tree_handles.specs.Children.{root_ids}
+use Rattle.tree_handles.specs.Expressions.{IsExpression}
+use Rattle.tree_handles.specs.Forest.{Forest, arity, kids, root_id, tree_nth}
+use Rattle.tree_handles.specs.Handed.{Ends, Gives}
+use Rattle.tree_handles.specs.Inside.{kids_of, tree_at}
+use Rattle.tree_handles.proofs.Joins.{tree_at-join_left}
+
+-- the child at a place is the same before a tree is placed behind
+pub next_before : {i j : ℕ} {u g t f h : Forest} (n : ℕ) (o : Option ℕ) → Ends i u g f → Ends j t f h → IsNextAt n i h o → IsNextAt n i f o
+next_before n (Some x) a b c =
+    let same = kept_kids a b in
+    record { within = subst (λ (k : Forest). n < arity k) same c.within; id-is = c.id-is ∙ ap (λ (k : Forest). root_id (tree_nth n k)) same }
+next_before n None a b c = c ∙ ap arity (kept_kids a b)
+
+-- the children of another node stay
+pub lists_beside : {N : ℕ} {g f h : Forest} {i j : ℕ} {P Q : Tree → Type 0} (l : ChildList N) → Gives g f i P → Gives g h i Q → IsExpression j g → Lists l j f → Lists l j h
+lists_beside {N} {g} {f} {h} {i} {j} l a b e lists w = lists w ∙ ap root_ids (kept a ∙ sym (kept b))
+  where
+    kept : {x : Forest} {R : Tree → Type 0} → Gives g x i R → kids_of j x ≡ kids_of j g
+    kept r = ap kids (ap (tree_at j) r.ends.whole ∙ tree_at-join_left j g r.tree e.live)
+
+-- a tree is placed behind the sum
+pub lists_behind : {N : ℕ} {g f h : Forest} {i j : ℕ} {P Q : Tree → Type 0} (l : ChildList N) → Gives g f i P → Gives f h j Q → Lists l i f → Lists l i h
+lists_behind l a b lists w = lists w ∙ ap root_ids (sym (kept_kids a.ends b.ends))
