@@ -11,7 +11,7 @@ use Rattle.std.specs.Char.{is_ascii_digit}
 use Rattle.calc_terms.specs.Name.{is_name, is_name_byte}
 use Rattle.calc_terms.proofs.Names.{spelled}
 use Rattle.calc_language.specs.Tokens.{is_blank, leading_run}
-use Rattle.calc_commands.specs.Commands.{Asked, pool, dump, draw, layout, forget, after, diff, solve, asked_of, begins_dark, Has, IsTextBehind, HasText, IsCommandLine, asks_pool, asks_dump, asks_draw, asks_layout, asks_forget, asks_after, asks_diff, asks_solve}
+use Rattle.calc_commands.specs.Commands.{Asked, pool, dump, draw, layout, forget, after, diff, solve, expand, asked_of, begins_dark, Has, IsTextBehind, HasText, IsCommandLine, asks_pool, asks_dump, asks_draw, asks_layout, asks_forget, asks_after, asks_diff, asks_solve, asks_expand}
 use Rattle.calc_commands.specs.Numbers.{value_of}
 use Rattle.calc_commands.specs.Parsing.{is_in, are_blanks, behind_colon, argument_of, word_and_rest, text_behind, name_and_text, asked_alone, asked_for, asked_to_derive, asked_in}
 use Rattle.calc_commands.specs.declared.command.Command.{Command}
@@ -308,6 +308,10 @@ solve_sound : (line word rest : List ℕ) (q : Asked) → bytes_eq word (codes "
 solve_sound line word rest q w h None e k = absurd cc
 solve_sound line word rest q w h (Some text) e k = asks (asks_solve (text_sound (codes "solve") w h (text_there rest text e))) k
 
+expand_sound : (line word rest : List ℕ) (q : Asked) → bytes_eq word (codes "expand") ≡ true → HasWord line word rest → (found : Option (List ℕ)) → text_behind rest ≡ found → option_map expand found ≡ Some q → IsCommandLine line q
+expand_sound line word rest q w h None e k = absurd cc
+expand_sound line word rest q w h (Some text) e k = asks (asks_expand (text_sound (codes "expand") w h (text_there rest text e))) k
+
 diff_there : (line word rest name text : List ℕ) → bytes_eq word (codes "diff") ≡ true → HasWord line word rest → (bytes : List ℕ) → IsText rest bytes → IsNameAndText bytes name text → IsCommandLine line (diff name text)
 diff_there line word rest name text w h bytes x y =
     asks_diff (subst (HasText line (codes "diff")) (y.whole ∙ ap (λ b. name ++ b) y.behind.whole) (text_sound (codes "diff") w h x)) y.named y.behind.behind
@@ -329,10 +333,15 @@ plain_sound line word rest q h (Some argument) e k = argument_sound line word ar
 
 sound : (line word rest : List ℕ) (q : Asked) → HasWord line word rest → asked_in word rest ≡ Some q → IsCommandLine line q
 sound line word rest q h e =
-    by_test (λ t. bytes_eq word (codes "diff") ≡ t → cond t (asked_to_derive rest) (cond (bytes_eq word (codes "solve")) (option_map solve (text_behind rest)) (option_and_then (asked_for word) (argument_of rest))) ≡ Some q → IsCommandLine line q)
+    by_test (λ t. bytes_eq word (codes "diff") ≡ t → cond t (asked_to_derive rest) (cond (bytes_eq word (codes "solve")) (option_map solve (text_behind rest)) expand_or_plain) ≡ Some q → IsCommandLine line q)
     (bytes_eq word (codes "diff")) (λ z p k. diff_sound line word rest q p h k)
-    (λ z p k. by_test (λ t. bytes_eq word (codes "solve") ≡ t → cond t (option_map solve (text_behind rest)) (option_and_then (asked_for word) (argument_of rest)) ≡ Some q → IsCommandLine line q)
-    (bytes_eq word (codes "solve")) (λ z p k. solve_sound line word rest q p h (text_behind rest) refl k) (λ z p k. plain_sound line word rest q h (argument_of rest) refl k) refl k) refl e
+    (λ z p k. by_test (λ t. bytes_eq word (codes "solve") ≡ t → cond t (option_map solve (text_behind rest)) expand_or_plain ≡ Some q → IsCommandLine line q)
+    (bytes_eq word (codes "solve")) (λ z p k. solve_sound line word rest q p h (text_behind rest) refl k)
+    (λ z p k. by_test (λ t. bytes_eq word (codes "expand") ≡ t → cond t (option_map expand (text_behind rest)) (option_and_then (asked_for word) (argument_of rest)) ≡ Some q → IsCommandLine line q)
+    (bytes_eq word (codes "expand")) (λ z p k. expand_sound line word rest q p h (text_behind rest) refl k) (λ z p k. plain_sound line word rest q h (argument_of rest) refl k) refl k) refl k) refl e
+  where
+    expand_or_plain : Option Asked
+    expand_or_plain = cond (bytes_eq word (codes "expand")) (option_map expand (text_behind rest)) (option_and_then (asked_for word) (argument_of rest))
 
 record IsFound (line : List ℕ) (q : Asked) : Type 0 where
   word : List ℕ
@@ -369,6 +378,7 @@ complete line (after k) (asks_after {digits} h v) = found_with line (codes "afte
 complete line (diff name text) (asks_diff {gap = gap} h n b) =
     found_before line (codes "diff") (name ++ (gap ++ text)) (diff name text) h refl (λ rest e. ap (λ found. option_map (λ p. diff p.0 p.1) (option_and_then name_and_text found)) e ∙ ap (option_map (λ p. diff p.0 p.1)) (name_found name gap text n b))
 complete line (solve text) (asks_solve h) = found_before line (codes "solve") text (solve text) h refl (λ rest e. ap (option_map solve) e)
+complete line (expand text) (asks_expand h) = found_before line (codes "expand") text (expand text) h refl (λ rest e. ap (option_map expand) e)
 
 -- a line with these parts asks for what they ask for
 asks_for : (line word rest : List ℕ) (q : Asked) → word_and_rest line ≡ Some (word, rest) → IsCommandLine line q → asked_in word rest ≡ Some q

@@ -19,7 +19,7 @@ pub data Asked : Type 0 where
   forget : List ℕ → Asked
   after : ℕ → Asked
   diff : List ℕ → List ℕ → Asked
-  solve : List ℕ → Asked
+  solve expand : List ℕ → Asked
 
 abbrev pub asked_of : Command → Asked
 asked_of command.Pool = pool
@@ -30,6 +30,7 @@ asked_of command.Draw = draw
 asked_of command.Layout = layout
 asked_of (command.Diff name text) = diff (name_of name) text.now
 asked_of (command.Solve text) = solve text.now
+asked_of (command.Expand text) = expand text.now
 
 -- a line is a colon and a word, with blanks around them, and an argument behind more blanks where there is one
 pub record Has (line word argument : List ℕ) : Type 0 where
@@ -70,3 +71,4 @@ pub data IsCommandLine (line : List ℕ) : Asked → Type 0 where
   asks_after : {digits : List ℕ} {checks : ℕ} → Has line (codes "after") digits → value_of digits ≡ Some checks → IsCommandLine line (after checks)
   asks_diff : {name gap text : List ℕ} → HasText line (codes "diff") (name ++ (gap ++ text)) → is_name name ≡ true → IsTextBehind gap text → IsCommandLine line (diff name text)
   asks_solve : {text : List ℕ} → HasText line (codes "solve") text → IsCommandLine line (solve text)
+  asks_expand : {text : List ℕ} → HasText line (codes "expand") text → IsCommandLine line (expand text)

@@ -7,7 +7,7 @@ use Rattle.calc_terms.specs.Name.{is_name}
 use Rattle.calc_language.specs.Tokens.{is_blank, leading_run}
 use Rattle.calc_commands.specs.declared.parts.Class.{Class}
 use Rattle.calc_commands.specs.declared.parts.Class.TheVariants as class
-use Rattle.calc_commands.specs.Commands.{Asked, pool, dump, draw, layout, forget, after, diff, solve}
+use Rattle.calc_commands.specs.Commands.{Asked, pool, dump, draw, layout, forget, after, diff, solve, expand}
 use Rattle.calc_commands.specs.Numbers.{value_of}
 
 -- a byte is of a class
@@ -61,4 +61,4 @@ asked_to_derive rest = option_map (λ found. diff found.0 found.1) (option_and_t
 abbrev pub asked_in : List ℕ → List ℕ → Option Asked
 asked_in word rest =
     if bytes_eq word (codes "diff") then asked_to_derive rest else if bytes_eq word (codes "solve") then option_map solve (text_behind rest)
-    else option_and_then (asked_for word) (argument_of rest)
+    else if bytes_eq word (codes "expand") then option_map expand (text_behind rest) else option_and_then (asked_for word) (argument_of rest)

@@ -27,6 +27,8 @@ pub enum Command<'a> {
     Diff(Name, &'a [u8]),
     /// The solutions of equations.
     Solve(&'a [u8]),
+    /// The expanded form of an expression.
+    Expand(&'a [u8]),
 }
 
 /// Whether the first byte that is no blank is `:`.
@@ -60,6 +62,9 @@ fn asked<'a>(word: &'a [u8], rest: &'a [u8]) -> Option<Command<'a>>
     }
     if word == b"solve".as_slice() {
         return Some(Command::Solve(text_behind(rest)?));
+    }
+    if word == b"expand".as_slice() {
+        return Some(Command::Expand(text_behind(rest)?));
     }
     asked_with(word, argument(rest)?)
 }

@@ -53,7 +53,10 @@ const ASKED: &str = "\
 :solve = none\n\
 :solve  = none\n\
 :solvex = none\n\
+:expand (x+1)^2 = expand (x+1)^2\n\
+:expand = none\n\
 :expand(x) = none\n\
+:expandx = none\n\
 :pooled = none\n\
 pool = none";
 
@@ -94,6 +97,10 @@ fn tell(line: &[u8], text: &mut Text)
         }
         Some(Command::Solve(behind)) => {
             text.push(b"solve");
+            push_behind(behind, text);
+        }
+        Some(Command::Expand(behind)) => {
+            text.push(b"expand");
             push_behind(behind, text);
         }
         None => text.push(b"none"),

@@ -3,7 +3,7 @@ use Rattle.std.proofs.Common.{◌≡◌, ◌∙◌, ℕ, ◌<◌, List, [], ◌�
 use Rattle.std.specs.Prelude.{◌&&◌}
 use Rattle.std.specs.List.{list_all}
 use Rattle.breakers.specs.State.{State as Breaker}
-use Rattle.calc_commands.specs.Commands.{Asked, pool, dump, draw, layout, forget, after, diff, solve, IsCommandLine, asks_pool, asks_dump, asks_draw, asks_layout, asks_forget, asks_after, asks_diff, asks_solve, is_command}
+use Rattle.calc_commands.specs.Commands.{Asked, pool, dump, draw, layout, forget, after, diff, solve, expand, IsCommandLine, asks_pool, asks_dump, asks_draw, asks_layout, asks_forget, asks_after, asks_diff, asks_solve, asks_expand, is_command}
 use Rattle.calc_commands.proofs.Lines.{once}
 use Rattle.calc_language.specs.Tokens.{is_blank}
 use Rattle.calc_terms.specs.Trees.{Tree}
@@ -36,6 +36,7 @@ asks_colon (forget x) (asks_forget h n) = ap is_command h.whole ∙ colon_behind
 asks_colon (after k) (asks_after h n) = ap is_command h.whole ∙ colon_behind h.before _ h.blank_before
 asks_colon (diff x text) (asks_diff h n b) = ap is_command h.whole ∙ colon_behind h.before _ h.blank_before
 asks_colon (solve text) (asks_solve h) = ap is_command h.whole ∙ colon_behind h.before _ h.blank_before
+asks_colon (expand text) (asks_expand h) = ap is_command h.whole ∙ colon_behind h.before _ h.blank_before
 
 blank_line : (line : List ℕ) → list_all is_blank line ≡ true → is_command line ≡ false
 blank_line [] h = refl
@@ -50,6 +51,7 @@ blank_line (b ∷ line) h = by (is_blank b) h (λ k. blank_line line k)
 abbrev pub calculates : Asked → Bool
 calculates (diff x text) = true
 calculates (solve text) = true
+calculates (expand text) = true
 calculates a = false
 
 module _ (room bits : Option (Tree → ℕ)) (old : State) (before checked : List Breaker) (line : List ℕ) (a : Asked) (asked : IsCommandLine line a) (is : calculates a ≡ true) where

@@ -4,8 +4,10 @@ use Rattle.breakers.specs.State.{State as Breaker}
 use Rattle.calc_terms.specs.Trees.{Tree}
 use Rattle.name_table.specs.Filling.{Filling, NamedTree, lacks, too_deep, fills}
 use Rattle.calc_session.specs.Arguments.{IsMisread, meets_no_token, meets_a_wide_number, forms_no_line, forms_a_deep_line, IsNoExpression, is_misread, forms_a_store}
-use Rattle.calc_session.specs.Calculating.{IsReplyToExpression, is_no_expression, is_read, IsReplyToCalculation, derives, solves}
+use Rattle.calc_session.specs.Calculating.{IsReplyToExpression, is_no_expression, is_read, IsReplyToCalculation, derives, solves, expands}
 use Rattle.calc_session.specs.Deriving.{IsReplyToDerivative, has_none, lacks_bytes, is_reduced}
+use Rattle.calc_session.specs.Expanding as expansion
+use Rattle.calc_session.specs.Expanding.{IsReplyToExpansion, is_no_polynomial, is_expanded}
 use Rattle.calc_session.specs.Evaluations.{Unmade, IsReplyToMade, is_not_made, is_made}
 use Rattle.calc_session.specs.Replies.{Reply, shown, stored, undefined, reported}
 use Rattle.linear_solve.specs.Equations.{Equation}
@@ -75,6 +77,13 @@ module _ (before after : List Breaker) where
   solved_value (are_not_read s l h same) = unread_value h
   solved_value (are_read s l r h) = read_value h
 
+  expanded_value : {free left : ℕ} {t : Tree} {reply : Reply} → IsReplyToExpansion free before after left t reply → is_value reply ≡ false
+  expanded_value (is_no_polynomial n same) = refl
+  expanded_value (expansion.is_interrupted p t) = refl
+  expanded_value (expansion.does_not_fit o p d) = refl
+  expanded_value (expansion.lacks_bytes p l) = refl
+  expanded_value (is_expanded p c) = refl
+
 module _ (room bits : Option (Tree → ℕ)) (before after : List Breaker) where
   derived_value : {free left : ℕ} {x : List ℕ} {t : Tree} {reply : Reply} → IsReplyToDerivative room bits free before after x left t reply → is_value reply ≡ false
   derived_value (has_none h same) = refl
@@ -92,3 +101,4 @@ module _ (room bits : Option (Tree → ℕ)) (before after : List Breaker) where
   pub calculated_value : {old : State} {line : List ℕ} {reply : Reply} → IsReplyToCalculation room bits old before after line reply → is_value reply ≡ false
   calculated_value (derives asked h) = expressed_value (λ left t r d. derived_value d) h
   calculated_value (solves asked h) = solved_value before after h
+  calculated_value (expands asked h) = expressed_value (λ left t r d. expanded_value before after d) h

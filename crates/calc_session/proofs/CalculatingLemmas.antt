@@ -1,7 +1,7 @@
 -- Lemmas on command lines that calculate.
-use Rattle.std.proofs.Common.{◌≡◌, ◌∙◌, ℕ, ◌≤◌, List, [], ◌∷◌, ◌++◌, length, length-append, codes, true, Option, Some, None, inl, inr, refl, sym, ap, subst, arith}
+use Rattle.std.proofs.Common.{◌≡◌, ◌∙◌, ℕ, ◌≤◌, List, [], ◌∷◌, ◌++◌, length, length-append, true, Option, Some, None, inl, inr, refl, sym, ap, subst, arith}
 use Rattle.breakers.specs.State.{State as Breaker}
-use Rattle.calc_commands.specs.Commands.{IsCommandLine, asks_diff, asks_solve, diff, solve, is_command}
+use Rattle.calc_commands.specs.Commands.{HasText, IsCommandLine, asks_diff, asks_solve, asks_expand, diff, solve, expand, is_command}
 use Rattle.calc_terms.specs.Trees.{Tree}
 use Rattle.calc_tokens.specs.Placed.{Placed}
 use Rattle.name_table.specs.Filling.{values}
@@ -14,26 +14,43 @@ use Rattle.calc_session.specs.declared.answers.LineAnswer.TheVariants as answer
 use Rattle.calc_session.specs.declared.answers.Refusal.{Refusal}
 use Rattle.calc_session.specs.Answers.{AnswersUntold, CountsRefusal, TellsReply, reply_of}
 use Rattle.calc_session.specs.Arguments.{IsNoExpression, ReadsText, bytes_before}
-use Rattle.calc_session.specs.Calculating.{is_no_expression, is_read, derives, solves}
+use Rattle.calc_session.specs.Calculating.{IsReplyToCalculation, is_no_expression, is_read, derives}
 use Rattle.calc_session.specs.Counting.{AsksForTooMuch, IsCountedBut, LacksDerivativeOf}
 use Rattle.calc_session.specs.Deriving.{IsReplyToDerivative}
 use Rattle.calc_session.specs.Evaluations.{IsReplyToMade, made}
 use Rattle.calc_session.specs.Seen.{Seen, Counts, pool_of}
-use Rattle.calc_session.specs.Solving.{IsReplyToEquations}
+use Rattle.calc_session.specs.Replies.{Reply}
 use Rattle.calc_session.specs.States.{State, state_of}
 use Rattle.calc_session.specs.Steps.{is_calculated, Leaves}
 use Rattle.calc_session.proofs.SessionLemmas.{counts_refusal, refused_leaves, same_counts}
 
 -- a text that is calculated with stands in its line
-pub text_within : {line x text : List ℕ} → IsCommandLine line (diff x text) → length text ≤ length line
-text_within {line} (asks_diff {name = name} {gap = gap} {text = text} h n b) =
+within : {line word text : List ℕ} → HasText line word text → length text ≤ length line
+within {line} {word} {text} h =
     let whole = ap length h.whole in
-    let a = length-append gap text in
-    let c = length-append name (gap ++ text) in
-    let d = length-append h.gap (name ++ (gap ++ text)) in
-    let e = length-append (codes "diff") (h.gap ++ (name ++ (gap ++ text))) in
-    let f = length-append h.before (58 ∷ (codes "diff" ++ (h.gap ++ (name ++ (gap ++ text))))) in
-    omega (arith, whole, a, c, d, e, f)
+    let a = length-append h.gap text in
+    let b = length-append word (h.gap ++ text) in
+    let c = length-append h.before (58 ∷ (word ++ (h.gap ++ text))) in
+    omega (arith, whole, a, b, c)
+
+pub text_within : {line x text : List ℕ} → IsCommandLine line (diff x text) → length text ≤ length line
+text_within (asks_diff {name = name} {gap = gap} {text = text} h n b) = let all = within h in let a = length-append gap text in let c = length-append name (gap ++ text) in omega (arith, all, a, c)
+
+pub equations_within : {line text : List ℕ} → IsCommandLine line (solve text) → length text ≤ length line
+equations_within (asks_solve h) = within h
+
+pub expression_within : {line text : List ℕ} → IsCommandLine line (expand text) → length text ≤ length line
+expression_within (asks_expand h) = within h
+
+-- what is told of a calculation
+pub answers_calculated : (room bits : Option (Tree → ℕ)) (p : PoolState) (table : Table) (before after : List Breaker) (line : List ℕ) (new : State) (given : LineAnswer) (written : List ℕ) {Is : Reply → Type 0} → length line ≤ 1024 → is_command line ≡ true
+    → ((r : Reply) → Is r → IsReplyToCalculation room bits (state_of p table) before after line r) → new ≡ state_of p table → TellsReply Is given written → AnswersUntold room bits (state_of p table) before line given written new after
+answers_calculated room bits p table before after line new given written short is to same h = record {
+  reply = h.reply;
+  step = record { reply_is = is_calculated short is (to h.reply h.reply_is); state_is = subst (Leaves h.reply (state_of p table)) (sym same) (h.leaves (state_of p table)) };
+  answer_is = h.answer_is;
+  text_is = h.text_is;
+}
 
 module _ (room bits : Option (Tree → ℕ)) (p : PoolState) (table : Table) (before : List Breaker) (line x text : List ℕ) (short : length line ≤ 1024) (is : is_command line ≡ true) (asked : IsCommandLine line (diff x text)) where
   -- what is not read
@@ -50,36 +67,13 @@ module _ (room bits : Option (Tree → ℕ)) (p : PoolState) (table : Table) (be
   pub answers_derivative : (after : List Breaker) (tokens : List Placed) (t : Tree) (new : State) (given : LineAnswer) (written : List ℕ) → ReadsText text tokens None t → new ≡ state_of p table
       → TellsReply (IsReplyToMade (made (free_of p) (values table (forest p)) t) before after (IsReplyToDerivative room bits (free_of p) before after x)) given written
       → AnswersUntold room bits (state_of p table) before line given written new after
-  answers_derivative after tokens t new given written reads same h = record {
-    reply = h.reply;
-    step = record { reply_is = is_calculated short is (derives asked (is_read reads h.reply_is)); state_is = subst (Leaves h.reply (state_of p table)) (sym same) (h.leaves (state_of p table)) };
-    answer_is = h.answer_is;
-    text_is = h.text_is;
-  }
+  answers_derivative after tokens t new given written reads same h = answers_calculated room bits p table before after line new given written short is (λ r k. derives asked (is_read reads k)) same h
 
   -- its refusal is counted, or known before
   pub counts_derivative : (new : PoolState) (tokens : List Placed) (t : Tree) (r : Option Full) → ReadsText text tokens None t
       → IsCountedBut (LacksDerivativeOf (made (free_of p) (values table (forest p)) t) x) (λ y. CountsRefusal y p new) r → IsCountedBut (AsksForTooMuch (state_of p table) line) (λ y. CountsRefusal y p new) r
   counts_derivative new tokens t r reads (inl c) = inl c
   counts_derivative new tokens t r reads (inr (lack, e, l, c)) = inr (lack, e, record { name = x; text = text; asks = asked; tokens = tokens; tree = t; reads = reads; lacks = l }, c)
-
-pub equations_within : {line text : List ℕ} → IsCommandLine line (solve text) → length text ≤ length line
-equations_within {line} (asks_solve {text = text} h) =
-    let whole = ap length h.whole in
-    let a = length-append h.gap text in
-    let b = length-append (codes "solve") (h.gap ++ text) in
-    let c = length-append h.before (58 ∷ (codes "solve" ++ (h.gap ++ text))) in
-    omega (arith, whole, a, b, c)
-
--- equations that are to be solved
-pub answers_equations : (room bits : Option (Tree → ℕ)) (p : PoolState) (table : Table) (before after : List Breaker) (line text : List ℕ) (new : State) (given : LineAnswer) (written : List ℕ) → length line ≤ 1024 → is_command line ≡ true → IsCommandLine line (solve text)
-    → new ≡ state_of p table → TellsReply (IsReplyToEquations (state_of p table) before after line text) given written → AnswersUntold room bits (state_of p table) before line given written new after
-answers_equations room bits p table before after line text new given written short is asked same h = record {
-  reply = h.reply;
-  step = record { reply_is = is_calculated short is (solves asked h.reply_is); state_is = subst (Leaves h.reply (state_of p table)) (sym same) (h.leaves (state_of p table)) };
-  answer_is = h.answer_is;
-  text_is = h.text_is;
-}
 
 -- ---- as a session is seen
 

@@ -2,7 +2,7 @@
 use Rattle.std.proofs.Common.{◌≡◌, ◌∙◌, ℕ, suc, ◌+◌, ◌<◌, ◌≤◌, List, length, Option, Some, None, Err, refl, sym, ap, subst, arith}
 use Rattle.std.specs.List.{AllZip}
 use Rattle.breakers.specs.State.{State as Breaker}
-use Rattle.calc_commands.specs.Commands.{IsCommandLine, diff, solve}
+use Rattle.calc_commands.specs.Commands.{IsCommandLine, diff, solve, expand}
 use Rattle.calc_commands.proofs.Lines.{once}
 use Rattle.calc_terms.specs.Trees.{Tree}
 use Rattle.linear_solve.specs.Checks.{TripsWithin}
@@ -11,7 +11,7 @@ use Rattle.linear_solve.specs.Fitting.{Misfit}
 use Rattle.linear_solve.specs.Solving.{solving}
 use Rattle.name_table.specs.Filling.{values}
 use Rattle.calc_session.specs.Arguments.{bytes_before}
-use Rattle.calc_session.specs.Calculating.{IsReplyToCalculation, derives, solves}
+use Rattle.calc_session.specs.Calculating.{IsReplyToCalculation, derives, solves, expands}
 use Rattle.calc_session.specs.Equations.{Sides, Splits, all_placed}
 use Rattle.calc_session.specs.Forms.{form_room}
 use Rattle.calc_session.specs.Replies.{Reply, command, long, not_linear, report, too_many}
@@ -53,10 +53,14 @@ same_text a b e = cc
 no_derivative : (x a b : List ℕ) → diff x a ≡ solve b → ⊥
 no_derivative x a b e = cc
 
+no_expansion : (a b : List ℕ) → expand a ≡ solve b → ⊥
+no_expansion a b e = cc
+
 module _ (room bits : Option (Tree → ℕ)) (old : State) (before checked : List Breaker) (line text : List ℕ) (asked : IsCommandLine line (solve text)) where
   from_calculation : (reply : Reply) → IsReplyToCalculation room bits old before checked line reply → IsReplyToEquations old before checked line text reply
   from_calculation reply (derives {x = x} {text = other} also h) = absurd (no_derivative x other text (once line (diff x other) (solve text) also asked))
   from_calculation reply (solves {text = other} also h) = subst (λ o. IsReplyToEquations old before checked line o reply) (same_text other text (once line (solve other) (solve text) also asked)) h
+  from_calculation reply (expands {text = other} also h) = absurd (no_expansion other text (once line (expand other) (solve text) also asked))
 
   pub answered : (reply : Reply) → (1024 < length line → reply ≡ long → ⊥) → IsReply room bits old before checked line reply → IsReplyToEquations old before checked line text reply
   answered reply short h = from_calculation reply (calculation room bits old before checked line (solve text) asked refl reply short h)

@@ -98,7 +98,7 @@ front_over g k = front_after_one (behind_new g.ends front_same) (front_end g.end
 pub front_in_place : {f g h others : Forest} {i j : ℕ} {P Q : Tree → Type 0} → Gives others f i P → Gives others g j Q → KeepsFront (i ∷ []) f g → KeepsFront (j ∷ []) g h → KeepsFront (i ∷ []) f h
 front_in_place p q k l = front_after_one (behind_new q.ends (front_at (front_without behind_first front_same) (sym (given_rest p)))) k l
 
-some_node : (t : Tree) → 1 ≤ nodes t
+pub some_node : (t : Tree) → 1 ≤ nodes t
 some_node (num q) = omega arith
 some_node (symbol x) = omega arith
 some_node undef = omega arith

@@ -8,6 +8,7 @@ pub mod ReplyLemmas
 pub mod SessionLemmas
 pub mod TellingLemmas
 pub mod DerivingLemmas
+pub mod ExpansionLemmas
 pub mod CalculatingLemmas
 pub mod OpeningLemmas
 pub mod DrawingLemmas
@@ -17,7 +18,9 @@ pub mod MeaningLemmas
 pub mod CompletenessLemmas
 pub mod TextLemmas
 pub mod AskedLines
+pub mod ExpressionReplies
 pub mod SlopeLemmas
+pub mod ExpandedLines
 pub mod RisingLemmas
 pub mod Splitting
 pub mod FormLemmas

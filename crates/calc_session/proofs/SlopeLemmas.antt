@@ -17,21 +17,22 @@ use Rattle.name_table.specs.Filling.{NamedTree, Filling, lacks, too_deep, fills,
 use Rattle.node_pool.specs.declared.full.Full.{Full}
 use Rattle.reduce_port.specs.Bounds.{MayExceed}
 use Rattle.reduce_port.specs.Checks.{TripsWithin}
-use Rattle.calc_session.specs.Calculating.{IsReplyToCalculation, IsReplyToExpression, is_no_expression, is_read, derives, solves, made_in}
+use Rattle.calc_session.specs.Calculating.{IsReplyToCalculation, IsReplyToExpression, derives, solves, expands, made_in}
 use Rattle.calc_session.specs.Deriving as derived
 use Rattle.calc_session.specs.Deriving.{IsReplyToDerivative, has_none}
-use Rattle.calc_session.specs.Evaluations.{Unmade, IsReplyToMade, is_not_made, is_made, IsReduction, is_interrupted, does_not_fit, lacks_bytes, is_answered, IsReplyWith, has_no_value, holds_its_name, is_shown, is_stored, made}
+use Rattle.calc_session.specs.Evaluations.{IsReduction, is_interrupted, does_not_fit, lacks_bytes, is_answered, IsReplyWith, has_no_value, holds_its_name, is_shown, is_stored, made}
 use Rattle.calc_session.specs.Replies.{Reply, long, report, reported}
 use Rattle.calc_session.specs.Slopes.{TellsSlope, TellsNoSlope, TellsDerivative}
 use Rattle.calc_session.specs.States.{State, free_bytes}
 use Rattle.tree_walks.proofs.Composing.{bytes_of_replaced}
 use Rattle.tree_walks.specs.Replacing.{occurrences, replaced, replacing}
 use Rattle.calc_session.proofs.MeaningLemmas.{nothing_meant, undef_is}
-use Rattle.calc_commands.specs.Commands.{diff, solve, IsCommandLine}
+use Rattle.calc_commands.specs.Commands.{diff, solve, expand, IsCommandLine}
 use Rattle.calc_session.specs.Arguments.{ReadsText}
 use Rattle.calc_session.specs.Steps.{IsReply}
 use Rattle.calc_session.proofs.AskedLines.{calculation}
-use Rattle.calc_session.proofs.TextLemmas.{misread_unreported, no_store, one_text, read_at_all, unmade_unreported}
+use Rattle.calc_session.proofs.ExpressionReplies.{reply_to_text, reply_to_tree}
+use Rattle.calc_session.proofs.TextLemmas.{no_store}
 
 -- ---- the replies to a line that asks for a derivative
 
@@ -45,12 +46,16 @@ module _ (room bits : Option (Tree → ℕ)) (old : State) (before checked : Lis
   no_equations : (y a : List ℕ) → solve y ≡ diff x a → ⊥
   no_equations y a e = cc
 
+  no_expansion : (y a : List ℕ) → expand y ≡ diff x a → ⊥
+  no_expansion y a e = cc
+
   from_calculation : (reply : Reply) → IsReplyToCalculation room bits old before checked line reply → IsReplyToExpression old before checked line behind (IsReplyToDerivative room bits (free_bytes old) before checked x) reply
   from_calculation reply (derives {x = y} {text = other} also h) =
       let same = once line (diff y other) (diff x behind) also asked in
       subst (λ z. IsReplyToExpression old before checked line behind (IsReplyToDerivative room bits (free_bytes old) before checked z) reply) (same_name y x other behind same)
       (subst (λ o. IsReplyToExpression old before checked line o (IsReplyToDerivative room bits (free_bytes old) before checked y) reply) (same_text y x other behind same) h)
   from_calculation reply (solves {text = other} also h) = absurd (no_equations other behind (once line (solve other) (diff x behind) also asked))
+  from_calculation reply (expands {text = other} also h) = absurd (no_expansion other behind (once line (expand other) (diff x behind) also asked))
 
   pub calculated : (reply : Reply) → (1024 < length line → reply ≡ long → ⊥) → IsReply room bits old before checked line reply
       → IsReplyToExpression old before checked line behind (IsReplyToDerivative room bits (free_bytes old) before checked x) reply
@@ -92,23 +97,17 @@ module _ (room bits : Option (Tree → ℕ)) (old : State) (before checked : Lis
   told_tree left t reply told (derived.lacks_bytes l same) e = absurd cc
   told_tree left t reply told (derived.is_reduced {reply = r} d l h) e = told_reduced t None r told h e
 
-  told_made : {tokens : List Placed} (tree : Tree) (reply : Reply) (told : List ℕ) → ReadsText behind tokens None tree → IsReplyToMade (made_in old tree) before checked (IsReplyToDerivative room bits (free_bytes old) before checked x) reply → reply ≡ report told → TellsDerivative old line x told
-  told_made tree reply told reads (is_not_made u same) e = absurd (unmade_unreported (made_in old tree) reply told u e)
-  told_made {tokens} tree reply told reads (is_made {left = left} {t = t} is h) e = record {
-    tree = t;
-    becomes = record { text = behind; asks = asked; tokens = tokens; tree = tree; reads = reads; left = left; is_made = is };
-    tells = told_tree left t reply told h e;
-  }
-
-  told_expression : (reply : Reply) (told : List ℕ) → IsReplyToExpression old before checked line behind (IsReplyToDerivative room bits (free_bytes old) before checked x) reply → reply ≡ report told → TellsDerivative old line x told
-  told_expression reply told (is_no_expression h same) e = absurd (misread_unreported reply told h e)
-  told_expression reply told (is_read {t = tree} reads h) e = told_made tree reply told reads h e
-
   report_long : (told : List ℕ) → report told ≡ long → ⊥
   report_long told e = cc
 
   pub tells_derivative : (told : List ℕ) → IsReply room bits old before checked line (report told) → TellsDerivative old line x told
-  tells_derivative told h = told_expression (report told) told (calculated (report told) (λ e k. report_long told k) h) refl
+  tells_derivative told h =
+      let read = reply_to_text (report told) told (calculated (report told) (λ e k. report_long told k) h) refl in
+      record {
+        tree = read.becomes;
+        becomes = record { text = behind; asks = asked; tokens = read.tokens; tree = read.tree; reads = read.reads; left = read.left; is_made = read.is_made };
+        tells = told_tree read.left read.becomes (report told) told read.reply_is refl;
+      }
 
   -- ---- where nothing is lacking
 
@@ -131,21 +130,8 @@ module _ (room bits : Option (Tree → ℕ)) (old : State) (before checked : Lis
       from_tree reply (derived.lacks_bytes l same) = absurd (let short = l.short in omega (arith, short, small, all))
       from_tree reply (derived.is_reduced {reply = r} d l h) = answered None r refl h
 
-      filled_left : (l m : ℕ) (u v : Tree) → fills l u ≡ fills m v → l ≡ m
-      filled_left l m u v e = cc
-
-      filled_tree : (l m : ℕ) (u v : Tree) → fills l u ≡ fills m v → u ≡ v
-      filled_tree l m u v e = cc
-
-      from_made : (reply : Reply) → IsReplyToMade (made_in old tree) before checked (IsReplyToDerivative room bits (free_bytes old) before checked x) reply → (told : List ℕ) × (reply ≡ report told)
-      from_made reply (is_not_made u same) = absurd (subst (λ m. Unmade m reply) is u)
-      from_made reply (is_made {left = l} {t = u} also h) =
-          let e = sym also ∙ is in
-          from_tree reply (subst (λ k. IsReplyToDerivative room bits (free_bytes old) before checked x k t reply) (filled_left l left u t e) (subst (λ v. IsReplyToDerivative room bits (free_bytes old) before checked x l v reply) (filled_tree l left u t e) h))
-
       pub is_told : (reply : Reply) → IsReplyToExpression old before checked line behind (IsReplyToDerivative room bits (free_bytes old) before checked x) reply → (told : List ℕ) × (reply ≡ report told)
-      is_told reply (is_no_expression h same) = absurd (read_at_all behind reads h)
-      is_told reply (is_read {t = other} r h) = from_made reply (subst (λ u. IsReplyToMade (made_in old u) before checked (IsReplyToDerivative room bits (free_bytes old) before checked x) reply) (sym (one_text behind reads r).trees) h)
+      is_told reply h = from_tree reply (reply_to_tree reads is reply h)
 
 -- ---- the bytes that are left of those that were free
 

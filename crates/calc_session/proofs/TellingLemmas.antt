@@ -60,6 +60,9 @@ told_reply Is s others evaluation.Undefined given written is (a, b) =
 told_reply Is s others (evaluation.Refused r) given written is (a, b) =
     subst (λ x. TellsReply Is x written) (sym a) (record { reply = reply_of r; reply_is = subst Is (reported_refusal r) is; leaves = λ u. refused_leaves r u u refl; answer_is = refl; text_is = b })
 
+pub tells_as : (Is Now : Reply → Type 0) {given : LineAnswer} {written : List ℕ} → ((r : Reply) → Is r → Now r) → TellsReply Is given written → TellsReply Now given written
+tells_as Is Now to h = record { reply = h.reply; reply_is = to h.reply h.reply_is; leaves = h.leaves; answer_is = h.answer_is; text_is = h.text_is }
+
 -- ---- interruptions
 
 report_is_no_refusal : (r : Refusal) → answer.Report ≡ answer.Refused r → ⊥

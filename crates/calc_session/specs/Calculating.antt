@@ -1,13 +1,14 @@
 -- The replies to command lines that calculate with the text behind their word.
 use Rattle.std.specs.Prelude.{ℕ, ◌≡◌, List, Option, None}
 use Rattle.breakers.specs.State.{State as Breaker}
-use Rattle.calc_commands.specs.Commands.{IsCommandLine, diff, solve}
+use Rattle.calc_commands.specs.Commands.{IsCommandLine, diff, solve, expand}
 use Rattle.calc_terms.specs.Trees.{Tree}
 use Rattle.calc_tokens.specs.Placed.{Placed}
 use Rattle.name_table.specs.Filling.{Filling, values}
 use Rattle.calc_session.specs.Arguments.{IsNoExpression, ReadsText, bytes_before}
 use Rattle.calc_session.specs.Deriving.{IsReplyToDerivative}
 use Rattle.calc_session.specs.Evaluations.{IsReplyToMade, made}
+use Rattle.calc_session.specs.Expanding.{IsReplyToExpansion}
 use Rattle.calc_session.specs.Replies.{Reply}
 use Rattle.calc_session.specs.Solving.{IsReplyToEquations}
 use Rattle.calc_session.specs.States.{State, free_bytes, trees}
@@ -26,3 +27,5 @@ pub data IsReplyToCalculation (room bits : Option (Tree → ℕ)) (old : State) 
   derives : {x text : List ℕ} {reply : Reply} → IsCommandLine line (diff x text) → IsReplyToExpression old before after line text (IsReplyToDerivative room bits (free_bytes old) before after x) reply
       → IsReplyToCalculation room bits old before after line reply
   solves : {text : List ℕ} {reply : Reply} → IsCommandLine line (solve text) → IsReplyToEquations old before after line text reply → IsReplyToCalculation room bits old before after line reply
+  expands : {text : List ℕ} {reply : Reply} → IsCommandLine line (expand text) → IsReplyToExpression old before after line text (IsReplyToExpansion (free_bytes old) before after) reply
+      → IsReplyToCalculation room bits old before after line reply

@@ -6,6 +6,7 @@ pub mod Evaluations
 pub mod Commanding
 pub mod Arguments
 pub mod Deriving
+pub mod Expanding
 pub mod Equations
 pub mod Ranges
 pub mod RisingNames
@@ -27,3 +28,4 @@ pub mod Pools
 pub mod Meant
 pub mod Enough
 pub mod Slopes
+pub mod ExpansionsMeant

@@ -15,6 +15,7 @@ ghost use Rattle.calc_session.specs.States.{State, state_of};
 use crate::differentiating::tell_derivative;
 use crate::drawing::write_layout;
 use crate::evaluating::refused;
+use crate::expanding::expand_text;
 use crate::reading::{is_ans, read_expression};
 use crate::solving::solve_equations;
 use crate::{LineAnswer, Refusal};
@@ -28,6 +29,7 @@ use calc_terms::Name;
 use line_text::Text;
 use name_table::NameTable;
 use node_pool::Pool;
+use pool_layouts::Drafter;
 use reduce_port::Reducer;
 
 /// Answers a command line. The text of a refusal is still to be written.
@@ -35,6 +37,7 @@ pub fn answer_command<R: Reducer, B: Breaker>(
     pool: &mut Pool,
     table: &mut NameTable,
     parser: &mut Parser,
+    drafter: &mut Drafter,
     text: &mut Text,
     reducer: &R,
     watch: &mut Watch<B>,
@@ -44,6 +47,7 @@ pub fn answer_command<R: Reducer, B: Breaker>(
     requires held { IsHeld table.old (forest pool.old) }
     requires empty { text.old.bytes ≡ [] }
     requires room { text.old.capacity ≡ 3 * pool.old.size + 8448 }
+    requires served { drafter.old.pool_size ≡ pool.old.size }
     requires short { length line.now ≤ 1024 }
     requires command { begins_with_colon line.now ≡ true }
     ensures answers { AnswersUntold R.room R.bits (state_of pool.old table.old) (states B.state watch.old) line.now result text.new.bytes (state_of pool.new table.new) (states B.state watch.new) }
@@ -52,6 +56,7 @@ pub fn answer_command<R: Reducer, B: Breaker>(
     ensures counted { IsCountedBut (AsksForTooMuch (state_of pool.old table.old) line.now) (λ refusal. CountsRefusal refusal pool.old pool.new) (refusal_of_pool result) }
     ensures held { IsHeld table.new (forest pool.new) }
     ensures capacity { text.new.capacity ≡ text.old.capacity }
+    ensures served { drafter.new.pool_size ≡ drafter.old.pool_size }
     ensures stands { Stands pool.new }
 {
     let Some(command) = read_command(line) else {
@@ -72,7 +77,7 @@ pub fn answer_command<R: Reducer, B: Breaker>(
             LineAnswer::Report
         }
         Command::Draw => LineAnswer::Draw,
-        Command::Layout => tell_layout(pool, table, text),
+        Command::Layout => tell_layout(pool, table, drafter, text),
         Command::Diff(name, expression) => {
             match read_expression(expression, bytes_before(line, expression), parser) {
                 Ok(()) => tell_derivative(pool, table, parser, text, name, reducer, watch),
@@ -82,6 +87,10 @@ pub fn answer_command<R: Reducer, B: Breaker>(
         Command::Solve(equations) => {
             let before = bytes_before(line, equations);
             solve_equations(pool, table, parser, text, watch, equations, before)
+        }
+        Command::Expand(expression) => {
+            let before = bytes_before(line, expression);
+            expand_text(pool, table, parser, text, watch, expression, before)
         }
     }
 }
@@ -121,20 +130,27 @@ fn forget(pool: &mut Pool, table: &mut NameTable, text: &mut Text, name: Name) -
 }
 
 /// Tells the serial text of the layout of the last answer.
-fn tell_layout(pool: &mut Pool, table: &NameTable, text: &mut Text) -> LineAnswer
+fn tell_layout(
+    pool: &mut Pool,
+    table: &NameTable,
+    drafter: &mut Drafter,
+    text: &mut Text,
+) -> LineAnswer
     requires stands { Stands pool.old }
     requires held { IsHeld table.now (forest pool.old) }
     requires empty { text.old.bytes ≡ [] }
     requires room { text.old.capacity ≡ 3 * pool.old.size + 8448 }
+    requires served { drafter.old.pool_size ≡ pool.old.size }
     ensures answers { (line : List ℕ) (breakers : List Breaker) → IsCommandLine line asks_for_layout
         → AnswersCommand (state_of pool.old table.now) breakers line result text.new.bytes (state_of pool.new table.now) breakers }
     ensures no_interruption { (place : ℕ) → result ≡ LineAnswer.Refused (Refusal.Interrupted place) → ⊥ }
     ensures counted { CountsRefusal (refusal_of_pool result) pool.old pool.new }
     ensures held { IsHeld table.now (forest pool.new) }
     ensures capacity { text.new.capacity ≡ text.old.capacity }
+    ensures served { drafter.new.pool_size ≡ drafter.old.pool_size }
     ensures stands { Stands pool.new }
 {
-    match write_layout(pool, table.ans(), text) {
+    match write_layout(pool, table.ans(), drafter, text) {
         Ok(()) => LineAnswer::Report,
         Err(full) => LineAnswer::Refused(refused(full)),
     }

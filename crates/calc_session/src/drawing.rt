@@ -19,18 +19,20 @@ use calc_edges::{Failed, Sink, write_all};
 use line_text::Text;
 use node_pool::{Full, Id, Pool};
 use pool_checkpoints::{open_mark, roll_back};
-use pool_layouts::{layout_of, rows, write_row, write_serial};
+use pool_layouts::{Drafter, layout_of, rows, write_row, write_serial};
 
 /// Writes the rows of the picture of a tree.
 pub fn draw_answer<K: Sink>(
     pool: &mut Pool,
     answer: Id,
+    drafter: &mut Drafter,
     text: &mut Text,
     sink: &mut K,
 ) -> Result<(), DrawFault>
     requires stands { Stands pool.old }
     requires expression { IsExpression answer (forest pool.old) }
     requires room { 2 * pool.old.size + 1 ≤ text.old.capacity }
+    requires served { pool.old.size ≤ drafter.old.pool_size }
     ensures drawn { OnOk result (IsDrawn (told_at rows_text answer pool.old) (K.taken sink.old) (K.taken sink.new)) }
     ensures calm { OnOk result (K.faults sink.new ≡ K.faults sink.old) }
     ensures later { K.faults sink.old ≤ K.faults sink.new }
@@ -39,10 +41,11 @@ pub fn draw_answer<K: Sink>(
     ensures counted { CountsRefusal (lack_in (told_at rows_text answer pool.old)) pool.old pool.new }
     ensures as_before { pool.new ≡ after (lack_in (told_at rows_text answer pool.old)) pool.old.nodes pool.old }
     ensures capacity { text.new.capacity ≡ text.old.capacity }
+    ensures served { drafter.new.pool_size ≡ drafter.old.pool_size }
     ensures stands { Stands pool.new }
 {
     let mark = open_mark(pool);
-    let drawn = draw_above(pool, answer, text, sink);
+    let drawn = draw_above(pool, answer, drafter, text, sink);
     roll_back(pool, mark);
     drawn
 }
@@ -51,12 +54,14 @@ pub fn draw_answer<K: Sink>(
 fn draw_above<K: Sink>(
     pool: &mut Pool,
     answer: Id,
+    drafter: &mut Drafter,
     text: &mut Text,
     sink: &mut K,
 ) -> Result<(), DrawFault>
     requires stands { Stands pool.old }
     requires expression { IsExpression answer (forest pool.old) }
     requires room { 2 * pool.old.size + 1 ≤ text.old.capacity }
+    requires served { pool.old.size ≤ drafter.old.pool_size }
     ensures drawn { OnOk result (IsDrawn (told_at rows_text answer pool.old) (K.taken sink.old) (K.taken sink.new)) }
     ensures calm { OnOk result (K.faults sink.new ≡ K.faults sink.old) }
     ensures later { K.faults sink.old ≤ K.faults sink.new }
@@ -65,10 +70,11 @@ fn draw_above<K: Sink>(
     ensures counted { CountsRefusal (lack_in (told_at rows_text answer pool.old)) pool.old pool.new }
     ensures front { KeepsFront [] (forest pool.old) (forest pool.new) }
     ensures capacity { text.new.capacity ≡ text.old.capacity }
+    ensures served { drafter.new.pool_size ≡ drafter.old.pool_size }
     ensures stands { Stands pool.new }
 {
-    match layout_of(pool, answer) {
-        Ok(layout) => match write_rows(pool, layout.id(), text, sink) {
+    match layout_of(pool, answer, drafter) {
+        Ok(layout) => match write_rows(pool, layout.id(), drafter, text, sink) {
             Ok(()) => Ok(()),
             Err(Failed) => Err(DrawFault::Write),
         },
@@ -77,19 +83,27 @@ fn draw_above<K: Sink>(
 }
 
 /// Writes the rows of the picture of a layout.
-fn write_rows<K: Sink>(pool: &Pool, layout: Id, text: &mut Text, sink: &mut K) -> Result<(), Failed>
+fn write_rows<K: Sink>(
+    pool: &Pool,
+    layout: Id,
+    drafter: &mut Drafter,
+    text: &mut Text,
+    sink: &mut K,
+) -> Result<(), Failed>
     requires stands { Stands pool.now }
     requires layout { IsLayout layout (forest pool.now) }
     requires room { 2 * bytes_in (tree_at layout (forest pool.now)) + 1 ≤ text.old.capacity }
+    requires served { pool.now.size ≤ drafter.old.pool_size }
     ensures appended { OnOk result (Appends (K.taken sink.old) (K.taken sink.new) (rows_text (drawing (tree_at layout (forest pool.now))))) }
     ensures part { OnErr result (AppendsPart (K.taken sink.old) (K.taken sink.new) (rows_text (drawing (tree_at layout (forest pool.now))))) }
     ensures stops { OnErr result (StopsAtFailure K.taken K.faults sink.old sink.new) }
     ensures cause { HasCause (K.faults sink.old) (K.faults sink.new) result }
     ensures capacity { text.new.capacity ≡ text.old.capacity }
+    ensures served { drafter.new.pool_size ≡ drafter.old.pool_size }
 {
-    for row in 0..rows(pool, layout) {
+    for row in 0..rows(pool, layout, drafter) {
         text.clear();
-        write_row(pool, layout, row, text);
+        write_row(pool, layout, row, drafter, text);
         text.push(b"\n");
         write_all(sink, text.bytes())?;
     }
@@ -97,40 +111,54 @@ fn write_rows<K: Sink>(pool: &Pool, layout: Id, text: &mut Text, sink: &mut K) -
 }
 
 /// Writes the serial text of the layout of a tree.
-pub fn write_layout(pool: &mut Pool, answer: Id, text: &mut Text) -> Result<(), Full>
+pub fn write_layout(
+    pool: &mut Pool,
+    answer: Id,
+    drafter: &mut Drafter,
+    text: &mut Text,
+) -> Result<(), Full>
     requires stands { Stands pool.old }
     requires expression { IsExpression answer (forest pool.old) }
     requires empty { text.old.bytes ≡ [] }
     requires room { 2 * pool.old.size ≤ text.old.capacity }
+    requires served { pool.old.size ≤ drafter.old.pool_size }
     ensures told { OnOk result (told_at serial answer pool.old ≡ Ok text.new.bytes) }
     ensures full { IfErr result (λ full. told_at serial answer pool.old ≡ Err full) }
     ensures untold { OnErr result (text.new.bytes ≡ []) }
     ensures counted { CountsRefusal (lack_in (told_at serial answer pool.old)) pool.old pool.new }
     ensures as_before { pool.new ≡ after (lack_in (told_at serial answer pool.old)) pool.old.nodes pool.old }
     ensures capacity { text.new.capacity ≡ text.old.capacity }
+    ensures served { drafter.new.pool_size ≡ drafter.old.pool_size }
     ensures stands { Stands pool.new }
 {
     let mark = open_mark(pool);
-    let told = write_above(pool, answer, text);
+    let told = write_above(pool, answer, drafter, text);
     roll_back(pool, mark);
     told
 }
 
 /// The same, but that the layout stays.
-fn write_above(pool: &mut Pool, answer: Id, text: &mut Text) -> Result<(), Full>
+fn write_above(
+    pool: &mut Pool,
+    answer: Id,
+    drafter: &mut Drafter,
+    text: &mut Text,
+) -> Result<(), Full>
     requires stands { Stands pool.old }
     requires expression { IsExpression answer (forest pool.old) }
     requires empty { text.old.bytes ≡ [] }
     requires room { 2 * pool.old.size ≤ text.old.capacity }
+    requires served { pool.old.size ≤ drafter.old.pool_size }
     ensures told { OnOk result (told_at serial answer pool.old ≡ Ok text.new.bytes) }
     ensures full { IfErr result (λ full. told_at serial answer pool.old ≡ Err full) }
     ensures untold { OnErr result (text.new.bytes ≡ []) }
     ensures counted { CountsRefusal (lack_in (told_at serial answer pool.old)) pool.old pool.new }
     ensures front { KeepsFront [] (forest pool.old) (forest pool.new) }
     ensures capacity { text.new.capacity ≡ text.old.capacity }
+    ensures served { drafter.new.pool_size ≡ drafter.old.pool_size }
     ensures stands { Stands pool.new }
 {
-    let layout = layout_of(pool, answer)?;
-    write_serial(pool, layout.id(), text);
+    let layout = layout_of(pool, answer, drafter)?;
+    write_serial(pool, layout.id(), drafter, text);
     Ok(())
 }

@@ -226,7 +226,8 @@ fn name_within(pool: &Pool, id: Id, store: Option<Name>) -> Option<Name>
     }
 }
 
-fn refusal_of(fault: ReduceFault) -> Refusal
+/// The refusal that passes on a fault of a reduction or an expansion.
+pub fn refusal_of(fault: ReduceFault) -> Refusal
     ensures { result ≡ refusal_for fault }
 {
     match fault {

@@ -1,13 +1,16 @@
 //! Laws of answers, each the contract of a function without a body.
-ghost use Rattle.std.specs.Prelude.{◌≡◌, ◌≢◌, ◌≤◌, ◌+◌, ℕ, List, Err, None, Some, Option, Contains, length};
+ghost use Rattle.std.specs.Prelude.{◌≡◌, ◌≢◌, ◌≤◌, ◌+◌, ◌↔◌, ℕ, List, Err, None, Some, Option, Contains, length, true, false};
 ghost use Rattle.breakers.specs.State.{State as Breaker};
 ghost use Rattle.calc_algebra.specs.BadAndEasy.{IsEasy};
 ghost use Rattle.calc_algebra.specs.Rewritings.{Reduces};
-ghost use Rattle.calc_commands.specs.Commands.{IsCommandLine, diff, solve};
+ghost use Rattle.calc_commands.specs.Commands.{IsCommandLine, diff, expand, solve};
 ghost use Rattle.calc_language.specs.Texts.{text};
+ghost use Rattle.calc_measures.specs.Measures.{bits as bits_of};
 ghost use Rattle.calc_terms.specs.Trees.{Tree, depth, names, nodes, size, undef};
 ghost use Rattle.calc_tokens.specs.Placed.{Placed};
 ghost use Rattle.dual_diff.specs.Derivatives.{HasDerivative, derivative};
+ghost use Rattle.expand_forms.specs.ExpansionRoom.{expansion_room};
+ghost use Rattle.expand_forms.specs.PolynomialTrees.{is_polynomial};
 ghost use Rattle.linear_solve.specs.Checks.{TripsWithin as TripsIn};
 ghost use Rattle.linear_solve.specs.Equations.{Equation, nodes_of_sides};
 ghost use Rattle.linear_solve.specs.Fitting.{Misfit};
@@ -22,10 +25,12 @@ ghost use Rattle.calc_session.specs.Calculating.{IsReplyToExpression, made_in};
 ghost use Rattle.calc_session.specs.Deriving.{IsReplyToDerivative};
 ghost use Rattle.calc_session.specs.Enough.{HasBytesFor, HoldsNoSmallTree, IsAnswered, ReadsFilled};
 ghost use Rattle.calc_session.specs.Evaluations.{IsReplyTo};
+ghost use Rattle.calc_session.specs.Expanding.{IsReplyToExpansion, expansion_text};
+ghost use Rattle.calc_session.specs.ExpansionsMeant.{AsksExpansionOf, HaveSameCoefficients, TellsExpansion};
 ghost use Rattle.calc_session.specs.Forms.{form_room};
 ghost use Rattle.calc_session.specs.Meant.{HasNoMeaning, HasSmallRadicands, MeanTheSame, MeansNothing, ShowsMeaning};
 ghost use Rattle.calc_session.specs.Reading.{ReadsTree};
-ghost use Rattle.calc_session.specs.Replies.{Reply, circular, full, report, shown, stored, undefined};
+ghost use Rattle.calc_session.specs.Replies.{Reply, circular, full, not_polynomial, report, shown, stored, undefined};
 ghost use Rattle.calc_session.specs.RisingNames.{AreNamesOf};
 ghost use Rattle.calc_session.specs.Slopes.{TellsDerivative};
 ghost use Rattle.calc_session.specs.SolutionsMeant.{AsksToSolve, TellsSolutionsOf};
@@ -142,4 +147,42 @@ pub fn linear_equations_are_solved()
         → ((m : Misfit) → ¬ (solving xs es ≡ Err m)) → form_room ≤ free_bytes old
         → ((place : ℕ) → ¬ (TripsIn (nodes_of_sides es + length xs) before after place))
         → IsReply room bits old before after line reply → (told : List ℕ) × (reply ≡ report told) }
+{}
+
+/// What is told of a line that asks for an expansion is the text of the face of the expanded tree of what the line becomes, and
+/// both trees have every meaning of that.
+pub fn expansions_mean_what_they_say()
+    ensures { (room bits : Option (Tree → ℕ)) (old : State) (before after : List Breaker) (line text told : List ℕ)
+        → IsCommandLine line (expand text) → IsReply room bits old before after line (report told) → TellsExpansion old line told }
+{}
+
+/// A line that asks for an expansion is answered by what is read, built, filled and expanded, and by nothing else.
+pub fn expansions_are_calculated()
+    ensures { (room bits : Option (Tree → ℕ)) (old : State) (before after : List Breaker) (line text : List ℕ) (reply : Reply)
+        → length line ≤ 1024 → IsCommandLine line (expand text) → IsReply room bits old before after line reply
+        → IsReplyToExpression old before after line text (IsReplyToExpansion (free_bytes old) before after) reply }
+{}
+
+/// Of two lines, perhaps in two states, the same text is told where what they become has the same coefficients and an expansion
+/// is told of both.
+pub fn same_coefficients_same_text()
+    ensures { (room bits : Option (Tree → ℕ)) (a b : State) (before after first last : List Breaker) (line other told also : List ℕ) (t u : Tree)
+        → AsksExpansionOf a line t → AsksExpansionOf b other u → HaveSameCoefficients t u
+        → IsReply room bits a before after line (report told) → IsReply room bits b first last other (report also) → told ≡ also }
+{}
+
+/// A line that asks for an expansion is refused as no polynomial exactly where what it becomes is none.
+pub fn other_trees_are_not_expanded()
+    ensures { (room bits : Option (Tree → ℕ)) (old : State) (before after : List Breaker) (line : List ℕ) (reply : Reply) (t : Tree)
+        → length line ≤ 1024 → AsksExpansionOf old line t → IsReply room bits old before after line reply
+        → (reply ≡ not_polynomial) ↔ (is_polynomial t ≡ false) }
+{}
+
+/// An expansion is told where what the line becomes is a polynomial of at most 124 bits, the room of its expansion does not
+/// exceed the bytes that were free, and no breaker trips.
+pub fn polynomials_are_expanded()
+    ensures { (room bits : Option (Tree → ℕ)) (old : State) (before after : List Breaker) (line : List ℕ) (reply : Reply) (t : Tree)
+        → length line ≤ 1024 → AsksExpansionOf old line t → is_polynomial t ≡ true → bits_of t ≤ 124 → expansion_room t ≤ free_bytes old
+        → ((place : ℕ) → ¬ (TripsWithin (nodes t) before after place))
+        → IsReply room bits old before after line reply → reply ≡ report (expansion_text t) }
 {}

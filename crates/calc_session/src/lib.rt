@@ -7,6 +7,7 @@ mod differentiating;
 mod drawing;
 mod equations;
 mod evaluating;
+mod expanding;
 mod forms;
 mod laws;
 mod reading;
@@ -20,9 +21,10 @@ mod text;
 pub use answers::{DrawFault, LineAnswer, Refusal};
 pub use laws::{
     answers_mean_their_lines, derivatives_are_calculated, derivatives_are_told,
-    derivatives_mean_the_slope, linear_equations_are_solved, lines_that_read_are_evaluated,
-    one_value_has_one_text, solutions_are_calculated, solutions_mean_what_they_say,
-    undef_has_no_meaning,
+    derivatives_mean_the_slope, expansions_are_calculated, expansions_mean_what_they_say,
+    linear_equations_are_solved, lines_that_read_are_evaluated, one_value_has_one_text,
+    other_trees_are_not_expanded, polynomials_are_expanded, same_coefficients_same_text,
+    solutions_are_calculated, solutions_mean_what_they_say, undef_has_no_meaning,
 };
 pub use session::Session;
 pub use text::write_refusal;

@@ -27,19 +27,21 @@ use calc_terms::{Name, Rat};
 use line_text::{Text, write_text};
 use name_table::NameTable;
 use node_pool::{Id, Pool};
+use pool_layouts::Drafter;
 use reduce_port::Reducer;
 use std::alloc::{AllocError, Global};
 use std::marker::Model;
 use tree_handles::number;
 
-/// A pool, the table of the trees that stand in it, which are the last answer and the stored ones, and the
-/// parser that each line is read by.
+/// A pool, the table of the trees that stand in it, which are the last answer and the stored ones, the parser that each
+/// line is read by, and the drafter that answers are drawn with.
 #[derive(Drop)]
 pub struct Session {
     pool: Pool,
     table: NameTable,
     text: Text,
     parser: Parser,
+    drafter: Drafter,
 }
 
 impl Model for Session {
@@ -70,12 +72,14 @@ impl Session {
         let mut pool = Pool::open(alloc, size)?;
         let text = Text::open(alloc, 3 * size + 8_448)?;
         let parser = Parser::open(alloc)?;
+        let drafter = Drafter::open(alloc, size)?;
         let answer = number(&mut pool, Rat::whole(0)).unwrap();
         Ok(Session {
             pool,
             table: NameTable::new(answer),
             text,
             parser,
+            drafter,
         })
     }
 
@@ -130,6 +134,7 @@ impl Session {
                 &mut self.pool,
                 &mut self.table,
                 &mut self.parser,
+                &mut self.drafter,
                 &mut self.text,
                 reducer,
                 watch,
@@ -196,7 +201,13 @@ impl Session {
         ensures text { self.new.text ≡ [] }
     {
         self.text.clear();
-        let drawn = draw_answer(&mut self.pool, self.table.ans(), &mut self.text, sink);
+        let drawn = draw_answer(
+            &mut self.pool,
+            self.table.ans(),
+            &mut self.drafter,
+            &mut self.text,
+            sink,
+        );
         self.text.clear();
         drawn
     }

@@ -89,7 +89,7 @@ ans+x = 18
 :POOL = ! command
 :pool x = ! command
  :pool  = pool 16/32768 nodes 1 trees 1
-:expand x = ! command
+:expand = ! command
 
 ans = 0
 ans→x = 0
@@ -240,4 +240,27 @@ y = y
 :solve z=1 = z=1
 :after 2 = after 2
 :solve z=1 = ! interrupted
+8 = 8
+
+:expand (x+1)^2 = 1+2×x+x^2
+:expand (x+y)×(x-y) = x^2-y^2
+:expand x^2+x×y/2 = x×y/2+x^2
+:expand (x+1)-(x+1) = 0
+:expand 1/x = ! not polynomial
+:expand √(2) = ! not polynomial
+:expand x^33 = ! not polynomial
+:expand = ! command
+:expand x→y = ! command
+:expand 2$3 = ! character 10
+:expand 2+ = ! syntax
+2→x = 2
+:expand (x+y)^2 = 4+4×y+y^2
+ans = 2
+:pool = pool 16/32768 nodes 1 trees 1
+:after 4 = after 4
+:expand y+1 = 1+y
+:after 2 = after 2
+:expand y+1 = ! interrupted
+:expand 2^127 = ! not polynomial
+:expand 4^32×4^32 = ! overflow 18446744073709551616×18446744073709551616
 8 = 8";

@@ -6,13 +6,14 @@ use Rattle.calc_commands.specs.declared.command.Command.{Command}
 use Rattle.calc_session.specs.declared.answers.LineAnswer.TheVariants as answer
 use Rattle.calc_session.specs.declared.answers.Refusal.TheVariants as refusal
 use Rattle.calc_session.specs.Answers.{CountsRefusal, refusal_of_pool}
+use Rattle.calc_session.specs.Calculating.{expands, solves}
 use Rattle.calc_session.specs.Commanding.{tells_the_pool, tells_the_bytes, is_no_command}
 use Rattle.calc_session.specs.States.{state_of}
 use Rattle.calc_terms.specs.Leaf.{name_of}
 use Rattle.calc_tokens.specs.Tokens.{tokens_of}
 use Rattle.name_table.specs.Held.{IsHeld}
 use Rattle.tree_handles.specs.Forest.{forest_of}
-use Rattle.calc_session.proofs.CalculatingLemmas.{answers_derivative, answers_no_expression, answers_equations, counts_derivative, equations_within, text_within}
+use Rattle.calc_session.proofs.CalculatingLemmas.{answers_calculated, answers_derivative, answers_no_expression, counts_derivative, equations_within, expression_within, text_within}
 use Rattle.calc_session.proofs.CommandLemmas.{answers_drawn, answers_no_command, answers_told, calm_told, command_uninterrupted, draw_uninterrupted, none_of, refusal_uninterrupted, report_uninterrupted, written}
 use Rattle.calc_session.proofs.EvaluationLemmas.{none_rose}
 use Rattle.calc_session.proofs.SessionLemmas.{answers_command}
@@ -140,11 +141,30 @@ solve_equations-requires-clause-short g c = let within = equations_within (subst
 
 pub returns-in-Solve-clause-answers : goal.returns-in-Solve-clause-answers
 returns-in-Solve-clause-answers g c =
-    answers_equations g.R.Reducer.room g.R.Reducer.bits c.args.pool.now c.args.table.now (states g.B.Breaker.state c.args.watch.now) (states g.B.Breaker.state c.solve_equations.new.watch) c.args.line.now c.in-Solve.equations.now (state_of c.solve_equations.new.pool c.args.table.now) c.solve_equations.result c.solve_equations.new.text.bytes c.requires.short c.requires.command
-    (subst (λ (k : Command). IsCommandLine c.args.line.now (asked_of k)) c.in-Solve.is c.in-Some.ensures.some) c.solve_equations.ensures.same (c.solve_equations.ensures.told c.args.line.now (sym c.bytes_before-before.ensures))
+    let asked = subst (λ (k : Command). IsCommandLine c.args.line.now (asked_of k)) c.in-Solve.is c.in-Some.ensures.some in
+    answers_calculated g.R.Reducer.room g.R.Reducer.bits c.args.pool.now c.args.table.now (states g.B.Breaker.state c.args.watch.now) (states g.B.Breaker.state c.solve_equations.new.watch) c.args.line.now (state_of c.solve_equations.new.pool c.args.table.now) c.solve_equations.result c.solve_equations.new.text.bytes c.requires.short c.requires.command
+    (λ r h. solves asked h) c.solve_equations.ensures.same (c.solve_equations.ensures.told c.args.line.now (sym c.bytes_before-before.ensures))
 
 pub returns-in-Solve-clause-counted : goal.returns-in-Solve-clause-counted
 returns-in-Solve-clause-counted g c = inl c.solve_equations.ensures.counted
 
 pub returns-in-Solve-clause-held : goal.returns-in-Solve-clause-held
 returns-in-Solve-clause-held g c = subst (λ s. IsHeld s.table (forest_of s.nodes)) (sym c.solve_equations.ensures.same) c.requires.held
+
+pub bytes_before-before-requires-in-Expand-clause-behind : goal.bytes_before-before-requires-in-Expand-clause-behind
+bytes_before-before-requires-in-Expand-clause-behind g c = expression_within (subst (λ (k : Command). IsCommandLine c.args.line.now (asked_of k)) c.in-Expand.is c.in-Some.ensures.some)
+
+pub expand_text-requires-clause-short : goal.expand_text-requires-clause-short
+expand_text-requires-clause-short g c = let within = expression_within (subst (λ (k : Command). IsCommandLine c.args.line.now (asked_of k)) c.in-Expand.is c.in-Some.ensures.some) in let short = c.requires.short in omega (arith, within, short, c.bytes_before-before-in-Expand.ensures)
+
+pub returns-in-Expand-clause-answers : goal.returns-in-Expand-clause-answers
+returns-in-Expand-clause-answers g c =
+    let asked = subst (λ (k : Command). IsCommandLine c.args.line.now (asked_of k)) c.in-Expand.is c.in-Some.ensures.some in
+    answers_calculated g.R.Reducer.room g.R.Reducer.bits c.args.pool.now c.args.table.now (states g.B.Breaker.state c.args.watch.now) (states g.B.Breaker.state c.expand_text.new.watch) c.args.line.now (state_of c.expand_text.new.pool c.args.table.now) c.expand_text.result c.expand_text.new.text.bytes c.requires.short c.requires.command
+    (λ r h. expands asked h) c.expand_text.ensures.same (c.expand_text.ensures.told c.args.line.now (sym c.bytes_before-before-in-Expand.ensures))
+
+pub returns-in-Expand-clause-counted : goal.returns-in-Expand-clause-counted
+returns-in-Expand-clause-counted g c = inl c.expand_text.ensures.counted
+
+pub returns-in-Expand-clause-held : goal.returns-in-Expand-clause-held
+returns-in-Expand-clause-held g c = subst (λ s. IsHeld s.table (forest_of s.nodes)) (sym c.expand_text.ensures.same) c.requires.held

@@ -19,4 +19,4 @@ write_serial-requires-clause-room c =
 pub returns-clause-told : goal.returns-clause-told
 returns-clause-told c =
     given_told serial c.args.answer c.args.pool.now c.layout_of.new.pool c.in_ok-layout.layout c.id.result _ c.layout_of.ensures.stands c.in_ok-layout.ensures.ok c.id.ensures c.in_ok-layout.ensures.room
-    ∙ ap (λ (b : List ℕ). Ok b) (sym (ap (λ (x : Content). x.bytes) c.write_serial.ensures ∙ ap (λ (b : List ℕ). b ++ serial (drawing (tree_at c.id.result (forest c.layout_of.new.pool)))) c.requires.empty))
+    ∙ ap (λ (b : List ℕ). Ok b) (sym (ap (λ (x : Content). x.bytes) c.write_serial.ensures.written ∙ ap (λ (b : List ℕ). b ++ serial (drawing (tree_at c.id.result (forest c.layout_of.new.pool)))) c.requires.empty))

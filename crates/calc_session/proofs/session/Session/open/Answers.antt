@@ -1,8 +1,10 @@
-use Rattle.std.proofs.Common.{◌∙◌, ◌*◌, ◌+◌, ap, sym, subst}
+use Rattle.std.proofs.Common.{◌≡◌, ◌≤◌, ◌∙◌, ◌*◌, ◌+◌, ap, sym, subst, arith}
 use Rattle.calc_terms.specs.Rat.{ratio_of}
 use Rattle.line_text.specs.Content.{Content}
 use Rattle.name_table.specs.Held.{IsHeld}
-use Rattle.node_pool.specs.State.{State}
+use Rattle.calc_terms.specs.Payload.{rational, size_of_payload}
+use Rattle.calc_terms.proofs.Sizes.{payload_most}
+use Rattle.node_pool.specs.State.{State, free_of}
 use Rattle.tree_handles.specs.Standing.{forest}
 use Rattle.tree_handles.proofs.Opened.{stands_open}
 use Rattle.calc_session.proofs.OpeningLemmas.{IsOpened, first_state_is, opened, seen_is}
@@ -24,6 +26,7 @@ invariant_of-result c =
       stands = c.number.ensures.stands;
       held = subst (λ t. IsHeld t (forest c.number.new.pool)) (sym c.new.ensures) o.held;
       room = ap (λ (t : Content). t.capacity) c.in_ok-text.ensures ∙ ap (λ n. 3 * n + 8448) (sym (o.kept.size ∙ ap (λ (s : State). s.size) c.in_ok-pool.ensures));
+      served = c.in_ok-drafter.ensures ∙ sym (o.kept.size ∙ ap (λ (s : State). s.size) c.in_ok-pool.ensures);
     }
 
 pub returns : goal.returns
@@ -31,3 +34,9 @@ returns c =
     let o = here (goal.at.returns c).After-unwrap-answer in
     seen_is _ _ _ _ _ _ _ _ (first_state_is c.number.new.pool c.new.result c.unwrap-answer.result c.args.size c.new.ensures o.first o.nodes (o.kept.size ∙ ap (λ (s : State). s.size) c.in_ok-pool.ensures))
     (o.kept.refusals ∙ ap (λ (s : State). s.refusals) c.in_ok-pool.ensures) (o.kept.last_refused ∙ ap (λ (s : State). s.last_refused) c.in_ok-pool.ensures) (ap (λ (t : Content). t.bytes) c.in_ok-text.ensures)
+
+pub unwrap-answer-requires : goal.unwrap-answer-requires
+unwrap-answer-requires c =
+    let free : free_of c.in_ok-pool.pool ≡ c.args.size = omega (arith, ap free_of c.in_ok-pool.ensures) in
+    let room : size_of_payload (rational (ratio_of c.whole.result)) ≤ free_of c.in_ok-pool.pool = omega (arith, payload_most (rational (ratio_of c.whole.result)), free, c.requires.least) in
+    c.number.ensures.exactly.1 room

@@ -1,0 +1,121 @@
+-- What the answers to lines that ask for an expansion mean, and when there is one.
+use Rattle.std.proofs.Common.{◌≡◌, ◌↔◌, ℕ, ◌≤◌, ◌<◌, List, length, Bool, true, false, Option, refl, ap, subst, arith}
+use Rattle.breakers.specs.State.{State as Breaker}
+use Rattle.beautify.proofs.FaceLaws.{reduced_face_means}
+use Rattle.calc_commands.specs.Commands.{IsCommandLine, diff, solve, expand}
+use Rattle.calc_commands.proofs.Lines.{once}
+use Rattle.calc_language.specs.Faces.{face}
+use Rattle.calc_language.specs.Texts.{text}
+use Rattle.calc_measures.specs.Measures.{bits as bits_of}
+use Rattle.calc_terms.specs.Trees.{Tree, nodes}
+use Rattle.expand_forms.specs.ExpandedTrees.{expanded, sum_tree, term_trees}
+use Rattle.expand_forms.specs.ExpansionRoom.{expansion_room}
+use Rattle.expand_forms.specs.PolynomialTrees.{is_polynomial, polynomial_of}
+use Rattle.expand_forms.proofs.ExpandedMeanings.{expanded_means}
+use Rattle.expand_forms.proofs.NormalForms.{one_normal_form}
+use Rattle.expand_forms.proofs.ReducedExpansions.{tree_expanded_reduced}
+use Rattle.reduce_port.specs.Checks.{TripsWithin}
+use Rattle.calc_session.specs.Calculating.{IsReplyToCalculation, IsReplyToExpression, derives, solves, expands}
+use Rattle.calc_session.specs.Expanding.{IsReplyToExpansion, expansion_text, is_no_polynomial, is_interrupted, does_not_fit, lacks_bytes, is_expanded}
+use Rattle.calc_session.specs.ExpansionsMeant.{AsksExpansionOf, HaveSameCoefficients, TellsExpansion}
+use Rattle.calc_session.specs.Replies.{Reply, long, not_polynomial, report}
+use Rattle.calc_session.specs.States.{State, free_bytes}
+use Rattle.calc_session.specs.Steps.{IsReply}
+use Rattle.calc_session.proofs.AskedLines.{calculation}
+use Rattle.calc_session.proofs.ExpressionReplies.{reply_to_text, reply_to_tree}
+
+no_derivative : (x a b : List ℕ) → diff x a ≡ expand b → ⊥
+no_derivative x a b e = cc
+
+no_equations : (a b : List ℕ) → solve a ≡ expand b → ⊥
+no_equations a b e = cc
+
+same_text : (a b : List ℕ) → expand a ≡ expand b → a ≡ b
+same_text a b e = cc
+
+no_long : (told : List ℕ) → report told ≡ long → ⊥
+no_long told e = cc
+
+told_is : (a b : List ℕ) → report a ≡ report b → b ≡ a
+told_is a b e = cc
+
+clash : (b : Bool) → b ≡ true → b ≡ false → ⊥
+clash b e f = cc
+
+-- ---- the replies to a tree
+
+module _ {free left : ℕ} {before after : List Breaker} {t : Tree} where
+  -- a report
+  told_tree : (reply : Reply) (told : List ℕ) → IsReplyToExpansion free before after left t reply → reply ≡ report told → (is_polynomial t ≡ true) × (told ≡ expansion_text t)
+  told_tree reply told (is_no_polynomial n same) e = absurd cc
+  told_tree reply told (is_interrupted p h) e = absurd cc
+  told_tree reply told (does_not_fit o p h) e = absurd cc
+  told_tree reply told (lacks_bytes p h) e = absurd cc
+  told_tree reply told (is_expanded p c) e = (p, told_is (expansion_text t) told e)
+
+  -- no polynomial
+  denied_tree : (reply : Reply) → IsReplyToExpansion free before after left t reply → (reply ≡ not_polynomial) ↔ (is_polynomial t ≡ false)
+  denied_tree reply (is_no_polynomial n same) = (λ e. n, λ e. refl)
+  denied_tree reply (is_interrupted p h) = (λ e. absurd cc, λ e. absurd (clash (is_polynomial t) p e))
+  denied_tree reply (does_not_fit o p h) = (λ e. absurd cc, λ e. absurd (clash (is_polynomial t) p e))
+  denied_tree reply (lacks_bytes p h) = (λ e. absurd cc, λ e. absurd (clash (is_polynomial t) p e))
+  denied_tree reply (is_expanded p c) = (λ e. absurd cc, λ e. absurd (clash (is_polynomial t) p e))
+
+  -- where nothing is lacking
+  expanded_tree : (reply : Reply) → is_polynomial t ≡ true → bits_of t ≤ 124 → expansion_room t ≤ free → ((place : ℕ) → ¬ (TripsWithin (nodes t) before after place)) → IsReplyToExpansion free before after left t reply → reply ≡ report (expansion_text t)
+  expanded_tree reply is narrow roomy calm (is_no_polynomial n same) = absurd (clash (is_polynomial t) is n)
+  expanded_tree reply is narrow roomy calm (is_interrupted {by = by} p h) = absurd (calm by h)
+  expanded_tree reply is narrow roomy calm (does_not_fit o p h) = absurd (let beyond = h.beyond_bits in omega (arith, beyond, narrow))
+  expanded_tree reply is narrow roomy calm (lacks_bytes p h) = absurd (let beyond = h.beyond_room in omega (arith, beyond, roomy))
+  expanded_tree reply is narrow roomy calm (is_expanded p c) = refl
+
+-- ---- the replies to a line
+
+module _ (room bits : Option (Tree → ℕ)) (old : State) (before checked : List Breaker) (line : List ℕ) where
+  module _ (behind : List ℕ) (asked : IsCommandLine line (expand behind)) where
+    from_calculation : (reply : Reply) → IsReplyToCalculation room bits old before checked line reply → IsReplyToExpression old before checked line behind (IsReplyToExpansion (free_bytes old) before checked) reply
+    from_calculation reply (derives {x = x} {text = other} also h) = absurd (no_derivative x other behind (once line (diff x other) (expand behind) also asked))
+    from_calculation reply (solves {text = other} also h) = absurd (no_equations other behind (once line (solve other) (expand behind) also asked))
+    from_calculation reply (expands {text = other} also h) =
+        subst (λ o. IsReplyToExpression old before checked line o (IsReplyToExpansion (free_bytes old) before checked) reply) (same_text other behind (once line (expand other) (expand behind) also asked)) h
+
+    pub calculated : (reply : Reply) → (1024 < length line → reply ≡ long → ⊥) → IsReply room bits old before checked line reply
+        → IsReplyToExpression old before checked line behind (IsReplyToExpansion (free_bytes old) before checked) reply
+    calculated reply short h = from_calculation reply (calculation room bits old before checked line (expand behind) asked refl reply short h)
+
+    pub tells_expansion : (told : List ℕ) → IsReply room bits old before checked line (report told) → TellsExpansion old line told
+    tells_expansion told h =
+        let read = reply_to_text (report told) told (calculated (report told) (λ e k. no_long told k) h) refl in
+        let t = read.becomes in
+        let (is, same) = told_tree (report told) told read.reply_is refl in
+        record {
+          tree = t;
+          becomes = record { text = behind; asks = asked; tokens = read.tokens; tree = read.tree; reads = read.reads; left = read.left; is_made = read.is_made };
+          polynomial = is;
+          told_is = same;
+          meanings = record { means = λ f a v m. expanded_means f a t v is m };
+          shown_meanings = record { means = λ f a v m. reduced_face_means (expanded (polynomial_of t)) (tree_expanded_reduced t) f v (expanded_means f a t v is m) };
+        }
+
+  module _ {t : Tree} (a : AsksExpansionOf old line t) where
+    -- the reply to what the line becomes
+    reply_to : (reply : Reply) → (1024 < length line → reply ≡ long → ⊥) → IsReply room bits old before checked line reply → IsReplyToExpansion (free_bytes old) before checked a.left t reply
+    reply_to reply short h = reply_to_tree a.reads a.is_made reply (calculated a.text a.asks reply short h)
+
+    pub told_of : (told : List ℕ) → IsReply room bits old before checked line (report told) → told ≡ expansion_text t
+    told_of told h = (told_tree (report told) told (reply_to (report told) (λ e k. no_long told k) h) refl).1
+
+    module _ (short : length line ≤ 1024) (reply : Reply) (h : IsReply room bits old before checked line reply) where
+      within : IsReplyToExpansion (free_bytes old) before checked a.left t reply
+      within = reply_to reply (λ over. omega (arith, short, over)) h
+
+      pub is_denied : (reply ≡ not_polynomial) ↔ (is_polynomial t ≡ false)
+      is_denied = denied_tree reply within
+
+      pub is_told : is_polynomial t ≡ true → bits_of t ≤ 124 → expansion_room t ≤ free_bytes old → ((place : ℕ) → ¬ (TripsWithin (nodes t) before checked place)) → reply ≡ report (expansion_text t)
+      is_told is narrow roomy calm = expanded_tree reply is narrow roomy calm within
+
+-- ---- two lines
+
+pub one_expansion_text : (t u : Tree) → HaveSameCoefficients t u → expansion_text t ≡ expansion_text u
+one_expansion_text t u same = ap (λ v. text (face (sum_tree (term_trees v)))) (one_normal_form (polynomial_of t) (polynomial_of u) same)

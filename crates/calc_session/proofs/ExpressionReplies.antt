@@ -1,0 +1,48 @@
+-- The replies to a text that is calculated with, by what it becomes.
+use Rattle.std.proofs.Common.{◌≡◌, ◌∙◌, ℕ, List, None, sym, subst}
+use Rattle.breakers.specs.State.{State as Breaker}
+use Rattle.calc_terms.specs.Trees.{Tree}
+use Rattle.calc_tokens.specs.Placed.{Placed}
+use Rattle.name_table.specs.Filling.{Filling, fills}
+use Rattle.calc_session.specs.Arguments.{ReadsText}
+use Rattle.calc_session.specs.Calculating.{IsReplyToExpression, is_no_expression, is_read, made_in}
+use Rattle.calc_session.specs.Evaluations.{IsReplyToMade, Unmade, is_made, is_not_made}
+use Rattle.calc_session.specs.Replies.{Reply, report}
+use Rattle.calc_session.specs.States.{State}
+use Rattle.calc_session.proofs.TextLemmas.{misread_unreported, one_text, read_at_all, unmade_unreported}
+
+filled_left : (l m : ℕ) (u v : Tree) → fills l u ≡ fills m v → l ≡ m
+filled_left l m u v e = cc
+
+pub filled_tree : (l m : ℕ) (u v : Tree) → fills l u ≡ fills m v → u ≡ v
+filled_tree l m u v e = cc
+
+-- the text was read as a tree that becomes another, and the reply is one to that
+pub record RepliesToText (old : State) (text : List ℕ) (Is : ℕ → Tree → Reply → Type 0) (reply : Reply) : Type 0 where
+  pub tokens : List Placed
+  pub tree : Tree
+  pub reads : ReadsText text tokens None tree
+  pub left : ℕ
+  pub becomes : Tree
+  pub is_made : made_in old tree ≡ fills left becomes
+  pub reply_is : Is left becomes reply
+
+made_text : {old : State} {before after : List Breaker} {text : List ℕ} {Is : ℕ → Tree → Reply → Type 0} {tokens : List Placed} {tree : Tree} (reply : Reply) (told : List ℕ) → ReadsText text tokens None tree → IsReplyToMade (made_in old tree) before after Is reply → reply ≡ report told → RepliesToText old text Is reply
+made_text {old} {tree = tree} reply told reads (is_not_made u same) e = absurd (unmade_unreported (made_in old tree) reply told u e)
+made_text {tokens = tokens} {tree = tree} reply told reads (is_made {left = left} {t = t} is h) e = record { tokens = tokens; tree = tree; reads = reads; left = left; becomes = t; is_made = is; reply_is = h }
+
+made_tree : {before after : List Breaker} {Is : ℕ → Tree → Reply → Type 0} {making : Filling} {left : ℕ} {t : Tree} → making ≡ fills left t → (reply : Reply) → IsReplyToMade making before after Is reply → Is left t reply
+made_tree is reply (is_not_made u same) = absurd (subst (λ m. Unmade m reply) is u)
+made_tree {Is = Is} {left = left} {t = t} is reply (is_made {left = l} {t = u} also h) =
+    let e = sym also ∙ is in subst (λ k. Is k t reply) (filled_left l left u t e) (subst (λ v. Is l v reply) (filled_tree l left u t e) h)
+
+module _ {old : State} {before after : List Breaker} {line text : List ℕ} {Is : ℕ → Tree → Reply → Type 0} where
+  -- a report
+  pub reply_to_text : (reply : Reply) (told : List ℕ) → IsReplyToExpression old before after line text Is reply → reply ≡ report told → RepliesToText old text Is reply
+  reply_to_text reply told (is_no_expression h same) e = absurd (misread_unreported reply told h e)
+  reply_to_text reply told (is_read reads h) e = made_text reply told reads h e
+
+  -- where it is known what the text becomes
+  pub reply_to_tree : {tokens : List Placed} {tree t : Tree} {left : ℕ} → ReadsText text tokens None tree → made_in old tree ≡ fills left t → (reply : Reply) → IsReplyToExpression old before after line text Is reply → Is left t reply
+  reply_to_tree reads is reply (is_no_expression h same) = absurd (read_at_all text reads h)
+  reply_to_tree reads is reply (is_read r h) = made_tree is reply (subst (λ u. IsReplyToMade (made_in old u) before after Is reply) (sym (one_text text reads r).trees) h)

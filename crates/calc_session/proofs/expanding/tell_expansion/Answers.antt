@@ -1,0 +1,52 @@
+use Rattle.std.proofs.Common.{◌∙◌, ◌*◌, ◌+◌, sym, ap, subst}
+use Rattle.breakers.specs.Breakers.{TripsRose}
+use Rattle.breakers.specs.Watch.{states}
+use Rattle.name_table.specs.Filling.{values}
+use Rattle.node_pool.specs.State.{free_of}
+use Rattle.tree_handles.specs.Standing.{forest}
+use Rattle.calc_session.specs.declared.answers.Refusal.TheVariants as refusal
+use Rattle.calc_session.specs.Answers.{CountsRefusal, refusal_of_evaluation}
+use Rattle.calc_session.specs.Evaluations.{IsReplyToMade, made}
+use Rattle.calc_session.specs.Expanding.{IsReplyToExpansion}
+use Rattle.calc_session.specs.Replies.{reported}
+use Rattle.calc_session.proofs.EvaluationLemmas.{size_kept}
+use Rattle.calc_session.proofs.PoolLemmas.{old_below, still_counted}
+use Rattle.calc_session.proofs.TellingLemmas.{has_face, same_again, told_interruption, told_lack, told_reply}
+use Rattle.calc_session.proofs.expanding.tell_expansion.Goals as goal
+
+pub tell-answer-requires-clause-face : goal.tell-answer-requires-clause-face
+tell-answer-requires-clause-face g c =
+    let (t, is, shallow) = c.requires.line in
+    let before = states g.B.Breaker.state c.args.watch.now in
+    let after = states g.B.Breaker.state c.expand_expression-evaluation.new.watch in
+    has_face (λ reply. IsReplyToMade (made (free_of c.args.pool.now) (values c.args.table.now (forest c.args.pool.now)) t) before after (IsReplyToExpansion (free_of c.args.pool.now) before after) (reported reply))
+    (forest c.args.pool.now) (forest c.expand_expression-evaluation.new.pool) c.expand_expression-evaluation.result (c.expand_expression-evaluation.ensures.reply t is)
+
+pub tell-answer-requires-clause-room : goal.tell-answer-requires-clause-room
+tell-answer-requires-clause-room g c = c.requires.room ∙ ap (λ n. 3 * n + 8448) (sym (size_kept (refusal_of_evaluation c.expand_expression-evaluation.result) c.args.pool.now c.expand_expression-evaluation.new.pool c.expand_expression-evaluation.ensures.counted))
+
+pub roll_back-requires-clause-below : goal.roll_back-requires-clause-below
+roll_back-requires-clause-below g c = (forest c.args.pool.now, old_below (c.open_mark-mark.ensures.trees c.requires.stands) c.expand_expression-evaluation.ensures.front)
+
+pub returns-clause-told : goal.returns-clause-told
+returns-clause-told g c = λ t is.
+    let before = states g.B.Breaker.state c.args.watch.now in
+    let after = states g.B.Breaker.state c.expand_expression-evaluation.new.watch in
+    told_reply (IsReplyToMade (made (free_of c.args.pool.now) (values c.args.table.now (forest c.args.pool.now)) t) before after (IsReplyToExpansion (free_of c.args.pool.now) before after))
+    c.expand_expression-evaluation.new.pool (forest c.args.pool.now) c.expand_expression-evaluation.result c.tell-answer.result c.tell-answer.new.text.bytes (c.expand_expression-evaluation.ensures.reply t is) c.tell-answer.ensures.told
+
+pub returns-clause-interrupted : goal.returns-clause-interrupted
+returns-clause-interrupted g c = λ place.
+    told_interruption c.expand_expression-evaluation.new.pool c.expand_expression-evaluation.result c.tell-answer.result c.tell-answer.new.text.bytes (refusal.Interrupted place)
+    (TripsRose (states g.B.Breaker.state c.args.watch.now) (states g.B.Breaker.state c.expand_expression-evaluation.new.watch) place) c.tell-answer.ensures.told (c.expand_expression-evaluation.ensures.interrupted place)
+
+pub returns-clause-counted : goal.returns-clause-counted
+returns-clause-counted g c =
+    subst (λ r. CountsRefusal r c.args.pool.now c.roll_back.new.pool) (sym (told_lack c.expand_expression-evaluation.new.pool c.expand_expression-evaluation.result c.tell-answer.result c.tell-answer.new.text.bytes c.tell-answer.ensures.told))
+    (still_counted (refusal_of_evaluation c.expand_expression-evaluation.result) c.args.pool.now c.expand_expression-evaluation.new.pool c.roll_back.new.pool c.expand_expression-evaluation.ensures.counted c.roll_back.ensures.kept)
+
+pub returns-clause-same : goal.returns-clause-same
+returns-clause-same g c =
+    same_again c.args.pool.now c.roll_back.new.pool c.args.table.now c.requires.stands c.roll_back.ensures.stands
+    (c.roll_back.ensures.kept.size ∙ size_kept (refusal_of_evaluation c.expand_expression-evaluation.result) c.args.pool.now c.expand_expression-evaluation.new.pool c.expand_expression-evaluation.ensures.counted)
+    (c.roll_back.ensures.forest (forest c.args.pool.now) (old_below (c.open_mark-mark.ensures.trees c.requires.stands) c.expand_expression-evaluation.ensures.front))
