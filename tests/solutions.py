@@ -42,7 +42,7 @@ def check_answers():
 # ---- sets of solutions
 
 def tokens(text):
-    return re.findall(r"[0-9]+|[A-Za-z][A-Za-z0-9]*|\S", text)
+    return re.findall(r"[0-9]+(?:\.[0-9]+)?|[A-Za-z][A-Za-z0-9]*|\S", text)
 
 
 def filled(text, stored):

@@ -1,6 +1,6 @@
 #!/bin/sh
 # Runs the program on the lines that take most of the machine's stack, with little of it: 128 KiB for the default pool,
-# 384 KiB for the greatest; a deep line that is to be differentiated or solved takes more. Its argument is the program. Each row has to be answered as it is with all the stack there is.
+# 384 KiB for the greatest. Its argument is the program. Each row has to be answered as it is with all the stack there is.
 # The last line says how many rows passed and failed; the status is 1 where one failed.
 program=${1:?usage: tests/stack.sh PROGRAM}
 folder=$(mktemp -d) || exit 1
@@ -65,11 +65,29 @@ echo ":dump" >"$folder/input"
 tried "a dump"
 
 { printf ":diff x "; repeat 61 "(1+"; printf x; repeat 61 ")"; echo; } >"$folder/input"
-row 160 "a deep line that is differentiated"
-row 384 "a deep line that is differentiated" --pool 524280
+tried "a deep line that is differentiated"
+{ printf ":diff x "; repeat 20 "(x×(1+"; printf x; repeat 20 "))"; echo; } >"$folder/input"
+tried "deep products that are differentiated"
 { printf ":solve "; repeat 61 "(1+"; printf x; repeat 61 ")"; echo "=1"; } >"$folder/input"
-row 352 "a deep equation"
-row 384 "a deep equation" --pool 524280
+tried "a deep equation"
+{ printf ":solve "; repeat 30 "(1-2×"; printf x; repeat 30 ")"; echo "=1"; } >"$folder/input"
+tried "a deep equation of products"
+echo ":solve u+v+w+x+y+z=1;u-v+w=2;v-w+x=3;w-x+y=4;x-y+z=5;u+2v+3w+4x+5y+6z=6" >"$folder/input"
+tried "six equations in six names"
+
+# sum FROM TO: the names of two letters from one number to before another, with a plus sign between
+sum() {
+    awk -v from="$1" -v to="$2" 'BEGIN {
+        letters = "abcdefghijklmnopqrstuvwxyz"
+        for (i = from; i < to; i++)
+            printf "%s%s%s", (i > from ? "+" : ""), substr(letters, int(i / 26) + 1, 1), substr(letters, i % 26 + 1, 1)
+    }'
+}
+
+{ sum 0 250; echo "→s"; sum 250 500; echo "→t"; echo "s+t"; } >"$folder/input"
+tried "a sum of 500 names and its picture" --draw
+{ sum 0 250; echo "→s"; for letter in a b c d e f g h i j k l m n o p q r; do printf "s^%s+" $letter; done; echo 1; } >"$folder/input"
+row 384 "a picture of more than 8,192 parts" --pool 524280 --draw
 
 echo "$passed passed, $failed failed"
 [ "$failed" = 0 ]

@@ -9,16 +9,12 @@ Each program reads all lines from its standard input in a process of its own. A 
 (3), starting up included; the ratio is that time over this program's; the memory is the most that a run of its own held
 of pages, as the system counts it while the program runs.
 """
-import os
+import pathlib
 import shutil
-import subprocess
 import sys
-import tempfile
-import time
 
-TOP = os.path.join(os.path.dirname(os.path.abspath(__file__)), "..", "..")
-
-PROGRAM = os.path.join(TOP, "crates", "poincare", "out", "poincare")
+sys.path.insert(0, str(pathlib.Path(__file__).resolve().parent.parent))
+from timed import PROGRAM, built, kilobytes_of, least_seconds, plain
 
 # The lines of each eight, by their place from 1 on. The seventh is a store.
 KINDS = {
@@ -49,10 +45,6 @@ def lines(count):
         yield KINDS[place % 8].format(a=state % 97 + 1, b=state // 97 % 89 + 1)
 
 
-def plain(line):
-    return line.replace("√", "sqrt").replace("×", "*")
-
-
 def programs():
     """Each program with its words and its input."""
     session = [line for line in lines(2000) if "→" not in line]
@@ -73,47 +65,18 @@ def programs():
     yield "sympy", [sys.executable, "-c", SYMPY], [line.replace("^", "**") for line in ascii_lines]
 
 
-def started(command, text):
-    """A process over the lines, whose answers go nowhere."""
-    source = tempfile.TemporaryFile()
-    source.write(text.encode())
-    source.seek(0)
-    return subprocess.Popen(command, stdin=source, stdout=subprocess.DEVNULL, stderr=subprocess.DEVNULL)
-
-
-def seconds_of(command, text):
-    begin = time.monotonic()
-    if started(command, text).wait() != 0:
-        print(f"{command[0]} did not end well", file=sys.stderr)
-    return time.monotonic() - begin
-
-
-def kilobytes_of(command, text):
-    """The greatest resident size, read again and again until the process has ended."""
-    process, most = started(command, text), 0
-    while process.poll() is None:
-        try:
-            with open(f"/proc/{process.pid}/status") as status:
-                sizes = [line.split()[1] for line in status if line.startswith("VmHWM")]
-        except OSError:
-            break
-        most = max([most, *map(int, sizes)])
-    process.wait()
-    return most
-
-
 def main():
     runs = int(sys.argv[1]) if len(sys.argv) > 1 else 3
-    subprocess.run([os.path.join(TOP, "poincare")], stdin=subprocess.DEVNULL, check=True)
+    built()
     whole = "\n".join(lines(2000)) + "\n"
     for name, words, text in ("generated", ["--gen", "1"], ""), ("read", [], whole):
-        seconds = min(seconds_of([PROGRAM, *words], text) for _ in range(runs))
+        seconds = least_seconds([PROGRAM, *words], text, runs)
         print(f"{name:10} {2000 / seconds:9.0f} lines a second")
     own = None
     print(f"{'program':10} {'seconds':>9} {'ratio':>8} {'memory/KB':>10}")
     for name, command, session in programs():
         text = "\n".join(session) + "\n"
-        seconds = min(seconds_of(command, text) for _ in range(runs))
+        seconds = least_seconds(command, text, runs)
         own = own or seconds
         memory = kilobytes_of(command, text)
         print(f"{name:10} {seconds:9.4f} {seconds / own:8.1f} {memory:10}")

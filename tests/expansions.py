@@ -1,0 +1,133 @@
+#!/usr/bin/env python3
+"""Runs `:expand`: answers of a model, expansions against sympy, pools of every size, and interruptions at every check.
+
+`tests/expansions.txt` has sessions as `tests/sessions.txt` has them; their answers come from a model apart from this
+code. Those of a single line are compared with what `sympy` expands, too. The last line says how many checks passed and
+failed; the status is 1 where one failed.
+"""
+import pathlib
+import sys
+
+from sessions import answers, pool_and_bytes, run
+from solutions import names_in, parsed
+
+TABLE = pathlib.Path(__file__).resolve().parent / "expansions.txt"
+COMMAND = ":expand "
+GREATEST_POOL = "--pool=524280"
+
+# Each with its nodes, and the bytes within which it is expanded: 512 for each node, each name and one more, and each term
+# that its largest part may have.
+LINES = {
+    "x": (1, 1_024),
+    "(x+1)^2": (5, 20_480),
+    "(x+y)×(x-y)": (7, 43_008),
+    "x^2+x×y/2": (9, 27_648),
+    "(x+1)-(x+1)": (7, 28_672),
+    "-(a-b)/3": (6, 18_432),
+    "(a+b-c)^2": (7, 129_024),
+    "2×x×3×y": (5, 7_680),
+    "(x/2+1/3)^3": (9, 73_728),
+    "x×y-y×x+z": (9, 55_296),
+    "(1+x)^5": (5, 163_840),
+    "(a+b)×(c-d)": (7, 71_680),
+}
+
+# Lines of one polynomial each.
+ALIKE = [
+    ["(x+1)^2", "1+2x+x^2", "x^2+x+x+1", "(1+x)×(x+1)", "(-x-1)^2", "(x+1)^3-x×(x+1)^2"],
+    ["x×y", "y×x", "x×y×2/2", "((x+y)^2-(x-y)^2)/4"],
+    ["0", "x-x", "0×y", "(a-b)×(a+b)-a^2+b^2"],
+    ["a/2+b/3", "(3a+2b)/6", "b/3+a/2", "-(a/-2+b/(-3))"],
+]
+
+
+def sessions():
+    for block in TABLE.read_text().strip().split("\n\n"):
+        rows = block.split("\n")
+        yield rows[0::2], [row.strip() for row in rows[1::2]]
+
+
+def check_answers():
+    """The answers are those of the model, with as much room as there can be."""
+    for lines, wanted in sessions():
+        given = answers(lines, GREATEST_POOL)
+        if given != wanted:
+            print(f"{lines}: {given}")
+            return False
+    return True
+
+
+def check_meanings():
+    """Lines and answers are alike when sympy expands them."""
+    import sympy
+
+    compared = 0
+    for lines, _ in sessions():
+        given = answers(lines, GREATEST_POOL)[0]
+        if len(lines) > 1 or given.startswith("!"):
+            continue
+        line = lines[0][len(COMMAND):]
+        known = {name: sympy.Symbol(name) for name in names_in(line)}
+        if sympy.expand(parsed(line, known) - parsed(given, known)) != 0:
+            print(f"{line}: {given}")
+            return False
+        compared += 1
+    return compared >= 80
+
+
+def check_forms():
+    """Lines of one polynomial are answered with the same bytes."""
+    return all(len(set(answers([COMMAND + line for line in lines]))) == 1 for lines in ALIKE)
+
+
+def check_overflows():
+    """An operation that does not fit is named, and the pool is as it was."""
+    line = COMMAND + "(2^32)^4×x"
+    return answers([line])[0].startswith("! overflow ") and pool_and_bytes([line]) == pool_and_bytes([])
+
+
+def check_pools():
+    """In pools of every size a line is answered as in a large one, or is Full; the pool is as it was. It is answered where
+    its room is free."""
+    for line, (_, room) in LINES.items():
+        wanted = answers([COMMAND + line])
+        answered = 0
+        size = 64
+        while answered < 20:
+            word = f"--pool={size}"
+            given = answers([COMMAND + line], word)
+            if given != wanted and (answered or not given[0].startswith("! full needed ")):
+                print(f"{line} in {word}: {given}")
+                return False
+            answered += given == wanted
+            if pool_and_bytes([COMMAND + line], word) != pool_and_bytes([], word):
+                print(f"{line} in {word}: the pool is another")
+                return False
+            size += 8
+        if size > room or answers([COMMAND + line], f"--pool={room + 16}") != wanted:
+            print(f"{line}: within {room} bytes")
+            return False
+    return True
+
+
+def check_interruptions():
+    """A line is interrupted by each of its checks, one for each node, with the pool as it was, and answered where none is
+    left."""
+    before = pool_and_bytes([])
+    for line, (nodes, _) in LINES.items():
+        wanted = answers([COMMAND + line])[0]
+        for after in range(nodes + 1):
+            given = answers([f":after {after}", COMMAND + line])[-1]
+            if given != (wanted if after == nodes else "! interrupted"):
+                print(f"{line} after {after}: {given}")
+                return False
+            if pool_and_bytes([f":after {after}", COMMAND + line]) != before:
+                return False
+    return True
+
+
+CHECKS = [check_answers, check_meanings, check_forms, check_overflows, check_pools, check_interruptions]
+
+
+if __name__ == "__main__":
+    sys.exit(run(CHECKS))
