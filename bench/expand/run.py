@@ -3,9 +3,9 @@
 
     bench/expand/run.py [PROGRAM] [RUNS]
 
-Each line is expanded 20 times by a process of its own; a time is the least of RUNS runs (3) of the wall time for one
-expansion, starting up left out: it is what a process takes that reads nothing. The ratio is the other program's time over this program's. The last lines name the highest powers of sums
-of names that the default pool holds.
+Each line is expanded 20 times by a process of its own. What is printed is the wall time of one expansion, starting up left
+out: the least of RUNS runs (3), less what a process takes that reads nothing. A ratio is the other program's time over this
+program's. The last lines name the highest powers of sums of names that the default pool holds.
 """
 import pathlib
 import shutil
