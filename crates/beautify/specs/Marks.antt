@@ -3,7 +3,7 @@ use Rattle.std.specs.Prelude.{ℕ, ◌≡◌, ◌+◌}
 use Rattle.beautify.specs.declared.marks.Mark.{Mark}
 use Rattle.tree_handles.specs.Forest.{Forest, first_trees, nodes_in, root_id, tree_nth}
 use Rattle.tree_handles.specs.Inside.{kids_of}
-use Rattle.tree_walks.specs.Orders.{IsNodeAt}
+use Rattle.tree_handles.specs.Orders.{IsNodeAt}
 
 -- so many nodes of the tree stand before the node
 abbrev pub IsMark : Mark → Forest → Type 0

@@ -7,8 +7,7 @@ ghost use Rattle.tree_handles.specs.Inside.{holds, kids_of, tree_at};
 ghost use Rattle.tree_handles.specs.Standing.{Stands, forest};
 
 use node_pool::{Id, Pool};
-use tree_handles::{child_id, tree_nodes};
-use tree_walks::node_behind;
+use tree_handles::{child_id, node_behind, tree_nodes};
 
 /// Marks stand at the multiples of this number, so that few steps lead from one to any node behind it.
 const MARK_DISTANCE: u32 = 256;

@@ -43,9 +43,6 @@ pub record IsCopied (f : Forest) (ms : List Node) : Type 0 where
   pub same : IsCopy f copy
   pub arity-is : arity copy ≡ arity f
 
-one_label : (m : Node) → Label
-one_label m = record { id = m.id; count = m.count; payload = m.payload }
-
 node_is : (m : Node) (k : Forest) → m.children ≡ arity k → m ≡ node_of (record { id = m.id; count = m.count; payload = m.payload }) k
 node_is m k e = ap (λ (c : ℕ). record m { children = c }) e
 

@@ -3,7 +3,7 @@ use Rattle.std.proofs.Common.{◌≡◌, ℕ, ◌-◌, ◌<◌, ◌≤◌, cond,
 use Rattle.std.proofs.lemmas.Bool.{ltb-true}
 use Rattle.tree_handles.specs.Forest.{Label, Forest, empty, tree, join, first_trees, rest_trees, kids, tree_nth, without_nth, with_nth, set_nth, AllNodes}
 use Rattle.tree_handles.specs.Inside.{holds, tree_at, with_kids, with_count_in, released, released_in}
-use Rattle.tree_handles.specs.Roots.{root_tree, without_root, put}
+use Rattle.tree_handles.specs.Roots.{root_tree, without_root}
 use Rattle.tree_handles.specs.Standing.{IsCounted}
 use Rattle.tree_handles.proofs.Forests.{all-join, all-first_trees, all-rest_trees}
 use Rattle.tree_handles.proofs.Outcomes.{by_test}
@@ -45,10 +45,6 @@ all-with_kids Q i n empty k h = tt
 all-with_kids Q i n (tree l c r) k h =
     by_test (λ t. AllNodes (λ l m. Q l) (cond t (tree l n r) (cond (holds i c) (tree l (with_kids i n c) r) (tree l c (with_kids i n r))))) (eqb l.id i) (λ e. (h.0, k, h.2))
     (λ e. by_test (λ t. AllNodes (λ l m. Q l) (cond t (tree l (with_kids i n c) r) (tree l c (with_kids i n r)))) (holds i c) (λ q. (h.0, all-with_kids Q i n c k h.1, h.2)) (λ q. (h.0, h.1, all-with_kids Q i n r k h.2)))
-
-pub all-put : (Q : Label → Type 0) (i : ℕ) (n f : Forest) → AllNodes (λ l m. Q l) n → AllNodes (λ l m. Q l) f → AllNodes (λ l m. Q l) (put i n f)
-all-put Q i n empty k h = tt
-all-put Q i n (tree l c r) k h = by_test (λ t. AllNodes (λ l m. Q l) (cond t (tree l n r) (tree l c (put i n r)))) (eqb l.id i) (λ e. (h.0, k, h.2)) (λ e. (h.0, h.1, all-put Q i n r k h.2))
 
 -- ---- each count is at least 1
 

@@ -142,10 +142,6 @@ pub nodes-flatten : (f : Forest) → length (flatten f) ≡ nodes_in f
 nodes-flatten empty = refl
 nodes-flatten (tree l k r) = omega (arith, length-append (flatten k) (flatten r), nodes-flatten k, nodes-flatten r)
 
-pub nodes_in-join : (f g : Forest) → nodes_in (join f g) ≡ nodes_in f + nodes_in g
-nodes_in-join empty g = omega arith
-nodes_in-join (tree l k r) g = omega (arith, nodes_in-join r g)
-
 pub bytes_in-join : (f g : Forest) → bytes_in (join f g) ≡ bytes_in f + bytes_in g
 bytes_in-join empty g = omega arith
 bytes_in-join (tree l k r) g = omega (arith, bytes_in-join r g)

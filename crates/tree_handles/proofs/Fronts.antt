@@ -67,6 +67,3 @@ front_after_one a k c = record { keeps = λ p s n. c.keeps p (k.keeps p s n) (a.
 
 pub front_after_two : {handed : List ℕ} {i j : ℕ} {f g h : Forest} → IsBehind i handed f → IsBehind j handed f → KeepsFront handed f g → KeepsFront (i ∷ j ∷ []) g h → KeepsFront handed f h
 front_after_two a b k c = record { keeps = λ p s n. c.keeps p (k.keeps p s n) (a.clear p s n, (b.clear p s n, tt)) }
-
-pub front_after_three : {handed : List ℕ} {i j l : ℕ} {f g h : Forest} → IsBehind i handed f → IsBehind j handed f → IsBehind l handed f → KeepsFront handed f g → KeepsFront (i ∷ j ∷ l ∷ []) g h → KeepsFront handed f h
-front_after_three a b d k c = record { keeps = λ p s n. c.keeps p (k.keeps p s n) (a.clear p s n, (b.clear p s n, (d.clear p s n, tt))) }

@@ -35,3 +35,4 @@ pub mod Visiting
 pub mod Depths
 pub mod Dropping
 pub mod Counting
+pub mod Orders

@@ -207,9 +207,6 @@ live_at i s h = at i (forest s) h
 pub live_node : (i : ℕ) (s : State) → Stands s → holds i (forest s) ≡ true → has i s.nodes ≡ true
 live_node i s st h = ap (has i) st.flat ∙ has-flatten i (forest s) ∙ h
 
-pub live_label : (i : ℕ) (s : State) → Stands s → has i s.nodes ≡ true → holds i (forest s) ≡ true
-live_label i s st h = sym (ap (has i) st.flat ∙ has-flatten i (forest s)) ∙ h
-
 -- the header of a child
 pub child_seen : (i n place : ℕ) (s : State) → Stands s → holds i (forest s) ≡ true → n < arity (kids_of i (forest s)) → IsBoundary place s.nodes → since place s.nodes ≡ skip n (drop 1 (since (place_of i s.nodes) s.nodes))
     → (place < used s.nodes) × ((first_of (since place s.nodes)).id ≡ root_id (rest_trees n (kids_of i (forest s))))
@@ -225,17 +222,6 @@ child_taken i n from end s st h lt b r be re =
     let p = live_at i s h in
     let k = kid_place i n from (forest s) s.nodes p st.flat (omega arith) b r in
     taken i n from end (forest s) s.nodes p st.flat lt k be re
-
--- the number of children that the header tells
-pub parent_seen : (i place : ℕ) (s : State) → Stands s → holds i (forest s) ≡ true → place ≡ place_of i s.nodes → (first_of (since place s.nodes)).children ≡ arity (kids_of i (forest s))
-parent_seen i place s st h e =
-    let p = live_at i s h in
-    let m = node_of p.label (kids_of i (forest s)) in
-    let rest = flatten (kids_of i (forest s)) ++ p.after in
-    let whole : s.nodes ≡ p.before ++ (m ∷ rest) = st.flat ∙ p.flat in
-    let at-parent : place ≡ used p.before = e ∙ ap (place_of i) whole ∙ place_of-append i p.before m rest p.first p.id-is in
-    let there : since place s.nodes ≡ m ∷ rest = ap (λ (k : ℕ). since k s.nodes) at-parent ∙ ap (since (used p.before)) whole ∙ since-append p.before (m ∷ rest) in
-    ap (λ (ns : List Node). (first_of ns).children) there
 
 pub counted_taken : (i n : ℕ) (s : State) → Stands s → AllNodes IsCounted (join (with_kids i (without_nth n (kids_of i (forest s))) (forest s)) (tree_nth n (kids_of i (forest s))))
 counted_taken i n s st =

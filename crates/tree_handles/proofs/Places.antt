@@ -1,9 +1,8 @@
 -- Bytes and places of the trees that stand first.
-use Rattle.std.proofs.Common.{◌≡◌, ℕ, ◌+◌, ◌-◌, List, [], ◌∷◌, ◌++◌, cond, eqb, replicate, refl, sym, ap, ◌∙◌, arith, append_assoc, true, false}
+use Rattle.std.proofs.Common.{◌≡◌, ℕ, ◌+◌, ◌-◌, List, [], ◌∷◌, ◌++◌, cond, eqb, refl, sym, ap, ◌∙◌, arith, true, false}
 use Rattle.calc_terms.specs.Node.{Node, size_of}
-use Rattle.node_pool.specs.Nodes.{encodings, has, place_of, used}
-use Rattle.node_pool.specs.State.{State, bytes_of, free_of}
-use Rattle.node_pool.proofs.Sizes.{encodings-append}
+use Rattle.node_pool.specs.Nodes.{has, place_of, used}
+use Rattle.node_pool.specs.State.{State, free_of}
 use Rattle.tree_handles.specs.Forest.{Forest, join, flatten, bytes_in}
 use Rattle.tree_handles.specs.Inside.{holds}
 use Rattle.tree_handles.specs.Standing.{Stands, forest}
@@ -16,13 +15,6 @@ used_forest s st = ap used st.flat ∙ bytes-flatten (forest s)
 
 pub free_forest : (s : State) → Stands s → free_of s ≡ s.size - bytes_in (forest s)
 free_forest s st = ap (λ (n : ℕ). s.size - n) (used_forest s st)
-
--- the pool's bytes begin with those of the first trees
-pub first_bytes : (s : State) (first behind : Forest) → Stands s → forest s ≡ join first behind → bytes_of s ≡ encodings (flatten first) ++ (encodings (flatten behind) ++ replicate (free_of s) 0)
-first_bytes s first behind st e =
-    let nodes : s.nodes ≡ flatten first ++ flatten behind = st.flat ∙ ap flatten e ∙ flatten-join first behind in
-    ap (λ (ns : List Node). encodings ns ++ replicate (free_of s) 0) nodes ∙ ap (λ (bs : List ℕ). bs ++ replicate (free_of s) 0) (encodings-append (flatten first) (flatten behind))
-    ∙ append_assoc (encodings (flatten first)) (encodings (flatten behind)) (replicate (free_of s) 0)
 
 place_of-left : (i : ℕ) (a b : List Node) → has i a ≡ true → place_of i (a ++ b) ≡ place_of i a
 place_of-left i [] b h = absurd cc

@@ -50,10 +50,6 @@ owed_start ns at b lt e = record {
   rest = refl;
 }
 
--- at the end
-pub owed_done : (ns : List Node) (at owed : ℕ) (end : List Node) → IsOwed ns at owed end → owed ≡ 0 → ns ≡ end
-owed_done ns at owed end o z = o.whole ∙ ap (λ (k : ℕ). o.before ++ flatten (release_first k o.trees)) (sym z) ∙ o.rest
-
 -- ---- laws of release
 
 released_step : (t : Bool) (l : Label) (k a b c d : Forest) → d ≡ join b c → cond t (tree l k d) (join a d) ≡ join (cond t (tree l k b) (join a b)) c
@@ -206,16 +202,10 @@ few_nodes s p = omega (arith, length_le_used s.nodes, p.fits, p.size.most)
 pub since-without : (place at : ℕ) (ns : List Node) → IsBoundary place ns → since place (without place at ns) ≡ since at ns
 since-without place at ns b = ap (λ (k : ℕ). since k (until place ns ++ since at ns)) (sym b) ∙ since-append (until place ns) (since at ns)
 
-pub until-without : (place at : ℕ) (ns : List Node) → IsBoundary place ns → until place (without place at ns) ≡ until place ns
-until-without place at ns b = ap (λ (k : ℕ). until k (until place ns ++ since at ns)) (sym b) ∙ until-append (until place ns) (since at ns)
-
 -- a node more goes
 pub without-without : (place at : ℕ) (n : Node) (ns rest : List Node) → IsBoundary place ns → since at ns ≡ n ∷ rest → without place (place + size_of n) (without place at ns) ≡ until place ns ++ rest
 without-without place at n ns rest b e =
     ap (λ (l : List Node). without place (place + size_of n) (until place ns ++ l)) e ∙ without-append (until place ns) (n ∷ []) rest place (place + size_of n) (sym b) (omega arith)
-
-pub without_none : (place : ℕ) (ns : List Node) → without place place ns ≡ ns
-without_none place ns = until-since place ns
 
 pub length-without : (place at : ℕ) (ns : List Node) → IsBoundary place ns → IsBoundary at ns → place ≤ at → length (without place at ns) ≤ length ns
 length-without place at ns a b h =

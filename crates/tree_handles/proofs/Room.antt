@@ -1,19 +1,15 @@
 -- Free bytes from call to call.
-use Rattle.std.proofs.Common.{◌≡◌, ℕ, ◌+◌, ◌≤◌, Bool, true, false, ap, arith}
+use Rattle.std.proofs.Common.{◌≡◌, ℕ, ◌+◌, ◌≤◌, true, ap, arith}
 use Rattle.calc_terms.specs.Trees.{Tree, num, symbol, undef, add, mult, power, root, neg, sub, div, size}
 use Rattle.calc_terms.proofs.Sizes.{num_least}
 use Rattle.calc_terms.specs.declared.kind.Kind.TheVariants as kind
-use Rattle.calc_terms.specs.Kind.{size_by_form}
 use Rattle.node_pool.specs.State.{State, free_of}
-use Rattle.node_pool.specs.declared.full.Full.{Full}
-use Rattle.tree_handles.specs.Causes.{LacksLongForm}
 use Rattle.tree_handles.specs.Expressions.{plain}
 use Rattle.tree_handles.specs.Forest.{Forest, tree, bytes_in}
 use Rattle.tree_handles.specs.Handed.{Gives, IsHanded}
 use Rattle.tree_handles.specs.Roots.{root_tree, without_root, has_root}
-use Rattle.tree_handles.specs.Standing.{Stands, forest, KeepsRefusals, IsRefused}
+use Rattle.tree_handles.specs.Standing.{Stands, forest, KeepsRefusals}
 use Rattle.tree_handles.proofs.Forests.{bytes_in-join}
-use Rattle.tree_handles.proofs.Given.{given_told}
 use Rattle.tree_handles.proofs.Lasts.{last_tree}
 use Rattle.tree_handles.proofs.Places.{used_forest}
 use Rattle.tree_handles.proofs.Plains.{size-plain}
@@ -23,10 +19,6 @@ use Rattle.tree_handles.proofs.Roots.{top, root_arity}
 pub given_free : {s t : State} {i : ℕ} {Told : Tree → Type 0} → Stands s → Stands t → KeepsRefusals s t → Gives (forest s) (forest t) i Told → free_of s ≡ free_of t + size (plain (root_tree i (forest t)))
 given_free {s = s} {t = t} {i = i} h k r g =
     omega (arith, used_forest s h, used_forest t k, r.size, h.pool.fits, k.pool.fits, ap bytes_in g.ends.whole, bytes_in-join (forest s) g.tree, size-plain g.tree g.ends.alone g.whole, ap (λ (x : Forest). size (plain x)) (last_tree g.ends))
-
--- what is left behind a new tree
-pub left_after : {s t : State} {i : ℕ} {u : Tree} (n : ℕ) → Stands s → Stands t → KeepsRefusals s t → Gives (forest s) (forest t) i (λ x. x ≡ u) → n + size u ≤ free_of s → n ≤ free_of t
-left_after n h k r g room = omega (arith, given_free h k r g, ap size (given_told g))
 
 -- the bytes of a forest are those of a root's tree and of the others
 bytes_in-root : (i : ℕ) (f : Forest) → has_root i f ≡ true → bytes_in f ≡ bytes_in (root_tree i f) + bytes_in (without_root i f)
@@ -51,8 +43,3 @@ least_size (root a) = omega arith
 least_size (neg a) = omega arith
 least_size (sub a b) = omega arith
 least_size (div a b) = omega arith
-
--- where the bytes of a short number are free, only the long form lacks some
-pub long_lacking : (b : Bool) {s t : State} {full : Full} → IsRefused (size_by_form kind.Num b) s t full → 16 ≤ free_of s → LacksLongForm full
-long_lacking true {s = s} {full = full} r h = absurd (omega (arith, r.lacks.lacking, ap (λ (f : Full). f.needed) r.told, ap (λ (f : Full). f.free) r.told))
-long_lacking false r h = ap (λ (f : Full). f.needed) r.told

@@ -105,10 +105,6 @@ visit_by h i = record { kind = h.kind; id = i; children = h.children }
 pub visit_told : {h : Header} {i : ℕ} (n : Node) → h ≡ header_of n → i ≡ h.id → visit_by h i ≡ visit_of n
 visit_told {h = h} n e q = ap (visit_by h) q ∙ ap (λ (x : Header). visit_by x x.id) e
 
--- no tree is left
-pub walk_end : (owed : ℕ) (f : Forest) → owed ≡ 0 → visits_of (first_trees owed f) ≡ []
-walk_end owed f e = ap (λ (n : ℕ). visits_of (first_trees n f)) e
-
 -- ---- the caller's side
 
 -- the next visit is that of the first tree's root, and those of its children and of the other trees are left

@@ -1,5 +1,5 @@
 -- Steps over nodes.
-use Rattle.std.proofs.Common.{◌≡◌, ℕ, zero, suc, ◌+◌, ◌-◌, ◌<◌, ◌≤◌, List, [], ◌∷◌, refl, sym, ap, ◌∙◌, arith}
+use Rattle.std.proofs.Common.{◌≡◌, ℕ, zero, suc, ◌+◌, ◌-◌, ◌<◌, ◌≤◌, List, [], ◌∷◌, refl, sym, ap, ◌∙◌}
 use Rattle.calc_terms.specs.declared.leaf.Header.{Header}
 use Rattle.calc_terms.specs.Node.{Node, size_of, header_of, size_of_header}
 use Rattle.node_pool.specs.Nodes.{used, first_of}
@@ -11,16 +11,6 @@ use Rattle.tree_handles.specs.Walks.{skip}
 -- the size that a header tells
 pub size_at : (s : State) (at size : ℕ) (h : Header) → h ≡ header_of (first_of (since at s.nodes)) → size ≡ size_of_header h → size ≡ size_of (first_of (since at s.nodes))
 size_at s at size h e q = q ∙ ap size_of_header e
-
--- one node of the trees that are owed
-pub owed_more : (ns : List Node) (at next owed children : ℕ) (h : Header) → 0 < owed → since at ns ≡ first_of (since at ns) ∷ since next ns → h ≡ header_of (first_of (since at ns)) → children ≡ h.children
-    → skip owed (since at ns) ≡ skip (owed - 1 + children) (since next ns)
-owed_more ns at next owed children h some e q k =
-    let n = first_of (since at ns) in
-    let one : owed ≡ suc (owed - 1) = omega arith in
-    let c : n.children ≡ children = sym (ap (λ (x : Header). x.children) q) ∙ sym k in
-    let split : skip owed (since at ns) ≡ skip (suc (owed - 1)) (n ∷ since next ns) = ap (skip owed) e ∙ ap (λ (j : ℕ). skip j (n ∷ since next ns)) one in
-    split ∙ ap (λ (j : ℕ). skip (owed - 1 + j) (since next ns)) c
 
 skip_nil : (k : ℕ) → skip k [] ≡ []
 skip_nil zero = refl

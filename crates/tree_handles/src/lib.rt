@@ -1,6 +1,7 @@
 //! Trees in a pool, held by handles.
 #![tactic(auto)]
 
+mod behind;
 mod building;
 mod copy;
 mod counts;
@@ -15,6 +16,7 @@ mod undef;
 mod visits;
 mod walk;
 
+pub use behind::node_behind;
 pub use building::{node_over, node_over_last, node_over_two};
 pub use copy::copy_tree;
 pub use counts::{child, retain};

@@ -81,7 +81,8 @@ pub fn child_id(pool: &Pool, parent: Id, at: u16) -> Id
     Id::of(pool.header(place).id)
 }
 
-/// The header of a node.
+/// The header of a node. It is inlined, so that a caller decodes only the fields that it uses.
+#[inline(always)]
 pub(crate) fn header(pool: &Pool, id: Id) -> Header
     requires stands { Stands pool.now }
     requires live { holds id (forest pool.now) ≡ true }

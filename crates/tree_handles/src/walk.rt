@@ -9,7 +9,9 @@ ghost use Rattle.tree_handles.specs.Walks.{skip};
 use calc_terms::Header;
 use node_pool::{Id, Pool};
 
-/// The header at a place, and the place behind its node.
+/// The header at a place, and the place behind its node. It is inlined, so that a caller decodes only the fields that it
+/// uses.
+#[inline(always)]
 pub fn step(pool: &Pool, at: u32) -> (Header, u32)
     requires boundary { IsBoundary at pool.now.nodes }
     requires inside { at < used pool.now.nodes }

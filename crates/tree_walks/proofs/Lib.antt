@@ -6,4 +6,3 @@ pub mod Chunks
 pub mod Levels
 pub mod Searches
 pub mod Composing
-pub mod Orders

@@ -1,4 +1,3 @@
 pub mod Replacing
 pub mod Walks
-pub mod Orders
 pub mod Laws

@@ -1,15 +1,12 @@
 //! Walks over the nodes of whole trees.
 #![tactic(auto)]
 
-mod behind;
 mod depth;
 mod laws;
 mod leaves;
 mod replacing;
 mod searching;
-mod walk;
 
-pub use behind::node_behind;
 pub use depth::{DEPTH_LIMIT, is_deeper};
 pub use laws::{names_occur, names_of_replaced, replaced_bytes, replaced_where_absent};
 pub use replacing::replace_name;

@@ -1,34 +1,31 @@
 //! Walks over differences that are told by their leaves: `xy7` is the tree of `x-y-7`, and `---xy7#` its kinds in prefix order.
 ghost use Rattle.std.specs.Prelude.{◌≡◌, ◌<◌, length, IfOk, ⊤, true};
-ghost use Rattle.calc_terms.specs.Leaf.{name_of};
-ghost use Rattle.node_pool.specs.Nodes.{used, first_of};
-ghost use Rattle.node_pool.specs.Places.{since, IsBoundary};
+ghost use Rattle.calc_terms.specs.Payload.{kind_of_payload};
 ghost use Rattle.node_pool.specs.State.{IsPoolSize};
 ghost use Rattle.tree_handles.specs.Expressions.{IsExpression};
 ghost use Rattle.tree_handles.specs.Handed.{Gives};
-ghost use Rattle.tree_handles.specs.Inside.{holds};
+ghost use Rattle.tree_handles.specs.Inside.{holds, payload_in};
 ghost use Rattle.tree_handles.specs.Standing.{Stands, forest};
-ghost use Rattle.tree_walks.specs.Walks.{has_name};
 
 use super::*;
-use crate::walk::step;
+use crate::leaves::is_leaf_of;
 use calc_terms::{Kind, Name, Rat};
 use node_pool::{Full, Id, Pool};
 use std::alloc::{AllocError, Global};
 use std::test::Fail;
 use tree_handles::{
-    Handle, count_trees, node_over, node_over_two, nodes_of as walk, number, symbol, tree_nodes,
+    Handle, Visit, count_trees, node_over, node_over_two, nodes_of, number, symbol,
 };
 
-/// The leaves of a tree, in which `x` is replaced by the tree of other leaves, and what the pool holds then.
+/// The leaves of a tree, in which `x` is replaced by the tree of other leaves, and the nodes of the answer.
 const REPLACED: &str = "\
-x 7y = -#y-#y\n\
-x y = yy\n\
-xyx 7y = -#y---#yy-#y\n\
-xxx y = y--yyy\n\
-yx7 xx = -xx--y-xx#\n\
-y7 xx = -xx-y#\n\
-xy x = x-xy";
+x 7y = -#y\n\
+x y = y\n\
+xyx 7y = ---#yy-#y\n\
+xxx y = --yyy\n\
+yx7 xx = --y-xx#\n\
+y7 xx = -y#\n\
+xy x = -xy";
 
 /// A pool with no tree in it.
 fn opened(alloc: Global, size: u32) -> Result<Pool, AllocError>
@@ -94,36 +91,32 @@ fn opposites(pool: &mut Pool, name: Name, signs: u32) -> Result<Handle, Full>
     Ok(tree)
 }
 
-/// Whether the node at a place is a leaf of a name.
-fn is_named(pool: &Pool, at: u32, name: Name) -> bool
-    requires boundary { IsBoundary at pool.now.nodes }
-    requires inside { at < used pool.now.nodes }
-    ensures { result ≡ has_name (name_of name) (first_of (since at pool.now.nodes)).payload }
+/// The letter of a node: that of one of two names, `#` for a number, `-` for another node.
+fn letter_of(pool: &Pool, node: Visit, names: [Name; 2]) -> u8
+    requires stands { Stands pool.now }
+    requires live { holds node.id (forest pool.now) ≡ true }
+    requires kind { node.kind ≡ kind_of_payload (payload_in node.id (forest pool.now)) }
 {
-    let header = pool.header(at);
-    match header.kind {
-        Kind::Sym => pool.name(Id::of(header.id)).bytes() == name.bytes(),
-        _ => false,
+    if is_leaf_of(pool, node.id, node.kind, names[0]) {
+        return b'x';
+    }
+    if is_leaf_of(pool, node.id, node.kind, names[1]) {
+        return b'y';
+    }
+    match node.kind {
+        Kind::Num => b'#',
+        _ => b'-',
     }
 }
 
-/// The letters of the nodes in prefix order.
-fn nodes_of(alloc: Global, pool: &Pool, names: [Name; 2]) -> Result<Vec<u8>, AllocError> {
+/// The letters of a tree's nodes in prefix order.
+fn letters_of(alloc: Global, pool: &Pool, tree: Id, names: [Name; 2]) -> Result<Vec<u8>, AllocError>
+    requires stands { Stands pool.now }
+    requires live { holds tree (forest pool.now) ≡ true }
+{
     let mut letters = Vec::new(alloc);
-    let mut at = 0;
-    while at < pool.used() {
-        let (header, next) = step(pool, at);
-        let letter = if is_named(pool, at, names[0]) {
-            b'x'
-        } else if is_named(pool, at, names[1]) {
-            b'y'
-        } else if header.kind == Kind::Num {
-            b'#'
-        } else {
-            b'-'
-        };
-        letters.push(letter)?;
-        at = next;
+    for node in nodes_of(pool, tree) {
+        letters.push(letter_of(pool, node, names))?;
     }
     Ok(letters)
 }
@@ -141,9 +134,11 @@ fn first_other(alloc: Global, table: &str, names: [Name; 2]) -> Result<Option<us
             return Ok(Some(place));
         }
         let mut pool = opened(alloc, 512)?;
-        let answer = substituted(&mut pool, leaves.as_bytes(), names[0], source.as_bytes());
-        let found = nodes_of(alloc, &pool, names)?;
-        if answer.is_err() || found.as_slice() != nodes.as_bytes() || count_trees(&pool) != 2 {
+        let Ok(tree) = substituted(&mut pool, leaves.as_bytes(), names[0], source.as_bytes()) else {
+            return Ok(Some(place));
+        };
+        let found = letters_of(alloc, &pool, tree.id(), names)?;
+        if found.as_slice() != nodes.as_bytes() || count_trees(&pool) != 2 {
             return Ok(Some(place));
         }
     }
@@ -165,13 +160,12 @@ fn many_leaves_become_copies(rt: HostRuntime) -> Result<(), Fail> {
     let x = Name::read(b"x").expect(&rt, "x is a name");
     let y = Name::read(b"y").expect(&rt, "y is a name");
     let mut pool = opened(rt.alloc(), 32768)?;
-    let answer = substituted(&mut pool, &[b'x'; 600], x, b"xx");
-    let found = nodes_of(rt.alloc(), &pool, [x, y])?;
-    assert!(rt; answer.is_ok());
-    assert_eq!(rt; found.len(), 3 + 599 + 3 * 600);
+    let tree = substituted(&mut pool, &[b'x'; 600], x, b"xx").expect(&rt, "it fits");
+    let found = letters_of(rt.alloc(), &pool, tree.id(), [x, y])?;
+    assert_eq!(rt; found.len(), 599 + 3 * 600);
     assert_eq!(rt;
         found.iter().filter(|letter| **letter == b'x').count(),
-        2 + 2 * 600
+        2 * 600
     );
     assert!(rt; found.ends_with(b"-xx-xx-xx"));
     Ok(())
@@ -204,29 +198,6 @@ fn names_are_found_in_their_tree(rt: HostRuntime) -> Result<(), Fail> {
     let tree = substituted(&mut pool, b"7x7", x, b"77y").expect(&rt, "it fits");
     assert!(rt; holds_name(&pool, tree.id(), y));
     assert!(rt; !holds_name(&pool, tree.id(), x));
-    Ok(())
-}
-
-/// Whether each node of a tree stands as many steps behind the root as a walk over the tree comes to it.
-fn are_behind_root(pool: &Pool, tree: Id) -> bool
-    requires stands { Stands pool.now }
-    requires live { holds tree (forest pool.now) ≡ true }
-{
-    for steps in 0..tree_nodes(pool, tree) {
-        match walk(pool, tree).nth(steps as usize) {
-            Some(node) if node.id == node_behind(pool, tree, steps) => {}
-            _ => return false,
-        }
-    }
-    true
-}
-
-#[test]
-fn nodes_stand_behind_their_root(rt: HostRuntime) -> Result<(), Fail> {
-    let x = Name::read(b"x").expect(&rt, "x is a name");
-    let mut pool = opened(rt.alloc(), 512)?;
-    let tree = substituted(&mut pool, b"7x7x", x, b"77y").expect(&rt, "it fits");
-    assert!(rt; are_behind_root(&pool, tree.id()));
     Ok(())
 }
 

@@ -13,7 +13,7 @@ use Rattle.tree_handles.specs.Standing.{Stands, forest}
 use Rattle.tree_handles.proofs.Distinct.{not_before}
 use Rattle.tree_handles.proofs.Forests.{nodes-flatten}
 use Rattle.tree_handles.proofs.Parts.{at, has_mid, is_before, live_at}
-use Rattle.tree_walks.specs.Orders.{IsNodeAt, HasBehind}
+use Rattle.tree_handles.specs.Orders.{IsNodeAt, HasBehind}
 
 pub split_at : (n : ℕ) (ns : List Node) → n < length ns → (take n ns ++ (first_of (drop n ns) ∷ drop (suc n) ns) ≡ ns) × (drop n ns ≡ first_of (drop n ns) ∷ drop (suc n) ns)
 split_at n [] h = absurd (omega (arith, h))

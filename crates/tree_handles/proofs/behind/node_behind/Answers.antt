@@ -5,8 +5,8 @@ use Rattle.node_pool.specs.Nodes.{first_of}
 use Rattle.tree_handles.specs.Forest.{flatten}
 use Rattle.tree_handles.specs.Inside.{tree_at}
 use Rattle.tree_handles.specs.Standing.{forest}
-use Rattle.tree_walks.proofs.Orders.{IsBehind, found, walked, walk_more}
-use Rattle.tree_walks.proofs.behind.node_behind.Goals as goal
+use Rattle.tree_handles.proofs.Orders.{IsBehind, found, walked, walk_more}
+use Rattle.tree_handles.proofs.behind.node_behind.Goals as goal
 
 pub locate-at-requires : goal.locate-at-requires
 locate-at-requires c = let w = c.requires.within in (found c.args.pool.now c.requires.stands w.2).live

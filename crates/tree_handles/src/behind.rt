@@ -1,7 +1,7 @@
 //! Nodes that stand behind others.
 ghost use Rattle.std.specs.Prelude.{◌+◌, ℕ};
 ghost use Rattle.tree_handles.specs.Standing.{Stands, forest};
-ghost use Rattle.tree_walks.specs.Orders.{IsNodeAt, HasBehind};
+ghost use Rattle.tree_handles.specs.Orders.{IsNodeAt, HasBehind};
 
 use crate::walk::step;
 use node_pool::{Id, Pool};
