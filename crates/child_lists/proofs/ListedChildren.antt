@@ -1,11 +1,10 @@
 -- Lists of children, and what changes of the node do to them.
-use Rattle.std.proofs.Common.{◌≡◌, ℕ, zero, suc, ◌<◌, ◌≤◌, List, [], ◌∷◌, ◌++◌, true, get_or, length, refl, sym, ap, ◌∙◌, subst, arith}
+use Rattle.std.proofs.Common.{◌≡◌, ℕ, zero, suc, ◌<◌, ◌≤◌, List, [], ◌∷◌, ◌++◌, Bool, true, false, if◌then◌else◌, ltb, leb, get_or, length, refl, sym, ap, ◌∙◌, subst, arith}
 use Rattle.std.specs.List.{insert, remove}
-use Rattle.std.specs.Prelude.{slice_set}
+use Rattle.std.specs.Prelude.{Option, Some, None, slice_set}
 use Rattle.calc_terms.specs.Trees.{Tree, count}
 use Rattle.node_pool.specs.State.{State}
-use Rattle.child_lists.specs.Lists.{Lists}
-use Rattle.child_lists.specs.declared.list.ChildList.{ChildList}
+use Rattle.child_lists.specs.Lists.{Lists, told, listed, with_child, with_other, without_child}
 use Rattle.tree_handles.specs.Children.{root_ids}
 use Rattle.tree_handles.specs.Forest.{Label, Forest, empty, tree, arity, root_id, kids, with_nth, without_nth, set_nth, tree_nth}
 use Rattle.tree_handles.specs.Handed.{Gives, IsHanded}
@@ -15,6 +14,7 @@ use Rattle.tree_handles.specs.Roots.{has_root, root_tree, put}
 use Rattle.tree_handles.specs.Standing.{Stands, forest}
 use Rattle.tree_handles.proofs.Given.{given_other, given_same}
 use Rattle.tree_handles.proofs.Lasts.{kids_of_root}
+use Rattle.tree_handles.proofs.Outcomes.{by_test}
 use Rattle.tree_handles.proofs.Plains.{children_of-plain, count-plains}
 use Rattle.tree_handles.proofs.Roots.{root-put, kids-put}
 
@@ -22,9 +22,49 @@ pub end_none : (xs : List ℕ) → xs ++ [] ≡ xs
 end_none [] = refl
 end_none (x ∷ xs) = ap (λ ys. x ∷ ys) (end_none xs)
 
+-- ---- what a list tells of a node
+
+-- of another node, with the same children
+pub lists_with : {l : Option (List ℕ)} {i j : ℕ} {f g : Forest} → root_ids (kids_of i f) ≡ root_ids (kids_of j g) → Lists l i f → Lists l j g
+lists_with e h = record { ids-are = λ ids k. h.ids-are ids k ∙ e }
+
 -- read by another name of the node
-pub lists_at : {N : ℕ} (l : ChildList N) (i j : ℕ) (f : Forest) → j ≡ i → Lists l i f → Lists l j f
-lists_at l i j f e h = subst (λ k. Lists l k f) (sym e) h
+pub lists_at : {l : Option (List ℕ)} {i j : ℕ} {f : Forest} → j ≡ i → Lists l i f → Lists l j f
+lists_at {f = f} e h = lists_with (ap (λ (k : ℕ). root_ids (kids_of k f)) (sym e)) h
+
+told_some : (b : Bool) (ids is : List ℕ) → told b ids ≡ Some is → ids ≡ is
+told_some true ids is e = cc
+told_some false ids is e = absurd cc
+
+pub lists_listed : {l : Option (List ℕ)} {i : ℕ} {f : Forest} (n : ℕ) → l ≡ listed n (root_ids (kids_of i f)) → Lists l i f
+lists_listed {i = i} {f = f} n e = let all = root_ids (kids_of i f) in record { ids-are = λ ids k. sym (told_some (leb (length all) n) all ids (sym e ∙ k)) }
+
+pub lists_none : {l : Option (List ℕ)} {i : ℕ} {f : Forest} → l ≡ Some [] → root_ids (kids_of i f) ≡ [] → Lists l i f
+lists_none e none = record { ids-are = λ ids k. sym (told_some true [] ids (sym e ∙ k)) ∙ sym none }
+
+pub lists_more : {l m : Option (List ℕ)} {i : ℕ} {f g : Forest} (n at id : ℕ) → m ≡ with_child n at id l → Lists l i f → root_ids (kids_of i g) ≡ insert (root_ids (kids_of i f)) at id → Lists m i g
+lists_more {l = l} {i = i} {f = f} {g = g} n at id e h new = record { ids-are = λ is k. by l h.ids-are is (sym e ∙ k) }
+  where
+    by : (l : Option (List ℕ)) → ((ids : List ℕ) → l ≡ Some ids → ids ≡ root_ids (kids_of i f)) → (is : List ℕ) → with_child n at id l ≡ Some is → is ≡ root_ids (kids_of i g)
+    by None h is k = absurd cc
+    by (Some ids) h is k = by_test (λ b. (if b then listed n (insert ids at id) else None) ≡ Some is → is ≡ root_ids (kids_of i g)) (leb at (length ids))
+        (λ q r. sym (told_some (leb (length (insert ids at id)) n) (insert ids at id) is r) ∙ ap (λ (xs : List ℕ). insert xs at id) (h ids refl) ∙ sym new) (λ q r. absurd cc) k
+
+pub lists_other : {l m : Option (List ℕ)} {i : ℕ} {f g : Forest} (at id : ℕ) → m ≡ with_other at id l → Lists l i f → root_ids (kids_of i g) ≡ slice_set (root_ids (kids_of i f)) at id → Lists m i g
+lists_other {l = l} {i = i} {f = f} {g = g} at id e h new = record { ids-are = λ is k. by l h.ids-are is (sym e ∙ k) }
+  where
+    by : (l : Option (List ℕ)) → ((ids : List ℕ) → l ≡ Some ids → ids ≡ root_ids (kids_of i f)) → (is : List ℕ) → with_other at id l ≡ Some is → is ≡ root_ids (kids_of i g)
+    by None h is k = absurd cc
+    by (Some ids) h is k = sym (told_some (ltb at (length ids)) (slice_set ids at id) is k) ∙ ap (λ (xs : List ℕ). slice_set xs at id) (h ids refl) ∙ sym new
+
+pub lists_less : {l m : Option (List ℕ)} {i : ℕ} {f g : Forest} (at : ℕ) → m ≡ without_child at l → Lists l i f → root_ids (kids_of i g) ≡ remove (root_ids (kids_of i f)) at → Lists m i g
+lists_less {l = l} {i = i} {f = f} {g = g} at e h new = record { ids-are = λ is k. by l h.ids-are is (sym e ∙ k) }
+  where
+    by : (l : Option (List ℕ)) → ((ids : List ℕ) → l ≡ Some ids → ids ≡ root_ids (kids_of i f)) → (is : List ℕ) → without_child at l ≡ Some is → is ≡ root_ids (kids_of i g)
+    by None h is k = absurd cc
+    by (Some ids) h is k = sym (told_some (ltb at (length ids)) (remove ids at) is k) ∙ ap (λ (xs : List ℕ). remove xs at) (h ids refl) ∙ sym new
+
+-- ---- children and their identifiers
 
 pub children_number : (i : ℕ) (f : Forest) → IsExpression i f → arity (kids_of i f) ≡ count (children_of (plain (tree_at i f)))
 children_number i f h = sym (ap count (children_of-plain (tree_at i f) h.whole) ∙ count-plains (kids (tree_at i f)))
@@ -94,8 +134,8 @@ ids_exchanged i at s t c u st tt' r q one within new =
     ap root_ids (new_kids i t (set_nth at c k) u tt' q new) ∙ ids_other at c k one (subst (λ (f : Forest). at < arity f) same within) ∙ sym (ap (λ (f : Forest). slice_set (root_ids f) at (root_id c)) same)
 
 -- the children of a root beside another one stay
-pub lists_kept : {N : ℕ} {g : Forest} {i : ℕ} {P Q : Tree → Type 0} (l : ChildList N) (j : ℕ) (s t : State) → Stands s → Stands t → Gives g (forest s) i P → Gives g (forest t) i Q → IsHanded j g → Lists l j (forest s) → Lists l j (forest t)
-lists_kept {N} {g} {i} l j s t st tt' p q h lists w = lists w ∙ ap root_ids (kept s st p ∙ sym (kept t tt' q))
+pub lists_kept : {g : Forest} {i : ℕ} {P Q : Tree → Type 0} {l : Option (List ℕ)} (j : ℕ) (s t : State) → Stands s → Stands t → Gives g (forest s) i P → Gives g (forest t) i Q → IsHanded j g → Lists l j (forest s) → Lists l j (forest t)
+lists_kept {g} {i} j s t st tt' p q h lists = lists_with (ap root_ids (kept s st p ∙ sym (kept t tt' q))) lists
   where
     kept : {R : Tree → Type 0} (u : State) → Stands u → Gives g (forest u) i R → kids_of j (forest u) ≡ kids (root_tree j g)
     kept u su r = kids_of_root j su (given_other r h).root ∙ ap kids (given_same j r h.root)

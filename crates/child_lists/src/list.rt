@@ -1,15 +1,15 @@
 //! The list of a node's children.
-ghost use Rattle.std.specs.Prelude.{◌≡◌, ◌<◌, ℕ, [], insert, remove, slice_set};
+ghost use Rattle.std.specs.Prelude.{◌≡◌, ◌<◌, Some, []};
 ghost use Rattle.calc_terms.specs.Trees.{count};
-ghost use Rattle.child_lists.specs.Lists.{Lists};
+ghost use Rattle.child_lists.specs.Lists.{Lists, listed, with_child, with_other, without_child};
 ghost use Rattle.tree_handles.specs.Children.{IsChildAt, root_ids};
 ghost use Rattle.tree_handles.specs.Expressions.{IsExpression, nth, plain, children_of};
-ghost use Rattle.tree_handles.specs.Forest.{Forest};
 ghost use Rattle.tree_handles.specs.Inside.{kids_of, tree_at};
 ghost use Rattle.tree_handles.specs.Standing.{Stands, forest};
 
 use arrayvec::ArrayVec;
 use node_pool::{Id, Pool};
+use std::marker::Model;
 use tree_handles::{child_id, child_ids};
 
 /// No child is listed: a few are soon found by steps.
@@ -29,10 +29,19 @@ pub struct ChildList<const N: usize> {
     whole: bool,
 }
 
+impl<const N: usize> Model for ChildList<N> {
+    ghost use Rattle.std.specs.Prelude.{ℕ, List, Option};
+    ghost use Rattle.child_lists.specs.Lists.{told};
+
+    ghost Value = { Option (List ℕ) };
+
+    ghost view = { λ l. told l.whole l.ids.items };
+}
+
 impl<const N: usize> ChildList<N> {
     /// The list of a node without children.
     pub fn new() -> ChildList<N>
-        ensures { (parent : ℕ) (f : Forest) → root_ids (kids_of parent f) ≡ [] → Lists result parent f }
+        ensures { result ≡ Some [] }
     {
         ChildList {
             ids: ArrayVec::new(),
@@ -44,7 +53,7 @@ impl<const N: usize> ChildList<N> {
     pub fn of(pool: &Pool, parent: Id) -> ChildList<N>
         requires stands { Stands pool.now }
         requires expression { IsExpression parent (forest pool.now) }
-        ensures { Lists result parent (forest pool.now) }
+        ensures { result ≡ listed N (root_ids (kids_of parent (forest pool.now))) }
     {
         let mut ids = ArrayVec::new();
         for id in child_ids(pool, parent, 0) {
@@ -77,7 +86,7 @@ impl<const N: usize> ChildList<N> {
 
     /// A child came to a place.
     pub fn insert(&mut self, at: u16, id: Id)
-        ensures { (parent : ℕ) (f g : Forest) → Lists self.old parent f → root_ids (kids_of parent g) ≡ insert (root_ids (kids_of parent f)) at id → Lists self.new parent g }
+        ensures { self.new ≡ with_child N at id self.old }
     {
         let place = usize::from(at);
         if self.whole && place <= self.ids.len() && !self.ids.is_full() {
@@ -89,7 +98,7 @@ impl<const N: usize> ChildList<N> {
 
     /// Another child came in the place of one.
     pub fn set(&mut self, at: u16, id: Id)
-        ensures { (parent : ℕ) (f g : Forest) → Lists self.old parent f → root_ids (kids_of parent g) ≡ slice_set (root_ids (kids_of parent f)) at id → Lists self.new parent g }
+        ensures { self.new ≡ with_other at id self.old }
     {
         let ids = self.ids.as_mut_slice();
         let place = usize::from(at);
@@ -102,7 +111,7 @@ impl<const N: usize> ChildList<N> {
 
     /// The child at a place was taken out.
     pub fn remove(&mut self, at: u16)
-        ensures { (parent : ℕ) (f g : Forest) → Lists self.old parent f → root_ids (kids_of parent g) ≡ remove (root_ids (kids_of parent f)) at → Lists self.new parent g }
+        ensures { self.new ≡ without_child at self.old }
     {
         let place = usize::from(at);
         if self.whole && place < self.ids.len() {

@@ -2,7 +2,7 @@ use Rattle.std.proofs.Common.{◌≡◌, ℕ, inl, sym, ap, ◌∙◌, subst, ar
 use Rattle.calc_algebra.specs.Numbers.{is_number, value}
 use Rattle.calc_algebra.proofs.SquareClassLaws.{Same-trans}
 use Rattle.calc_algebra.proofs.TermLaws.{Same-append, Same-eq}
-use Rattle.child_lists.proofs.ListedChildren.{lists_at}
+use Rattle.child_lists.proofs.ListedChildren.{lists_at, lists_listed}
 use Rattle.number_forms.proofs.SumChanges.{read_expression}
 use Rattle.number_forms.proofs.Loops.{other_plain, gives_without, gives_rest, kept_after}
 use Rattle.number_forms.proofs.Denominators.{shares_eq}
@@ -60,7 +60,7 @@ returns-in_err-number_of-clause-room g c = λ gs s t.
     (few_for_sum gs _ (subst (λ (n : ℕ). n < 40) free c.in_err-number_of.ensures.room))
 
 pub join_terms-requires : goal.join_terms-requires
-join_terms-requires g c = (omega (arith, c.requires.few), (c.in_ok-sum.ensures.stands, (gives_rest c.in_ok-sum.ensures.ok (λ t h. h.sum), (lists_at {N = g.row.N} _ _ _ _ (sym c.id.ensures) c.of-list.ensures, (subst (λ (i : ℕ). IsHanded i (without_root c.in_ok-sum.sum (forest c.sum_over.new.pool))) (sym c.id-2.ensures) (handed_at (handed_beside c.args.a c.requires.apart c.requires.second) (given_rest c.in_ok-sum.ensures.ok)), (let beside = handed_beside c.args.a c.requires.apart c.requires.second in let same = other_plain c.args.b c.in_ok-sum.ensures.ok beside.root ∙ ap plain (tree-without c.args.a c.args.b (forest c.args.pool.now) c.requires.apart) in ap (λ (i : ℕ). is_number (tree_of i c.sum_over.new.pool)) c.id-2.ensures ∙ ap is_number same ∙ c.requires.second_number))))))
+join_terms-requires g c = (omega (arith, c.requires.few), (c.in_ok-sum.ensures.stands, (gives_rest c.in_ok-sum.ensures.ok (λ t h. h.sum), (lists_at (sym c.id.ensures) (lists_listed _ c.of-list.ensures), (subst (λ (i : ℕ). IsHanded i (without_root c.in_ok-sum.sum (forest c.sum_over.new.pool))) (sym c.id-2.ensures) (handed_at (handed_beside c.args.a c.requires.apart c.requires.second) (given_rest c.in_ok-sum.ensures.ok)), (let beside = handed_beside c.args.a c.requires.apart c.requires.second in let same = other_plain c.args.b c.in_ok-sum.ensures.ok beside.root ∙ ap plain (tree-without c.args.a c.args.b (forest c.args.pool.now) c.requires.apart) in ap (λ (i : ℕ). is_number (tree_of i c.sum_over.new.pool)) c.id-2.ensures ∙ ap is_number same ∙ c.requires.second_number))))))
 
 pub returns-in_err-join_terms-clause-front : goal.returns-in_err-join_terms-clause-front
 returns-in_err-join_terms-clause-front g c =

@@ -3,7 +3,7 @@ use Rattle.std.specs.Prelude.{slice_get}
 use Rattle.calc_algebra.specs.Numbers.{is_number, value, classes}
 use Rattle.calc_terms.specs.Trees.{Tree, size}
 use Rattle.calc_algebra.proofs.TermLaws.{Same-refl}
-use Rattle.child_lists.proofs.ListedChildren.{lists_kept}
+use Rattle.child_lists.proofs.ListedChildren.{lists_kept, lists_listed}
 use Rattle.number_forms.proofs.Loops.{joined_none, joined_more, joined_all, from_all, other_plain, other_read, other_expression, gives_rest}
 use Rattle.number_forms.proofs.Worth.{terms_from, from_next}
 use Rattle.tree_handles.specs.Handed.{tree_of}
@@ -36,7 +36,7 @@ pub loop-at-init : goal.loop-at-init
 loop-at-init g c = record { joined = joined_none c.args.sum.now (value (tree_of c.args.number c.args.pool.now)) c.args.pool.now c.requires.stands c.requires.sum; lists = c.requires.lists }
 
 pub listed_term-term-requires : goal.listed_term-term-requires
-listed_term-term-requires g c = (search rules, (c.loop-at.invariant.joined.stands, (other_expression c.args.number c.loop-at.pool c.loop-at.invariant.joined.stands c.loop-at.invariant.joined.gives c.requires.handed, ((let same = other_read c.args.number c.loop-at.pool c.loop-at.invariant.joined.stands c.loop-at.invariant.joined.gives c.requires.handed ∙ sym (other_plain c.args.number c.requires.sum c.requires.handed.root) in ap is_number same ∙ c.requires.number), (lists_kept c.of-terms.result c.args.number c.args.pool.now c.loop-at.pool c.requires.stands c.loop-at.invariant.joined.stands c.requires.sum c.loop-at.invariant.joined.gives c.requires.handed c.of-terms.ensures, (let same = ap classes (other_read c.args.number c.loop-at.pool c.loop-at.invariant.joined.stands c.loop-at.invariant.joined.gives c.requires.handed ∙ sym (other_plain c.args.number c.requires.sum c.requires.handed.root)) in let all = ap classes (plain_root c.args.number c.requires.stands (given_other c.requires.sum c.requires.handed).root) in omega (arith, same, all, c.term_count-at-end.ensures, c.loop-at-test.true)))))))
+listed_term-term-requires g c = (search rules, (c.loop-at.invariant.joined.stands, (other_expression c.args.number c.loop-at.pool c.loop-at.invariant.joined.stands c.loop-at.invariant.joined.gives c.requires.handed, ((let same = other_read c.args.number c.loop-at.pool c.loop-at.invariant.joined.stands c.loop-at.invariant.joined.gives c.requires.handed ∙ sym (other_plain c.args.number c.requires.sum c.requires.handed.root) in ap is_number same ∙ c.requires.number), (lists_kept c.args.number c.args.pool.now c.loop-at.pool c.requires.stands c.loop-at.invariant.joined.stands c.requires.sum c.loop-at.invariant.joined.gives c.requires.handed (lists_listed _ c.of-terms.ensures), (let same = ap classes (other_read c.args.number c.loop-at.pool c.loop-at.invariant.joined.stands c.loop-at.invariant.joined.gives c.requires.handed ∙ sym (other_plain c.args.number c.requires.sum c.requires.handed.root)) in let all = ap classes (plain_root c.args.number c.requires.stands (given_other c.requires.sum c.requires.handed).root) in omega (arith, same, all, c.term_count-at-end.ensures, c.loop-at-test.true)))))))
 
 pub join_term-requires : goal.join_term-requires
 join_term-requires g c = (search rules, (c.loop-at.invariant.joined.stands, (gives_rest c.loop-at.invariant.joined.gives (λ t h. h.sum), c.loop-at.invariant.lists)))

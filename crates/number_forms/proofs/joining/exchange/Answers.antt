@@ -3,7 +3,7 @@ use Rattle.node_pool.specs.State.{free_of}
 use Rattle.node_pool.specs.declared.full.Full.{Full}
 use Rattle.number_forms.proofs.Exchanged.{exchanged_sum}
 use Rattle.number_forms.proofs.LastSums.{kids_represented, once_nth}
-use Rattle.child_lists.proofs.ListedChildren.{ids_exchanged, lists_at}
+use Rattle.child_lists.proofs.ListedChildren.{ids_exchanged, lists_at, lists_other}
 use Rattle.number_forms.proofs.Overflows.{passed_on}
 use Rattle.number_forms.proofs.SumChanges.{same_plain, read_expression, many_kids}
 use Rattle.calc_terms.specs.Trees.{Tree, count}
@@ -24,7 +24,7 @@ use Rattle.number_forms.proofs.joining.exchange.Given.{Over}
 use Rattle.number_forms.proofs.joining.exchange.Goals.{After-release}
 
 pub child-old-requires : goal.child-old-requires
-child-old-requires g c = (search rules, (c.requires.stands, (read_expression _ c.args.sum.now c.args.pool.now c.id.ensures c.requires.stands (given_handed c.requires.sum), (lists_at {N = g.row.N} _ _ _ _ c.id.ensures c.requires.lists, subst (λ (t : Tree). c.args.at < count (children_of t)) (sym (same_plain _ c.args.sum.now c.args.pool.now c.id.ensures c.requires.stands (given_root c.requires.sum))) c.requires.within))))
+child-old-requires g c = (search rules, (c.requires.stands, (read_expression _ c.args.sum.now c.args.pool.now c.id.ensures c.requires.stands (given_handed c.requires.sum), (lists_at c.id.ensures c.requires.lists, subst (λ (t : Tree). c.args.at < count (children_of t)) (sym (same_plain _ c.args.sum.now c.args.pool.now c.id.ensures c.requires.stands (given_root c.requires.sum))) c.requires.within))))
 
 pub replace_known_child-gone-requires-clause-known : goal.replace_known_child-gone-requires-clause-known
 replace_known_child-gone-requires-clause-known g c =
@@ -70,6 +70,6 @@ returns-clause-lists g c =
     let p = c.in_ok-new.ensures.ok in
     let many = many_kids i c.args.pool.now c.requires.stands (given_handed c.requires.sum) in
     let same = p.ends.root ∙ sym c.id-id.ensures in
-    c.set.ensures i (forest c.args.pool.now) (forest c.release.new.pool) c.requires.lists
+    lists_other _ _ c.set.ensures c.requires.lists
     (ids_exchanged i c.args.at c.args.pool.now c.release.new.pool p.tree (forest c.args.pool.now) c.requires.stands c.release.ensures.stands (given_root c.requires.sum) (given_root c.requires.sum) p.ends.alone
     (omega (arith, many, c.requires.within)) (done g (goal.at.returns-clause-lists g c).After-release) ∙ ap (slice_set (root_ids (kids_of i (forest c.args.pool.now))) c.args.at) same)

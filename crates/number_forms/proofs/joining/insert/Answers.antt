@@ -1,7 +1,7 @@
 use Rattle.std.proofs.Common.{rules, ◌≡◌, ℕ, sym, ap, ◌∙◌, subst, arith, ◌<◌, ◌≤◌}
 use Rattle.child_lists.specs.Lists.{IsNextAt}
 use Rattle.child_lists.proofs.PutBefore.{put_as}
-use Rattle.child_lists.proofs.ListedChildren.{ids_with, lists_at}
+use Rattle.child_lists.proofs.ListedChildren.{ids_with, lists_at, lists_more}
 use Rattle.calc_terms.specs.Trees.{Tree, count}
 use Rattle.number_forms.proofs.SumChanges.{same_plain, read_expression, many_kids, inserted_sum}
 use Rattle.surd_terms.specs.Terms.{term_of}
@@ -27,7 +27,7 @@ returns-in_err-child-clause-room g c =
     passed_on c.from_residual.result c.in_err-child.field-0.0 (λ (full : Full). free_of c.args.pool.now < 96) c.from_residual.ensures.0 c.from_residual.ensures.1 (omega (arith, lacking))
 
 pub next_child-next-requires : goal.next_child-next-requires
-next_child-next-requires g c = (search rules, (c.requires.stands, (read_expression _ c.args.sum.now c.args.pool.now c.id.ensures c.requires.stands (given_handed c.requires.sum), (lists_at {N = g.row.N} _ _ _ _ c.id.ensures c.requires.lists, subst (λ (t : Tree). c.args.at ≤ count (children_of t)) (sym (same_plain _ c.args.sum.now c.args.pool.now c.id.ensures c.requires.stands (given_root c.requires.sum))) c.requires.place.within))))
+next_child-next-requires g c = (search rules, (c.requires.stands, (read_expression _ c.args.sum.now c.args.pool.now c.id.ensures c.requires.stands (given_handed c.requires.sum), (lists_at c.id.ensures c.requires.lists, subst (λ (t : Tree). c.args.at ≤ count (children_of t)) (sym (same_plain _ c.args.sum.now c.args.pool.now c.id.ensures c.requires.stands (given_root c.requires.sum))) c.requires.place.within))))
 
 pub put_before-requires-clause-placed : goal.put_before-requires-clause-placed
 put_before-requires-clause-placed g c =
@@ -55,6 +55,6 @@ returns-clause-lists g c =
     let p = c.in_ok-child.ensures.ok in
     let many = many_kids i c.args.pool.now c.requires.stands (given_handed c.requires.sum) in
     let same = p.ends.root ∙ sym c.id-id.ensures in
-    c.insert.ensures i (forest c.args.pool.now) (forest c.put_before.new.pool) c.requires.lists
+    lists_more _ _ _ c.insert.ensures c.requires.lists
     (ids_with i c.args.at c.args.pool.now c.put_before.new.pool p.tree (forest c.args.pool.now) c.requires.stands c.put_before.ensures.stands (given_root c.requires.sum) (given_root c.requires.sum) p.ends.alone
     (omega (arith, many, c.requires.place.within)) (done g (goal.at.returns-clause-lists g c).After-put_before) ∙ ap (insert (root_ids (kids_of i (forest c.args.pool.now))) c.args.at) same)

@@ -20,7 +20,7 @@ pub returns-in_err-at-clause-room : goal.returns-in_err-at-clause-room
 returns-in_err-at-clause-room g c = passed_on c.from_residual.result (fault.Overflow c.in_err-at.field-0.0) (OfFull (λ (full : Full). free_of c.args.pool.now < 96)) c.from_residual.ensures.0 c.from_residual.ensures.1 tt
 
 pub match_in-requires : goal.match_in-requires
-match_in-requires g c = (search rules, (c.requires.stands, (read_expression _ c.args.sum.now c.args.pool.now c.id.ensures c.requires.stands (given_handed c.requires.sum), (read_sum _ c.args.sum.now c.args.pool.now c.id.ensures c.requires.stands c.requires.sum, lists_at {N = g.row.N} _ _ _ _ c.id.ensures c.requires.lists))))
+match_in-requires g c = (search rules, (c.requires.stands, (read_expression _ c.args.sum.now c.args.pool.now c.id.ensures c.requires.stands (given_handed c.requires.sum), (read_sum _ c.args.sum.now c.args.pool.now c.id.ensures c.requires.stands c.requires.sum, lists_at c.id.ensures c.requires.lists))))
 
 pub insert-requires : goal.insert-requires
 insert-requires g c = (search rules, (c.requires.stands, (c.requires.sum, (c.requires.lists, ((let sum : Tree = tree_of c.args.sum.now c.args.pool.now in let same = same_plain _ c.args.sum.now c.args.pool.now c.id.ensures c.requires.stands (given_root c.requires.sum) in subst (IsApart (term_of c.args.term).radicand) (sym (sum_value sum (given_told c.requires.sum))) (matched (term_of c.args.term) _ sum _ _ same c.in-Apart.is c.in_ok-at.ensures.ok).0), (let same = same_plain _ c.args.sum.now c.args.pool.now c.id.ensures c.requires.stands (given_root c.requires.sum) in (matched (term_of c.args.term) _ (tree_of c.args.sum.now c.args.pool.now) _ _ same c.in-Apart.is c.in_ok-at.ensures.ok).1))))))

@@ -2,7 +2,7 @@ use Rattle.std.proofs.Common.{rules, ℕ, inl, sym, ◌∙◌, subst, arith, ◌
 use Rattle.calc_terms.specs.Trees.{Tree, count}
 use Rattle.tree_handles.specs.Children.{IsChildAt}
 use Rattle.tree_handles.specs.Expressions.{children_of}
-use Rattle.child_lists.proofs.ListedChildren.{ids_without, lists_at}
+use Rattle.child_lists.proofs.ListedChildren.{ids_without, lists_at, lists_less}
 use Rattle.number_forms.proofs.LastSums.{kids_represented, once_nth}
 use Rattle.number_forms.proofs.SumChanges.{same_plain, read_expression, many_kids, removed_sum}
 use Rattle.tree_handles.specs.Forest.{kids}
@@ -19,7 +19,7 @@ use Rattle.number_forms.proofs.joining.remove.Given.{Over}
 use Rattle.number_forms.proofs.joining.remove.Goals.{After-release}
 
 pub child-id-requires : goal.child-id-requires
-child-id-requires g c = (search rules, (c.requires.stands, (read_expression _ c.args.sum.now c.args.pool.now c.id.ensures c.requires.stands (given_handed c.requires.sum), (lists_at {N = g.row.N} _ _ _ _ c.id.ensures c.requires.lists, subst (λ (t : Tree). c.args.at < count (children_of t)) (sym (same_plain _ c.args.sum.now c.args.pool.now c.id.ensures c.requires.stands (given_root c.requires.sum))) c.requires.within))))
+child-id-requires g c = (search rules, (c.requires.stands, (read_expression _ c.args.sum.now c.args.pool.now c.id.ensures c.requires.stands (given_handed c.requires.sum), (lists_at c.id.ensures c.requires.lists, subst (λ (t : Tree). c.args.at < count (children_of t)) (sym (same_plain _ c.args.sum.now c.args.pool.now c.id.ensures c.requires.stands (given_root c.requires.sum))) c.requires.within))))
 
 pub take_known_child-child-requires-clause-known : goal.take_known_child-child-requires-clause-known
 take_known_child-child-requires-clause-known g c = (c.args.at, subst (λ (i : ℕ). IsChildAt c.args.at i c.child-id.result (forest c.args.pool.now)) c.id.ensures c.child-id.ensures.child)
@@ -52,6 +52,6 @@ returns-clause-lists g c =
     let i = c.args.sum.now in
     let taken = c.take_known_child-child.ensures.last c.args.at (subst (λ (i : ℕ). IsChildAt c.args.at i c.child-id.result (forest c.args.pool.now)) c.id.ensures c.child-id.ensures.child) (given_root c.requires.sum) in
     let many = many_kids i c.args.pool.now c.requires.stands (given_handed c.requires.sum) in
-    c.remove.ensures i (forest c.args.pool.now) (forest c.release.new.pool) c.requires.lists
+    lists_less _ c.remove.ensures c.requires.lists
     (ids_without i c.args.at c.args.pool.now c.release.new.pool (forest c.args.pool.now) c.requires.stands c.release.ensures.stands (given_root c.requires.sum) (given_root c.requires.sum)
     (omega (arith, many, c.requires.within)) (c.release.ensures.owned (owned g (goal.at.returns-clause-lists g c).After-release) ∙ last_rest taken))

@@ -16,7 +16,7 @@ use Rattle.tree_handles.proofs.Given.{given_root, given_handed, given_told, give
 use Rattle.number_forms.proofs.joining.replace.Goals as goal
 
 pub radicand_at-requires : goal.radicand_at-requires
-radicand_at-requires g c = (search rules, (c.requires.stands, (read_expression _ c.args.sum.now c.args.pool.now c.id.ensures c.requires.stands (given_handed c.requires.sum), (read_sum _ c.args.sum.now c.args.pool.now c.id.ensures c.requires.stands c.requires.sum, (lists_at {N = g.row.N} _ _ _ _ c.id.ensures c.requires.lists, (let same = same_plain _ c.args.sum.now c.args.pool.now c.id.ensures c.requires.stands (given_root c.requires.sum) in subst (λ (t : Tree). c.args.at < count (children_of t)) (sym same) c.requires.within))))))
+radicand_at-requires g c = (search rules, (c.requires.stands, (read_expression _ c.args.sum.now c.args.pool.now c.id.ensures c.requires.stands (given_handed c.requires.sum), (read_sum _ c.args.sum.now c.args.pool.now c.id.ensures c.requires.stands c.requires.sum, (lists_at c.id.ensures c.requires.lists, (let same = same_plain _ c.args.sum.now c.args.pool.now c.id.ensures c.requires.stands (given_root c.requires.sum) in subst (λ (t : Tree). c.args.at < count (children_of t)) (sym same) c.requires.within))))))
 
 pub exchange-requires : goal.exchange-requires
 exchange-requires g c =
@@ -27,7 +27,7 @@ exchange-requires g c =
 pub place_of-place-requires : goal.place_of-place-requires
 place_of-place-requires g c =
     let rest = gives_as c.remove.ensures.sum refl (λ t e. removed_is_sum c.args.at (tree_of c.args.sum.now c.args.pool.now) t (given_told c.requires.sum) e) in
-    (search rules, (c.remove.ensures.stands, (read_expression _ c.args.sum.now c.remove.new.pool c.id-else-stays.ensures c.remove.ensures.stands (given_handed c.remove.ensures.sum), (read_sum _ c.args.sum.now c.remove.new.pool c.id-else-stays.ensures c.remove.ensures.stands rest, lists_at {N = g.row.N} _ _ _ _ c.id-else-stays.ensures c.remove.ensures.lists))))
+    (search rules, (c.remove.ensures.stands, (read_expression _ c.args.sum.now c.remove.new.pool c.id-else-stays.ensures c.remove.ensures.stands (given_handed c.remove.ensures.sum), (read_sum _ c.args.sum.now c.remove.new.pool c.id-else-stays.ensures c.remove.ensures.stands rest, lists_at c.id-else-stays.ensures c.remove.ensures.lists))))
 
 pub insert-requires : goal.insert-requires
 insert-requires g c =

@@ -51,10 +51,10 @@ pub loop-at-init : goal.loop-at-init
 loop-at-init g c = record { joined = joined_none c.args.sum.now (map (term_times (term_of c.args.term)) (terms_from c.args.from (value (tree_of c.args.number c.args.pool.now)))) c.args.pool.now c.requires.stands c.requires.sum; begun = omega arith; lists = c.requires.lists }
 
 pub listed_term-other-requires : goal.listed_term-other-requires
-listed_term-other-requires g c = (search rules, (c.loop-at.invariant.joined.stands, (other_expression c.args.number c.loop-at.pool c.loop-at.invariant.joined.stands c.loop-at.invariant.joined.gives c.requires.handed, ((let same = other_read c.args.number c.loop-at.pool c.loop-at.invariant.joined.stands c.loop-at.invariant.joined.gives c.requires.handed ∙ sym (other_plain c.args.number c.requires.sum c.requires.handed.root) in ap is_number same ∙ c.requires.number), (lists_kept c.args.terms.now c.args.number c.args.pool.now c.loop-at.pool c.requires.stands c.loop-at.invariant.joined.stands c.requires.sum c.loop-at.invariant.joined.gives c.requires.handed c.requires.terms, (let same = ap classes (other_read c.args.number c.loop-at.pool c.loop-at.invariant.joined.stands c.loop-at.invariant.joined.gives c.requires.handed ∙ sym (other_plain c.args.number c.requires.sum c.requires.handed.root)) in let all = ap classes (plain_root c.args.number c.requires.stands (given_other c.requires.sum c.requires.handed).root) in omega (arith, same, all, c.term_count-at-end.ensures, c.loop-at-test.true)))))))
+listed_term-other-requires g c = (search rules, (c.loop-at.invariant.joined.stands, (other_expression c.args.number c.loop-at.pool c.loop-at.invariant.joined.stands c.loop-at.invariant.joined.gives c.requires.handed, ((let same = other_read c.args.number c.loop-at.pool c.loop-at.invariant.joined.stands c.loop-at.invariant.joined.gives c.requires.handed ∙ sym (other_plain c.args.number c.requires.sum c.requires.handed.root) in ap is_number same ∙ c.requires.number), (lists_kept c.args.number c.args.pool.now c.loop-at.pool c.requires.stands c.loop-at.invariant.joined.stands c.requires.sum c.loop-at.invariant.joined.gives c.requires.handed c.requires.terms, (let same = ap classes (other_read c.args.number c.loop-at.pool c.loop-at.invariant.joined.stands c.loop-at.invariant.joined.gives c.requires.handed ∙ sym (other_plain c.args.number c.requires.sum c.requires.handed.root)) in let all = ap classes (plain_root c.args.number c.requires.stands (given_other c.requires.sum c.requires.handed).root) in omega (arith, same, all, c.term_count-at-end.ensures, c.loop-at-test.true)))))))
 
 pub clean_radicand-clean-requires : goal.clean_radicand-clean-requires
-clean_radicand-clean-requires g c = (search rules, (c.loop-at.invariant.joined.stands, (read_expression _ c.args.sum.now c.loop-at.pool c.id.ensures c.loop-at.invariant.joined.stands (given_handed c.loop-at.invariant.joined.gives), (read_sum _ c.args.sum.now c.loop-at.pool c.id.ensures c.loop-at.invariant.joined.stands (gives_rest c.loop-at.invariant.joined.gives (λ t h. h.sum)), lists_at {N = g.row.N} _ _ _ _ c.id.ensures c.loop-at.invariant.lists))))
+clean_radicand-clean-requires g c = (search rules, (c.loop-at.invariant.joined.stands, (read_expression _ c.args.sum.now c.loop-at.pool c.id.ensures c.loop-at.invariant.joined.stands (given_handed c.loop-at.invariant.joined.gives), (read_sum _ c.args.sum.now c.loop-at.pool c.id.ensures c.loop-at.invariant.joined.stands (gives_rest c.loop-at.invariant.joined.gives (λ t h. h.sum)), lists_at c.id.ensures c.loop-at.invariant.lists))))
 
 pub join_term-requires : goal.join_term-requires
 join_term-requires g c = (search rules, (c.loop-at.invariant.joined.stands, (gives_rest c.loop-at.invariant.joined.gives (λ t h. h.sum), c.loop-at.invariant.lists)))

@@ -64,7 +64,7 @@ nth_term-term-requires-clause-within g c =
     omega (arith, same, all, c.term_count-at-end.ensures, c.loop-at-test.true)
 
 pub join_products-requires : goal.join_products-requires
-join_products-requires g c = (search rules, (c.loop-at.invariant.joined.stands, (gives_rest c.loop-at.invariant.joined.gives (λ t h. h.sum), (c.loop-at.invariant.lists, (handed_at c.requires.second (given_rest c.loop-at.invariant.joined.gives), (ap is_number (other_plain c.args.b c.loop-at.invariant.joined.gives c.requires.second.root ∙ sym (other_plain c.args.b c.requires.sum c.requires.second.root)) ∙ c.requires.second_number, lists_kept c.args.terms.now c.args.b c.args.pool.now c.loop-at.pool c.requires.stands c.loop-at.invariant.joined.stands c.requires.sum c.loop-at.invariant.joined.gives c.requires.second c.requires.terms))))))
+join_products-requires g c = (search rules, (c.loop-at.invariant.joined.stands, (gives_rest c.loop-at.invariant.joined.gives (λ t h. h.sum), (c.loop-at.invariant.lists, (handed_at c.requires.second (given_rest c.loop-at.invariant.joined.gives), (ap is_number (other_plain c.args.b c.loop-at.invariant.joined.gives c.requires.second.root ∙ sym (other_plain c.args.b c.requires.sum c.requires.second.root)) ∙ c.requires.second_number, lists_kept c.args.b c.args.pool.now c.loop-at.pool c.requires.stands c.loop-at.invariant.joined.stands c.requires.sum c.loop-at.invariant.joined.gives c.requires.second c.requires.terms))))))
 
 pub loop-at-preserved : goal.loop-at-preserved
 loop-at-preserved g c =

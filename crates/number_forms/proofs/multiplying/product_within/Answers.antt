@@ -4,7 +4,7 @@ use Rattle.calc_algebra.specs.Surds.{surd_times}
 use Rattle.calc_algebra.proofs.SquareClassLaws.{Same-trans}
 use Rattle.calc_algebra.proofs.TermLaws.{Same-eq}
 use Rattle.number_forms.specs.Sums.{IsSum}
-use Rattle.child_lists.proofs.ListedChildren.{lists_at}
+use Rattle.child_lists.proofs.ListedChildren.{lists_at, lists_none, lists_listed}
 use Rattle.tree_handles.specs.Children.{root_ids}
 use Rattle.tree_handles.proofs.Lasts.{kids_of_last, expression_root}
 use Rattle.calc_terms.specs.Trees.{Tree}
@@ -54,7 +54,7 @@ returns-in_err-number_of-clause-room g c = λ gs s t.
     (few_for_joining gs _ (subst (λ (n : ℕ). n < 40) (sym free) c.in_err-number_of.ensures.room))
 
 pub join_rows-requires : goal.join_rows-requires
-join_rows-requires g c = (omega (arith, c.requires.few), (c.in_ok-sum.ensures.stands, (gives_rest (c.in_ok-sum.ensures.given refl) (λ t e. subst IsSum (sym e) (tt, tt)), (c.new-list.ensures c.in_ok-sum.sum (forest c.node.new.pool) (ap root_ids (kids_of_last c.in_ok-sum.ensures.stands c.in_ok-sum.ensures.ok)), (subst (λ (i : ℕ). IsHanded i (without_root c.in_ok-sum.sum (forest c.node.new.pool))) (sym c.id-2.ensures) (handed_at c.requires.first (given_rest (c.in_ok-sum.ensures.given refl))), (subst (λ (i : ℕ). IsHanded i (without_root c.in_ok-sum.sum (forest c.node.new.pool))) (sym c.id-3.ensures) (handed_at c.requires.second (given_rest (c.in_ok-sum.ensures.given refl))), (ap (λ (i : ℕ). is_number (tree_of i c.node.new.pool)) c.id-2.ensures ∙ ap is_number (other_plain c.args.a.now (c.in_ok-sum.ensures.given refl) c.requires.first.root) ∙ c.requires.first_number, (ap (λ (i : ℕ). is_number (tree_of i c.node.new.pool)) c.id-3.ensures ∙ ap is_number (other_plain c.args.b.now (c.in_ok-sum.ensures.given refl) c.requires.second.root) ∙ c.requires.second_number, lists_at {N = g.row.N} _ _ _ _ (c.id-3.ensures ∙ sym c.id.ensures) c.of-terms.ensures))))))))
+join_rows-requires g c = (omega (arith, c.requires.few), (c.in_ok-sum.ensures.stands, (gives_rest (c.in_ok-sum.ensures.given refl) (λ t e. subst IsSum (sym e) (tt, tt)), (lists_none c.new-list.ensures (ap root_ids (kids_of_last c.in_ok-sum.ensures.stands c.in_ok-sum.ensures.ok)), (subst (λ (i : ℕ). IsHanded i (without_root c.in_ok-sum.sum (forest c.node.new.pool))) (sym c.id-2.ensures) (handed_at c.requires.first (given_rest (c.in_ok-sum.ensures.given refl))), (subst (λ (i : ℕ). IsHanded i (without_root c.in_ok-sum.sum (forest c.node.new.pool))) (sym c.id-3.ensures) (handed_at c.requires.second (given_rest (c.in_ok-sum.ensures.given refl))), (ap (λ (i : ℕ). is_number (tree_of i c.node.new.pool)) c.id-2.ensures ∙ ap is_number (other_plain c.args.a.now (c.in_ok-sum.ensures.given refl) c.requires.first.root) ∙ c.requires.first_number, (ap (λ (i : ℕ). is_number (tree_of i c.node.new.pool)) c.id-3.ensures ∙ ap is_number (other_plain c.args.b.now (c.in_ok-sum.ensures.given refl) c.requires.second.root) ∙ c.requires.second_number, lists_at (c.id-3.ensures ∙ sym c.id.ensures) (lists_listed _ c.of-terms.ensures)))))))))
 
 pub returns-in_err-join_rows-clause-front : goal.returns-in_err-join_rows-clause-front
 returns-in_err-join_rows-clause-front g c = front_after_one (behind_new (c.in_ok-sum.ensures.given refl).ends front_same) c.node.ensures.front c.join_rows.ensures.front

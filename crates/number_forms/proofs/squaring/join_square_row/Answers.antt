@@ -50,7 +50,7 @@ pub join_products-requires : goal.join_products-requires
 join_products-requires g c =
     let at = (goal.at.join_products-requires g c).In_ok-join_term in
     let sum = joined g at in
-    (search rules, (sum.stands, (gives_rest sum.gives (λ t h. h.sum), (c.in_ok-join_term.ensures.lists, (handed_at c.requires.handed (given_rest sum.gives), (ap is_number (same g at) ∙ c.requires.number, lists_kept c.args.terms.now c.args.number c.args.pool.now c.join_term.new.pool c.requires.stands sum.stands c.requires.sum sum.gives c.requires.handed c.requires.terms))))))
+    (search rules, (sum.stands, (gives_rest sum.gives (λ t h. h.sum), (c.in_ok-join_term.ensures.lists, (handed_at c.requires.handed (given_rest sum.gives), (ap is_number (same g at) ∙ c.requires.number, lists_kept c.args.number c.args.pool.now c.join_term.new.pool c.requires.stands sum.stands c.requires.sum sum.gives c.requires.handed c.requires.terms))))))
 
 pub returns-clause-ok : goal.returns-clause-ok
 returns-clause-ok g c =

@@ -63,13 +63,13 @@ listed_term-term-requires g c =
     let joined = c.loop-at.invariant.joined in
     let read = other_read c.args.number c.loop-at.pool joined.stands joined.gives c.requires.handed ∙ sym (other_plain c.args.number c.requires.sum c.requires.handed.root) in
     let all = ap classes (plain_root c.args.number c.requires.stands (given_other c.requires.sum c.requires.handed).root) in
-    (search rules, (joined.stands, (other_expression c.args.number c.loop-at.pool joined.stands joined.gives c.requires.handed, (ap is_number read ∙ c.requires.number, (lists_kept c.args.terms.now c.args.number c.args.pool.now c.loop-at.pool c.requires.stands joined.stands c.requires.sum joined.gives c.requires.handed c.requires.terms, omega (arith, ap classes read, all, c.term_count-at-end.ensures, c.loop-at-test.true))))))
+    (search rules, (joined.stands, (other_expression c.args.number c.loop-at.pool joined.stands joined.gives c.requires.handed, (ap is_number read ∙ c.requires.number, (lists_kept c.args.number c.args.pool.now c.loop-at.pool c.requires.stands joined.stands c.requires.sum joined.gives c.requires.handed c.requires.terms, omega (arith, ap classes read, all, c.term_count-at-end.ensures, c.loop-at-test.true))))))
 
 pub join_square_row-requires : goal.join_square_row-requires
 join_square_row-requires g c =
     let joined = c.loop-at.invariant.joined in
     let at = (goal.at.join_square_row-requires g c).After-listed_term-term in
-    (search rules, (joined.stands, (gives_rest joined.gives (λ t h. h.sum), (c.loop-at.invariant.lists, (handed_at c.requires.handed (given_rest joined.gives), (ap is_number (same g at) ∙ c.requires.number, lists_kept c.args.terms.now c.args.number c.args.pool.now c.loop-at.pool c.requires.stands joined.stands c.requires.sum joined.gives c.requires.handed c.requires.terms))))))
+    (search rules, (joined.stands, (gives_rest joined.gives (λ t h. h.sum), (c.loop-at.invariant.lists, (handed_at c.requires.handed (given_rest joined.gives), (ap is_number (same g at) ∙ c.requires.number, lists_kept c.args.number c.args.pool.now c.loop-at.pool c.requires.stands joined.stands c.requires.sum joined.gives c.requires.handed c.requires.terms))))))
 
 pub loop-at-preserved : goal.loop-at-preserved
 loop-at-preserved g c =

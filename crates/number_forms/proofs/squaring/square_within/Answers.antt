@@ -6,7 +6,7 @@ use Rattle.number_forms.proofs.Squares.{square_same, square_parts}
 use Rattle.calc_algebra.proofs.SquareClassLaws.{Same-trans}
 use Rattle.calc_algebra.proofs.TermLaws.{Same-eq}
 use Rattle.number_forms.specs.Sums.{IsSum}
-use Rattle.child_lists.proofs.ListedChildren.{lists_at}
+use Rattle.child_lists.proofs.ListedChildren.{lists_at, lists_none, lists_listed}
 use Rattle.tree_handles.specs.Children.{root_ids}
 use Rattle.tree_handles.proofs.Lasts.{kids_of_last, expression_root}
 use Rattle.calc_terms.specs.Trees.{Tree}
@@ -56,7 +56,7 @@ returns-in_err-number_of-clause-room g c = λ gs s.
 pub join_squares-requires : goal.join_squares-requires
 join_squares-requires g c =
     let new = c.in_ok-sum.ensures.given refl in
-    (omega (arith, c.requires.few), (c.in_ok-sum.ensures.stands, (gives_rest new (λ t e. subst IsSum (sym e) (tt, tt)), (c.new-list.ensures c.in_ok-sum.sum (forest c.node.new.pool) (ap root_ids (kids_of_last c.in_ok-sum.ensures.stands c.in_ok-sum.ensures.ok)), (subst (λ (i : ℕ). IsHanded i (without_root c.in_ok-sum.sum (forest c.node.new.pool))) (sym c.id-2.ensures) (handed_at c.requires.handed (given_rest new)), (ap (λ (i : ℕ). is_number (tree_of i c.node.new.pool)) c.id-2.ensures ∙ ap is_number (other_plain c.args.a.now new c.requires.handed.root) ∙ c.requires.number, lists_at {N = g.row.N} _ _ _ _ (c.id-2.ensures ∙ sym c.id.ensures) c.of-terms.ensures))))))
+    (omega (arith, c.requires.few), (c.in_ok-sum.ensures.stands, (gives_rest new (λ t e. subst IsSum (sym e) (tt, tt)), (lists_none c.new-list.ensures (ap root_ids (kids_of_last c.in_ok-sum.ensures.stands c.in_ok-sum.ensures.ok)), (subst (λ (i : ℕ). IsHanded i (without_root c.in_ok-sum.sum (forest c.node.new.pool))) (sym c.id-2.ensures) (handed_at c.requires.handed (given_rest new)), (ap (λ (i : ℕ). is_number (tree_of i c.node.new.pool)) c.id-2.ensures ∙ ap is_number (other_plain c.args.a.now new c.requires.handed.root) ∙ c.requires.number, lists_at (c.id-2.ensures ∙ sym c.id.ensures) (lists_listed _ c.of-terms.ensures)))))))
 
 pub returns-in_err-join_squares-clause-front : goal.returns-in_err-join_squares-clause-front
 returns-in_err-join_squares-clause-front g c = front_after_one (behind_new (c.in_ok-sum.ensures.given refl).ends front_same) c.node.ensures.front c.join_squares.ensures.front

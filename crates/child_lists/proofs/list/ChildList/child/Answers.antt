@@ -1,4 +1,5 @@
-use Rattle.std.proofs.Common.{◌≡◌, ◌<◌, get_or, ◌∙◌, arith}
+use Rattle.std.proofs.Common.{◌≡◌, ◌<◌, Bool, get_or, sym, ap, ◌∙◌, arith}
+use Rattle.child_lists.specs.Lists.{told}
 use Rattle.child_lists.proofs.ListedChildren.{children_number}
 use Rattle.child_lists.proofs.ListedChildren.{ids_nth}
 use Rattle.tree_handles.specs.Children.{root_ids, IsChildAt}
@@ -17,7 +18,7 @@ here : (g : Over) (c : After-index-ids-place g) → IsChildAt c.args.at c.args.p
 here g c =
     let k = kids_of c.args.parent (forest c.args.pool.now) in
     let within : c.args.at < arity k = omega (arith, c.requires.within, children_number c.args.parent (forest c.args.pool.now) c.requires.expression) in
-    let items : c.as_slice-ids.result.now ≡ root_ids k = c.as_slice-ids.ensures.value ∙ c.requires.lists c.if-self.true in
+    let items : c.as_slice-ids.result.now ≡ root_ids k = c.as_slice-ids.ensures.value ∙ c.requires.lists.ids-are _ (sym c.self.view_is ∙ ap (λ (b : Bool). told b c.self.inside.ids.items) c.if-self.true) in
     record {
       within = within;
       id-is = c.index-ids-place.is ∙ (λ i. get_or (items i) (c.from-place.ensures i) c.index-ids-place.result) ∙ ids_nth c.args.at c.index-ids-place.result k within;

@@ -1,4 +1,4 @@
-use Rattle.std.proofs.Common.{◌≡◌, ◌++◌}
+use Rattle.std.proofs.Common.{◌≡◌, ◌≤◌, ◌++◌, length}
 use Rattle.tree_handles.specs.Children.{root_ids}
 use Rattle.tree_handles.specs.Inside.{kids_of}
 use Rattle.tree_handles.specs.Standing.{forest}
@@ -8,4 +8,5 @@ abbrev pub invariant-loop-id : goal.invariant-loop-id
 invariant-loop-id g l = record {
   left : root_ids (kids_of l.fn.parent (forest l.pool)) ≡ l.yielded ++ l.id-iterator;
   listed : l.ids.items ≡ l.yielded;
+  few : length l.ids.items ≤ g.row.N;
 }
