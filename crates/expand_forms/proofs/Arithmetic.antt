@@ -7,9 +7,6 @@ use Rattle.calc_terms.specs.Fractions.{Fraction, plus, times, zero_fraction, one
 pub plus_both : {a b c d : Fraction} → a ≡ b → c ≡ d → plus a c ≡ plus b d
 plus_both p q = λ i. plus (p i) (q i)
 
-pub times_both : {a b c d : Fraction} → a ≡ b → c ≡ d → times a c ≡ times b d
-times_both p q = λ i. times (p i) (q i)
-
 pub plus_zero : (a : Fraction) → plus a zero_fraction ≡ a
 plus_zero a = plus_comm a zero_fraction ∙ zero_plus a
 

@@ -71,11 +71,6 @@ exponent_same (neg (num q)) u h x =
     (ap exponent_of is ∙ ap natural_of (opposite_whole q), ap is_exponent is ∙ ap is_small (opposite_whole q) ∙ h, child_expanded (neg (num q)) u refl x)
 exponent_same e u h x = cc
 
-exponent_polynomial : (e : Tree) → is_exponent e ≡ true → is_polynomial e ≡ true
-exponent_polynomial (num q) h = refl
-exponent_polynomial (neg (num q)) h = refl
-exponent_polynomial e h = cc
-
 minus_one_nonzero : minus_one_fraction ≢ zero_fraction
 unfolding one_fraction
 minus_one_nonzero = factor_not_zero minus_one_fraction minus_one_fraction (minus_one_times minus_one_fraction ∙ negative_lowest (negsuc 0) 1 (omega arith))

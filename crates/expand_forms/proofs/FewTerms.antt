@@ -1,5 +1,5 @@
 -- Polynomials with few terms: their sums and products, and the trees of them.
-use Rattle.std.proofs.Common.{◌≡◌, ℕ, ◌+◌, ◌*◌, ◌^◌, ◌≤◌, List, [], ◌∷◌, ◌++◌, length, sym, ap, ◌∙◌, subst, arith}
+use Rattle.std.proofs.Common.{◌≡◌, ℕ, ◌+◌, ◌*◌, ◌^◌, ◌≤◌, List, [], ◌∷◌, ◌++◌, length, sym, ap, subst, arith}
 use Rattle.std.proofs.Math.Nat.{pow-le-pow_left}
 use Rattle.std.proofs.lemmas.List.{length-append}
 use Rattle.std.proofs.lemmas.Nat.{mul-le}
@@ -7,16 +7,16 @@ use Rattle.calc_algebra.proofs.Names.{within_of}
 use Rattle.calc_algebra.specs.Rewritings.{HasNoNewName}
 use Rattle.calc_terms.specs.Fractions.{Fraction}
 use Rattle.calc_terms.specs.Trees.{Tree, add, names, none, size}
-use Rattle.expand_forms.specs.ExpandedTrees.{IsNormal, expanded, normal, sum_tree, term_trees}
+use Rattle.expand_forms.specs.ExpandedTrees.{expanded, normal, sum_tree, term_trees}
 use Rattle.expand_forms.specs.ExpansionRoom.{AreNamed, HasFewTerms, IsNamed, sum_bytes}
 use Rattle.expand_forms.specs.Polynomials.{AreMonomials, IsMonomial, Polynomial, constant, product, raised, scaled}
 use Rattle.expand_forms.specs.PolynomialTrees.{polynomial_of}
-use Rattle.expand_forms.specs.Sums.{AreSame, IsExpanded, IsSum, IsSumOf}
+use Rattle.expand_forms.specs.Sums.{IsExpanded, IsSum}
 use Rattle.expand_forms.proofs.AllMonomials.{AllHave, append_all, normal_all, product_all, raised_all, scaled_all}
+use Rattle.expand_forms.proofs.Gathered.{gathered_few, gathered_normal}
 use Rattle.expand_forms.proofs.Joins.{sum_polynomial_is}
 use Rattle.expand_forms.proofs.Names.{all_named, are_named, named_closed, tree_named}
-use Rattle.expand_forms.proofs.NormalForms.{normal_coefficient, normal_is, one_normal}
-use Rattle.expand_forms.proofs.TermBytes.{IsNamedMonomial, expanded_most, normal_length, terms_most, terms_rise}
+use Rattle.expand_forms.proofs.TermBytes.{IsNamedMonomial, expanded_most, terms_most, terms_rise}
 use Rattle.expand_forms.proofs.TermCounts.{product_length, raised_length, scaled_length}
 use Rattle.expand_forms.proofs.TermPolynomials.{terms_polynomial, term_polynomial, tree_normal}
 use Rattle.expand_forms.proofs.TreeMonomials.{all_monomials}
@@ -56,18 +56,7 @@ few_constant ns c = record { named = (tt, tt); few = omega arith }
 -- ---- normal polynomials
 
 pub few_normal : {ns : List (List ℕ)} {n : ℕ} {v : Polynomial} → HasFewTerms ns n v → HasFewTerms ns n (normal v)
-few_normal {ns} {n} {v} h = record {
-  named = are_named ns (normal v) (normal_all (IsNamed ns) v (all_named ns v h.named));
-  few = omega (arith, normal_length v, h.few);
-}
-
-pub few_same : {ns : List (List ℕ)} {n : ℕ} {v w : Polynomial} → IsNormal w → AreSame w v → HasFewTerms ns n v → HasFewTerms ns n w
-few_same {ns} {n} {v} {w} normal_w same h =
-    subst (HasFewTerms ns n) (sym (one_normal w (normal v) normal_w (normal_is v) (λ m. same.at m ∙ sym (normal_coefficient m v)))) (few_normal h)
-
--- a sum with the coefficients of v
-pub few_sum : {ns : List (List ℕ)} {n : ℕ} {v : Polynomial} {t : Tree} → IsSumOf v t → HasFewTerms ns n v → HasFewTerms ns n (polynomial_of t)
-few_sum {ns} {n} h k = subst (HasFewTerms ns n) (sym (sum_polynomial_is h.sum)) (few_same h.sum.normal h.same k)
+few_normal {v = v} h = gathered_few (gathered_normal v) h
 
 -- ---- trees
 

@@ -1,5 +1,5 @@
 -- Polynomials that are held by bits: their sums, products and powers, and their normal forms.
-use Rattle.std.proofs.Common.{◌≡◌, ℕ, zero, suc, ◌+◌, ◌*◌, ◌^◌, ◌≤◌, ◌<◌, pos, negsuc, [], ◌∷◌, sym, ◌∙◌, subst, arith}
+use Rattle.std.proofs.Common.{◌≡◌, ℕ, zero, suc, ◌+◌, ◌*◌, ◌^◌, ◌≤◌, ◌<◌, pos, negsuc, [], ◌∷◌, sym, subst, arith}
 use Rattle.std.specs.Int.{◌∣◌}
 use Rattle.std.proofs.Math.Nat.{one-dvd, pow-le-pow_right}
 use Rattle.std.proofs.lemmas.Nat.{mul-le, pow-add}
@@ -9,15 +9,13 @@ use Rattle.calc_bits.proofs.Held.{two_powers}
 use Rattle.calc_bits.proofs.Quotients.{den_divides, magnitude_lowest}
 use Rattle.calc_terms.specs.Fractions.{lowest, minus_one_fraction, mul_pos, one_fraction, zero_fraction}
 use Rattle.calc_terms.specs.Trees.{Tree}
-use Rattle.expand_forms.specs.ExpandedTrees.{IsNormal, expanded, normal, sum_tree, term_trees}
+use Rattle.expand_forms.specs.ExpandedTrees.{expanded, normal, sum_tree, term_trees}
 use Rattle.expand_forms.specs.ExpansionBits.{IsHeld, mass}
 use Rattle.expand_forms.specs.Polynomials.{AreMonomials, IsMonomial, Polynomial, constant, product, raised, scaled}
 use Rattle.expand_forms.specs.PolynomialTrees.{polynomial_of}
-use Rattle.expand_forms.specs.Sums.{AreSame, IsSumOf}
 use Rattle.expand_forms.proofs.AllMonomials.{AllHave, normal_all}
-use Rattle.expand_forms.proofs.Joins.{sum_polynomial_is}
-use Rattle.expand_forms.proofs.Masses.{exponents_normal, mass_product, more_exponents, normal_mass, normal_whole, product_exponents, whole_product}
-use Rattle.expand_forms.proofs.NormalForms.{normal_coefficient, normal_is, one_normal}
+use Rattle.expand_forms.proofs.Gathered.{gathered_held, gathered_normal}
+use Rattle.expand_forms.proofs.Masses.{mass_product, more_exponents, product_exponents, whole_product}
 use Rattle.expand_forms.proofs.SameCoefficients.{constant_product}
 use Rattle.expand_forms.proofs.TermPolynomials.{terms_polynomial, term_polynomial}
 use Rattle.expand_forms.proofs.TreeMonomials.{all_monomials}
@@ -37,20 +35,7 @@ held_more {v} {h} {l} {g} {k} x a b = record {
 -- ---- normal forms
 
 pub held_normal : {v : Polynomial} {h l : ℕ} → IsHeld v h l → IsHeld (normal v) h l
-held_normal {v} {h} {l} x = record {
-  denominator = x.denominator;
-  positive = x.positive;
-  whole = normal_whole x.denominator v x.positive x.whole;
-  low = x.low;
-  high = omega (arith, x.high, normal_mass x.denominator v x.positive x.whole);
-  exponents = exponents_normal h v x.exponents;
-}
-
-pub held_same : {v w : Polynomial} {h l : ℕ} → IsNormal w → AreSame w v → IsHeld v h l → IsHeld w h l
-held_same {v} {w} {h} {l} n same x = subst (λ (u : Polynomial). IsHeld u h l) (sym (one_normal w (normal v) n (normal_is v) (λ m. same.at m ∙ sym (normal_coefficient m v)))) (held_normal x)
-
-pub held_sum : {v : Polynomial} {t : Tree} {h l : ℕ} → IsSumOf v t → IsHeld v h l → IsHeld (polynomial_of t) h l
-held_sum {v} {t} {h} {l} s x = subst (λ (u : Polynomial). IsHeld u h l) (sym (sum_polynomial_is s.sum)) (held_same s.sum.normal s.same x)
+held_normal {v} x = gathered_held (gathered_normal v) x
 
 zero_den : (d : ℕ) → 0 < d → zero_fraction.den ∣ d
 unfolding zero_fraction

@@ -15,6 +15,7 @@ pub mod MonomialProducts
 pub mod TermPolynomials
 pub mod SumPlaces
 pub mod TermReadings
+pub mod AddedTrees
 pub mod Merged
 pub mod TermKeys
 pub mod Sums
@@ -41,6 +42,9 @@ pub mod Masses
 pub mod Held
 pub mod TreeBits
 pub mod Splits
+pub mod Gathered
+pub mod Squares
+pub mod Rows
 pub mod NodeBits
 pub mod OverAnswers
 pub mod Defined

@@ -1,9 +1,9 @@
 -- Lists of terms beside a sum that stands last.
-use Rattle.std.proofs.Common.{◌≡◌, ◌<◌, ℕ, sym, ap, ◌∙◌, subst}
+use Rattle.std.proofs.Common.{◌≡◌, ◌<◌, ℕ, List, sym, ap, ◌∙◌, subst}
 use Rattle.std.specs.Prelude.{Option, Some, None}
 use Rattle.calc_terms.specs.Trees.{Tree}
 use Rattle.child_lists.specs.Lists.{IsNextAt, Lists}
-use Rattle.child_lists.specs.declared.list.ChildList.{ChildList}
+use Rattle.child_lists.proofs.ListedChildren.{lists_with}
 use Rattle.child_lists.proofs.PutBefore.{kept_kids}
 use Rattle.tree_handles.specs.Children.{root_ids}
 use Rattle.tree_handles.specs.Expressions.{IsExpression}
@@ -20,12 +20,15 @@ next_before n (Some x) a b c =
 next_before n None a b c = c ∙ ap arity (kept_kids a b)
 
 -- the children of another node stay
-pub lists_beside : {N : ℕ} {g f h : Forest} {i j : ℕ} {P Q : Tree → Type 0} (l : ChildList N) → Gives g f i P → Gives g h i Q → IsExpression j g → Lists l j f → Lists l j h
-lists_beside {N} {g} {f} {h} {i} {j} l a b e lists w = lists w ∙ ap root_ids (kept a ∙ sym (kept b))
+pub lists_beside : {l : Option (List ℕ)} {g f h : Forest} {i j : ℕ} {P Q : Tree → Type 0} → Gives g f i P → Gives g h i Q → IsExpression j g → Lists l j f → Lists l j h
+lists_beside {g = g} {i = i} {j = j} a b e lists = lists_with (ap root_ids (kept a ∙ sym (kept b))) lists
   where
     kept : {x : Forest} {R : Tree → Type 0} → Gives g x i R → kids_of j x ≡ kids_of j g
     kept r = ap kids (ap (tree_at j) r.ends.whole ∙ tree_at-join_left j g r.tree e.live)
 
 -- a tree is placed behind the sum
-pub lists_behind : {N : ℕ} {g f h : Forest} {i j : ℕ} {P Q : Tree → Type 0} (l : ChildList N) → Gives g f i P → Gives f h j Q → Lists l i f → Lists l i h
-lists_behind l a b lists w = lists w ∙ ap root_ids (sym (kept_kids a.ends b.ends))
+pub lists_behind : {l : Option (List ℕ)} {g f h : Forest} {i j : ℕ} {P Q : Tree → Type 0} → Gives g f i P → Gives f h j Q → Lists l i f → Lists l i h
+lists_behind a b lists = lists_with (ap root_ids (sym (kept_kids a.ends b.ends))) lists
+
+pub lists_before : {l : Option (List ℕ)} {g f h : Forest} {i j : ℕ} {P Q : Tree → Type 0} → Gives g f i P → Gives f h j Q → Lists l i h → Lists l i f
+lists_before a b lists = lists_with (ap root_ids (kept_kids a.ends b.ends)) lists

@@ -1,84 +1,65 @@
--- The factors of two terms, merged into a product that stands last.
-use Rattle.std.proofs.Common.{◌≡◌, ◌≤◌, ℕ, ◌+◌, [], ◌∷◌, ◌++◌, length, drop, true, refl, sym, ap, ◌∙◌, arith, append_assoc, append-nil}
-use Rattle.calc_terms.specs.Trees.{Tree, mult, Trees, more, none, append, is_mult}
+-- The factors of two terms, merged into new trees.
+use Rattle.std.proofs.Common.{◌≡◌, ◌≤◌, ◌<◌, ◌^◌, ℕ, ◌+◌, [], ◌∷◌, ◌++◌, length, drop, refl, sym, ap, ◌∙◌, subst, arith, append_assoc, append-nil}
+use Rattle.std.proofs.lemmas.List.{length-append}
+use Rattle.std.specs.Prelude.{None, Option, Some}
+use Rattle.calc_terms.specs.Trees.{Trees}
+use Rattle.coefficients.proofs.Places.{represents_count}
 use Rattle.expand_forms.specs.ExpandedTrees.{factor_tree, factor_trees}
-use Rattle.expand_forms.specs.Merging.{IsNext}
+use Rattle.expand_forms.specs.Merging.{AddsTrees, GoesOn, IsNext}
 use Rattle.expand_forms.specs.declared.merging.Next.{Next}
-use Rattle.expand_forms.specs.Polynomials.{Factor, Monomial, monomial_times}
-use Rattle.expand_forms.proofs.TermReadings.{drop_all, drop_length, drop_more, factors_append, mult_is}
-use Rattle.number_forms.proofs.Loops.{gives_itself}
-use Rattle.tree_handles.specs.Expressions.{children_of, plain}
-use Rattle.tree_handles.specs.Forest.{Forest}
+use Rattle.expand_forms.specs.Polynomials.{Monomial, monomial_times}
+use Rattle.expand_forms.proofs.AddedTrees.{adds_more, adds_none}
+use Rattle.expand_forms.proofs.TermReadings.{count_factors, drop_length, drop_more, factors_append}
+use Rattle.node_pool.specs.State.{State}
+use Rattle.tree_handles.specs.Forest.{Forest, arity}
 use Rattle.tree_handles.specs.Handed.{Gives}
-use Rattle.tree_handles.specs.Roots.{root_tree, without_root}
-use Rattle.tree_handles.proofs.Given.{given_rest, given_told, gives_as}
+use Rattle.tree_handles.specs.Standing.{Stands, forest}
+use Rattle.tree_handles.proofs.Forests.{arity-join}
+use Rattle.tree_handles.proofs.Releases.{arity_le, few_nodes}
 
--- so many factors of each are in the product, and it goes on with the product of the others
-pub record IsMerged (m n : Monomial) (i j p : ℕ) (others now : Forest) : Type 0 where
+-- so many factors of each are placed, and the product goes on with that of the others
+pub record IsMerged (m n : Monomial) (i j k : ℕ) (old now : Forest) : Type 0 where
   pub done : Monomial
-  pub gives : Gives others now p (λ t. t ≡ mult (factor_trees done))
+  pub adds : AddsTrees (factor_trees done) old now
   pub split : done ++ monomial_times (drop i m) (drop j n) ≡ monomial_times m n
   pub left : i ≤ length m
   pub right : j ≤ length n
+  pub many : k ≡ length done
 
-pub merged_none : (m n : Monomial) {p : ℕ} {others now : Forest} → Gives others now p (λ t. t ≡ mult none) → IsMerged m n 0 0 p others now
-merged_none m n g = record { done = []; gives = g; split = refl; left = omega arith; right = omega arith }
+pub merged_none : (m n : Monomial) (f : Forest) → IsMerged m n 0 0 0 f f
+merged_none m n f = record { done = []; adds = adds_none f; split = refl; left = omega arith; right = omega arith; many = refl }
 
-pub merged_more : {m n : Monomial} {i j p : ℕ} {others now new : Forest} (w : IsMerged m n i j p others now) (x : Next) (h : IsNext (drop i m) (drop j n) x)
-    → Gives (without_root p now) new p (λ t. t ≡ mult (append (children_of (plain (root_tree p now))) (more (factor_tree h.factor) none))) → IsMerged m n (i + x.left) (j + x.right) p others new
-merged_more {m} {n} {i} {j} {p} {others} w x h g =
+pub merged_more : {m n : Monomial} {i j many p : ℕ} {old now new : Forest} (w : IsMerged m n i j many old now) (x : Next) (h : IsNext (drop i m) (drop j n) x)
+    → Gives now new p (λ t. t ≡ factor_tree h.factor) → IsMerged m n (i + x.left) (j + x.right) (many + 1) old new
+merged_more {m} {n} {i} {j} {old = old} {new = new} w x h g =
     let f = h.factor in
     let rest = monomial_times (drop (i + x.left) m) (drop (j + x.right) n) in
     record {
       done = w.done ++ f ∷ [];
-      gives = gives_as g (given_rest w.gives) (λ t e. e ∙ ap (λ (u : Tree). mult (append (children_of u) (more (factor_tree f) none))) (given_told w.gives) ∙ ap mult (factors_append w.done (f ∷ [])));
+      adds = subst (λ (ts : Trees). AddsTrees ts old new) (factors_append w.done (f ∷ [])) (adds_more w.adds g);
       split =
           append_assoc w.done (f ∷ []) rest
           ∙ ap (λ (k : Monomial). w.done ++ f ∷ k) (sym (λ k. monomial_times (drop_more i x.left m k) (drop_more j x.right n k)))
           ∙ ap (λ (k : Monomial). w.done ++ k) (sym h.product) ∙ w.split;
       left = omega (arith, drop_length i m w.left, h.left_within, w.left);
       right = omega (arith, drop_length j n w.right, h.right_within, w.right);
+      many = omega (arith, w.many, length-append w.done (f ∷ []));
     }
 
--- the factors of the left one are all in it, and then those that are left of the right one
-pub merged_all : {m n : Monomial} {i j p : ℕ} {others now new : Forest} (w : IsMerged m n i j p others now) → length m ≤ i
-    → Gives others new p (λ t. t ≡ mult (append (children_of (plain (root_tree p now))) (factor_trees (drop j n)))) → Gives others new p (λ t. t ≡ mult (factor_trees (monomial_times m n)))
-merged_all {m} {n} {i} {j} w l g =
-    gives_as g refl (λ t e. e ∙ ap (λ (u : Tree). mult (append (children_of u) (factor_trees (drop j n)))) (given_told w.gives) ∙ ap mult (factors_append w.done (drop j n))
-    ∙ ap (λ (x : Monomial). mult (factor_trees x)) (sym (λ s. w.done ++ monomial_times (drop_all i m l s) (drop j n)) ∙ w.split))
+-- all of both are
+pub merged_all : {m n : Monomial} {i j many : ℕ} {old now : Forest} (w : IsMerged m n i j many old now) → drop i m ≡ [] → drop j n ≡ [] → w.done ≡ monomial_times m n
+merged_all w e k = sym (append-nil w.done) ∙ sym (λ s. w.done ++ monomial_times (e s) (k s)) ∙ w.split
 
--- the factors of one term, pushed behind those of a product
-pub record IsPushed (n : Monomial) (from at p : ℕ) (t : Tree) (others now : Forest) : Type 0 where
-  pub done : Monomial
-  pub gives : Gives others now p (λ u. u ≡ mult (append (children_of t) (factor_trees done)))
-  pub split : done ++ drop at n ≡ drop from n
+pub all_gone : {m n : Monomial} (o : Option Next) → GoesOn m n o → ((x : Next) → o ≡ Some x → ⊥) → (m ≡ []) × (n ≡ [])
+all_gone None h k = h
+all_gone (Some x) h k = absurd (k x refl)
 
-none_behind : (ts : Trees) → append ts none ≡ ts
-none_behind none = refl
-none_behind (more t ts) = ap (more t) (none_behind ts)
+-- one more is among those of the product
+pub merged_length : {m n : Monomial} {i j many : ℕ} {old now : Forest} {x : Next} (w : IsMerged m n i j many old now) → IsNext (drop i m) (drop j n) x → length w.done + 1 ≤ length (monomial_times m n)
+merged_length {m} {n} {i} {j} w h =
+    omega (arith, length-append w.done (monomial_times (drop i m) (drop j n)), ap (λ (k : Monomial). length k) w.split, ap (λ (k : Monomial). length k) h.product)
 
-behind_assoc : (ts us vs : Trees) → append (append ts us) vs ≡ append ts (append us vs)
-behind_assoc none us vs = refl
-behind_assoc (more t ts) us vs = ap (more t) (behind_assoc ts us vs)
-
-pub pushed_none : (n : Monomial) (from : ℕ) {p : ℕ} {others now : Forest} → Gives others now p (λ u. is_mult u ≡ true) → IsPushed n from from p (plain (root_tree p now)) others now
-pushed_none n from {p} {others} {now} g = record {
-  done = [];
-  gives = gives_as (gives_itself g) refl (λ u e. mult_is u e.0 ∙ ap mult (ap children_of e.1 ∙ sym (none_behind (children_of (plain (root_tree p now))))));
-  split = refl;
-}
-
-pub pushed_more : {n : Monomial} {from at p : ℕ} {t : Tree} {others now new : Forest} (w : IsPushed n from at p t others now) (f : Factor) → drop at n ≡ f ∷ drop (at + 1) n
-    → Gives (without_root p now) new p (λ u. u ≡ mult (append (children_of (plain (root_tree p now))) (more (factor_tree f) none))) → IsPushed n from (at + 1) p t others new
-pushed_more {n} {from} {at} {p} {t} w f e g = record {
-  done = w.done ++ f ∷ [];
-  gives = gives_as g (given_rest w.gives) (λ u q. q ∙ ap (λ (x : Tree). mult (append (children_of x) (more (factor_tree f) none))) (given_told w.gives)
-      ∙ ap mult (behind_assoc (children_of t) (factor_trees w.done) (more (factor_tree f) none)) ∙ ap (λ (x : Trees). mult (append (children_of t) x)) (factors_append w.done (f ∷ [])));
-  split = append_assoc w.done (f ∷ []) (drop (at + 1) n) ∙ ap (λ (x : Monomial). w.done ++ x) (sym e) ∙ w.split;
-}
-
-pub pushed_all : {n : Monomial} {from at p : ℕ} {t : Tree} {others now : Forest} → IsPushed n from at p t others now → length n ≤ at → Gives others now p (λ u. u ≡ mult (append (children_of t) (factor_trees (drop from n))))
-pushed_all {n} {from} {at} {p} {t} w l = gives_as w.gives refl (λ u e. e ∙ ap (λ (x : Monomial). mult (append (children_of t) (factor_trees x))) (sym (append-nil w.done) ∙ sym (λ s. w.done ++ drop_all at n l s) ∙ w.split))
-
-pub pushed_product : {n : Monomial} {from at p : ℕ} {t : Tree} {others now : Forest} → IsPushed n from at p t others now → is_mult (plain (root_tree p now)) ≡ true
-pushed_product w = ap is_mult (given_told w.gives)
+-- a pool has fewer trees than 2 ^ 16
+pub few_merged : {m n : Monomial} {i j many : ℕ} {old : Forest} {s : State} → Stands s → IsMerged m n i j many old (forest s) → many < 2 ^ 16
+few_merged {old = old} {s = s} st w =
+    omega (arith, w.many, count_factors w.done, represents_count w.adds.represents, ap arity w.adds.whole, arity-join old w.adds.trees, arity_le (forest s), few_nodes s st.pool, ap length st.flat)

@@ -85,7 +85,7 @@ with_turned_less f g (h ∷ m) l = by (slice_cmp nat_cmp g.name h.name) refl (wi
         ap (with_factor f) (with_equal g h m e) ∙ with_less f (factor g.name (g.exponent + h.exponent)) m l ∙ sym (after k ∙ ap (λ (x : Monomial). f ∷ x) (with_equal g h m e))
     by Greater e go = both (slice_cmp nat_cmp f.name h.name) refl e go
 
-with_turned : (f g : Factor) (m : Monomial) → with_factor f (with_factor g m) ≡ with_factor g (with_factor f m)
+pub with_turned : (f g : Factor) (m : Monomial) → with_factor f (with_factor g m) ≡ with_factor g (with_factor f m)
 with_turned f g m = by (slice_cmp nat_cmp f.name g.name) refl
   where
     by : (o : Ordering) → slice_cmp nat_cmp f.name g.name ≡ o → with_factor f (with_factor g m) ≡ with_factor g (with_factor f m)

@@ -1,15 +1,13 @@
 -- For how few bytes a node over expanded children is refused.
-use Rattle.std.proofs.Common.{◌≡◌, ℕ, zero, suc, ◌+◌, ◌-◌, ◌≤◌, List, [], ◌∷◌, ◌++◌, length, true, refl, sym, ap, subst, arith}
-use Rattle.std.proofs.lemmas.List.{length-append}
+use Rattle.std.proofs.Common.{◌≡◌, ℕ, zero, suc, ◌-◌, ◌≤◌, [], length, true, refl, sym, subst, arith}
 use Rattle.std.proofs.lemmas.Nat.{mul-le}
 use Rattle.calc_algebra.proofs.Names.{Within, no_new_name, within_left, within_none, within_of, within_right, within_same, within_trans}
 use Rattle.calc_algebra.specs.Rewritings.{HasNoNewName}
 use Rattle.calc_terms.proofs.Sizes.{num_most}
 use Rattle.calc_terms.specs.declared.kind.Kind.TheVariants as kind
 use Rattle.calc_terms.specs.Trees.{Tree, num, symbol, undef, add, mult, power, root, neg, sub, div, Trees, none, more, names, names_of, root_kind, size}
-use Rattle.expand_forms.specs.ExpansionRoom.{AreNamed, HasFewTerms}
-use Rattle.expand_forms.specs.Polynomials.{Polynomial}
-use Rattle.expand_forms.specs.PolynomialTrees.{has_polynomial_root, polynomial_of, product_of, sum_of}
+use Rattle.expand_forms.specs.ExpansionRoom.{HasFewTerms}
+use Rattle.expand_forms.specs.PolynomialTrees.{has_polynomial_root, polynomial_of, product_of}
 use Rattle.expand_forms.specs.Sums.{AreExpanded}
 use Rattle.expand_forms.proofs.ChildRooms.{child_names}
 use Rattle.expand_forms.proofs.FewTerms.{few_names, some_expanded}
@@ -18,28 +16,6 @@ use Rattle.expand_forms.proofs.Nodes.{from}
 use Rattle.expand_forms.proofs.TermCounts.{product_length}
 use Rattle.expand_forms.proofs.TermPolynomials.{tree_normal}
 use Rattle.tree_handles.specs.Expressions.{children_of, nth}
-
--- ---- parts of a sum
-
-named_right : (ns : List (List ℕ)) (v w : Polynomial) → AreNamed ns (v ++ w) → AreNamed ns w
-named_right ns [] w h = h
-named_right ns (s ∷ v) w h = named_right ns v w h.1
-
-named_left : (ns : List (List ℕ)) (v w : Polynomial) → AreNamed ns (v ++ w) → AreNamed ns v
-named_left ns [] w h = tt
-named_left ns (s ∷ v) w h = (h.0, named_left ns v w h.1)
-
-pub few_from : {ns : List (List ℕ)} {n : ℕ} (at : ℕ) (ts : Trees) → HasFewTerms ns n (sum_of ts) → HasFewTerms ns n (sum_of (from at ts))
-few_from zero ts h = h
-few_from (suc at) none h = h
-few_from {ns} {n} (suc at) (more t ts) h = few_from at ts (record { named = named_right ns (polynomial_of t) (sum_of ts) h.named; few = omega (arith, h.few, length-append (polynomial_of t) (sum_of ts)) })
-
--- the next of them
-pub few_next : {ns : List (List ℕ)} {n : ℕ} {u : Polynomial} (v w : Polynomial) → u ≡ v ++ w → HasFewTerms ns n u → HasFewTerms ns (length v) v
-few_next {ns} {n} {u} v w e h = record { named = named_left ns v w (subst (AreNamed ns) e h.named); few = omega arith }
-
-pub next_length : (k n : ℕ) {u : Polynomial} (v w : Polynomial) → u ≡ v ++ w → length u ≤ n → length v + (k + (n - length u)) ≤ k + (n - length w)
-next_length k n {u} v w e l = omega (arith, ap (λ (x : Polynomial). length x) e, length-append v w, l)
 
 -- ---- names of children
 

@@ -59,12 +59,6 @@ all_other_terms : (v : Polynomial) → AllHave HasNames v → other_terms (term_
 all_other_terms [] h = refl
 all_other_terms (s ∷ v) h = ap (λ b. if b then other_terms (term_trees v) else more (term_tree s) (term_trees v)) (term_no_term s h.0.first h.0.rest h.0.is)
 
-named_monomial : (s : Summand) (h : HasNames s.monomial) → IsMonomial s.monomial → IsMonomial (h.first ∷ h.rest)
-named_monomial s h m = subst IsMonomial h.is m
-
-named_parts : (s : Summand) → HasNames s.monomial → s.coefficient ≢ zero_fraction → IsMonomial s.monomial → AllParts HasForm (term_tree s)
-named_parts s h z m = term_parts s h.first h.rest h.is z (named_monomial s h m)
-
 -- ---- the term without names
 
 constant_term : (s : Summand) → s.monomial ≡ [] → term_tree s ≡ num s.coefficient

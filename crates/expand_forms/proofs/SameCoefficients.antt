@@ -138,22 +138,9 @@ product_right (s ∷ v) {w} {w'} h =
 pub product_both : {v v' w w' : Polynomial} → AreSame v v' → AreSame w w' → AreSame (product v w) (product v' w')
 product_both {v} {v'} {w} {w'} h k = same_trans (product_left w h) (product_right v' k)
 
-map_append : (f : Summand → Summand) (a b : Polynomial) → map f (a ++ b) ≡ map f a ++ map f b
-map_append f [] b = refl
-map_append f (s ∷ a) b = ap (λ (x : Polynomial). f s ∷ x) (map_append f a b)
-
 pub product_append : (u v w : Polynomial) → product (u ++ v) w ≡ product u w ++ product v w
 product_append [] v w = refl
 product_append (s ∷ u) v w = ap (λ (x : Polynomial). map (summand_times s) w ++ x) (product_append u v w) ∙ sym (append_assoc (map (summand_times s) w) (product u w) (product v w))
-
-pub product_split : (v a b : Polynomial) → AreSame (product v (a ++ b)) (product v a ++ product v b)
-product_split [] a b = same_refl []
-product_split (s ∷ v) a b =
-    let f = summand_times s in
-    same_trans (same_append (same_is (map_append f a b)) (product_split v a b))
-    (same_trans (same_is (append_assoc (map f a) (map f b) (product v a ++ product v b)))
-    (same_trans (same_append (same_refl (map f a)) (same_second (map f b) (product v a) (product v b)))
-    (same_is (sym (append_assoc (map f a) (product v a) (map f b ++ product v b))))))
 
 pub product_nil : (v : Polynomial) → product v [] ≡ []
 product_nil [] = refl

@@ -1,18 +1,17 @@
 -- A term more, and a term with another coefficient, in a normal polynomial.
 use Rattle.std.proofs.Common.{◌≡◌, ◌≢◌, ◌≤◌, ◌<◌, ℕ, zero, suc, [], ◌∷◌, length, Bool, true, false, refl, sym, ap, ◌∙◌, arith}
 use Rattle.std.specs.Prelude.{if◌then◌else◌}
-use Rattle.std.specs.declared.cmp.Ordering.{Ordering}
-use Rattle.std.specs.declared.cmp.Ordering.TheVariants.{Less, Equal, Greater}
+use Rattle.std.specs.declared.cmp.Ordering.TheVariants.{Less}
 use Rattle.calc_algebra.specs.Reduced.{product_tree}
 use Rattle.calc_algebra.specs.TreeOrder.{tree_cmp}
 use Rattle.calc_algebra.proofs.TreeOrderLaws.{tree_chain}
 use Rattle.calc_terms.specs.FractionLaws.{zero_plus}
 use Rattle.calc_terms.specs.Fractions.{Fraction, plus, plus_assoc, plus_comm, zero_fraction}
-use Rattle.calc_terms.specs.Trees.{Tree, none, more, count}
+use Rattle.calc_terms.specs.Trees.{Tree, Trees, none, more, count}
 use Rattle.expand_forms.specs.ExpandedTrees.{IsBeforeAll, IsNormal, monomial_cmp, term_tree, term_trees}
 use Rattle.expand_forms.specs.Polynomials.{AreMonomials, IsMonomial, Monomial, Polynomial, Summand, coefficient_at, is_same_monomial, summand}
 use Rattle.expand_forms.specs.Sums.{AreSame, IsPlace}
-use Rattle.expand_forms.specs.Terms.{factors_in, term_cmp}
+use Rattle.expand_forms.specs.Terms.{HasMonomial, factors_in, monomial_in, term_cmp}
 use Rattle.expand_forms.proofs.MonomialTrees.{turned}
 use Rattle.expand_forms.proofs.NormalForms.{before_more}
 use Rattle.expand_forms.proofs.SameCoefficients.{same_cons, same_refl, same_second, same_trans}
@@ -69,30 +68,29 @@ put_before k zero s v l h = (l, h)
 put_before k (suc n) s [] l h = (l, tt)
 put_before k (suc n) s (t ∷ v) l h = (h.0, put_before k n s v l h.1)
 
--- not below, and not the same
-above_from : (s t : Summand) → (term_cmp (term_tree t) (term_tree s) ≡ Less → ⊥) → (term_cmp (term_tree t) (term_tree s) ≡ Equal → ⊥) → monomial_cmp s.monomial t.monomial ≡ Less
-above_from s t h k = by (monomial_cmp t.monomial s.monomial) refl
-  where
-    by : (o : Ordering) → monomial_cmp t.monomial s.monomial ≡ o → monomial_cmp s.monomial t.monomial ≡ Less
-    by Less e = absurd (h (term_order t s ∙ e))
-    by Equal e = absurd (k (term_order t s ∙ e))
-    by Greater e = turned t.monomial s.monomial e
-
-pub put_normal : (n : ℕ) (s : Summand) (v : Polynomial) → IsNormal v → s.coefficient ≢ zero_fraction → IsPlace n (term_tree s) (term_trees v)
-    → (n < count (term_trees v) → term_cmp (nth n (term_trees v)) (term_tree s) ≡ Equal → ⊥) → IsNormal (put_at n s v)
-put_normal zero s [] h z p k = (z, tt, tt)
-put_normal zero s (t ∷ v) h z p k =
-    let l = above_from s t (p.above (omega arith)) (k (omega arith)) in
+pub put_normal : (n : ℕ) (s : Summand) (v : Polynomial) → IsNormal v → s.coefficient ≢ zero_fraction → IsPlace n (term_tree s) (term_trees v) → IsNormal (put_at n s v)
+put_normal zero s [] h z p = (z, tt, tt)
+put_normal zero s (t ∷ v) h z p =
+    let l = turned t.monomial s.monomial (sym (term_order t s) ∙ p.above (omega arith)) in
     (z, (l, before_more s.monomial t.monomial v l h.1), h)
-put_normal (suc n) s [] h z p k = (z, tt, tt)
-put_normal (suc n) s (t ∷ v) h z p k =
+put_normal (suc n) s [] h z p = (z, tt, tt)
+put_normal (suc n) s (t ∷ v) h z p =
     let l : monomial_cmp t.monomial s.monomial ≡ Less = sym (term_order t s) ∙ p.below 0 (omega arith) in
     let q : IsPlace n (term_tree s) (term_trees v) = record {
       within = omega (arith, p.within);
       below = λ j i. p.below (suc j) (omega arith);
       above = λ i. p.above (omega arith);
     } in
-    (h.0, put_before t.monomial n s v l h.1, put_normal n s v h.2 z q (λ i. k (omega arith)))
+    (h.0, put_before t.monomial n s v l h.1, put_normal n s v h.2 z q)
+
+pub has_order : {m : Monomial} {t : Tree} (q : Fraction) → HasMonomial m t → (u : Tree) → term_cmp u (term_tree (summand q m)) ≡ term_cmp u t
+has_order {m} q h u = λ i. tree_cmp (monomial_in u) (product_tree ((term_factors (summand q m) ∙ sym h.factors) i))
+
+-- a term has the place of its factors
+pub place_as : {m : Monomial} {t : Tree} {n : ℕ} {ts : Trees} (q : Fraction) → HasMonomial m t → IsPlace n t ts → IsPlace n (term_tree (summand q m)) ts
+place_as {m} {t} {n} {ts} q h p =
+    let same = has_order q h in
+    record { within = p.within; below = λ k l. same (nth k ts) ∙ p.below k l; above = λ l. same (nth n ts) ∙ p.above l }
 
 -- ---- a term less
 

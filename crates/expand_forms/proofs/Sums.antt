@@ -1,8 +1,6 @@
 -- A sum that stands last, with other terms.
-use Rattle.std.proofs.Common.{◌≡◌, ℕ, zero, suc, ◌+◌, ◌<◌, ◌≤◌, refl, sym, ap, ◌∙◌, subst, true, arith}
-use Rattle.std.specs.declared.cmp.Ordering.{Ordering}
-use Rattle.std.specs.declared.cmp.Ordering.TheVariants.{Less, Equal, Greater}
-use Rattle.std.specs.Ordering.{is_lt}
+use Rattle.std.proofs.Common.{◌≡◌, ℕ, zero, suc, ◌+◌, ◌<◌, ◌≤◌, refl, sym, ap, ◌∙◌, subst, arith}
+use Rattle.std.specs.declared.cmp.Ordering.TheVariants.{Less}
 use Rattle.expand_forms.specs.Terms.{term_cmp}
 use Rattle.expand_forms.proofs.SumPlaces.{below_up_to}
 use Rattle.expand_forms.proofs.TermReadings.{sum_children}
@@ -76,11 +74,6 @@ sum_below {t} s j n u i l e =
     let c = sum_children s in
     subst (λ (ts : Trees). term_cmp (nth j ts) u ≡ Less) (sym c)
     (below_up_to s.summands j n u s.normal i (subst (λ (ts : Trees). n < count ts) c l) (subst (λ (ts : Trees). term_cmp (nth n ts) u ≡ Less) c e))
-
-pub lt_less : (o : Ordering) → is_lt o ≡ true → o ≡ Less
-lt_less Less h = refl
-lt_less Equal h = cc
-lt_less Greater h = cc
 
 pub count_removed : (n : ℕ) (ts : Trees) → n < count ts → count (removed n ts) + 1 ≡ count ts
 count_removed n none l = absurd (omega arith)

@@ -1,6 +1,6 @@
 -- What readers of terms are told.
 use Rattle.std.proofs.Common.{◌≡◌, ◌≤◌, ◌<◌, ℕ, ℤ, pos, zero, suc, ◌+◌, length, [], ◌∷◌, ◌++◌, drop, Bool, true, false, Result, Ok, Err, refl, sym, ap, ◌∙◌, subst, arith}
-use Rattle.std.specs.Prelude.{◌==◌, ◌&&◌, IfOk, OnOk, if◌then◌else◌}
+use Rattle.std.specs.Prelude.{◌==◌, ◌&&◌, IfOk, if◌then◌else◌}
 use Rattle.std.specs.declared.cmp.Ordering.{Ordering}
 use Rattle.std.specs.declared.cmp.Ordering.TheVariants.{Less, Equal, Greater}
 use Rattle.std.specs.Ordering.{nat_cmp}
@@ -22,11 +22,12 @@ use Rattle.expand_forms.specs.declared.merging.Next.{Next}
 use Rattle.expand_forms.specs.Polynomials.{Factor, IsMonomial, Monomial, factor, monomial_times, summand}
 use Rattle.expand_forms.specs.Sums.{IsSum}
 use Rattle.expand_forms.specs.Terms.{HasMonomial, IsRead, IsTerm, coefficient_in, factors_in, first_place, led_by, terms_in}
+use Rattle.expand_forms.proofs.FactorTrees.{on_factor}
 use Rattle.expand_forms.proofs.MonomialProducts.{below_times, both_first, left_first, put_first, right_is_first}
 use Rattle.expand_forms.proofs.SumPlaces.{summand_at}
 use Rattle.expand_forms.proofs.TermPolynomials.{term_factors}
 use Rattle.tree_handles.proofs.Joins.{holds-left, tree_at-join_left}
-use Rattle.tree_handles.specs.Expressions.{AllExpressions, IsExpression, children_of, inserted, nth, plain}
+use Rattle.tree_handles.specs.Expressions.{AllExpressions, IsExpression, children_of, nth, plain}
 use Rattle.tree_handles.specs.Forest.{Forest}
 use Rattle.tree_handles.specs.Handed.{Gives}
 use Rattle.tree_handles.specs.Inside.{holds, tree_at}
@@ -79,6 +80,30 @@ factor_in (suc n) (g ∷ m) h l =
 pub has_count : {m : Monomial} {t : Tree} → HasMonomial m t → count (factors_in t) ≡ length m
 has_count {m = m} h = ap count h.factors ∙ count_factors m
 
+-- a factor that is read
+pub record IsReadAt (n : ℕ) (m : Monomial) (t : Tree) : Type 0 where
+  pub factor : Factor
+  pub at : IsFactorAt n factor m
+  pub tree : t ≡ factor_tree factor
+
+pub factor_read : {m : Monomial} {t u : Tree} (n : ℕ) → HasMonomial m t → n < length m → u ≡ nth n (factors_in t) → IsReadAt n m u
+factor_read {m = m} n h l e =
+    let (f, a) = factor_in n m h.monomial l in
+    record { factor = f; at = a; tree = e ∙ ap (nth n) h.factors ∙ a.tree }
+
+-- a product of any number of factors has their monomial
+pub product_monomial : {m : Monomial} {t : Tree} → IsMonomial m → t ≡ mult (factor_trees m) → HasMonomial m t
+product_monomial {m} h e = record { monomial = h; factors = ap factors_in e ∙ by m }
+  where
+    by : (n : Monomial) → factors_in (mult (factor_trees n)) ≡ factor_trees n
+    by [] = refl
+    by (f ∷ n) = on_factor (λ v. factors_in (mult (more v (factor_trees n))) ≡ more v (factor_trees n)) f refl refl
+
+pub drop_monomial : (n : ℕ) (m : Monomial) → IsMonomial m → IsMonomial (drop n m)
+drop_monomial zero m h = h
+drop_monomial (suc n) [] h = h
+drop_monomial (suc n) (f ∷ m) h = drop_monomial n m h.2
+
 pub drop_all : (n : ℕ) (m : Monomial) → length m ≤ n → drop n m ≡ []
 drop_all zero [] l = refl
 drop_all (suc n) [] l = refl
@@ -118,20 +143,6 @@ sum_term s n u l e =
 pub if_ok_map : {A E : Type 0} {P Q : A → Type 0} (r : Result A E) → IfOk r P → ((x : A) → P x → Q x) → IfOk r Q
 if_ok_map (Ok x) p f = f x p
 if_ok_map (Err e) p f = tt
-
-pub on_ok_map : {A E : Type 0} {P Q : Type 0} (r : Result A E) → OnOk r P → (P → Q) → OnOk r Q
-on_ok_map (Ok x) p f = f p
-on_ok_map (Err e) p f = tt
-
-pub next_right : (f : Factor) (m n r : Monomial) (x : Next) → m ≡ [] → n ≡ f ∷ r → IsRead x.factor f → x.left ≡ 0 → x.right ≡ 1 → IsNext m n x
-next_right f m n r x e q read l k = record {
-  factor = f;
-  read = read;
-  product = (λ i. monomial_times (e i) (q i)) ∙ sym (λ i. f ∷ monomial_times (drop (l i) (e i)) (drop (k i) (q i)));
-  some = omega (arith, k);
-  left_within = omega (arith, l);
-  right_within = omega (arith, k, ap length q);
-}
 
 pub next_left : (f : Factor) (m n r : Monomial) (x : Next) → IsMonomial m → n ≡ [] → m ≡ f ∷ r → IsRead x.factor f → x.left ≡ 1 → x.right ≡ 0 → IsNext m n x
 next_left f m n r x h e q read l k =
@@ -200,17 +211,6 @@ exponent_one n =
 
 -- ---- lists of factors
 
-pub inserted_last : (n : ℕ) (us ts : Trees) → n ≡ count ts → inserted n us ts ≡ append ts us
-inserted_last n us ts e = ap (λ (k : ℕ). inserted k us ts) e ∙ by ts
-  where
-    by : (vs : Trees) → inserted (count vs) us vs ≡ append vs us
-    by none = none_append us
-      where
-        none_append : (xs : Trees) → append xs none ≡ xs
-        none_append none = refl
-        none_append (more x xs) = ap (more x) (none_append xs)
-    by (more v vs) = ap (more v) (by vs)
-
 pub mult_is : (t : Tree) → is_mult t ≡ true → t ≡ mult (children_of t)
 mult_is (mult ts) h = refl
 mult_is t h = cc
@@ -234,18 +234,6 @@ led_term q (f ∷ m) = by (is_one_fraction q)
     by : (b : Bool) → product_tree (if b then factor_trees (f ∷ m) else more (num q) (factor_trees (f ∷ m))) ≡ (if b then product_tree (factor_trees (f ∷ m)) else product_tree (more (num q) (factor_trees (f ∷ m))))
     by true = refl
     by false = refl
-
-pub led_one : (q : Fraction) (ts : Trees) → is_one_fraction q ≡ true → (count ts ≡ 0 → ⊥) → led_by q ts ≡ ts
-led_one q none e h = absurd (h refl)
-led_one q (more t ts) e h = ap (λ (b : Bool). if b then more t ts else more (num q) (more t ts)) e
-
-pub led_none : (q : Fraction) (ts : Trees) → count ts ≡ 0 → led_by q ts ≡ more (num q) ts
-led_none q none e = refl
-led_none q (more t ts) e = absurd (omega (arith, e))
-
-pub led_other : (q : Fraction) (ts : Trees) → is_one_fraction q ≡ false → led_by q ts ≡ more (num q) ts
-led_other q none e = refl
-led_other q (more t ts) e = ap (λ (b : Bool). if b then more t ts else more (num q) (more t ts)) e
 
 pub factors_append : (m n : Monomial) → append (factor_trees m) (factor_trees n) ≡ factor_trees (m ++ n)
 factors_append [] n = refl

@@ -6,5 +6,6 @@ pub mod ExpansionRoom
 pub mod ExpansionBits
 pub mod Terms
 pub mod Sums
+pub mod Rows
 pub mod Merging
 pub mod Walks

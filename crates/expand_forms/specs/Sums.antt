@@ -1,6 +1,6 @@
 -- Expanded trees, and sums of terms under way.
 use Rattle.std.specs.Prelude.{ℕ, ◌≡◌, ◌<◌, ◌≤◌, ⊤, if◌then◌else◌}
-use Rattle.std.specs.declared.cmp.Ordering.TheVariants.{Less}
+use Rattle.std.specs.declared.cmp.Ordering.TheVariants.{Less, Greater}
 use Rattle.calc_terms.specs.Fractions.{is_zero_fraction}
 use Rattle.calc_terms.specs.Trees.{Tree, add, Trees, none, more, count}
 use Rattle.expand_forms.specs.ExpandedTrees.{IsNormal, expanded, term_tree, term_trees}
@@ -35,11 +35,11 @@ abbrev pub AreExpanded : Trees → Type 0
 AreExpanded none = ⊤
 AreExpanded (more t ts) = IsExpanded t × AreExpanded ts
 
--- the place of a term among those of a sum: those before are below it, and the one there is not
+-- the place of a term among those of a sum, none of which has its monomial: those before are below it, and the one there is above
 pub record IsPlace (n : ℕ) (t : Tree) (ts : Trees) : Type 0 where
   pub within : n ≤ count ts
   pub below : (k : ℕ) → k < n → term_cmp (nth k ts) t ≡ Less
-  pub above : n < count ts → term_cmp (nth n ts) t ≡ Less → ⊥
+  pub above : n < count ts → term_cmp (nth n ts) t ≡ Greater
 
 -- a term in the place of the one there, or none where its coefficient is 0
 abbrev pub with_term : ℕ → Summand → Trees → Trees

@@ -1,5 +1,5 @@
 -- Terms as they are read, and the terms of an expanded tree.
-use Rattle.std.specs.Prelude.{ℕ, ◌≡◌, ◌≢◌, ◌≤◌, pos, if◌then◌else◌}
+use Rattle.std.specs.Prelude.{ℕ, ◌≡◌, ◌≢◌, ◌≤◌, pos, [], Option, Some, None, if◌then◌else◌}
 use Rattle.std.specs.declared.cmp.Ordering.{Ordering}
 use Rattle.calc_algebra.specs.Reduced.{product_tree}
 use Rattle.calc_algebra.specs.TreeOrder.{tree_cmp}
@@ -8,8 +8,11 @@ use Rattle.calc_terms.specs.Leaf.{name_of}
 use Rattle.calc_terms.specs.Rat.{value_of}
 use Rattle.calc_terms.specs.Trees.{Tree, num, add, mult, Trees, none, more}
 use Rattle.expand_forms.specs.declared.factors.Factor.{Factor as Read}
-use Rattle.expand_forms.specs.ExpandedTrees.{factor_trees, term_tree}
+use Rattle.expand_forms.specs.ExpandedTrees.{factor_trees, monomial_tree, term_tree}
 use Rattle.expand_forms.specs.Polynomials.{Factor, IsMonomial, Monomial, Summand}
+use Rattle.node_order.specs.declared.keys.Key.{Key}
+use Rattle.node_order.specs.Keys.{IsKey, key_tree}
+use Rattle.tree_handles.specs.Forest.{Forest}
 
 -- ---- a term
 
@@ -50,6 +53,11 @@ pub record IsTerm (t : Tree) : Type 0 where
 pub record HasMonomial (m : Monomial) (t : Tree) : Type 0 where
   pub monomial : IsMonomial m
   pub factors : factors_in t ≡ factor_trees m
+
+-- the key of a monomial, and none of 1
+abbrev pub IsMonomialKey : Monomial → Forest → Option Key → Type 0
+IsMonomialKey m f None = m ≡ []
+IsMonomialKey m f (Some k) = IsKey k f × (key_tree k f ≡ monomial_tree m) × (m ≢ [])
 
 -- a rational before factors, where it is not 1 or there is no factor
 abbrev pub led_by : Fraction → Trees → Trees

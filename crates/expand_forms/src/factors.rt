@@ -1,15 +1,17 @@
 //! The coefficient and the factors of a term.
-ghost use Rattle.std.specs.Prelude.{◌≡◌, ◌≤◌, ◌<◌, true};
+ghost use Rattle.std.specs.Prelude.{◌≡◌, ◌≤◌, ◌<◌, drop, true};
 ghost use Rattle.calc_terms.specs.Rat.{value_of};
 ghost use Rattle.calc_terms.specs.Trees.{count, is_mult, power, symbol, whole_num};
 ghost use Rattle.expand_forms.specs.ExpandedTrees.{factor_tree};
-ghost use Rattle.expand_forms.specs.Polynomials.{Factor as FactorOf};
-ghost use Rattle.expand_forms.specs.Terms.{IsRead, coefficient_in, factors_in, first_place};
+ghost use Rattle.expand_forms.specs.Merging.{AreFactors, BeginsWith};
+ghost use Rattle.expand_forms.specs.Polynomials.{Factor as FactorOf, Monomial};
+ghost use Rattle.expand_forms.specs.Terms.{HasMonomial, IsRead, coefficient_in, factors_in, first_place};
 ghost use Rattle.tree_handles.specs.Expressions.{IsExpression, children_of, nth, plain};
 ghost use Rattle.tree_handles.specs.Inside.{tree_at};
 ghost use Rattle.tree_handles.specs.Standing.{Stands, forest};
 
 use calc_terms::{Kind, Name, Rat};
+use child_lists::ChildList;
 use node_pool::{Id, Pool};
 use tree_handles::{child_id, children, kind, name, rational};
 
@@ -37,7 +39,7 @@ pub(crate) fn first_factor(pool: &Pool, product: Id) -> u16
 }
 
 /// How many factors a term has.
-pub(crate) fn factor_count(pool: &Pool, term: Id) -> u16
+fn factor_count(pool: &Pool, term: Id) -> u16
     requires stands { Stands pool.now }
     requires expression { IsExpression term (forest pool.now) }
     ensures { result ≡ count (factors_in (plain (tree_at term (forest pool.now)))) }
@@ -49,17 +51,61 @@ pub(crate) fn factor_count(pool: &Pool, term: Id) -> u16
     }
 }
 
-/// The factor of a term at a place, counted from 0.
-pub(crate) fn factor_id(pool: &Pool, term: Id, at: u16) -> Id
-    requires stands { Stands pool.now }
-    requires expression { IsExpression term (forest pool.now) }
-    requires within { at < count (factors_in (plain (tree_at term (forest pool.now)))) }
-    ensures expression { IsExpression result (forest pool.now) }
-    ensures tree { plain (tree_at result (forest pool.now)) ≡ nth at (factors_in (plain (tree_at term (forest pool.now)))) }
-{
-    match kind(pool, term) {
-        Kind::Mult => child_id(pool, term, first_factor(pool, term) + at),
-        _ => term,
+/// How many factors are listed.
+const LISTED: usize = 8;
+
+/// The factors of a term, each of which is found at once by its place.
+#[derive(Drop)]
+pub(crate) struct Factors {
+    is_product: bool,
+    first: u16,
+    pub count: u16,
+    list: ChildList<LISTED>,
+}
+
+impl Factors {
+    /// The factors of a term.
+    pub(crate) fn of(pool: &Pool, term: Id) -> Factors
+        requires stands { Stands pool.now }
+        requires expression { IsExpression term (forest pool.now) }
+        ensures { AreFactors result term (forest pool.now) }
+    {
+        Factors {
+            is_product: matches!(kind(pool, term), Kind::Mult),
+            first: first_factor(pool, term),
+            count: factor_count(pool, term),
+            list: ChildList::of(pool, term),
+        }
+    }
+
+    /// The factor of the term at a place, counted from 0.
+    pub(crate) fn get(&self, pool: &Pool, term: Id, at: u16) -> Option<Factor>
+        requires stands { Stands pool.now }
+        requires expression { IsExpression term (forest pool.now) }
+        requires factors { AreFactors self.now term (forest pool.now) }
+        requires monomial { (m : Monomial) × HasMonomial m (plain (tree_at term (forest pool.now))) }
+        ensures { (m : Monomial) → HasMonomial m (plain (tree_at term (forest pool.now))) → BeginsWith result (drop at m) }
+    {
+        if at >= self.count {
+            return None;
+        }
+        Some(factor_at(pool, self.id(pool, term, at)))
+    }
+
+    /// Its identifier.
+    fn id(&self, pool: &Pool, term: Id, at: u16) -> Id
+        requires stands { Stands pool.now }
+        requires expression { IsExpression term (forest pool.now) }
+        requires factors { AreFactors self.now term (forest pool.now) }
+        requires within { at < count (factors_in (plain (tree_at term (forest pool.now)))) }
+        ensures expression { IsExpression result (forest pool.now) }
+        ensures tree { plain (tree_at result (forest pool.now)) ≡ nth at (factors_in (plain (tree_at term (forest pool.now)))) }
+    {
+        if self.is_product {
+            self.list.child(pool, term, self.first + at)
+        } else {
+            term
+        }
     }
 }
 
@@ -90,7 +136,7 @@ fn leading(pool: &Pool, product: Id) -> Rat
 }
 
 /// The factor that a tree is.
-pub(crate) fn factor_at(pool: &Pool, id: Id) -> Factor
+fn factor_at(pool: &Pool, id: Id) -> Factor
     requires stands { Stands pool.now }
     requires expression { IsExpression id (forest pool.now) }
     requires factor { (f : FactorOf) × (1 ≤ f.exponent) × (plain (tree_at id (forest pool.now)) ≡ factor_tree f) }

@@ -1,6 +1,7 @@
 //! Polynomials, the trees that are polynomials, and their expanded trees.
 #![tactic(auto)]
 
+mod adding;
 mod expansion;
 mod factors;
 mod joining;

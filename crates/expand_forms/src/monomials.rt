@@ -1,4 +1,4 @@
-//! New terms: a coefficient times the monomials of two terms.
+//! New terms: the monomials of two terms multiplied, and then a coefficient.
 ghost use Rattle.expand_forms.specs.ExpansionBits.{HasExponents, IsNoOverflow};
 ghost use Rattle.std.specs.Prelude.{◌≡◌, ◌<◌, [], ◌∷◌, IfOk, IfErr, OnOk, if◌then◌else◌, length, true, ℕ, ◌^◌};
 ghost use Rattle.calc_terms.specs.Rat.{value_of};
@@ -12,31 +12,26 @@ ghost use Rattle.number_forms.specs.Lacks.{OfFull};
 ghost use Rattle.tree_handles.specs.Causes.{IsCaused};
 ghost use Rattle.tree_handles.specs.Expressions.{IsExpression, children_of, plain};
 ghost use Rattle.tree_handles.specs.Faults.{Faults};
-ghost use Rattle.tree_handles.specs.Handed.{Gives, IsHanded, KeepsFront, tree_of};
+ghost use Rattle.tree_handles.specs.Handed.{Gives, KeepsFront, tree_of};
 ghost use Rattle.tree_handles.specs.Inside.{tree_at};
 ghost use Rattle.tree_handles.specs.Roots.{without_root};
 ghost use Rattle.tree_handles.specs.Standing.{KeepsRefusals, LacksBytes, Refuses, Stands, forest};
 
-use crate::merging::push_factors;
+use crate::merging::place_factors;
 use crate::rationals::is_one;
 use calc_terms::{Kind, Rat};
 use coefficients::unwrapped;
 use node_pool::{Full, Id, Pool};
-use tree_handles::{Handle, NumberFault, add_child, children, move_last, node, number};
+use tree_handles::{Handle, NumberFault, add_child, adopt, children, node, number};
 
-/// A new last tree: a coefficient times the monomials of two terms.
-pub(crate) fn place_multiple(
-    pool: &mut Pool,
-    coefficient: Rat,
-    s: Id,
-    t: Id,
-) -> Result<Handle, NumberFault>
+/// A new last tree: the factors of two terms, multiplied, as a product of any number of them.
+pub(crate) fn place_merged(pool: &mut Pool, s: Id, t: Id) -> Result<Handle, NumberFault>
     requires stands { Stands pool.old }
     requires first { IsExpression s (forest pool.old) }
     requires second { IsExpression t (forest pool.old) }
     requires monomials { (m : Monomial) × (n : Monomial) × HasMonomial m (plain (tree_at s (forest pool.old))) × HasMonomial n (plain (tree_at t (forest pool.old))) }
     ensures ok { (m n : Monomial) → HasMonomial m (plain (tree_at s (forest pool.old))) → HasMonomial n (plain (tree_at t (forest pool.old)))
-        → IfOk result (λ h. Gives (forest pool.old) (forest pool.new) h (λ u. u ≡ term_tree (summand (value_of coefficient) (monomial_times m n)))) }
+        → IfOk result (λ h. Gives (forest pool.old) (forest pool.new) h (λ u. u ≡ mult (factor_trees (monomial_times m n)))) }
     ensures front { KeepsFront [] (forest pool.old) (forest pool.new) }
     ensures kept { OnOk result (KeepsRefusals pool.old pool.new) }
     ensures faults { IfErr result (Faults pool.old pool.new) }
@@ -48,16 +43,15 @@ pub(crate) fn place_multiple(
     ensures stands { Stands pool.new }
 {
     let product = node(pool, Kind::Mult)?;
-    push_factors(pool, &product, s, t)?;
-    let term = completed(pool, product, coefficient)?;
-    Ok(term)
+    let factors = place_factors(pool, s, t)?;
+    adopt(pool, &product, factors);
+    Ok(product)
 }
 
-/// A coefficient and the factors of a product, as one term.
-fn completed(pool: &mut Pool, product: Handle, coefficient: Rat) -> Result<Handle, Full>
+/// A coefficient and the factors of a product that stands last, as one term.
+pub(crate) fn completed(pool: &mut Pool, product: Handle, coefficient: Rat) -> Result<Handle, Full>
     requires stands { Stands pool.old }
-    requires handed { IsHanded product (forest pool.old) }
-    requires product { is_mult (tree_of product pool.old) ≡ true }
+    requires product { Gives (without_root product (forest pool.old)) (forest pool.old) product (λ u. is_mult u ≡ true) }
     ensures ok { (m : Monomial) → tree_of product pool.old ≡ mult (factor_trees m)
         → IfOk result (λ h. Gives (without_root product (forest pool.old)) (forest pool.new) h (λ t. t ≡ term_tree (summand (value_of coefficient) m))) }
     ensures front { KeepsFront (product ∷ []) (forest pool.old) (forest pool.new) }
@@ -68,14 +62,16 @@ fn completed(pool: &mut Pool, product: Handle, coefficient: Rat) -> Result<Handl
     ensures stands { Stands pool.new }
 {
     let led = led_by(pool, product, coefficient)?;
-    Ok(unwrapped(pool, led))
+    if children(pool, led.id()) == 1 {
+        return Ok(unwrapped(pool, led));
+    }
+    Ok(led)
 }
 
-/// A coefficient before the factors of a product, where it is not 1 or there is no factor.
+/// A coefficient before the factors of a product that stands last, where it is not 1 or there is no factor.
 fn led_by(pool: &mut Pool, product: Handle, coefficient: Rat) -> Result<Handle, Full>
     requires stands { Stands pool.old }
-    requires handed { IsHanded product (forest pool.old) }
-    requires product { is_mult (tree_of product pool.old) ≡ true }
+    requires product { Gives (without_root product (forest pool.old)) (forest pool.old) product (λ u. is_mult u ≡ true) }
     ensures ok { IfOk result (λ h. Gives (without_root product (forest pool.old)) (forest pool.new) h
         (λ t. t ≡ mult (led_by (value_of coefficient) (children_of (tree_of product pool.old))))) }
     ensures front { KeepsFront (product ∷ []) (forest pool.old) (forest pool.new) }
@@ -86,12 +82,10 @@ fn led_by(pool: &mut Pool, product: Handle, coefficient: Rat) -> Result<Handle, 
     ensures stands { Stands pool.new }
 {
     if !is_written(pool, product.id(), coefficient) {
-        move_last(pool, &product);
         return Ok(product);
     }
     let first = number(pool, coefficient)?;
     add_child(pool, &product, 0, first);
-    move_last(pool, &product);
     Ok(product)
 }
 

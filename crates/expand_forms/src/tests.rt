@@ -286,8 +286,61 @@ fn polynomials_are_expanded(rt: HostRuntime) -> Result<(), Fail> {
     Ok(())
 }
 
+const HALF: Shape<'static> = Shape::Two(Pair::Quotient, &X, &TWO);
+
+const THREE: Shape<'static> = Shape::Number(3);
+
+const FOUR: Shape<'static> = Shape::Number(4);
+
+const TWICE: Shape<'static> = Shape::Two(Pair::Product, &TWO, &X);
+
+const EIGHT_X: Shape<'static> = Shape::Two(Pair::Product, &Shape::Number(8), &X);
+
+const CUBE: Shape<'static> = Shape::Two(Pair::Power, &X, &THREE);
+
 /// The sums on both sides are one polynomial, written otherwise.
-const ALIKE: [(Shape<'static>, Shape<'static>); 3] = [
+const ALIKE: [(Shape<'static>, Shape<'static>); 5] = [
+    // The products of x^2 with -2, and of 2 x with itself, cancel.
+    (
+        Shape::Two(
+            Pair::Power,
+            &Shape::Two(
+                Pair::Sum,
+                &X_SQUARED,
+                &Shape::Two(Pair::Difference, &TWICE, &TWO),
+            ),
+            &TWO,
+        ),
+        Shape::Two(
+            Pair::Sum,
+            &Shape::Two(Pair::Difference, &FOUR, &EIGHT_X),
+            &Shape::Two(
+                Pair::Sum,
+                &Shape::Two(Pair::Product, &FOUR, &CUBE),
+                &Shape::Two(Pair::Power, &X, &FOUR),
+            ),
+        ),
+    ),
+    (
+        Shape::Two(
+            Pair::Power,
+            &Shape::Two(
+                Pair::Difference,
+                &HALF,
+                &Shape::Two(Pair::Quotient, &TWO, &THREE),
+            ),
+            &TWO,
+        ),
+        Shape::Two(
+            Pair::Sum,
+            &Shape::Two(
+                Pair::Difference,
+                &Shape::Two(Pair::Quotient, &FOUR, &Shape::Number(9)),
+                &Shape::Two(Pair::Quotient, &TWICE, &THREE),
+            ),
+            &Shape::Two(Pair::Quotient, &X_SQUARED, &FOUR),
+        ),
+    ),
     (
         Shape::Two(Pair::Power, &NEXT, &TWO),
         Shape::Two(

@@ -1,17 +1,27 @@
-use Rattle.std.proofs.Common.{rules, ◌≡◌, ◌+◌, ◌∙◌, ◌∷◌, [], ◌++◌, drop, ap, refl, sym, subst, arith, ◌<◌, length}
-use Rattle.calc_terms.specs.Trees.{Tree, count, size}
-use Rattle.expand_forms.specs.ExpandedTrees.{normal}
-use Rattle.expand_forms.specs.Polynomials.{Polynomial, product}
-use Rattle.expand_forms.specs.PolynomialTrees.{polynomial_of}
-use Rattle.expand_forms.specs.Sums.{IsSumOf}
-use Rattle.expand_forms.specs.Terms.{IsTerm, terms_in, HasMonomial}
+use Rattle.std.proofs.Common.{rules, ◌≡◌, ◌+◌, ◌∙◌, ◌∷◌, [], ap, refl, sym, subst, arith, ◌<◌}
+use Rattle.std.proofs.lemmas.Bool.{not_from_false}
+use Rattle.calc_terms.proofs.FractionFacts.{no_zero}
+use Rattle.calc_terms.specs.Fractions.{Fraction, times}
+use Rattle.calc_terms.specs.Rat.{value_of}
+use Rattle.calc_terms.specs.Trees.{size}
+use Rattle.expand_forms.specs.ExpansionBits.{IsNoOverflow}
+use Rattle.expand_forms.specs.ExpansionRoom.{sum_bytes}
+use Rattle.expand_forms.specs.Polynomials.{Monomial, monomial_times, summand}
+use Rattle.expand_forms.specs.Rows.{row}
+use Rattle.expand_forms.specs.Terms.{HasMonomial, coefficient_in}
+use Rattle.expand_forms.proofs.Gathered.{gathered_refl}
+use Rattle.expand_forms.proofs.JoinLoops.{IsNextPart, IsNextTerm, joined_all, joined_more, joined_none, next_term, part_few, part_held, place_read, terms_read}
+use Rattle.expand_forms.proofs.JoinRooms.{term_lacks}
 use Rattle.expand_forms.proofs.ListedTerms.{lists_beside}
-use Rattle.expand_forms.proofs.JoinLoops.{term_read_at, terms_read}
-use Rattle.expand_forms.proofs.Joins.{column_split, expanded_term, joined_all, joined_more, joined_none, next_summand, no_summands, polynomial_at}
-use Rattle.expand_forms.proofs.SameCoefficients.{product_nil, product_right, same_append, same_normal, same_refl}
+use Rattle.expand_forms.proofs.Rows.{next_coefficient, product_nonzero, row_end, row_next}
+use Rattle.expand_forms.proofs.Splits.{contradiction, first_fits}
 use Rattle.expand_forms.proofs.TermReadings.{beside, term_monomial}
-use Rattle.expand_forms.proofs.Within.{within}
+use Rattle.expand_forms.proofs.TreeMonomials.{monomial_times_monomial}
+use Rattle.node_pool.specs.State.{free_of}
+use Rattle.number_forms.specs.Lacks.{OfFull}
 use Rattle.number_forms.proofs.Loops.{gives_rest}
+use Rattle.number_forms.proofs.Overflows.{passed_on}
+use Rattle.number_forms.proofs.Rooms.{full_as}
 use Rattle.tree_handles.specs.Expressions.{IsExpression, plain}
 use Rattle.tree_handles.specs.Forest.{Forest}
 use Rattle.tree_handles.specs.Handed.{tree_of}
@@ -19,124 +29,88 @@ use Rattle.tree_handles.specs.Inside.{tree_at}
 use Rattle.tree_handles.specs.Roots.{without_root}
 use Rattle.tree_handles.specs.Standing.{forest}
 use Rattle.tree_handles.proofs.Fronts.{behind_first, front_after_one}
-use Rattle.tree_handles.proofs.Given.{given_rest, gives_as, given_handed, given_told}
-use Rattle.expand_forms.specs.ExpansionRoom.{HasFewTerms, sum_bytes}
-use Rattle.expand_forms.proofs.FewTerms.{few_as, few_normal}
-use Rattle.expand_forms.proofs.SumPlaces.{count_terms}
-use Rattle.node_pool.specs.State.{free_of}
-use Rattle.number_forms.specs.Lacks.{OfFull}
-use Rattle.number_forms.proofs.Overflows.{passed_on}
-use Rattle.number_forms.proofs.Rooms.{full_as}
-use Rattle.expand_forms.proofs.JoinRooms.{few_at, few_read, joined_few, product_most, term_lacks}
-use Rattle.expand_forms.specs.ExpansionBits.{IsHeld, IsNoOverflow}
-use Rattle.expand_forms.proofs.Splits.{held_part, held_rest, right_normal, split_column}
+use Rattle.tree_handles.proofs.Given.{given_handed, given_rest}
+use Rattle.expand_forms.proofs.joining.join_row.Given.{Over}
+use Rattle.expand_forms.proofs.joining.join_row.Goals.{After-term_id-other}
 use Rattle.expand_forms.proofs.joining.join_row.Goals as goal
+
+here : (g : Over) (c : After-term_id-other g) → IsNextTerm c.loop-at.at c.term_id-other.result (plain (tree_at c.args.b (without_root c.args.sum.now (forest c.args.pool.now)))) (without_root c.args.sum.now (forest c.loop-at.pool)) (forest c.loop-at.pool)
+here g c =
+    let j = c.loop-at.invariant.joined in
+    next_term c.loop-at.at j.gives c.requires.second c.requires.second_expanded (place_read j.gives c.requires.sum c.requires.second c.term_count-at-end.ensures c.loop-at-test.true) c.term_id-other.ensures.inside c.term_id-other.ensures.expression c.term_id-other.ensures.tree
+
+-- the monomial of the term
+first : (g : Over) (c : After-term_id-other g) → HasMonomial c.requires.first_term.summand.monomial (plain (tree_at c.args.term (without_root c.args.sum.now (forest c.loop-at.pool))))
+first g c = subst (λ (f : Forest). HasMonomial c.requires.first_term.summand.monomial (plain (tree_at c.args.term f))) (sym (given_rest c.loop-at.invariant.joined.gives)) (term_monomial c.requires.first_term)
+
+next : (g : Over) (c : After-term_id-other g) (q r : Fraction) → r ≡ coefficient_in (plain (tree_at c.term_id-other.result (forest c.loop-at.pool))) → q ≡ times (value_of c.args.factor) r
+    → IsNextPart (row (value_of c.args.factor) (plain (tree_at c.args.term (without_root c.args.sum.now (forest c.args.pool.now)))) c.loop-at.at (plain (tree_at c.args.b (without_root c.args.sum.now (forest c.args.pool.now)))))
+    (summand q (monomial_times c.requires.first_term.summand.monomial (here g c).term.summand.monomial) ∷ []) (row (value_of c.args.factor) (plain (tree_at c.args.term (without_root c.args.sum.now (forest c.args.pool.now)))) (c.loop-at.at + 1) (plain (tree_at c.args.b (without_root c.args.sum.now (forest c.args.pool.now)))))
+next g c q r e p =
+    let x = here g c in
+    row_next c.requires.first_term (value_of c.args.factor) q c.loop-at.at x.term.summand (plain (tree_at c.args.b (without_root c.args.sum.now (forest c.args.pool.now)))) x.next (p ∙ ap (times (value_of c.args.factor)) (next_coefficient x e))
 
 pub term_count-at-end-requires-clause-expression : goal.term_count-at-end-requires-clause-expression
 term_count-at-end-requires-clause-expression g c = (beside c.requires.sum c.requires.second).expression
 
 pub loop-at-init : goal.loop-at-init
-loop-at-init g c =
-    let o = without_root c.args.sum.now (forest c.args.pool.now) in
-    let v = polynomial_of (plain (tree_at c.args.term o)) in
-    let w = polynomial_of (plain (tree_at c.args.b o)) in
-    record {
-      lists = c.requires.lists;
-      joined = joined_none c.args.sum.now (product v (normal w)) (product v w ++ polynomial_of (tree_of c.args.sum.now c.args.pool.now)) c.args.pool.now c.requires.stands c.requires.sum
-          (same_append (product_right v (same_normal w)) (same_refl (polynomial_of (tree_of c.args.sum.now c.args.pool.now))));
-      few = λ ns k n hs ht hb. few_as hs (omega arith);
-      held = λ h low x. right_normal (plain (tree_at c.args.b o)) v (polynomial_of (tree_of c.args.sum.now c.args.pool.now)) c.requires.second_expanded x;
-    }
+loop-at-init g c = record { lists = c.requires.lists; joined = joined_none c.args.sum.now _ _ c.args.pool.now c.requires.stands c.requires.sum (gathered_refl _) }
 
 pub term_id-other-requires : goal.term_id-other-requires
 term_id-other-requires g c =
     let j = c.loop-at.invariant.joined in
-    let now = ap (λ (t : Tree). count (terms_in t)) (beside j.gives c.requires.second).same in
-    let then = ap (λ (t : Tree). count (terms_in t)) (beside c.requires.sum c.requires.second).same in
-    (search rules, (j.stands, ((beside j.gives c.requires.second).expression, (lists_beside c.args.seconds.now c.requires.sum j.gives c.requires.second c.requires.seconds, omega (arith, now, then, c.term_count-at-end.ensures, c.loop-at-test.true)))))
+    (search rules, (j.stands, ((beside j.gives c.requires.second).expression, (lists_beside c.requires.sum j.gives c.requires.second c.requires.seconds, place_read j.gives c.requires.sum c.requires.second c.term_count-at-end.ensures c.loop-at-test.true))))
 
 pub join_product-requires : goal.join_product-requires
 join_product-requires g c =
-    let o = without_root c.args.sum.now (forest c.args.pool.now) in
+    let at = (goal.at.join_product-requires g c).After-term_id-other in
     let j = c.loop-at.invariant.joined in
-    let r = given_rest j.gives in
-    let w = within j.gives c.requires.second c.term_id-other.ensures.inside c.term_id-other.ensures.expression in
-    let many = terms_read c.requires.sum c.requires.second c.requires.second_expanded c.term_count-at-end.ensures in
-    let (s, x) = next_summand c.loop-at.at (normal (polynomial_of (plain (tree_at c.args.b o)))) (omega (arith, many, c.loop-at-test.true)) in
-    let is = expanded_term (plain (tree_at c.args.b o)) (plain (tree_at c.term_id-other.result o)) c.loop-at.at s x (term_read_at c.loop-at.at j.gives c.requires.second c.requires.second_expanded w c.term_id-other.ensures.tree) in
-    (search rules, (j.stands, (gives_rest j.gives (λ t h. h.sum), (c.loop-at.invariant.lists, (subst (IsExpression c.args.term) (sym r) c.requires.first, (subst (IsExpression c.term_id-other.result) (sym r) w.expression, (subst (λ (f : Forest). IsTerm (plain (tree_at c.args.term f))) (sym r) c.requires.first_term, subst (λ (f : Forest). IsTerm (plain (tree_at c.term_id-other.result f))) (sym r) is)))))))
+    let x = here g at in
+    let nonzero = product_nonzero c.in_ok-product.ensures.product (no_zero _ (not_from_false _ c.requires.nonzero)) (next_coefficient x c.coefficient.ensures) x.term.nonzero in
+    let term = subst (IsExpression c.args.term) (sym (given_rest j.gives)) c.requires.first in
+    (search rules, (j.stands, (gives_rest j.gives (λ t h. h.sum), (c.loop-at.invariant.lists, (nonzero, (term, (x.expression, (c.requires.first_term.summand.monomial, x.term.summand.monomial, first g at, term_monomial x.term))))))))
 
-pub returns-in_err-join_product-clause-front : goal.returns-in_err-join_product-clause-front
-returns-in_err-join_product-clause-front g c = front_after_one behind_first c.loop-at.invariant.joined.front c.join_product.ensures.front
+pub returns-in_err-place-clause-front : goal.returns-in_err-place-clause-front
+returns-in_err-place-clause-front g c = front_after_one behind_first c.loop-at.invariant.joined.front c.join_product.ensures.front
 
 pub loop-at-preserved : goal.loop-at-preserved
 loop-at-preserved g c =
-    let o = without_root c.args.sum.now (forest c.args.pool.now) in
-    let j = c.loop-at.invariant.joined in
-    let r = given_rest j.gives in
-    let w = within j.gives c.requires.second c.term_id-other.ensures.inside c.term_id-other.ensures.expression in
-    let many = terms_read c.requires.sum c.requires.second c.requires.second_expanded c.term_count-at-end.ensures in
-    let v = polynomial_of (plain (tree_at c.args.term o)) in
-    let b = normal (polynomial_of (plain (tree_at c.args.b o))) in
-    let (s, x) = next_summand c.loop-at.at b (omega (arith, many, c.loop-at-test.true)) in
-    let is = expanded_term (plain (tree_at c.args.b o)) (plain (tree_at c.term_id-other.result o)) c.loop-at.at s x (term_read_at c.loop-at.at j.gives c.requires.second c.requires.second_expanded w c.term_id-other.ensures.tree) in
-    let same : product (polynomial_of (plain (tree_at c.args.term (without_root c.args.sum.now (forest c.loop-at.pool))))) (polynomial_of (plain (tree_at c.term_id-other.result (without_root c.args.sum.now (forest c.loop-at.pool))))) ≡ product v (s ∷ []) =
-    (λ i. product (polynomial_of (plain (tree_at c.args.term (r i)))) (polynomial_of (plain (tree_at c.term_id-other.result (r i))))) ∙ ap (product v) (polynomial_at (plain (tree_at c.args.b o)) (plain (tree_at c.term_id-other.result o)) c.loop-at.at s x (term_read_at c.loop-at.at j.gives c.requires.second c.requires.second_expanded w c.term_id-other.ensures.tree)) in
-    let more = gives_as c.in_ok-join_product.ensures.ok refl (λ t h. subst (λ (p : Polynomial). IsSumOf (p ++ polynomial_of (tree_of c.args.sum.now c.loop-at.pool)) t) same h) in
+    let at = (goal.at.loop-at-preserved g c).After-term_id-other in
+    let x = here g at in
     record {
-      lists = c.in_ok-join_product.ensures.lists;
-      joined = joined_more c.args.sum.now (product v (drop c.loop-at.at b)) (product v (s ∷ [])) (product v (drop (c.loop-at.at + 1) b)) _ c.args.pool.now c.loop-at.pool c.join_product.new.pool j (column_split v b c.loop-at.at s x)
-          more c.join_product.ensures.front c.in_ok-join_product.ensures.kept c.join_product.ensures.stands;
-      few = λ ns k n hs ht hb. few_as (joined_few (given_told more) ht (few_at c.loop-at.at x (few_normal hb)) (c.loop-at.invariant.few ns k n hs ht hb)) (omega arith);
-      held = λ h low y. held_rest (polynomial_of (tree_of c.args.sum.now c.loop-at.pool)) (split_column v b c.loop-at.at s x) (c.loop-at.invariant.held h low y) (given_told more);
+      lists = c.in_ok-place.ensures.lists;
+      joined = joined_more c.loop-at.invariant.joined (next g at (value_of c.in_ok-product.product) _ c.coefficient.ensures c.in_ok-product.ensures.product)
+          (c.in_ok-place.ensures.ok c.requires.first_term.summand.monomial x.term.summand.monomial (first g at) (term_monomial x.term)) c.join_product.ensures.front c.in_ok-place.ensures.kept c.join_product.ensures.stands;
     }
 
 pub returns-clause-ok : goal.returns-clause-ok
 returns-clause-ok g c =
     let o = without_root c.args.sum.now (forest c.args.pool.now) in
-    let v = polynomial_of (plain (tree_at c.args.term o)) in
-    let b = normal (polynomial_of (plain (tree_at c.args.b o))) in
     let many = terms_read c.requires.sum c.requires.second c.requires.second_expanded c.term_count-at-end.ensures in
-    joined_all c.loop-at.invariant.joined (ap (product v) (no_summands c.loop-at.at b (omega (arith, many, c.loop-at-test.false))) ∙ product_nil v)
+    joined_all c.loop-at.invariant.joined (row_end (value_of c.args.factor) (plain (tree_at c.args.term o)) c.loop-at.at (plain (tree_at c.args.b o)) (omega (arith, many, c.loop-at-test.false)))
 
--- ---- few bytes
-
-pub returns-in_err-join_product-clause-room : goal.returns-in_err-join_product-clause-room
-returns-in_err-join_product-clause-room g c = λ ns k n hs ht hb.
-    let o = without_root c.args.sum.now (forest c.args.pool.now) in
+pub returns-in_err-place-clause-room : goal.returns-in_err-place-clause-room
+returns-in_err-place-clause-room g c = λ ns n few.
+    let at = (goal.at.returns-in_err-place-clause-room g c).After-term_id-other in
     let j = c.loop-at.invariant.joined in
-    let r = given_rest j.gives in
-    let w = within j.gives c.requires.second c.term_id-other.ensures.inside c.term_id-other.ensures.expression in
-    let many = terms_read c.requires.sum c.requires.second c.requires.second_expanded c.term_count-at-end.ensures in
-    let b = polynomial_of (plain (tree_at c.args.b o)) in
-    let (s, x) = next_summand c.loop-at.at (normal b) (omega (arith, many, c.loop-at-test.true)) in
-    let read = term_read_at c.loop-at.at j.gives c.requires.second c.requires.second_expanded w c.term_id-other.ensures.tree in
-    let is = expanded_term (plain (tree_at c.args.b o)) (plain (tree_at c.term_id-other.result o)) c.loop-at.at s x read in
-    let one = subst (HasFewTerms ns 1) (sym (polynomial_at (plain (tree_at c.args.b o)) (plain (tree_at c.term_id-other.result o)) c.loop-at.at s x read)) (few_at c.loop-at.at x (few_normal hb)) in
-    let lacks = c.in_err-join_product.ensures.room c.requires.first_term.summand.monomial is.summand.monomial
-    (subst (λ (f : Forest). HasMonomial c.requires.first_term.summand.monomial (plain (tree_at c.args.term f))) (sym r) (term_monomial c.requires.first_term))
-    (subst (λ (f : Forest). HasMonomial is.summand.monomial (plain (tree_at c.term_id-other.result f))) (sym r) (term_monomial is)) in
-    let most = product_most c.requires.first_term is ht one in
-    let few : c.loop-at.at < length (normal b) = omega (arith, many, c.loop-at-test.true, count_terms (normal b)) in
-    passed_on c.from_residual.result c.in_err-join_product.field-0.0 (OfFull (λ full. free_of c.args.pool.now + size (tree_of c.args.sum.now c.args.pool.now) < sum_bytes ns (k + n))) c.from_residual.ensures.0 c.from_residual.ensures.1
-    (full_as c.in_err-join_product.field-0.0 lacks
-    (λ full short. term_lacks ns k c.loop-at.at n j c.requires.stands (given_handed c.requires.sum) (c.loop-at.invariant.few ns k n hs ht hb) (few_read b c.loop-at.at hb few) (omega (arith, short, most))))
+    let x = here g at in
+    let m : Monomial = c.requires.first_term.summand.monomial in
+    let all = part_few j (next g at (value_of c.in_ok-product.product) _ c.coefficient.ensures c.in_ok-product.ensures.product) few in
+    passed_on c.from_residual-in_err-place.result c.in_err-place.field-0.0 (OfFull (λ full. free_of c.args.pool.now + size (tree_of c.args.sum.now c.args.pool.now) < sum_bytes ns n)) c.from_residual-in_err-place.ensures.0 c.from_residual-in_err-place.ensures.1
+    (full_as c.in_err-place.field-0.0 (c.in_err-place.ensures.room m x.term.summand.monomial (first g at) (term_monomial x.term))
+    (λ full short. term_lacks (summand (value_of c.in_ok-product.product) (monomial_times m x.term.summand.monomial)) (monomial_times_monomial m x.term.summand.monomial c.requires.first_term.monomial x.term.monomial) j c.requires.stands (given_handed c.requires.sum) all short))
 
 -- ---- what fits
 
-pub returns-in_err-join_product-clause-fits : goal.returns-in_err-join_product-clause-fits
-returns-in_err-join_product-clause-fits g c = λ h low y k.
-    let o = without_root c.args.sum.now (forest c.args.pool.now) in
-    let j = c.loop-at.invariant.joined in
-    let r = given_rest j.gives in
-    let w = within j.gives c.requires.second c.term_id-other.ensures.inside c.term_id-other.ensures.expression in
-    let many = terms_read c.requires.sum c.requires.second c.requires.second_expanded c.term_count-at-end.ensures in
-    let v = polynomial_of (plain (tree_at c.args.term o)) in
-    let b = normal (polynomial_of (plain (tree_at c.args.b o))) in
-    let (s, x) = next_summand c.loop-at.at b (omega (arith, many, c.loop-at-test.true)) in
-    let same : product (polynomial_of (plain (tree_at c.args.term (without_root c.args.sum.now (forest c.loop-at.pool))))) (polynomial_of (plain (tree_at c.term_id-other.result (without_root c.args.sum.now (forest c.loop-at.pool))))) ≡ product v (s ∷ []) =
-    (λ i. product (polynomial_of (plain (tree_at c.args.term (r i)))) (polynomial_of (plain (tree_at c.term_id-other.result (r i))))) ∙ ap (product v) (polynomial_at (plain (tree_at c.args.b o)) (plain (tree_at c.term_id-other.result o)) c.loop-at.at s x (term_read_at c.loop-at.at j.gives c.requires.second c.requires.second_expanded w c.term_id-other.ensures.tree)) in
-    let now = polynomial_of (tree_of c.args.sum.now c.loop-at.pool) in
-    let part = held_part now (split_column v b c.loop-at.at s x) (c.loop-at.invariant.held h low y) in
-    passed_on c.from_residual.result c.in_err-join_product.field-0.0 IsNoOverflow c.from_residual.ensures.0 c.from_residual.ensures.1
-    (c.in_err-join_product.ensures.fits h low (subst (λ (p : Polynomial). IsHeld (p ++ now) h low) (sym same) part) k)
+pub returns-in_err-product-clause-fits : goal.returns-in_err-product-clause-fits
+returns-in_err-product-clause-fits g c = λ h l held k.
+    let at = (goal.at.returns-in_err-product-clause-fits g c).After-term_id-other in
+    let q = times (value_of c.args.factor) (value_of c.coefficient.result) in
+    contradiction (first_fits (summand q (monomial_times c.requires.first_term.summand.monomial (here g at).term.summand.monomial)) (part_held c.loop-at.invariant.joined (next g at q _ c.coefficient.ensures refl) held) k) (c.in_err-product.ensures.refused.0 refl)
+
+pub returns-in_err-place-clause-fits : goal.returns-in_err-place-clause-fits
+returns-in_err-place-clause-fits g c = λ h l held k.
+    let at = (goal.at.returns-in_err-place-clause-fits g c).After-term_id-other in
+    let x = here g at in
+    passed_on c.from_residual-in_err-place.result c.in_err-place.field-0.0 IsNoOverflow c.from_residual-in_err-place.ensures.0 c.from_residual-in_err-place.ensures.1
+    (c.in_err-place.ensures.fits c.requires.first_term.summand.monomial x.term.summand.monomial h l (first g at) (term_monomial x.term) (part_held c.loop-at.invariant.joined (next g at (value_of c.in_ok-product.product) _ c.coefficient.ensures c.in_ok-product.ensures.product) held) k)

@@ -1,11 +1,9 @@
-use Rattle.std.proofs.Common.{ℕ, List, ◌+◌, ◌++◌, drop}
+use Rattle.std.proofs.Common.{◌++◌}
+use Rattle.calc_terms.specs.Rat.{value_of}
 use Rattle.child_lists.specs.Lists.{Lists}
-use Rattle.expand_forms.specs.ExpandedTrees.{normal}
-use Rattle.expand_forms.specs.ExpansionBits.{IsHeld}
-use Rattle.expand_forms.specs.ExpansionRoom.{HasFewTerms}
-use Rattle.expand_forms.specs.Polynomials.{product}
 use Rattle.expand_forms.specs.PolynomialTrees.{polynomial_of}
-use Rattle.expand_forms.proofs.Joins.{IsJoined}
+use Rattle.expand_forms.specs.Rows.{row}
+use Rattle.expand_forms.proofs.JoinLoops.{IsJoined}
 use Rattle.tree_handles.specs.Expressions.{plain}
 use Rattle.tree_handles.specs.Handed.{tree_of}
 use Rattle.tree_handles.specs.Inside.{tree_at}
@@ -16,11 +14,6 @@ use Rattle.expand_forms.proofs.joining.join_row.Given as goal
 abbrev pub invariant-loop-at : goal.invariant-loop-at
 invariant-loop-at g l = record {
   lists : Lists l.list l.sum (forest l.pool);
-  joined : IsJoined l.sum (product (polynomial_of (plain (tree_at l.term (without_root l.sum (forest l.fn.pool))))) (drop l.at (normal (polynomial_of (plain (tree_at l.b (without_root l.sum (forest l.fn.pool))))))))
-      (product (polynomial_of (plain (tree_at l.term (without_root l.sum (forest l.fn.pool))))) (polynomial_of (plain (tree_at l.b (without_root l.sum (forest l.fn.pool))))) ++ polynomial_of (tree_of l.sum l.fn.pool))
-      l.fn.pool l.pool;
-  few : (ns : List (List ℕ)) (k n : ℕ) → HasFewTerms ns k (polynomial_of (tree_of l.sum l.fn.pool)) → HasFewTerms ns 1 (polynomial_of (plain (tree_at l.term (without_root l.sum (forest l.fn.pool)))))
-      → HasFewTerms ns n (polynomial_of (plain (tree_at l.b (without_root l.sum (forest l.fn.pool))))) → HasFewTerms ns (k + l.at) (polynomial_of (tree_of l.sum l.pool));
-  held : (h low : ℕ) → IsHeld (product (polynomial_of (plain (tree_at l.term (without_root l.sum (forest l.fn.pool))))) (polynomial_of (plain (tree_at l.b (without_root l.sum (forest l.fn.pool))))) ++ polynomial_of (tree_of l.sum l.fn.pool)) h low
-      → IsHeld (product (polynomial_of (plain (tree_at l.term (without_root l.sum (forest l.fn.pool))))) (drop l.at (normal (polynomial_of (plain (tree_at l.b (without_root l.sum (forest l.fn.pool))))))) ++ polynomial_of (tree_of l.sum l.pool)) h low;
+  joined : IsJoined l.sum (row (value_of l.factor) (plain (tree_at l.term (without_root l.sum (forest l.fn.pool)))) l.at (plain (tree_at l.b (without_root l.sum (forest l.fn.pool)))))
+      (row (value_of l.factor) (plain (tree_at l.term (without_root l.sum (forest l.fn.pool)))) l.from (plain (tree_at l.b (without_root l.sum (forest l.fn.pool)))) ++ polynomial_of (tree_of l.sum l.fn.pool)) l.fn.pool l.pool;
 }

@@ -1,11 +1,9 @@
-use Rattle.std.proofs.Common.{ℕ, List, ◌+◌, ◌*◌, ◌++◌, drop}
+use Rattle.std.proofs.Common.{◌++◌, drop}
 use Rattle.child_lists.specs.Lists.{Lists}
 use Rattle.expand_forms.specs.ExpandedTrees.{normal}
-use Rattle.expand_forms.specs.ExpansionBits.{IsHeld}
-use Rattle.expand_forms.specs.ExpansionRoom.{HasFewTerms}
 use Rattle.expand_forms.specs.Polynomials.{product}
 use Rattle.expand_forms.specs.PolynomialTrees.{polynomial_of}
-use Rattle.expand_forms.proofs.Joins.{IsJoined}
+use Rattle.expand_forms.proofs.JoinLoops.{IsJoined}
 use Rattle.tree_handles.specs.Expressions.{plain}
 use Rattle.tree_handles.specs.Handed.{tree_of}
 use Rattle.tree_handles.specs.Inside.{tree_at}
@@ -16,11 +14,6 @@ use Rattle.expand_forms.proofs.joining.join_rows.Given as goal
 abbrev pub invariant-loop-at : goal.invariant-loop-at
 invariant-loop-at g l = record {
   lists : Lists l.list l.sum (forest l.pool);
-  joined : IsJoined l.sum (product (drop l.at (normal (polynomial_of (plain (tree_at l.a (without_root l.sum (forest l.fn.pool))))))) (polynomial_of (plain (tree_at l.b (without_root l.sum (forest l.fn.pool))))))
-      (product (polynomial_of (plain (tree_at l.a (without_root l.sum (forest l.fn.pool))))) (polynomial_of (plain (tree_at l.b (without_root l.sum (forest l.fn.pool))))) ++ polynomial_of (tree_of l.sum l.fn.pool))
-      l.fn.pool l.pool;
-  few : (ns : List (List ℕ)) (k m n : ℕ) → HasFewTerms ns k (polynomial_of (tree_of l.sum l.fn.pool)) → HasFewTerms ns m (polynomial_of (plain (tree_at l.a (without_root l.sum (forest l.fn.pool)))))
-      → HasFewTerms ns n (polynomial_of (plain (tree_at l.b (without_root l.sum (forest l.fn.pool))))) → HasFewTerms ns (k + l.at * n) (polynomial_of (tree_of l.sum l.pool));
-  held : (h low : ℕ) → IsHeld (product (polynomial_of (plain (tree_at l.a (without_root l.sum (forest l.fn.pool))))) (polynomial_of (plain (tree_at l.b (without_root l.sum (forest l.fn.pool))))) ++ polynomial_of (tree_of l.sum l.fn.pool)) h low
-      → IsHeld (product (drop l.at (normal (polynomial_of (plain (tree_at l.a (without_root l.sum (forest l.fn.pool))))))) (polynomial_of (plain (tree_at l.b (without_root l.sum (forest l.fn.pool))))) ++ polynomial_of (tree_of l.sum l.pool)) h low;
+  joined : IsJoined l.sum (product (drop l.at (normal (polynomial_of (plain (tree_at l.a (without_root l.sum (forest l.fn.pool))))))) (normal (polynomial_of (plain (tree_at l.b (without_root l.sum (forest l.fn.pool)))))))
+      (product (polynomial_of (plain (tree_at l.a (without_root l.sum (forest l.fn.pool))))) (polynomial_of (plain (tree_at l.b (without_root l.sum (forest l.fn.pool))))) ++ polynomial_of (tree_of l.sum l.fn.pool)) l.fn.pool l.pool;
 }

@@ -1,14 +1,18 @@
-use Rattle.std.proofs.Common.{rules, ◌≤◌, ◌∙◌, ap, sym, subst}
+use Rattle.std.proofs.Common.{rules, ◌≡◌, ◌≤◌, ◌∙◌, ap, refl, sym, subst}
 use Rattle.calc_algebra.specs.Reduced.{product_tree}
 use Rattle.calc_terms.specs.Rat.{value_of}
-use Rattle.calc_terms.specs.Trees.{Tree, count, is_mult}
+use Rattle.calc_terms.specs.Trees.{Tree, count, is_mult, mult}
+use Rattle.coefficients.proofs.Steps.{expression, live, many_factors, seen}
 use Rattle.expand_forms.specs.Terms.{led_by}
 use Rattle.expand_forms.proofs.TermReadings.{led_some, led_term}
 use Rattle.tree_handles.specs.Expressions.{children_of}
 use Rattle.tree_handles.specs.Handed.{tree_of}
 use Rattle.tree_handles.proofs.Fronts.{behind_first, behind_new, front_after_one, front_same, front_without}
-use Rattle.tree_handles.proofs.Given.{given_handed, given_rest, given_told, gives_as}
+use Rattle.tree_handles.proofs.Given.{given_handed, given_rest, given_root, given_told, gives_as}
 use Rattle.expand_forms.proofs.monomials.completed.Goals as goal
+
+pub children-requires-clause-live : goal.children-requires-clause-live
+children-requires-clause-live c = live c.led_by.new.pool c.id.ensures (given_root c.in_ok-led.ensures.ok)
 
 pub unwrapped-requires : goal.unwrapped-requires
 unwrapped-requires c =
@@ -19,11 +23,21 @@ unwrapped-requires c =
       some = subst (λ (t : Tree). 1 ≤ count (children_of t)) (sym (given_told c.in_ok-led.ensures.ok)) (led_some (value_of c.args.coefficient) (children_of (tree_of c.args.product c.args.pool.now)));
     }
 
-pub returns-clause-ok : goal.returns-clause-ok
-returns-clause-ok c = λ m e.
+pub returns-then-children-eq1-clause-ok : goal.returns-then-children-eq1-clause-ok
+returns-then-children-eq1-clause-ok c = λ m e.
     let q = value_of c.args.coefficient in
     gives_as c.unwrapped.ensures.tree (given_rest c.in_ok-led.ensures.ok)
     (λ t h. h ∙ ap (λ (u : Tree). product_tree (children_of u)) (given_told c.in_ok-led.ensures.ok) ∙ ap (λ (u : Tree). product_tree (led_by q (children_of u))) e ∙ led_term q m)
 
-pub returns-clause-front : goal.returns-clause-front
-returns-clause-front c = front_after_one (behind_new c.in_ok-led.ensures.ok.ends (front_without behind_first front_same)) c.led_by.ensures.front c.unwrapped.ensures.front
+pub returns-then-children-eq1-clause-front : goal.returns-then-children-eq1-clause-front
+returns-then-children-eq1-clause-front c = front_after_one (behind_new c.in_ok-led.ensures.ok.ends (front_without behind_first front_same)) c.led_by.ensures.front c.unwrapped.ensures.front
+
+pub returns-clause-ok : goal.returns-clause-ok
+returns-clause-ok c = λ m e.
+    let q = value_of c.args.coefficient in
+    let led = c.in_ok-led.ensures.ok in
+    let ts = led_by q (children_of (tree_of c.args.product c.args.pool.now)) in
+    let many : c.children.result ≡ count ts =
+    c.children.ensures.plain (expression c.id.ensures c.in_ok-led.ensures.stands (given_handed led)) ∙ ap (λ (t : Tree). count (children_of t)) (seen c.id.ensures c.in_ok-led.ensures.stands (given_handed led) ∙ given_told led) in
+    gives_as led refl (λ t h. h ∙ many_factors (mult ts) refl (led_some q (children_of (tree_of c.args.product c.args.pool.now))) (λ o. c.if-children-eq1.false (many ∙ o))
+    ∙ ap (λ (u : Tree). product_tree (led_by q (children_of u))) e ∙ led_term q m)

@@ -1,9 +1,7 @@
-use Rattle.std.proofs.Common.{ℕ, List, ◌+◌, ◌-◌, ◌++◌, length}
+use Rattle.std.proofs.Common.{◌++◌}
 use Rattle.child_lists.specs.Lists.{Lists}
-use Rattle.expand_forms.specs.ExpansionBits.{IsHeld}
-use Rattle.expand_forms.specs.ExpansionRoom.{HasFewTerms}
 use Rattle.expand_forms.specs.PolynomialTrees.{polynomial_of, sum_of}
-use Rattle.expand_forms.proofs.Joins.{IsJoined}
+use Rattle.expand_forms.proofs.JoinLoops.{IsJoined}
 use Rattle.expand_forms.proofs.Nodes.{from}
 use Rattle.tree_handles.specs.Expressions.{children_of, plain}
 use Rattle.tree_handles.specs.Handed.{tree_of}
@@ -17,8 +15,4 @@ invariant-loop-at g l = record {
   lists : Lists l.list l.sum (forest l.pool);
   joined : IsJoined l.sum (sum_of (from l.at (children_of (plain (tree_at l.id (without_root l.sum (forest l.fn.pool)))))))
       (sum_of (children_of (plain (tree_at l.id (without_root l.sum (forest l.fn.pool))))) ++ polynomial_of (tree_of l.sum l.fn.pool)) l.fn.pool l.pool;
-  few : (ns : List (List ℕ)) (k n : ℕ) → HasFewTerms ns k (polynomial_of (tree_of l.sum l.fn.pool)) → HasFewTerms ns n (sum_of (children_of (plain (tree_at l.id (without_root l.sum (forest l.fn.pool))))))
-      → HasFewTerms ns (k + (n - length (sum_of (from l.at (children_of (plain (tree_at l.id (without_root l.sum (forest l.fn.pool))))))))) (polynomial_of (tree_of l.sum l.pool));
-  held : (h low : ℕ) → IsHeld (sum_of (children_of (plain (tree_at l.id (without_root l.sum (forest l.fn.pool))))) ++ polynomial_of (tree_of l.sum l.fn.pool)) h low
-      → IsHeld (sum_of (from l.at (children_of (plain (tree_at l.id (without_root l.sum (forest l.fn.pool)))))) ++ polynomial_of (tree_of l.sum l.pool)) h low;
 }

@@ -25,9 +25,8 @@ use Rattle.number_forms.specs.Lacks.{OfFull}
 use Rattle.number_forms.proofs.Overflows.{passed_on}
 use Rattle.number_forms.proofs.Rooms.{full_as}
 use Rattle.expand_forms.proofs.AllMonomials.{AllHave, scaled_all}
-use Rattle.expand_forms.proofs.FewTerms.{answer_few, answer_size, few_as, few_constant, few_none, few_scaled, some_few}
+use Rattle.expand_forms.proofs.FewTerms.{answer_few, answer_size, few_append, few_as, few_constant, few_none, few_product, few_scaled, some_few}
 use Rattle.tree_handles.specs.Handed.{tree_of}
-use Rattle.expand_forms.proofs.JoinRooms.{joined_few}
 use Rattle.expand_forms.proofs.Lacks.{number_refused}
 use Rattle.expand_forms.proofs.TermBytes.{terms_rise}
 use Rattle.expand_forms.proofs.TreeMonomials.{tree_monomials}
@@ -39,8 +38,10 @@ use Rattle.expand_forms.proofs.node.place_difference.Goals.{In_ok-opposite}
 use Rattle.expand_forms.specs.ExpansionBits.{IsHeld, IsNoOverflow}
 use Rattle.expand_forms.proofs.Held.{answer_held}
 use Rattle.expand_forms.proofs.SameCoefficients.{same_is, same_trans, times_one_polynomial}
-use Rattle.expand_forms.proofs.Splits.{held_before, held_behind}
+use Rattle.expand_forms.proofs.Gathered.{gathered_few, gathered_sum, held_before}
+use Rattle.expand_forms.proofs.Splits.{held_behind}
 use Rattle.tree_handles.specs.Roots.{without_root}
+use Rattle.child_lists.proofs.ListedChildren.{lists_none}
 use Rattle.expand_forms.proofs.node.place_difference.Goals as goal
 
 pub place_scaled-requires : goal.place_scaled-requires
@@ -64,7 +65,7 @@ join_products-requires c =
     let h = given_other o (given_handed k) in
     let one = seen c.id.ensures st h ∙ ap plain (given_same c.in_ok-one.one o (given_root k)) ∙ given_told k ∙ ap num (one_value c.whole.result c.whole.ensures) in
     let opposite = seen c.id-2.ensures st (given_handed o) ∙ given_told o in
-    (omega arith, (c.in_ok-sum.ensures.stands, (gives_rest new (λ t e. empty_sum e), (c.new-list.ensures c.in_ok-sum.sum (forest c.node.new.pool) (ap root_ids (kids_of_last c.in_ok-sum.ensures.stands c.in_ok-sum.ensures.ok)), (subst (IsExpression c.id.result) back (expression c.id.ensures st h), (subst (IsExpression c.id-2.result) back (expression c.id-2.ensures st (given_handed o)), (subst (λ (f : Forest). IsExpanded (plain (tree_at c.id.result f))) back (subst IsExpanded (sym one) (constant_is_expanded one_fraction)), subst (λ (f : Forest). IsExpanded (plain (tree_at c.id-2.result f))) back (scaled_expanded (value_of c.whole-2.result) (plain (tree_at c.args.b (forest c.number.new.pool))) opposite))))))))
+    (omega arith, (c.in_ok-sum.ensures.stands, (gives_rest new (λ t e. empty_sum e), (lists_none c.new-list.ensures (ap root_ids (kids_of_last c.in_ok-sum.ensures.stands c.in_ok-sum.ensures.ok)), (subst (IsExpression c.id.result) back (expression c.id.ensures st h), (subst (IsExpression c.id-2.result) back (expression c.id-2.ensures st (given_handed o)), (subst (λ (f : Forest). IsExpanded (plain (tree_at c.id.result f))) back (subst IsExpanded (sym one) (constant_is_expanded one_fraction)), subst (λ (f : Forest). IsExpanded (plain (tree_at c.id-2.result f))) back (scaled_expanded (value_of c.whole-2.result) (plain (tree_at c.args.b (forest c.number.new.pool))) opposite))))))))
 
 pub returns-in_err-join_products-clause-front : goal.returns-in_err-join_products-clause-front
 returns-in_err-join_products-clause-front c =
@@ -210,7 +211,7 @@ returns-in_err-join_products-clause-room c = λ ns m n ha hb.
     let new = c.in_ok-sum.ensures.given refl in
     let r = given_rest new in
     let left = given_free c.in_ok-opposite.ensures.stands c.in_ok-sum.ensures.stands c.in_ok-sum.ensures.kept new in
-    let lacks = c.in_err-join_products.ensures.room ns 0 1 n (few_none ns (given_told new)) (one_few at c.id.result _ ns c.id.ensures r) (opposite_few at c.id-2.result _ ns n c.id-2.ensures r hb) in
+    let lacks = c.in_err-join_products.ensures.room ns (1 * n + 0) (few_append (few_product (one_few at c.id.result _ ns c.id.ensures r) (opposite_few at c.id-2.result _ ns n c.id-2.ensures r hb)) (few_none ns (given_told new))) in
     passed_on c.from_residual-in_err-join_products.result c.in_err-join_products.field-0.0 (OfFull (λ full. free_of c.args.pool.now < node_bytes ns (m + n))) c.from_residual-in_err-join_products.ensures.0 c.from_residual-in_err-join_products.ensures.1
     (full_as c.in_err-join_products.field-0.0 lacks (λ full few. omega (arith, taken at ns n hb, left, terms_rise ns n (m + n) (omega arith), few)))
 
@@ -218,7 +219,7 @@ pub returns-in_err-join_products-2-clause-room : goal.returns-in_err-join_produc
 returns-in_err-join_products-2-clause-room c = λ ns m n ha hb.
     let at = (goal.at.returns-in_err-join_products-2-clause-room c).In_ok-opposite in
     let new = c.in_ok-sum.ensures.given refl in
-    let joined : HasFewTerms ns n (polynomial_of (tree_of c.in_ok-sum.sum c.join_products.new.pool)) = few_as (joined_few (given_told c.in_ok-join_products.ensures.ok) (one_few at c.id.result _ ns c.id.ensures (given_rest new)) (opposite_few at c.id-2.result _ ns n c.id-2.ensures (given_rest new) hb) (few_none ns (given_told new))) (omega arith) in
+    let joined : HasFewTerms ns n (polynomial_of (tree_of c.in_ok-sum.sum c.join_products.new.pool)) = few_as (gathered_few (gathered_sum (given_told c.in_ok-join_products.ensures.ok)) (few_append (few_product (one_few at c.id.result _ ns c.id.ensures (given_rest new)) (opposite_few at c.id-2.result _ ns n c.id-2.ensures (given_rest new) hb)) (few_none ns (given_told new)))) (omega arith) in
     let st = c.in_ok-opposite.ensures.stands in
     let r = given_rest c.in_ok-join_products.ensures.ok ∙ given_rest (c.in_ok-sum.ensures.given refl) in
     let sum = gives_as c.in_ok-join_products.ensures.ok (given_rest (c.in_ok-sum.ensures.given refl)) (λ t h. h) in
@@ -226,10 +227,10 @@ returns-in_err-join_products-2-clause-room c = λ ns m n ha hb.
     let early = beside c.in_ok-one.ensures.given c.requires.first in
     let a = beside c.in_ok-opposite.ensures.ok early.expression in
     let is = ap (λ (f : Forest). plain (tree_at c.args.a f)) r ∙ a.same ∙ early.same in
-    let lacks = c.in_err-join_products-2.ensures.room ns n 1 m joined (one_few at c.id-3.result _ ns c.id-3.ensures r) (subst (λ (t : Tree). HasFewTerms ns m (polynomial_of t)) (sym is) ha) in
-    let turned : n + 1 * m ≤ m + n = omega arith in
+    let lacks = c.in_err-join_products-2.ensures.room ns (1 * m + n) (few_append (few_product (one_few at c.id-3.result _ ns c.id-3.ensures r) (subst (λ (t : Tree). HasFewTerms ns m (polynomial_of t)) (sym is) ha)) joined) in
+    let turned : 1 * m + n ≤ m + n = omega arith in
     passed_on c.from_residual-in_err-join_products-2.result c.in_err-join_products-2.field-0.0 (OfFull (λ full. free_of c.args.pool.now < node_bytes ns (m + n))) c.from_residual-in_err-join_products-2.ensures.0 c.from_residual-in_err-join_products-2.ensures.1
-    (full_as c.in_err-join_products-2.field-0.0 lacks (λ full few. omega (arith, taken at ns n hb, left, terms_rise ns n (m + n) (omega arith), terms_rise ns (n + 1 * m) (m + n) turned, few)))
+    (full_as c.in_err-join_products-2.field-0.0 lacks (λ full few. omega (arith, taken at ns n hb, left, terms_rise ns n (m + n) (omega arith), terms_rise ns (1 * m + n) (m + n) turned, few)))
 
 pub returns-in_err-answer-clause-room : goal.returns-in_err-answer-clause-room
 returns-in_err-answer-clause-room c = λ ns m n ha hb.

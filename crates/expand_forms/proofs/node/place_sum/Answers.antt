@@ -31,6 +31,7 @@ use Rattle.tree_handles.specs.declared.fault.NumberFault.TheVariants as fault
 use Rattle.calc_terms.specs.Rat.{value_of}
 use Rattle.expand_forms.specs.ExpansionBits.{IsHeld, IsNoOverflow}
 use Rattle.expand_forms.specs.Polynomials.{Polynomial}
+use Rattle.child_lists.proofs.ListedChildren.{lists_none}
 use Rattle.expand_forms.proofs.node.place_sum.Goals as goal
 
 pub join_children-requires : goal.join_children-requires
@@ -40,7 +41,7 @@ join_children-requires c =
     let r = given_rest new in
     let st = c.in_ok-one.ensures.stands in
     let x = beside k c.requires.expression in
-    (omega arith, (c.in_ok-sum.ensures.stands, (gives_rest new (λ t e. empty_sum e), (c.new-list.ensures c.in_ok-sum.sum (forest c.node.new.pool) (ap root_ids (kids_of_last c.in_ok-sum.ensures.stands c.in_ok-sum.ensures.ok)), (subst (IsExpression c.id.result) (sym r) (expression c.id.ensures st (given_handed k)), (ap (λ (f : Forest). plain (tree_at c.id.result f)) r ∙ seen c.id.ensures st (given_handed k) ∙ given_told k ∙ ap num (one_value c.whole.result c.whole.ensures), (subst (IsExpression c.args.id) (sym r) x.expression, subst (λ (f : Forest). AreExpanded (children_of (plain (tree_at c.args.id f)))) (sym r) (subst (λ (t : Tree). AreExpanded (children_of t)) (sym x.same) c.requires.children))))))))
+    (omega arith, (c.in_ok-sum.ensures.stands, (gives_rest new (λ t e. empty_sum e), (lists_none c.new-list.ensures (ap root_ids (kids_of_last c.in_ok-sum.ensures.stands c.in_ok-sum.ensures.ok)), (subst (IsExpression c.id.result) (sym r) (expression c.id.ensures st (given_handed k)), (ap (λ (f : Forest). plain (tree_at c.id.result f)) r ∙ seen c.id.ensures st (given_handed k) ∙ given_told k ∙ ap num (one_value c.whole.result c.whole.ensures), (subst (IsExpression c.args.id) (sym r) x.expression, subst (λ (f : Forest). AreExpanded (children_of (plain (tree_at c.args.id f)))) (sym r) (subst (λ (t : Tree). AreExpanded (children_of t)) (sym x.same) c.requires.children))))))))
 
 pub returns-in_err-join_children : goal.returns-in_err-join_children
 returns-in_err-join_children c =

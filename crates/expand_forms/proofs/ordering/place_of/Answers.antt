@@ -1,31 +1,58 @@
-use Rattle.std.proofs.Common.{rules, ◌+◌, ◌-◌, ◌/◌, ◌≡◌, ◌∙◌, arith, sym, ap}
-use Rattle.std.specs.declared.cmp.Ordering.TheVariants.{Less}
-use Rattle.calc_terms.specs.Trees.{Tree}
+use Rattle.std.proofs.Common.{rules, ◌≡◌, ◌∙◌, arith, sym, ap}
+use Rattle.calc_terms.specs.Trees.{Tree, count}
 use Rattle.expand_forms.specs.Terms.{term_cmp}
-use Rattle.expand_forms.proofs.Sums.{lt_less, sum_below}
-use Rattle.expand_forms.proofs.TermReadings.{sum_term}
+use Rattle.expand_forms.proofs.Sums.{sum_below}
+use Rattle.expand_forms.proofs.TermKeys.{monomial_order}
+use Rattle.expand_forms.proofs.TermReadings.{sum_term, term_monomial}
 use Rattle.tree_handles.specs.Expressions.{children_of, nth, plain}
 use Rattle.tree_handles.specs.Inside.{tree_at}
 use Rattle.tree_handles.specs.Standing.{forest}
 use Rattle.expand_forms.proofs.ordering.place_of.Goals as goal
+use Rattle.expand_forms.proofs.ordering.place_of.Given.{Over}
+use Rattle.expand_forms.proofs.ordering.place_of.Goals.{After-compare_monomials}
+
+pub loop-low-init : goal.loop-low-init
+loop-low-init g c =
+    let many : c.children-high.result ≡ count (children_of (plain (tree_at c.args.sum (forest c.args.pool.now)))) = c.children-high.ensures.plain c.requires.expression in
+    record { order = omega arith; within = omega (arith, many); below = λ k l. absurd (omega (arith, l)); above = λ l. absurd (omega (arith, l, many)) }
 
 pub child-requires : goal.child-requires
-child-requires g c = (search rules, (c.requires.stands, (c.requires.expression, (c.requires.lists, omega (arith, c.loop-low-test.true, c.loop-low.invariant.within)))))
+child-requires g c = (search rules, (c.requires.stands, (c.requires.expression, (c.requires.lists, omega (arith, c.look_at-at.ensures.below, c.loop-low.invariant.within)))))
 
-pub is_below-requires-clause-first_term : goal.is_below-requires-clause-first_term
-is_below-requires-clause-first_term g c =
-    let mid = c.loop-low.low + (c.loop-low.high - c.loop-low.low) / 2 in
-    sum_term c.requires.sum mid _ (omega (arith, c.loop-low-test.true, c.loop-low.invariant.within)) (c.child.ensures.plain)
+pub compare_monomials-requires-clause-first : goal.compare_monomials-requires-clause-first
+compare_monomials-requires-clause-first g c =
+    let x = sum_term c.requires.sum c.look_at-at.result _ (omega (arith, c.look_at-at.ensures.below, c.loop-low.invariant.within)) c.child.ensures.plain in
+    (x.summand.monomial, c.monomial_key-other.ensures x.summand.monomial (term_monomial x))
 
-pub loop-low-preserved-then-is_below : goal.loop-low-preserved-then-is_below
-loop-low-preserved-then-is_below g c =
-    let mid = c.loop-low.low + (c.loop-low.high - c.loop-low.low) / 2 in
-    let t = plain (tree_at c.args.term (forest c.args.pool.now)) in
-    let less : term_cmp (nth mid (children_of (plain (tree_at c.args.sum (forest c.args.pool.now))))) t ≡ Less =
-    ap (λ (u : Tree). term_cmp u t) (sym (c.child.ensures.plain)) ∙ lt_less _ (sym c.is_below.ensures ∙ c.if-is_below.true) in
+-- how the term there stands to the product
+order : (g : Over) (c : After-compare_monomials g) → term_cmp (nth c.look_at-at.result (children_of (plain (tree_at c.args.sum (forest c.args.pool.now))))) (plain (tree_at c.args.product (forest c.args.pool.now))) ≡ c.compare_monomials.result
+order g c =
+    let (m, h) = c.requires.monomial in
+    let x = sum_term c.requires.sum c.look_at-at.result _ (omega (arith, c.look_at-at.ensures.below, c.loop-low.invariant.within)) c.child.ensures.plain in
+    let k = term_monomial x in
+    ap (λ (u : Tree). term_cmp u (plain (tree_at c.args.product (forest c.args.pool.now)))) (sym c.child.ensures.plain) ∙ monomial_order k h
+    ∙ sym (c.compare_monomials.ensures x.summand.monomial m (c.monomial_key-other.ensures x.summand.monomial k) (c.monomial_key-key.ensures m h))
+
+pub returns-in-Equal-clause-found : goal.returns-in-Equal-clause-found
+returns-in-Equal-clause-found g c =
+    (omega (arith, c.look_at-at.ensures.below, c.loop-low.invariant.within), order g (goal.at.returns-in-Equal-clause-found g c).After-compare_monomials ∙ c.in-Equal.is)
+
+pub loop-low-preserved-in-Less : goal.loop-low-preserved-in-Less
+loop-low-preserved-in-Less g c =
+    let at = c.look_at-at.result in
+    let t = plain (tree_at c.args.product (forest c.args.pool.now)) in
+    let less = order g (goal.at.loop-low-preserved-in-Less g c).After-compare_monomials ∙ c.in-Less.is in
     record {
-      order = omega (arith, c.loop-low-test.true);
+      order = omega (arith, c.look_at-at.ensures.below);
       within = c.loop-low.invariant.within;
-      below = λ k l. sum_below c.requires.sum k mid t (omega (arith, l)) (omega (arith, c.loop-low-test.true, c.loop-low.invariant.within)) less;
+      below = λ k l. sum_below c.requires.sum k at t (omega (arith, l)) (omega (arith, c.look_at-at.ensures.below, c.loop-low.invariant.within)) less;
       above = c.loop-low.invariant.above;
     }
+
+pub loop-low-preserved : goal.loop-low-preserved
+loop-low-preserved g c = record {
+  order = c.look_at-at.ensures.from;
+  within = omega (arith, c.look_at-at.ensures.below, c.loop-low.invariant.within);
+  below = c.loop-low.invariant.below;
+  above = λ l. order g (goal.at.loop-low-preserved g c).After-compare_monomials ∙ c.in-Greater.is;
+}

@@ -1,5 +1,5 @@
 use Rattle.std.proofs.Common.{◌≡◌, ℕ, ◌<◌, ◌≤◌, ◌-◌}
-use Rattle.std.specs.declared.cmp.Ordering.TheVariants.{Less}
+use Rattle.std.specs.declared.cmp.Ordering.TheVariants.{Greater, Less}
 use Rattle.calc_terms.specs.Trees.{count}
 use Rattle.expand_forms.specs.Terms.{term_cmp}
 use Rattle.tree_handles.specs.Expressions.{nth, plain, children_of}
@@ -11,8 +11,8 @@ abbrev pub invariant-loop-low : goal.invariant-loop-low
 invariant-loop-low g l = record {
   order : l.low ≤ l.high;
   within : l.high ≤ count (children_of (plain (tree_at l.sum (forest l.pool))));
-  below : (k : ℕ) → k < l.low → term_cmp (nth k (children_of (plain (tree_at l.sum (forest l.pool))))) (plain (tree_at l.term (forest l.pool))) ≡ Less;
-  above : l.high < count (children_of (plain (tree_at l.sum (forest l.pool)))) → term_cmp (nth l.high (children_of (plain (tree_at l.sum (forest l.pool))))) (plain (tree_at l.term (forest l.pool))) ≡ Less → ⊥;
+  below : (k : ℕ) → k < l.low → term_cmp (nth k (children_of (plain (tree_at l.sum (forest l.pool))))) (plain (tree_at l.fn.product (forest l.pool))) ≡ Less;
+  above : l.high < count (children_of (plain (tree_at l.sum (forest l.pool)))) → term_cmp (nth l.high (children_of (plain (tree_at l.sum (forest l.pool))))) (plain (tree_at l.fn.product (forest l.pool))) ≡ Greater;
 }
 
 abbrev pub decreases-loop-low : goal.decreases-loop-low

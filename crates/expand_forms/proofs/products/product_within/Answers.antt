@@ -1,4 +1,4 @@
-use Rattle.std.proofs.Common.{◌∙◌, ap, refl, sym, subst, ◌<◌, ◌≤◌, ◌*◌, arith}
+use Rattle.std.proofs.Common.{◌∙◌, ap, refl, sym, subst, ◌<◌, ◌+◌, ◌≤◌, ◌*◌, arith}
 use Rattle.expand_forms.specs.ExpandedTrees.{expanded}
 use Rattle.expand_forms.specs.Polynomials.{product, Polynomial}
 use Rattle.expand_forms.specs.PolynomialTrees.{polynomial_of}
@@ -21,11 +21,12 @@ use Rattle.number_forms.proofs.Overflows.{passed_on}
 use Rattle.number_forms.proofs.Rooms.{full_as}
 use Rattle.tree_handles.proofs.Room.{given_free}
 use Rattle.tree_handles.specs.declared.fault.NumberFault.TheVariants as fault
-use Rattle.expand_forms.proofs.FewTerms.{few_none, some_few}
+use Rattle.expand_forms.proofs.FewTerms.{few_append, few_none, few_product, some_few}
 use Rattle.expand_forms.proofs.TermBytes.{some_bytes}
 use Rattle.std.proofs.lemmas.Nat.{mul-le}
 use Rattle.number_forms.proofs.FreeBytes.{refused_below}
 use Rattle.expand_forms.specs.ExpansionBits.{IsHeld, IsNoOverflow}
+use Rattle.child_lists.proofs.ListedChildren.{lists_none}
 use Rattle.expand_forms.proofs.products.product_within.Goals as goal
 
 pub new-list-requires : goal.new-list-requires
@@ -35,7 +36,7 @@ pub join_products-requires : goal.join_products-requires
 join_products-requires g c =
     let new = c.in_ok-sum.ensures.given refl in
     let r = sym (given_rest new) in
-    let lists = c.new-list.ensures c.in_ok-sum.sum (forest c.node.new.pool) (ap root_ids (kids_of_last c.in_ok-sum.ensures.stands c.in_ok-sum.ensures.ok)) in
+    let lists = lists_none c.new-list.ensures (ap root_ids (kids_of_last c.in_ok-sum.ensures.stands c.in_ok-sum.ensures.ok)) in
     (omega (arith, c.requires.few), (c.in_ok-sum.ensures.stands, (gives_rest new (λ t e. empty_sum e), (lists, (subst (IsExpression c.args.a) r c.requires.first, (subst (IsExpression c.args.b) r c.requires.second, (subst (λ (f : Forest). IsExpanded (plain (tree_at c.args.a f))) r c.requires.first_expanded, subst (λ (f : Forest). IsExpanded (plain (tree_at c.args.b f))) r c.requires.second_expanded)))))))
 
 pub returns-in_err-join_products-clause-front : goal.returns-in_err-join_products-clause-front
@@ -74,7 +75,7 @@ returns-in_err-join_products-clause-room g c = λ ns m n ha hb.
     let new = c.in_ok-sum.ensures.given refl in
     let r = sym (given_rest new) in
     let free = given_free c.requires.stands c.in_ok-sum.ensures.stands c.in_ok-sum.ensures.kept new in
-    let lacks = c.in_err-join_products.ensures.room ns 0 m n (few_none ns (given_told new)) (subst (λ (f : Forest). HasFewTerms ns m (polynomial_of (plain (tree_at c.args.a f)))) r ha) (subst (λ (f : Forest). HasFewTerms ns n (polynomial_of (plain (tree_at c.args.b f)))) r hb) in
+    let lacks = c.in_err-join_products.ensures.room ns (m * n + 0) (few_append (few_product (subst (λ (f : Forest). HasFewTerms ns m (polynomial_of (plain (tree_at c.args.a f)))) r ha) (subst (λ (f : Forest). HasFewTerms ns n (polynomial_of (plain (tree_at c.args.b f)))) r hb)) (few_none ns (given_told new))) in
     passed_on c.from_residual-in_err-join_products.result c.in_err-join_products.field-0.0 (OfFull (λ full. free_of c.args.pool.now < sum_bytes ns (m * n))) c.from_residual-in_err-join_products.ensures.0 c.from_residual-in_err-join_products.ensures.1
     (full_as c.in_err-join_products.field-0.0 lacks (λ full few. omega (arith, free, few)))
 

@@ -1,0 +1,131 @@
+-- Polynomials with some summands added up, and in another order: they have the same coefficients, and are no larger.
+use Rattle.std.proofs.Common.{◌≡◌, ◌⊎◌, inl, inr, ℕ, ◌+◌, ◌≤◌, ◌<◌, List, [], ◌∷◌, ◌++◌, length, sym, ap, ◌∙◌, subst, arith, append_assoc}
+use Rattle.std.proofs.lemmas.List.{length-append}
+use Rattle.calc_terms.specs.Trees.{Tree}
+use Rattle.expand_forms.specs.ExpandedTrees.{normal}
+use Rattle.expand_forms.specs.ExpansionBits.{AreWhole, HaveExponents, IsHeld, mass}
+use Rattle.expand_forms.specs.ExpansionRoom.{AreNamed, HasFewTerms, IsNamed}
+use Rattle.expand_forms.specs.Polynomials.{Polynomial, product}
+use Rattle.expand_forms.specs.PolynomialTrees.{polynomial_of}
+use Rattle.expand_forms.specs.Sums.{AreSame, IsExpanded, IsSumOf}
+use Rattle.expand_forms.proofs.AllMonomials.{append_all, normal_all}
+use Rattle.expand_forms.proofs.Joins.{sum_polynomial_is}
+use Rattle.expand_forms.proofs.Masses.{exponents_append, exponents_left, exponents_normal, exponents_right, mass_append, normal_mass, normal_whole, whole_append, whole_left, whole_right}
+use Rattle.expand_forms.proofs.Names.{all_named, are_named}
+use Rattle.expand_forms.proofs.NormalForms.{normal_coefficient, normal_is, one_normal}
+use Rattle.expand_forms.proofs.SameCoefficients.{product_both, product_nil, same_append, same_normal, same_refl, same_trans, same_turned}
+use Rattle.expand_forms.proofs.Splits.{normal_or_none}
+use Rattle.expand_forms.proofs.TermBytes.{normal_length}
+
+pub record IsGathered (v w : Polynomial) : Type 0 where
+  pub same : AreSame w v
+  pub wholes : (d : ℕ) → 0 < d → AreWhole d v → AreWhole d w
+  pub masses : (d : ℕ) → 0 < d → AreWhole d v → mass d w ≤ mass d v
+  pub exponents : (n : ℕ) → HaveExponents n v → HaveExponents n w
+  pub named : (ns : List (List ℕ)) → AreNamed ns v → AreNamed ns w
+  pub few : length w ≤ length v
+
+pub gathered_refl : (v : Polynomial) → IsGathered v v
+gathered_refl v = record { same = same_refl v; wholes = λ d z h. h; masses = λ d z h. omega arith; exponents = λ n h. h; named = λ ns h. h; few = omega arith }
+
+pub gathered_is : {v w : Polynomial} → v ≡ w → IsGathered v w
+gathered_is {v} e = subst (IsGathered v) e (gathered_refl v)
+
+pub gathered_trans : {u v w : Polynomial} → IsGathered u v → IsGathered v w → IsGathered u w
+gathered_trans h k = record {
+  same = same_trans k.same h.same;
+  wholes = λ d z a. k.wholes d z (h.wholes d z a);
+  masses = λ d z a. omega (arith, h.masses d z a, k.masses d z (h.wholes d z a));
+  exponents = λ n a. k.exponents n (h.exponents n a);
+  named = λ ns a. k.named ns (h.named ns a);
+  few = omega (arith, h.few, k.few);
+}
+
+-- ---- two parts
+
+named_append : (ns : List (List ℕ)) (v w : Polynomial) → AreNamed ns v → AreNamed ns w → AreNamed ns (v ++ w)
+named_append ns v w h k = are_named ns (v ++ w) (append_all (IsNamed ns) v w (all_named ns v h) (all_named ns w k))
+
+named_right : (ns : List (List ℕ)) (v w : Polynomial) → AreNamed ns (v ++ w) → AreNamed ns w
+named_right ns [] w h = h
+named_right ns (s ∷ v) w h = named_right ns v w h.1
+
+named_left : (ns : List (List ℕ)) (v w : Polynomial) → AreNamed ns (v ++ w) → AreNamed ns v
+named_left ns [] w h = tt
+named_left ns (s ∷ v) w h = (h.0, named_left ns v w h.1)
+
+pub gathered_append : {v x w y : Polynomial} → IsGathered v x → IsGathered w y → IsGathered (v ++ w) (x ++ y)
+gathered_append {v} {x} {w} {y} h k = record {
+  same = same_append h.same k.same;
+  wholes = λ d z a. whole_append d x y (h.wholes d z (whole_left d v w a)) (k.wholes d z (whole_right d v w a));
+  masses = λ d z a. omega (arith, mass_append d v w, mass_append d x y, h.masses d z (whole_left d v w a), k.masses d z (whole_right d v w a));
+  exponents = λ n a. exponents_append n x y (h.exponents n (exponents_left n v w a)) (k.exponents n (exponents_right n v w a));
+  named = λ ns a. named_append ns x y (h.named ns (named_left ns v w a)) (k.named ns (named_right ns v w a));
+  few = omega (arith, length-append v w, length-append x y, h.few, k.few);
+}
+
+gathered_turned : (v w : Polynomial) → IsGathered (v ++ w) (w ++ v)
+gathered_turned v w = record {
+  same = same_turned w v;
+  wholes = λ d z a. whole_append d w v (whole_right d v w a) (whole_left d v w a);
+  masses = λ d z a. omega (arith, mass_append d v w, mass_append d w v);
+  exponents = λ n a. exponents_append n w v (exponents_right n v w a) (exponents_left n v w a);
+  named = λ ns a. named_append ns w v (named_right ns v w a) (named_left ns v w a);
+  few = omega (arith, length-append v w, length-append w v);
+}
+
+-- the second of three in front
+pub gathered_second : (u v w : Polynomial) → IsGathered (u ++ (v ++ w)) (v ++ (u ++ w))
+gathered_second u v w = gathered_trans (gathered_is (sym (append_assoc u v w))) (gathered_trans (gathered_append (gathered_turned u v) (gathered_refl w)) (gathered_is (append_assoc v u w)))
+
+-- ---- normal polynomials
+
+pub gathered_normal : (v : Polynomial) → IsGathered v (normal v)
+gathered_normal v = record {
+  same = same_normal v;
+  wholes = λ d z a. normal_whole d v z a;
+  masses = λ d z a. normal_mass d v z a;
+  exponents = λ n a. exponents_normal n v a;
+  named = λ ns a. are_named ns (normal v) (normal_all (IsNamed ns) v (all_named ns v a));
+  few = normal_length v;
+}
+
+pub gathered_sum : {v : Polynomial} {t : Tree} → IsSumOf v t → IsGathered v (polynomial_of t)
+gathered_sum {v} s = subst (IsGathered v) (sym (sum_polynomial_is s.sum ∙ one_normal s.sum.summands (normal v) s.sum.normal (normal_is v) (λ m. s.same.at m ∙ sym (normal_coefficient m v)))) (gathered_normal v)
+
+-- all of it cancels
+gathered_none : {v w : Polynomial} → w ≡ [] → AreSame w v → IsGathered v w
+gathered_none {v} {w} e same =
+    subst (λ (u : Polynomial). AreSame u v → IsGathered v u) (sym e)
+    (λ h. record { same = h; wholes = λ d z a. tt; masses = λ d z a. omega arith; exponents = λ n a. tt; named = λ ns a. tt; few = omega arith }) same
+
+-- the products of the terms of expanded trees, of which 0 has none
+pub gathered_products : (t u : Tree) → IsExpanded t → IsExpanded u → IsGathered (product (polynomial_of t) (polynomial_of u)) (product (normal (polynomial_of t)) (normal (polynomial_of u)))
+gathered_products t u e f = by (normal (polynomial_of t)) (normal (polynomial_of u)) (normal_or_none t e) (normal_or_none u f) (product_both (same_normal (polynomial_of t)) (same_normal (polynomial_of u)))
+  where
+    by : (v w : Polynomial) → (v ≡ polynomial_of t) ⊎ (v ≡ []) → (w ≡ polynomial_of u) ⊎ (w ≡ []) → AreSame (product v w) (product (polynomial_of t) (polynomial_of u)) → IsGathered (product (polynomial_of t) (polynomial_of u)) (product v w)
+    by v w (inl p) (inl q) same = gathered_is (sym (λ i. product (p i) (q i)))
+    by v w (inr p) k same = gathered_none (ap (λ (x : Polynomial). product x w) p) same
+    by v w k (inr q) same = gathered_none (ap (product v) q ∙ product_nil v) same
+
+-- ---- how large they are
+
+pub gathered_held : {v w : Polynomial} {h l : ℕ} → IsGathered v w → IsHeld v h l → IsHeld w h l
+gathered_held {h = h} g x = record {
+  denominator = x.denominator;
+  positive = x.positive;
+  whole = g.wholes x.denominator x.positive x.whole;
+  low = x.low;
+  high = omega (arith, x.high, g.masses x.denominator x.positive x.whole);
+  exponents = g.exponents h x.exponents;
+}
+
+pub gathered_few : {v w : Polynomial} {ns : List (List ℕ)} {n : ℕ} → IsGathered v w → HasFewTerms ns n v → HasFewTerms ns n w
+gathered_few {ns = ns} g x = record { named = g.named ns x.named; few = omega (arith, g.few, x.few) }
+
+pub few_behind : (v w : Polynomial) {ns : List (List ℕ)} {n : ℕ} → HasFewTerms ns n (v ++ w) → HasFewTerms ns n w
+few_behind v w {ns} x = record { named = named_right ns v w x.named; few = omega (arith, x.few, length-append v w) }
+
+-- a sum that takes the place of the part behind
+pub held_before : (v w : Polynomial) {t : Tree} {h l : ℕ} → IsHeld (v ++ w) h l → IsSumOf w t → IsHeld (v ++ polynomial_of t) h l
+held_before v w x s = gathered_held (gathered_append (gathered_refl v) (gathered_sum s)) x

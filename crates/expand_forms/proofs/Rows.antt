@@ -1,0 +1,82 @@
+-- Rows of products, one after another.
+use Rattle.std.proofs.Common.{◌≡◌, ◌≢◌, ◌≤◌, ◌<◌, ◌^◌, ℕ, ◌+◌, [], ◌∷◌, ◌++◌, drop, map, Bool, true, false, refl, sym, ap, ◌∙◌, subst, append-nil}
+use Rattle.std.specs.Prelude.{nat_abs}
+use Rattle.std.proofs.lemmas.Bool.{not_from_false}
+use Rattle.calc_algebra.proofs.InverseLaws.{product_not_zero}
+use Rattle.calc_terms.proofs.FractionFacts.{no_zero, zero_is}
+use Rattle.calc_terms.specs.Fits.{sum_fits}
+use Rattle.calc_terms.specs.Fractions.{Fraction, is_zero_fraction, one_fraction, plus, times, zero_fraction}
+use Rattle.calc_terms.specs.Rat.{value_of}
+use Rattle.calc_terms.specs.Trees.{Tree, count}
+use Rattle.calc_terms.specs.declared.rat.Rat.{Rat}
+use Rattle.expand_forms.specs.ExpandedTrees.{normal, term_trees}
+use Rattle.expand_forms.specs.Polynomials.{Polynomial, Summand, monomial_times, product, summand, summand_times}
+use Rattle.expand_forms.specs.PolynomialTrees.{polynomial_of}
+use Rattle.expand_forms.specs.Rows.{row, with_coefficient}
+use Rattle.expand_forms.specs.Terms.{IsTerm, coefficient_in}
+use Rattle.expand_forms.proofs.Arithmetic.{times_one}
+use Rattle.expand_forms.proofs.JoinLoops.{IsNextPart, IsNextTerm, next_part}
+use Rattle.expand_forms.proofs.Joins.{IsNextSummand, no_summands, term_polynomial_is}
+use Rattle.expand_forms.proofs.SameCoefficients.{product_nil}
+use Rattle.expand_forms.proofs.Squares.{square, twice}
+use Rattle.expand_forms.proofs.TermPolynomials.{term_coefficient}
+use Rattle.number_forms.proofs.Twice.{twice_fits}
+use Rattle.rational128.proofs.LowestTerms.{ratio_parts}
+use Rattle.tree_handles.specs.Expressions.{plain}
+use Rattle.tree_handles.specs.Forest.{Forest}
+use Rattle.tree_handles.specs.Inside.{tree_at}
+
+-- ---- coefficients
+
+pub next_coefficient : {n j : ℕ} {t : Tree} {others f : Forest} (x : IsNextTerm n j t others f) {c : Fraction} → c ≡ coefficient_in (plain (tree_at j f)) → c ≡ x.term.summand.coefficient
+next_coefficient x e = e ∙ ap coefficient_in (x.same ∙ x.term.tree) ∙ term_coefficient x.term.summand
+
+pub is_nonzero : (q : Fraction) → q ≢ zero_fraction → is_zero_fraction q ≡ false
+is_nonzero q h = by (is_zero_fraction q) refl
+  where
+    by : (b : Bool) → is_zero_fraction q ≡ b → b ≡ false
+    by true e = absurd (h (zero_is q e))
+    by false e = refl
+
+pub product_nonzero : {a b c q : Fraction} → q ≡ times a b → a ≢ zero_fraction → b ≡ c → c ≢ zero_fraction → is_zero_fraction q ≡ false
+product_nonzero {a} {b} {c} {q} e h k l = is_nonzero q (λ z. product_not_zero a c h l (sym (e ∙ ap (times a) k) ∙ z))
+
+-- twice a coefficient fits where its square does
+pub twice_coefficient_fits : (c q : Rat) → value_of q ≡ times (value_of c) (value_of c) → is_zero_fraction (value_of q) ≡ false → sum_fits (value_of c) (value_of c) ≡ true
+unfolding one_fraction
+twice_coefficient_fits c q e h =
+    let num : nat_abs (value_of q).num < 2 ^ 127 = subst (λ z. nat_abs z < 2 ^ 127) (sym (ratio_parts q).num) q.fits in
+    let den : (value_of c).den < 2 ^ 127 = subst (λ n. n < 2 ^ 127) (sym (ratio_parts c).den) c.den_fits in
+    twice_fits (value_of c) (value_of q) 1 (e ∙ sym (times_one (times (value_of c) (value_of c)))) (no_zero (value_of q) (not_from_false _ h)) num den
+
+-- ---- the next product
+
+pub row_next : {t : Tree} (x : IsTerm t) (c q : Fraction) (n : ℕ) (s : Summand) (u : Tree) → IsNextSummand n s (normal (polynomial_of u)) → q ≡ times c s.coefficient
+    → IsNextPart (row c t n u) (summand q (monomial_times x.summand.monomial s.monomial) ∷ []) (row c t (n + 1) u)
+row_next {t} x c q n s u next e =
+    let m = x.summand.monomial in
+    let rest = drop (n + 1) (normal (polynomial_of u)) in
+    let is : with_coefficient c (polynomial_of t) ≡ summand c m ∷ [] = ap (with_coefficient c) (term_polynomial_is x) in
+    next_part ((λ i. product (is i) (next.rest i)) ∙ (λ i. summand (sym e i) (monomial_times m s.monomial) ∷ product (sym is i) rest))
+
+pub row_end : (c : Fraction) (t : Tree) (n : ℕ) (u : Tree) → count (term_trees (normal (polynomial_of u))) ≤ n → row c t n u ≡ []
+row_end c t n u l = let v = with_coefficient c (polynomial_of t) in ap (product v) (no_summands n (normal (polynomial_of u)) l) ∙ product_nil v
+
+-- ---- the next row
+
+module _ {n : ℕ} {t : Tree} (u : Tree) (x : IsTerm t) (next : IsNextSummand n x.summand (normal (polynomial_of u))) {c : Fraction} (e : c ≡ x.summand.coefficient) where
+  pub rows_next : (w : Tree) → product (drop n (normal (polynomial_of u))) (normal (polynomial_of w)) ≡ row c t 0 w ++ product (drop (n + 1) (normal (polynomial_of u))) (normal (polynomial_of w))
+  rows_next w =
+      let terms = normal (polynomial_of w) in
+      let is : row c t 0 w ≡ map (summand_times x.summand) terms = (λ i. product (with_coefficient (e i) (term_polynomial_is x i)) terms) ∙ append-nil (map (summand_times x.summand) terms) in
+      ap (λ (v : Polynomial). product v terms) next.rest ∙ ap (λ (v : Polynomial). v ++ product (drop (n + 1) (normal (polynomial_of u))) terms) (sym is)
+
+  -- the square of the term, and twice its products
+  pub squares_next : {q d : Fraction} → q ≡ times c c → d ≡ plus c c
+      → square (drop n (normal (polynomial_of u))) ≡ (summand q (monomial_times x.summand.monomial x.summand.monomial) ∷ []) ++ (row d t (n + 1) u ++ square (drop (n + 1) (normal (polynomial_of u))))
+  squares_next {q} {d} p r =
+      let rest = drop (n + 1) (normal (polynomial_of u)) in
+      let m = x.summand.monomial in
+      let one : times x.summand.coefficient x.summand.coefficient ≡ q = sym (p ∙ (λ i. times (e i) (e i))) in
+      let double : product (twice x.summand ∷ []) rest ≡ row d t (n + 1) u = sym (λ i. product (with_coefficient ((r ∙ (λ k. plus (e k) (e k))) i) (term_polynomial_is x i)) rest) in
+      ap square next.rest ∙ (λ i. summand (one i) (monomial_times m m) ∷ (double i ++ square rest))

@@ -1,0 +1,95 @@
+use Rattle.std.proofs.Common.{rules, ◌≡◌, ◌<◌, ◌∙◌, Bool, ap, inl, refl, subst, sym}
+use Rattle.std.specs.Prelude.{if◌then◌else◌}
+use Rattle.calc_terms.specs.Fractions.{is_zero_fraction}
+use Rattle.calc_terms.specs.Rat.{value_of}
+use Rattle.calc_terms.specs.Trees.{add, count, is_mult, more, none}
+use Rattle.child_lists.specs.Lists.{Lists}
+use Rattle.expand_forms.specs.ExpandedTrees.{term_tree}
+use Rattle.expand_forms.specs.Polynomials.{summand}
+use Rattle.expand_forms.specs.Sums.{IsSum}
+use Rattle.expand_forms.proofs.ListedTerms.{lists_before, lists_behind}
+use Rattle.number_forms.specs.Sums.{removed}
+use Rattle.tree_handles.specs.Expressions.{children_of, inserted, plain}
+use Rattle.tree_handles.specs.Forest.{Forest}
+use Rattle.tree_handles.specs.Handed.{Gives, tree_of}
+use Rattle.tree_handles.specs.Roots.{root_tree, without_root}
+use Rattle.tree_handles.proofs.Fronts.{behind_first, behind_later, behind_new, front_after_one, front_after_two, front_at, front_same, front_without}
+use Rattle.tree_handles.proofs.Given.{given_handed, given_rest, given_root, given_same, given_told, gives_as, owned}
+use Rattle.expand_forms.proofs.adding.replace.Goals as goal
+
+pub release-requires-clause-releasable : goal.release-requires-clause-releasable
+release-requires-clause-releasable g c = inl (given_root c.requires.product.1)
+
+pub remove-requires : goal.remove-requires
+remove-requires g c =
+    let p = c.requires.product.1 in
+    let back = c.release.ensures.owned (owned (given_handed p)) in (
+      search rules,
+      (
+        c.release.ensures.stands,
+        (
+          subst (λ (f : Forest). Gives (without_root c.args.sum.now f) f c.args.sum.now IsSum) (sym back) c.requires.sum,
+          (
+            subst (λ (f : Forest). Lists c.args.list.now c.args.sum.now f) (sym back) (lists_before c.requires.sum p c.requires.lists),
+            subst (λ (f : Forest). c.args.at < count (children_of (plain f))) (given_same c.args.sum.now p (given_root c.requires.sum) ∙ ap (root_tree c.args.sum.now) (sym back)) c.requires.within,
+          ),
+        ),
+      ),
+    )
+
+pub returns-then-is_zero-clause-ok : goal.returns-then-is_zero-clause-ok
+returns-then-is_zero-clause-ok g c = λ m e.
+    let p = c.requires.product.1 in
+    let back = c.release.ensures.owned (owned (given_handed p)) in
+    let ts = children_of (tree_of c.args.sum.now c.args.pool.now) in
+    let s = term_tree (summand (value_of c.args.total) m) in
+    let same = ap (root_tree c.args.sum.now) back ∙ sym (given_same c.args.sum.now p (given_root c.requires.sum)) in
+    let test : is_zero_fraction (value_of c.args.total) ≡ _ = sym c.is_zero.ensures ∙ c.if-is_zero.true in
+    gives_as c.remove.ensures.sum (ap (without_root c.args.sum.now) back) (λ t h. h ∙ ap (λ (f : Forest). add (removed c.args.at (children_of (plain f)))) same
+    ∙ sym (ap (λ (b : Bool). add (if b then removed c.args.at ts else inserted c.args.at (more s none) (removed c.args.at ts))) test))
+
+pub returns-then-is_zero-clause-front : goal.returns-then-is_zero-clause-front
+returns-then-is_zero-clause-front g c =
+    front_after_one behind_first (front_at (front_without (behind_later behind_first) front_same) (c.release.ensures.owned (owned (given_handed c.requires.product.1)))) c.remove.ensures.front
+
+pub completed-requires-clause-product : goal.completed-requires-clause-product
+completed-requires-clause-product g c = gives_as c.requires.product.1 refl (λ u h. ap is_mult h)
+
+pub exchange-requires : goal.exchange-requires
+exchange-requires g c =
+    let p = c.requires.product.1 in
+    let r = c.in_ok-term.ensures.ok c.requires.product.0 (given_told p) in (
+      search rules,
+      (
+        c.in_ok-term.ensures.stands,
+        (
+          gives_as r (sym (given_rest r)) (λ t h. tt),
+          (
+            subst (λ (f : Forest). Gives (without_root c.args.sum.now f) f c.args.sum.now IsSum) (sym (given_rest r)) c.requires.sum,
+            (
+              lists_behind c.requires.sum r (lists_before c.requires.sum p c.requires.lists),
+              subst (λ (f : Forest). c.args.at < count (children_of (plain f))) (given_same c.args.sum.now p (given_root c.requires.sum) ∙ sym (given_same c.args.sum.now r (given_root c.requires.sum))) c.requires.within,
+            ),
+          ),
+        ),
+      ),
+    )
+
+pub returns-clause-ok : goal.returns-clause-ok
+returns-clause-ok g c = λ m e.
+    let p = c.requires.product.1 in
+    let r = c.in_ok-term.ensures.ok m e in
+    let ts = children_of (tree_of c.args.sum.now c.args.pool.now) in
+    let s = term_tree (summand (value_of c.args.total) m) in
+    let same = given_same c.args.sum.now r (given_root c.requires.sum) ∙ sym (given_same c.args.sum.now p (given_root c.requires.sum)) in
+    let test : is_zero_fraction (value_of c.args.total) ≡ _ = sym c.is_zero.ensures ∙ c.if-is_zero.false in
+    gives_as c.exchange.ensures.sum (ap (without_root c.args.sum.now) (given_rest r)) (λ t h. h ∙ (λ i. add (inserted c.args.at (more (given_told r i) none) (removed c.args.at (children_of (plain (same i))))))
+    ∙ sym (ap (λ (b : Bool). add (if b then removed c.args.at ts else inserted c.args.at (more s none) (removed c.args.at ts))) test))
+
+pub returns-clause-front : goal.returns-clause-front
+returns-clause-front g c =
+    let r = c.in_ok-term.ensures.ok c.requires.product.0 (given_told c.requires.product.1) in
+    front_after_two behind_first (behind_new r.ends (front_without (behind_later behind_first) front_same)) (front_after_one (behind_later behind_first) front_same c.completed.ensures.front) c.exchange.ensures.front
+
+pub returns-in_err-term-clause-front : goal.returns-in_err-term-clause-front
+returns-in_err-term-clause-front g c = front_after_one (behind_later behind_first) front_same c.completed.ensures.front

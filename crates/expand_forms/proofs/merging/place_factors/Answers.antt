@@ -1,0 +1,120 @@
+use Rattle.std.proofs.Common.{◌∙◌, ap, sym, subst, arith, ◌<◌, ◌*◌, length, drop}
+use Rattle.expand_forms.specs.ExpandedTrees.{factor_trees}
+use Rattle.expand_forms.specs.ExpansionBits.{HasExponents}
+use Rattle.expand_forms.specs.ExpansionRoom.{factor_bytes}
+use Rattle.expand_forms.specs.Merging.{AddsTrees, GoesOn, IsNext}
+use Rattle.expand_forms.specs.Polynomials.{Monomial, monomial_times}
+use Rattle.expand_forms.specs.Terms.{HasMonomial}
+use Rattle.expand_forms.proofs.AddedTrees.{adds_beside, adds_free, factors_beside, head_beside}
+use Rattle.expand_forms.proofs.Masses.{later_exponents}
+use Rattle.expand_forms.proofs.Merged.{all_gone, few_merged, merged_all, merged_length, merged_more, merged_none}
+use Rattle.expand_forms.proofs.TermBytes.{factors_most}
+use Rattle.expand_forms.proofs.TermReadings.{drop_length, drop_monomial, has_count}
+use Rattle.node_pool.specs.State.{free_of}
+use Rattle.number_forms.specs.Lacks.{OfFull}
+use Rattle.number_forms.proofs.Loops.{kept_after, kept_same}
+use Rattle.number_forms.proofs.Overflows.{passed_on}
+use Rattle.tree_handles.specs.Expressions.{plain}
+use Rattle.tree_handles.specs.Inside.{tree_at}
+use Rattle.tree_handles.specs.Standing.{forest}
+use Rattle.tree_handles.specs.declared.fault.NumberFault.TheVariants as fault
+use Rattle.tree_handles.proofs.Fronts.{front_after, front_same}
+use Rattle.expand_forms.proofs.merging.place_factors.Goals as goal
+use Rattle.expand_forms.proofs.merging.place_factors.Goals.{In-Some}
+
+pub loop-next-init : goal.loop-next-init
+loop-next-init c = record { merged = λ m n hm hn. merged_none m n (forest c.args.pool.now); front = front_same; kept = kept_same c.args.pool.now; stands = c.requires.stands }
+
+pub get-requires : goal.get-requires
+get-requires c =
+    let (m, n, hm, hn) = c.requires.monomials in
+    let a = (c.loop-next.invariant.merged m n hm hn).adds in
+    let x = adds_beside a c.requires.first in
+    record { stands = c.loop-next.invariant.stands; expression = x.expression; factors = factors_beside a c.requires.first c.of-left.ensures; monomial = (m, subst (HasMonomial m) (sym x.same) hm) }
+
+pub get-requires-in-loop-next : goal.get-requires-in-loop-next
+get-requires-in-loop-next c =
+    let (m, n, hm, hn) = c.requires.monomials in
+    let a = (c.loop-next.invariant.merged m n hm hn).adds in
+    let x = adds_beside a c.requires.second in
+    record { stands = c.loop-next.invariant.stands; expression = x.expression; factors = factors_beside a c.requires.second c.of-right.ensures; monomial = (n, subst (HasMonomial n) (sym x.same) hn) }
+
+pub next_factor-requires : goal.next_factor-requires
+next_factor-requires c =
+    let (m, n, hm, hn) = c.requires.monomials in
+    let a = (c.loop-next.invariant.merged m n hm hn).adds in
+    record { monomials = (drop c.loop-next.i m, drop c.loop-next.j n, head_beside c.loop-next.i c.get.result a c.requires.first c.get.ensures hm, head_beside c.loop-next.j c.get-in-loop-next.result a c.requires.second c.get-in-loop-next.ensures hn) }
+
+-- how the product goes on
+next : (c : In-Some) (m n : Monomial) → HasMonomial m (plain (tree_at c.args.s (forest c.args.pool.now))) → HasMonomial n (plain (tree_at c.args.t (forest c.args.pool.now))) → IsNext (drop c.loop-next.i m) (drop c.loop-next.j n) c.in-Some.next
+next c m n hm hn =
+    let a = (c.loop-next.invariant.merged m n hm hn).adds in
+    subst (GoesOn (drop c.loop-next.i m) (drop c.loop-next.j n)) c.in-Some.is
+    (c.in_ok-next.ensures.next (drop c.loop-next.i m) (drop c.loop-next.j n) (drop_monomial c.loop-next.i m hm.monomial) (drop_monomial c.loop-next.j n hn.monomial) (head_beside c.loop-next.i c.get.result a c.requires.first c.get.ensures hm) (head_beside c.loop-next.j c.get-in-loop-next.result a c.requires.second c.get-in-loop-next.ensures hn))
+
+pub place_factor-requires-clause-read : goal.place_factor-requires-clause-read
+place_factor-requires-clause-read c =
+    let (m, n, hm, hn) = c.requires.monomials in
+    let h = next (goal.at.place_factor-requires-clause-read c).In-Some m n hm hn in
+    (h.factor, h.read)
+
+pub overflow_add-i : goal.overflow_add-i
+overflow_add-i c =
+    let (m, n, hm, hn) = c.requires.monomials in
+    let w = c.loop-next.invariant.merged m n hm hn in
+    record { fits = omega (arith, has_count hm, c.of-left.ensures.count, w.left, (next (goal.at.overflow_add-i c).In-Some m n hm hn).left_within, drop_length c.loop-next.i m w.left) }
+
+pub overflow_add-j : goal.overflow_add-j
+overflow_add-j c =
+    let (m, n, hm, hn) = c.requires.monomials in
+    let w = c.loop-next.invariant.merged m n hm hn in
+    record { fits = omega (arith, has_count hn, c.of-right.ensures.count, w.right, (next (goal.at.overflow_add-j c).In-Some m n hm hn).right_within, drop_length c.loop-next.j n w.right) }
+
+pub overflow_add-many : goal.overflow_add-many
+overflow_add-many c =
+    let (m, n, hm, hn) = c.requires.monomials in
+    let h = next (goal.at.overflow_add-many c).In-Some m n hm hn in
+    record { fits = omega (arith, few_merged c.in_ok-_factor.ensures.stands (merged_more (c.loop-next.invariant.merged m n hm hn) c.in-Some.next h (c.in_ok-_factor.ensures.ok h.factor h.read))) }
+
+pub loop-next-smaller : goal.loop-next-smaller
+loop-next-smaller c =
+    let (m, n, hm, hn) = c.requires.monomials in
+    let w = c.loop-next.invariant.merged m n hm hn in
+    let h = next (goal.at.loop-next-smaller c).In-Some m n hm hn in
+    omega (arith, has_count hm, has_count hn, c.of-left.ensures.count, c.of-right.ensures.count, w.left, w.right, h.some, h.left_within, h.right_within, drop_length c.loop-next.i m w.left, drop_length c.loop-next.j n w.right)
+
+pub loop-next-preserved : goal.loop-next-preserved
+loop-next-preserved c = record {
+  merged = λ m n hm hn.
+      let h = next (goal.at.loop-next-preserved c).In-Some m n hm hn in
+      merged_more (c.loop-next.invariant.merged m n hm hn) c.in-Some.next h (c.in_ok-_factor.ensures.ok h.factor h.read);
+  front = front_after c.loop-next.invariant.front c.place_factor.ensures.front;
+  kept = kept_after c.loop-next.invariant.kept c.in_ok-_factor.ensures.kept;
+  stands = c.place_factor.ensures.stands;
+}
+
+pub returns-in_err-_factor-clause-front : goal.returns-in_err-_factor-clause-front
+returns-in_err-_factor-clause-front c = front_after c.loop-next.invariant.front c.place_factor.ensures.front
+
+pub returns-clause-ok : goal.returns-clause-ok
+returns-clause-ok c = λ m n hm hn.
+    let w = c.loop-next.invariant.merged m n hm hn in
+    let goes = c.in_ok-next.ensures.next (drop c.loop-next.i m) (drop c.loop-next.j n) (drop_monomial c.loop-next.i m hm.monomial) (drop_monomial c.loop-next.j n hn.monomial) (head_beside c.loop-next.i c.get.result w.adds c.requires.first c.get.ensures hm) (head_beside c.loop-next.j c.get-in-loop-next.result w.adds c.requires.second c.get-in-loop-next.ensures hn) in
+    let (e, k) = all_gone c.in_ok-next.field-0 goes c.in_default.not-Some in
+    let all = merged_all w e k in
+    (w.many ∙ ap (λ (x : Monomial). length x) all, subst (λ (x : Monomial). AddsTrees (factor_trees x) (forest c.args.pool.now) (forest c.loop-next.pool)) all w.adds)
+
+-- ---- few bytes, and exponents that fit
+
+pub returns-in_err-_factor-clause-room : goal.returns-in_err-_factor-clause-room
+returns-in_err-_factor-clause-room c = λ m n hm hn.
+    let i = c.loop-next.invariant in
+    let w = i.merged m n hm hn in
+    passed_on c.from_residual-in_err-_factor.result (fault.Full c.in_err-_factor.field-0.0) (OfFull (λ full. free_of c.args.pool.now < factor_bytes * length (monomial_times m n))) c.from_residual-in_err-_factor.ensures.0 c.from_residual-in_err-_factor.ensures.1
+    (omega (arith, adds_free c.requires.stands i.stands i.kept w.adds, factors_most w.done, c.in_err-_factor.ensures.room, merged_length w (next (goal.at.returns-in_err-_factor-clause-room c).In-Some m n hm hn)))
+
+pub returns-in_err-next-clause-fits : goal.returns-in_err-next-clause-fits
+returns-in_err-next-clause-fits c = λ m n k hm hn x l.
+    let w = c.loop-next.invariant.merged m n hm hn in
+    let rest = later_exponents k w.done (monomial_times (drop c.loop-next.i m) (drop c.loop-next.j n)) (subst (HasExponents k) (sym w.split) x) in
+    absurd (c.in_err-next.ensures.fits (drop c.loop-next.i m) (drop c.loop-next.j n) k (drop_monomial c.loop-next.i m hm.monomial) (drop_monomial c.loop-next.j n hn.monomial) (head_beside c.loop-next.i c.get.result w.adds c.requires.first c.get.ensures hm) (head_beside c.loop-next.j c.get-in-loop-next.result w.adds c.requires.second c.get-in-loop-next.ensures hn) rest l)

@@ -1,0 +1,20 @@
+use Rattle.std.proofs.Common.{◌+◌, ◌-◌, []}
+use Rattle.expand_forms.specs.Polynomials.{Monomial}
+use Rattle.expand_forms.specs.Terms.{HasMonomial}
+use Rattle.expand_forms.proofs.Merged.{IsMerged}
+use Rattle.tree_handles.specs.Expressions.{plain}
+use Rattle.tree_handles.specs.Handed.{KeepsFront}
+use Rattle.tree_handles.specs.Inside.{tree_at}
+use Rattle.tree_handles.specs.Standing.{KeepsRefusals, Stands, forest}
+use Rattle.expand_forms.proofs.merging.place_factors.Given as goal
+
+abbrev pub invariant-loop-next : goal.invariant-loop-next
+invariant-loop-next l = record {
+  merged : (m n : Monomial) → HasMonomial m (plain (tree_at l.s (forest l.fn.pool))) → HasMonomial n (plain (tree_at l.t (forest l.fn.pool))) → IsMerged m n l.i l.j l.many (forest l.fn.pool) (forest l.pool);
+  front : KeepsFront [] (forest l.fn.pool) (forest l.pool);
+  kept : KeepsRefusals l.fn.pool l.pool;
+  stands : Stands l.pool;
+}
+
+abbrev pub decreases-loop-next : goal.decreases-loop-next
+decreases-loop-next l = (l.left.count + l.right.count) - (l.i + l.j)

@@ -1,0 +1,79 @@
+use Rattle.std.proofs.Common.{rules, ◌∙◌, ap, refl, sym, subst, ◌<◌, arith, length}
+use Rattle.calc_terms.specs.Trees.{size}
+use Rattle.expand_forms.specs.ExpansionBits.{IsNoOverflow}
+use Rattle.expand_forms.specs.ExpansionRoom.{term_bytes}
+use Rattle.expand_forms.specs.Polynomials.{monomial_times}
+use Rattle.expand_forms.specs.Terms.{HasMonomial}
+use Rattle.expand_forms.proofs.AddedTrees.{adopts, can_adopt}
+use Rattle.expand_forms.proofs.TermReadings.{beside, count_factors}
+use Rattle.node_pool.specs.State.{free_of}
+use Rattle.number_forms.specs.Lacks.{OfFull}
+use Rattle.number_forms.proofs.FreeBytes.{refused_below}
+use Rattle.number_forms.proofs.Overflows.{passed_on}
+use Rattle.number_forms.proofs.Rooms.{full_as}
+use Rattle.tree_handles.proofs.Fronts.{front_after, front_end, front_same}
+use Rattle.tree_handles.proofs.Given.{given_told}
+use Rattle.tree_handles.proofs.Room.{given_free}
+use Rattle.tree_handles.specs.declared.fault.NumberFault.TheVariants as fault
+use Rattle.expand_forms.proofs.monomials.place_merged.Goals as goal
+
+pub place_factors-requires : goal.place_factors-requires
+place_factors-requires c =
+    let (m, n, hm, hn) = c.requires.monomials in
+    let new = c.in_ok-product.ensures.given refl in
+    let x = beside new c.requires.first in
+    let y = beside new c.requires.second in
+    record {
+      stands = search rules;
+      first = x.expression;
+      second = y.expression;
+      monomials = (m, n, subst (HasMonomial m) (sym x.same) hm, subst (HasMonomial n) (sym y.same) hn);
+    }
+
+pub adopt-requires : goal.adopt-requires
+adopt-requires c =
+    let (m, n, hm, hn) = c.requires.monomials in
+    let new = c.in_ok-product.ensures.given refl in
+    let (many, adds) = c.in_ok-factors.ensures.ok m n (subst (HasMonomial m) (sym (beside new c.requires.first).same) hm) (subst (HasMonomial n) (sym (beside new c.requires.second).same) hn) in
+    let a = can_adopt c.in_ok-product.ensures.ok adds (many ∙ sym (count_factors (monomial_times m n))) in
+    record { stands = search rules; root = a.root; within = a.within }
+
+pub returns-clause-ok : goal.returns-clause-ok
+returns-clause-ok c = λ m n hm hn.
+    let new = c.in_ok-product.ensures.given refl in
+    let (many, adds) = c.in_ok-factors.ensures.ok m n (subst (HasMonomial m) (sym (beside new c.requires.first).same) hm) (subst (HasMonomial n) (sym (beside new c.requires.second).same) hn) in
+    adopts c.in_ok-product.ensures.ok adds (many ∙ sym (count_factors (monomial_times m n))) refl c.adopt.ensures.forest
+
+pub returns-clause-front : goal.returns-clause-front
+returns-clause-front c =
+    let (m, n, hm, hn) = c.requires.monomials in
+    let new = c.in_ok-product.ensures.given refl in
+    let (many, adds) = c.in_ok-factors.ensures.ok m n (subst (HasMonomial m) (sym (beside new c.requires.first).same) hm) (subst (HasMonomial n) (sym (beside new c.requires.second).same) hn) in
+    front_end (adopts c.in_ok-product.ensures.ok adds (many ∙ sym (count_factors (monomial_times m n))) refl c.adopt.ensures.forest).ends front_same
+
+pub returns-in_err-factors : goal.returns-in_err-factors
+returns-in_err-factors c =
+    let new = c.in_ok-product.ensures.given refl in
+    let x = sym (beside new c.requires.first).same in
+    let y = sym (beside new c.requires.second).same in
+    record {
+      ok = search rules;
+      front = front_after c.node.ensures.front c.place_factors.ensures.front;
+      kept = search rules;
+      faults = search rules;
+      caused = search rules;
+      fits = λ m n k hm hn e l. passed_on c.from_residual-in_err-factors.result c.in_err-factors.field-0.0 IsNoOverflow c.from_residual-in_err-factors.ensures.0 c.from_residual-in_err-factors.ensures.1 (c.in_err-factors.ensures.fits m n k (subst (HasMonomial m) x hm) (subst (HasMonomial n) y hn) e l);
+      room = λ m n hm hn.
+          let free = given_free c.requires.stands c.in_ok-product.ensures.stands c.in_ok-product.ensures.kept new in
+          let lacks = c.in_err-factors.ensures.room m n (subst (HasMonomial m) x hm) (subst (HasMonomial n) y hn) in
+          passed_on c.from_residual-in_err-factors.result c.in_err-factors.field-0.0 (OfFull (λ full. free_of c.args.pool.now < term_bytes (length (monomial_times m n)))) c.from_residual-in_err-factors.ensures.0 c.from_residual-in_err-factors.ensures.1
+          (full_as c.in_err-factors.field-0.0 lacks (λ full few. omega (arith, free, ap size (given_told new), few)));
+      stands = search rules;
+    }
+
+-- ---- few bytes
+
+pub returns-in_err-product-clause-room : goal.returns-in_err-product-clause-room
+returns-in_err-product-clause-room c = λ m n hm hn.
+    let few : free_of c.args.pool.now < 8 = refused_below c.in_err-product.ensures.full in
+    passed_on c.from_residual.result (fault.Full c.in_err-product.field-0.0) (OfFull (λ full. free_of c.args.pool.now < term_bytes (length (monomial_times m n)))) c.from_residual.ensures.0 c.from_residual.ensures.1 (omega (arith, few))

@@ -1,0 +1,12 @@
+use Rattle.std.proofs.Common.{arith}
+use Rattle.expand_forms.proofs.TermKeys.{no_key}
+use Rattle.expand_forms.proofs.TermReadings.{first_count}
+use Rattle.tree_handles.specs.Expressions.{plain}
+use Rattle.tree_handles.specs.Inside.{tree_at}
+use Rattle.tree_handles.specs.Standing.{forest}
+use Rattle.expand_forms.proofs.ordering.product_key.Goals as goal
+
+pub returns-then-factors-eq0 : goal.returns-then-factors-eq0
+returns-then-factors-eq0 c = λ m h.
+    let t = plain (tree_at c.args.product (forest c.args.pool.now)) in
+    no_key (forest c.args.pool.now) h (omega (arith, first_count t c.requires.product, c.first_factor-behind.ensures.value, c.children.ensures.plain c.requires.expression, c.if-factors-eq0.true))

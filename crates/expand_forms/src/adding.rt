@@ -1,0 +1,194 @@
+//! The product of two terms, added to a sum that stands last.
+ghost use Rattle.expand_forms.specs.ExpansionBits.{IsHeld, IsNoOverflow};
+ghost use Rattle.std.specs.Prelude.{◌≡◌, ◌<◌, ◌≤◌, ◌+◌, ℕ, [], ◌∷◌, IfErr, OnOk, length, false, ⊤};
+ghost use Rattle.calc_terms.specs.Fractions.{is_zero_fraction};
+ghost use Rattle.calc_terms.specs.Rat.{value_of};
+ghost use Rattle.calc_terms.specs.Trees.{add, count, more, mult, none};
+ghost use Rattle.child_lists.specs.Lists.{Lists};
+ghost use Rattle.expand_forms.specs.ExpandedTrees.{factor_trees};
+ghost use Rattle.expand_forms.specs.ExpansionRoom.{number_bytes, term_bytes};
+ghost use Rattle.expand_forms.specs.Polynomials.{Monomial, monomial_times, summand};
+ghost use Rattle.expand_forms.specs.PolynomialTrees.{polynomial_of};
+ghost use Rattle.expand_forms.specs.Sums.{IsSum, IsSumOf, with_term};
+ghost use Rattle.expand_forms.specs.Terms.{HasMonomial};
+ghost use Rattle.node_pool.specs.State.{free_of};
+ghost use Rattle.number_forms.specs.Lacks.{OfFull};
+ghost use Rattle.number_forms.specs.Sums.{removed};
+ghost use Rattle.tree_handles.specs.Causes.{IsCaused};
+ghost use Rattle.tree_handles.specs.Expressions.{IsExpression, children_of, inserted, plain};
+ghost use Rattle.tree_handles.specs.Faults.{Faults};
+ghost use Rattle.tree_handles.specs.Handed.{Gives, KeepsFront, tree_of};
+ghost use Rattle.tree_handles.specs.Inside.{tree_at};
+ghost use Rattle.tree_handles.specs.Roots.{without_root};
+ghost use Rattle.tree_handles.specs.Standing.{KeepsRefusals, LacksBytes, Refuses, Stands, forest};
+
+use crate::factors;
+use crate::monomials::{completed, place_merged};
+use crate::ordering::place_of;
+use crate::rationals::is_zero;
+use calc_terms::Rat;
+use child_lists::{ChildList, next_child, put_before};
+use node_pool::{Full, Id, Pool};
+use rational128::add;
+use tree_handles::{Handle, NumberFault, release, replace_known_child, take_known_child};
+
+/// Joins a coefficient times the monomials of two terms to a sum: with the term that has its monomial, which may leave
+/// none, or at its place, which is sought from `near` on. Tells the place.
+pub(crate) fn join_product<const N: usize>(
+    pool: &mut Pool,
+    sum: &Handle,
+    list: &mut ChildList<N>,
+    coefficient: Rat,
+    s: Id,
+    t: Id,
+    near: u16,
+) -> Result<u16, NumberFault>
+    requires stands { Stands pool.old }
+    requires sum { Gives (without_root sum.now (forest pool.old)) (forest pool.old) sum.now IsSum }
+    requires lists { Lists list.old sum.now (forest pool.old) }
+    requires nonzero { is_zero_fraction (value_of coefficient) ≡ false }
+    requires first { IsExpression s (without_root sum.now (forest pool.old)) }
+    requires second { IsExpression t (without_root sum.now (forest pool.old)) }
+    requires monomials { let others = without_root sum.now (forest pool.old) in
+        (m : Monomial) × (n : Monomial) × HasMonomial m (plain (tree_at s others)) × HasMonomial n (plain (tree_at t others)) }
+    ensures ok { let others = without_root sum.now (forest pool.old) in
+        (m n : Monomial) → HasMonomial m (plain (tree_at s others)) → HasMonomial n (plain (tree_at t others))
+        → OnOk result (Gives others (forest pool.new) sum.now
+        (IsSumOf (summand (value_of coefficient) (monomial_times m n) ∷ polynomial_of (tree_of sum.now pool.old)))) }
+    ensures lists { OnOk result (Lists list.new sum.now (forest pool.new)) }
+    ensures front { KeepsFront (sum.now ∷ []) (forest pool.old) (forest pool.new) }
+    ensures kept { OnOk result (KeepsRefusals pool.old pool.new) }
+    ensures faults { IfErr result (Faults pool.old pool.new) }
+    ensures caused { IfErr result (IsCaused pool.new) }
+    ensures fits { let others = without_root sum.now (forest pool.old) in
+        (m n : Monomial) (h l : ℕ) → HasMonomial m (plain (tree_at s others)) → HasMonomial n (plain (tree_at t others))
+        → IsHeld (summand (value_of coefficient) (monomial_times m n) ∷ polynomial_of (tree_of sum.now pool.old)) h l → h + l < 127 → IfErr result IsNoOverflow }
+    ensures room { let others = without_root sum.now (forest pool.old) in
+        (m n : Monomial) → HasMonomial m (plain (tree_at s others)) → HasMonomial n (plain (tree_at t others))
+        → IfErr result (OfFull (λ full. free_of pool.old < term_bytes (length (monomial_times m n)))) }
+    ensures stands { Stands pool.new }
+{
+    let product = place_merged(pool, s, t)?;
+    match place_of(pool, sum.id(), list, product.id(), near) {
+        Err(at) => {
+            let term = completed(pool, product, coefficient)?;
+            insert(pool, sum, list, at, term);
+            Ok(at)
+        }
+        Ok(at) => {
+            let other = list.child(pool, sum.id(), at);
+            let total = add(factors::coefficient(pool, other), coefficient)?;
+            replace(pool, sum, list, at, total, product)?;
+            Ok(at)
+        }
+    }
+}
+
+/// Puts the tree that stands last, just behind a sum, into it at a place.
+fn insert<const N: usize>(
+    pool: &mut Pool,
+    sum: &Handle,
+    list: &mut ChildList<N>,
+    at: u16,
+    term: Handle,
+)
+    requires stands { Stands pool.old }
+    requires term { Gives (without_root term (forest pool.old)) (forest pool.old) term (λ t. ⊤) }
+    requires sum { let others = without_root term (forest pool.old) in Gives (without_root sum.now others) others sum.now IsSum }
+    requires lists { Lists list.old sum.now (forest pool.old) }
+    requires within { at ≤ count (children_of (tree_of sum.now pool.old)) }
+    ensures sum { Gives (without_root sum.now (without_root term (forest pool.old))) (forest pool.new) sum.now
+        (λ u. u ≡ add (inserted at (more (tree_of term pool.old) none) (children_of (tree_of sum.now pool.old)))) }
+    ensures lists { Lists list.new sum.now (forest pool.new) }
+    ensures front { KeepsFront (sum.now ∷ term ∷ []) (forest pool.old) (forest pool.new) }
+    ensures kept { KeepsRefusals pool.old pool.new }
+    ensures stands { Stands pool.new }
+{
+    let next = next_child(pool, sum.id(), list, at);
+    let id = term.id();
+    put_before(pool, sum, next, term);
+    list.insert(at, id);
+}
+
+/// The term at a place of a sum has another coefficient, or is removed where that is 0. The product of its factors stands
+/// last, just behind the sum.
+fn replace<const N: usize>(
+    pool: &mut Pool,
+    sum: &Handle,
+    list: &mut ChildList<N>,
+    at: u16,
+    total: Rat,
+    product: Handle,
+) -> Result<(), Full>
+    requires stands { Stands pool.old }
+    requires product { (m : Monomial) × Gives (without_root product (forest pool.old)) (forest pool.old) product (λ u. u ≡ mult (factor_trees m)) }
+    requires sum { let others = without_root product (forest pool.old) in Gives (without_root sum.now others) others sum.now IsSum }
+    requires lists { Lists list.old sum.now (forest pool.old) }
+    requires within { at < count (children_of (tree_of sum.now pool.old)) }
+    ensures ok { (m : Monomial) → tree_of product pool.old ≡ mult (factor_trees m)
+        → OnOk result (Gives (without_root sum.now (without_root product (forest pool.old))) (forest pool.new) sum.now
+        (λ u. u ≡ add (with_term at (summand (value_of total) m) (children_of (tree_of sum.now pool.old))))) }
+    ensures lists { OnOk result (Lists list.new sum.now (forest pool.new)) }
+    ensures front { KeepsFront (sum.now ∷ product ∷ []) (forest pool.old) (forest pool.new) }
+    ensures kept { OnOk result (KeepsRefusals pool.old pool.new) }
+    ensures full { IfErr result (Refuses pool.old pool.new) }
+    ensures caused { IfErr result (LacksBytes pool.new) }
+    ensures room { IfErr result (λ full. free_of pool.old < number_bytes) }
+    ensures stands { Stands pool.new }
+{
+    if is_zero(total) {
+        release(pool, product);
+        remove(pool, sum, list, at);
+        return Ok(());
+    }
+    let term = completed(pool, product, total)?;
+    exchange(pool, sum, list, at, term);
+    Ok(())
+}
+
+/// Puts the tree that stands last, just behind a sum, in the place of a term. Nothing else is moved where both take as
+/// many bytes.
+fn exchange<const N: usize>(
+    pool: &mut Pool,
+    sum: &Handle,
+    list: &mut ChildList<N>,
+    at: u16,
+    term: Handle,
+)
+    requires stands { Stands pool.old }
+    requires term { Gives (without_root term (forest pool.old)) (forest pool.old) term (λ t. ⊤) }
+    requires sum { let others = without_root term (forest pool.old) in Gives (without_root sum.now others) others sum.now IsSum }
+    requires lists { Lists list.old sum.now (forest pool.old) }
+    requires within { at < count (children_of (tree_of sum.now pool.old)) }
+    ensures sum { Gives (without_root sum.now (without_root term (forest pool.old))) (forest pool.new) sum.now
+        (λ u. u ≡ add (inserted at (more (tree_of term pool.old) none) (removed at (children_of (tree_of sum.now pool.old))))) }
+    ensures lists { Lists list.new sum.now (forest pool.new) }
+    ensures front { KeepsFront (sum.now ∷ term ∷ []) (forest pool.old) (forest pool.new) }
+    ensures kept { KeepsRefusals pool.old pool.new }
+    ensures stands { Stands pool.new }
+{
+    let old = list.child(pool, sum.id(), at);
+    let id = term.id();
+    let gone = replace_known_child(pool, old, term);
+    release(pool, gone);
+    list.set(at, id);
+}
+
+/// Takes a term out of a sum.
+fn remove<const N: usize>(pool: &mut Pool, sum: &Handle, list: &mut ChildList<N>, at: u16)
+    requires stands { Stands pool.old }
+    requires sum { Gives (without_root sum.now (forest pool.old)) (forest pool.old) sum.now IsSum }
+    requires lists { Lists list.old sum.now (forest pool.old) }
+    requires within { at < count (children_of (tree_of sum.now pool.old)) }
+    ensures sum { Gives (without_root sum.now (forest pool.old)) (forest pool.new) sum.now (λ t. t ≡ add (removed at (children_of (tree_of sum.now pool.old)))) }
+    ensures lists { Lists list.new sum.now (forest pool.new) }
+    ensures front { KeepsFront (sum.now ∷ []) (forest pool.old) (forest pool.new) }
+    ensures kept { KeepsRefusals pool.old pool.new }
+    ensures room { free_of pool.old ≤ free_of pool.new }
+    ensures stands { Stands pool.new }
+{
+    let id = list.child(pool, sum.id(), at);
+    let child = take_known_child(pool, sum, id);
+    release(pool, child);
+    list.remove(at);
+}
