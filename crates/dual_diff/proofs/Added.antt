@@ -1,40 +1,29 @@
 -- Trees that are added behind all others, one after another.
-use Rattle.std.proofs.Common.{◌≡◌, ℕ, suc, ◌+◌, ◌<◌, ◌≤◌, List, refl, sym, ap, ◌∙◌, subst, arith, true, false}
+use Rattle.std.proofs.Common.{◌≡◌, ℕ, suc, ◌+◌, ◌-◌, ◌<◌, ◌≤◌, List, refl, sym, ap, ◌∙◌, subst, arith, true, false}
 use Rattle.std.specs.Prelude.{Option, Some, None, IsSome}
-use Rattle.calc_terms.specs.declared.kind.Kind.{Kind}
+use Rattle.dual_diff.proofs.Names.{Kind, bare, is_bare, size_of_payload, Tree, Trees, add, none, more, append, count, size, sizes, State, free_of, IsExpression, AllExpressions, children_of, compound, nth, plain, plains, takes_kind, Forest, empty, tree, arity, before_last, bytes_in, join, last_trees, one_tree, holds, tree_at, Stands, forest, KeepsRefusals, gives, represents_join, represents_node, represents_none, alone, count-plains, sizes-plains, HasDerivative, derivative, sum_of_products, with_derivative, occurs, Adds, AddsAll, CanCopy, CanJoin, behind, first}
 use Rattle.calc_terms.specs.declared.kind.Kind.TheVariants as kind
-use Rattle.calc_terms.specs.Payload.{bare, is_bare}
-use Rattle.calc_terms.specs.Trees.{Tree, Trees, add, none, more, append, count, size, sizes}
 use Rattle.node_pool.specs.Nodes.{used}
-use Rattle.node_pool.specs.State.{State, free_of}
-use Rattle.tree_handles.specs.Expressions.{IsExpression, AllExpressions, compound, nth, plain, plains, takes_kind}
-use Rattle.tree_handles.specs.Forest.{Forest, empty, tree, arity, before_last, bytes_in, join, last_trees, one_tree}
 use Rattle.tree_handles.specs.Handed.{Ends, Represents}
-use Rattle.tree_handles.specs.Inside.{holds, tree_at}
-use Rattle.tree_handles.specs.Standing.{Stands, forest, KeepsRefusals}
 use Rattle.tree_handles.proofs.Forests.{arity-join, bytes_in-join, join_assoc, join-empty, keeps_after, keeps_none}
 use Rattle.tree_handles.proofs.Gathering.{before_last-join, last_trees-join}
-use Rattle.tree_handles.proofs.Given.{gives, represents_join, represents_node, represents_none}
 use Rattle.tree_handles.proofs.Joins.{holds-left, tree_at-join_left}
 use Rattle.tree_handles.proofs.Lasts.{ends_as}
 use Rattle.tree_handles.proofs.Places.{used_forest}
-use Rattle.tree_handles.proofs.Plains.{alone, count-plains, sizes-plains}
-use Rattle.dual_diff.specs.Derivatives.{HasDerivative, derivative, sum_of_products, with_derivative}
-use Rattle.dual_diff.specs.Occurring.{occurs}
-use Rattle.dual_diff.specs.Placing.{Adds, AddsAll}
 use Rattle.dual_diff.proofs.Forms.{count_append}
 use Rattle.dual_diff.proofs.Products.{AreMade, made_more, made_none, made_same}
+use Rattle.dual_diff.proofs.Slices.{slice_last}
+
+-- the tree of a node
+abbrev pub tree_of : ℕ → State → Tree
+tree_of j s = plain (tree_at j (forest s))
 
 pub adds_none : (s : State) → Stands s → AddsAll s s none
 adds_none s h = record { made = empty; whole = sym (join-empty (forest s)); represents = represents_none; kept = keeps_none s; stands = h }
 
 -- the tree that a call gives, as trees
 given_trees : {s t : State} {a : Tree} {h : ℕ} (g : Adds s t a h) → Represents g.gives.tree (more a none)
-given_trees g = record {
-  once = g.gives.once;
-  whole = g.gives.whole;
-  plain_trees = alone g.gives.tree g.gives.ends.alone ∙ ap (λ (x : Tree). more x none) g.gives.told;
-}
+given_trees g = record { once = g.gives.once; whole = g.gives.whole; plain_trees = alone g.gives.tree g.gives.ends.alone ∙ ap (λ (x : Tree). more x none) g.gives.told }
 
 pub adds_more : {s t u : State} {ts : Trees} {a : Tree} {h : ℕ} → AddsAll s t ts → Adds t u a h → AddsAll s u (append ts (more a none))
 adds_more {s} {t} {u} b g = record {
@@ -49,13 +38,7 @@ pub adds_one : {s t : State} {a : Tree} {h : ℕ} → Stands s → Adds s t a h 
 adds_one {s} h g = adds_more (adds_none s h) g
 
 pub adds_join : {s t u : State} {ts us : Trees} → AddsAll s t ts → AddsAll t u us → AddsAll s u (append ts us)
-adds_join {s} {t} {u} b c = record {
-  made = join b.made c.made;
-  whole = c.whole ∙ ap (λ (x : Forest). join x c.made) b.whole ∙ join_assoc (forest s) b.made c.made;
-  represents = represents_join b.represents c.represents;
-  kept = keeps_after s t u b.kept c.kept;
-  stands = c.stands;
-}
+adds_join {s} {t} {u} b c = record { made = join b.made c.made; whole = c.whole ∙ ap (λ (x : Forest). join x c.made) b.whole ∙ join_assoc (forest s) b.made c.made; represents = represents_join b.represents c.represents; kept = keeps_after s t u b.kept c.kept; stands = c.stands }
 
 pub adds_as : {s t : State} {ts us : Trees} → AddsAll s t ts → ts ≡ us → AddsAll s t us
 adds_as {s} {t} b e = subst (AddsAll s t) e b
@@ -96,19 +79,12 @@ adds_over {s} {t} {u} {ts} {h} k n b e takes ends kept stands =
     let many : n ≡ arity b.made = sym e ∙ sym (added_arity b) in
     let trees : last_trees n (forest t) ≡ b.made = ap (last_trees n) b.whole ∙ last_trees-join n (forest s) b.made many in
     let others : before_last n (forest t) ≡ forest s = ap (before_last n) b.whole ∙ before_last-join n (forest s) b.made many in
-    record {
-      gives = gives (ends_as ends (ap (λ (x : Forest). one_tree h (bare k) x) trees) others) (represents_node h (bare k) b.represents (ap (takes_kind k) e ∙ takes)) refl;
-      kept = keeps_after s t u b.kept kept;
-      stands = stands;
-    }
+    record { gives = gives (ends_as ends (ap (λ (x : Forest). one_tree h (bare k) x) trees) others) (represents_node h (bare k) b.represents (ap (takes_kind k) e ∙ takes)) refl; kept = keeps_after s t u b.kept kept; stands = stands }
 
 -- ---- the trees before them
 
 pub still_expression : {s t : State} {ts : Trees} {j : ℕ} → AddsAll s t ts → IsExpression j (forest s) → IsExpression j (forest t)
-still_expression {s = s} {j = j} b h = record {
-  live = ap (holds j) b.whole ∙ holds-left j (forest s) b.made h.live;
-  whole = subst AllExpressions (sym (ap (tree_at j) b.whole ∙ tree_at-join_left j (forest s) b.made h.live)) h.whole;
-}
+still_expression {s = s} {j = j} b h = record { live = ap (holds j) b.whole ∙ holds-left j (forest s) b.made h.live; whole = subst AllExpressions (sym (ap (tree_at j) b.whole ∙ tree_at-join_left j (forest s) b.made h.live)) h.whole }
 
 pub still_plain : {s t : State} {ts : Trees} {j : ℕ} → AddsAll s t ts → IsExpression j (forest s) → plain (tree_at j (forest t)) ≡ plain (tree_at j (forest s))
 still_plain {s = s} {j = j} b h = ap plain (ap (tree_at j) b.whole ∙ tree_at-join_left j (forest s) b.made h.live)
@@ -118,24 +94,42 @@ takes_bare kind.Num n h = absurd cc
 takes_bare kind.Sym n h = absurd cc
 takes_bare k n h = refl
 
+pub still_count : {s t : State} {ts : Trees} {j : ℕ} → AddsAll s t ts → IsExpression j (forest s) → count (children_of (tree_of j t)) ≡ count (children_of (tree_of j s))
+still_count b h = ap (λ (u : Tree). count (children_of u)) (still_plain b h)
+
+pub still_nth : {s t : State} {ts : Trees} {a : Tree} {j : ℕ} (n : ℕ) → AddsAll s t ts → IsExpression j (forest s) → a ≡ nth n (children_of (tree_of j t)) → a ≡ nth n (children_of (tree_of j s))
+still_nth n b h e = e ∙ ap (λ (u : Tree). nth n (children_of u)) (still_plain b h)
+
+-- the children of a node behind one of them
+pub rest_after : {s t : State} {ts : Trees} (j n total : ℕ) → AddsAll s t ts → IsExpression j (forest s) → total ≡ count (children_of (tree_of j s)) → n < count (children_of (tree_of j s)) → first (total - (n + 1)) (behind (n + 1) (children_of (tree_of j t))) ≡ behind (n + 1) (children_of (tree_of j s))
+rest_after {s} j n total b h e l = ap (λ (v : Tree). first (total - (n + 1)) (behind (n + 1) (children_of v))) (still_plain b h) ∙ slice_last total (n + 1) (children_of (tree_of j s)) e (omega arith)
+
 -- ---- the next tree that is derived
 
 -- a node of the trees before them, whose tree has a derivative for which there is room
 pub record IsReady (x : List ℕ) (j : ℕ) (a : Tree) (s : State) : Type 0 where
+  pub stands : Stands s
   pub expression : IsExpression j (forest s)
-  pub same : plain (tree_at j (forest s)) ≡ a
-  pub derivable : HasDerivative x (plain (tree_at j (forest s)))
-  pub room : size (derivative x (plain (tree_at j (forest s)))) ≤ free_of s
+  pub same : tree_of j s ≡ a
+  pub derivable : HasDerivative x (tree_of j s)
+  pub room : size (derivative x (tree_of j s)) ≤ free_of s
 
-pub ready : {x : List ℕ} {j : ℕ} {a : Tree} {s t : State} {ts : Trees} → Stands s → AddsAll s t ts → IsExpression j (forest s) → plain (tree_at j (forest s)) ≡ a → HasDerivative x a → size (derivative x a) + sizes ts ≤ free_of s → IsReady x j a t
-ready {x} {j} {a} {s} {t} {ts} h b e p d room =
-    let same : plain (tree_at j (forest t)) ≡ a = still_plain b e ∙ p in
-    record {
-      expression = still_expression b e;
-      same = same;
-      derivable = subst (HasDerivative x) (sym same) d;
-      room = omega (arith, room, adds_free h b, ap (λ (u : Tree). size (derivative x u)) same);
-    }
+pub ready : {x : List ℕ} {j : ℕ} {s t : State} {ts : Trees} → Stands s → AddsAll s t ts → IsExpression j (forest s) → HasDerivative x (tree_of j s) → size (derivative x (tree_of j s)) + sizes ts ≤ free_of s → IsReady x j (tree_of j s) t
+ready {x} {j} {s} {t} {ts} h b e d room =
+    let same : tree_of j t ≡ tree_of j s = still_plain b e in
+    record { stands = b.stands; expression = still_expression b e; same = same; derivable = subst (HasDerivative x) (sym same) d; room = omega (arith, room, adds_free h b, ap (λ (u : Tree). size (derivative x u)) same) }
+
+-- ---- calls
+
+pub can_copy : {s t : State} {ts : Trees} {j : ℕ} → Stands s → AddsAll s t ts → IsExpression j (forest s) → size (tree_of j s) + sizes ts ≤ free_of s → CanCopy j t
+can_copy h b e room = record { stands = b.stands; expression = still_expression b e; room = omega (arith, room, ap size (still_plain b e), adds_free h b) }
+
+pub can_join : {s t : State} {ts : Trees} {k : Kind} {n begin : ℕ} → Stands s → AddsAll s t ts → count ts ≡ n → begin ≡ used s.nodes → takes_kind k n ≡ true → size_of_payload (bare k) + sizes ts ≤ free_of s → CanJoin k n begin t
+can_join {s} {t} {ts} h b c f takes room =
+    record { start = s; trees = ts; stood = h; added = b; counted = c; from-begin = f; takes = takes; room = omega (arith, room, adds_free h b) }
+
+pub adds_copy : {s t u : State} {ts : Trees} {j h : ℕ} → AddsAll s t ts → IsExpression j (forest s) → Adds t u (tree_of j t) h → AddsAll s u (append ts (more (tree_of j s) none))
+adds_copy b e g = adds_more b (adds_tree g (still_plain b e))
 
 -- ---- the last of them, where it is the only one
 
@@ -150,19 +144,16 @@ last_more (more v none) b g = tt
 last_more (more v (more w us)) b g = tt
 
 pub last_some : (made : Trees) (s t : State) (last : Option ℕ) → count made ≡ 1 → LastIs made s t last → IsSome last
-last_some none s t last c l = absurd (omega arith)
 last_some (more u none) s t last c (h, e, g) = subst (λ (o : Option ℕ). IsSome o) (sym e) refl
-last_some (more u (more v us)) s t last c l = absurd (omega arith)
+last_some us s t last c l = absurd (omega arith)
 
 pub last_is : (made : Trees) (s t : State) (last : Option ℕ) (h : ℕ) → count made ≡ 1 → LastIs made s t last → last ≡ Some h → Adds s t (sum_of_products made) h
-last_is none s t last h c l e = absurd (omega arith)
 last_is (more u none) s t last h c (k, f, g) e = let same : k ≡ h = (let both : Some k ≡ Some h = sym f ∙ e in cc) in subst (Adds s t u) same g
-last_is (more u (more v us)) s t last h c l e = absurd (omega arith)
+last_is us s t last h c l e = absurd (omega arith)
 
 pub more_than_one : (us : Trees) → 1 < count us → add us ≡ sum_of_products us
-more_than_one none h = absurd (omega arith)
-more_than_one (more u none) h = absurd (omega arith)
 more_than_one (more u (more v us)) h = refl
+more_than_one us h = absurd (omega arith)
 
 -- products of the first factors that stand behind the others
 pub record ArePlaced (x : List ℕ) (at many : ℕ) (last : Option ℕ) (s t : State) (ts : Trees) : Type 0 where

@@ -1,27 +1,15 @@
 -- Trees whose nodes are all derivable.
-use Rattle.std.proofs.Common.{ℕ, zero, suc, ◌<◌, ◌≤◌, List, subst, arith}
-use Rattle.calc_terms.specs.Trees.{Tree, num, symbol, undef, add, mult, power, root, neg, sub, div, Trees, none, more, count, AllParts, AllPartsOf}
-use Rattle.tree_handles.specs.Expressions.{nth, children_of}
-use Rattle.dual_diff.specs.Derivatives.{HasDerivative, IsDerivable}
-use Rattle.dual_diff.specs.Lists.{first}
-use Rattle.dual_diff.proofs.Forms.{first_all}
+use Rattle.std.proofs.Common.{◌≡◌, ℕ, zero, suc, ◌<◌, ◌≤◌, List, true, sym, subst, arith}
+use Rattle.calc_terms.specs.declared.kind.Kind.TheVariants as kind
+use Rattle.dual_diff.proofs.Names.{Tree, add, mult, power, root, neg, sub, div, Trees, none, more, count, nodes, root_kind, AllParts, AllPartsOf, nth, children_of, HasDerivative, IsDerivable, IsDerivableExponent, first, occurs}
+use Rattle.dual_diff.proofs.Exponents.{derivable_exponent}
+use Rattle.dual_diff.proofs.Forms.{first_all, smaller_child}
 
 pub of_root : (x : List ℕ) (t : Tree) → HasDerivative x t → IsDerivable x t
-of_root x (num q) h = tt
-of_root x (symbol y) h = tt
-of_root x undef h = tt
-of_root x (add ts) h = tt
-of_root x (mult ts) h = tt
 of_root x (power b e) h = h.0
-of_root x (root a) h = tt
-of_root x (neg a) h = tt
-of_root x (sub a b) h = tt
-of_root x (div a b) h = tt
+of_root x t h = tt
 
 pub of_children : (x : List ℕ) (t : Tree) → HasDerivative x t → AllPartsOf (IsDerivable x) (children_of t)
-of_children x (num q) h = tt
-of_children x (symbol y) h = tt
-of_children x undef h = tt
 of_children x (add ts) h = h.1
 of_children x (mult ts) h = h.1
 of_children x (power b e) h = (h.1, (h.2, tt))
@@ -29,11 +17,9 @@ of_children x (root a) h = (h.1, tt)
 of_children x (neg a) h = (h.1, tt)
 of_children x (sub a b) h = (h.1, (h.2, tt))
 of_children x (div a b) h = (h.1, (h.2, tt))
+of_children x t h = tt
 
 pub of_node : (x : List ℕ) (t : Tree) → IsDerivable x t → AllPartsOf (IsDerivable x) (children_of t) → HasDerivative x t
-of_node x (num q) h k = tt
-of_node x (symbol y) h k = tt
-of_node x undef h k = tt
 of_node x (add ts) h k = (tt, k)
 of_node x (mult ts) h k = (tt, k)
 of_node x (power b e) h k = (h, k.0, k.1.0)
@@ -41,6 +27,7 @@ of_node x (root a) h k = (tt, k.0)
 of_node x (neg a) h k = (tt, k.0)
 of_node x (sub a b) h k = (tt, k.0, k.1.0)
 of_node x (div a b) h k = (tt, k.0, k.1.0)
+of_node x t h k = tt
 
 pub at_place : (P : Tree → Type 0) (n : ℕ) (ts : Trees) → n < count ts → AllPartsOf P ts → AllParts P (nth n ts)
 at_place P n none l h = absurd (omega arith)
@@ -50,6 +37,17 @@ at_place P (suc n) (more t ts) l h = at_place P n ts (omega arith) h.1
 -- a child of a tree that has a derivative has one
 pub of_child : (x : List ℕ) (n : ℕ) (t : Tree) → n < count (children_of t) → HasDerivative x t → HasDerivative x (nth n (children_of t))
 of_child x n t l h = at_place (IsDerivable x) n (children_of t) l (of_children x t h)
+
+-- a child, whose tree is smaller
+pub record IsChild (x : List ℕ) (a t : Tree) : Type 0 where
+  pub derivable : HasDerivative x a
+  pub smaller : nodes a < nodes t
+
+pub child_in : {x : List ℕ} {a : Tree} (n : ℕ) (t : Tree) → n < count (children_of t) → HasDerivative x t → a ≡ nth n (children_of t) → IsChild x a t
+child_in {x} n t l h e = record { derivable = subst (HasDerivative x) (sym e) (of_child x n t l h); smaller = smaller_child n t l e }
+
+pub exponent_in : (x : List ℕ) (t : Tree) {e : Tree} → root_kind t ≡ kind.Pow → occurs x t ≡ true → HasDerivative x t → e ≡ nth 1 (children_of t) → IsDerivableExponent e
+exponent_in x t k o h e = subst IsDerivableExponent (sym e) (derivable_exponent x t k o (of_root x t h))
 
 pub one_more : (P : Tree → Type 0) (n : ℕ) (ts : Trees) → n < count ts → AllPartsOf P (first n ts) → AllParts P (nth n ts) → AllPartsOf P (first (suc n) ts)
 one_more P n none l h k = absurd (omega arith)

@@ -1,27 +1,12 @@
 -- The derivative of a tree means the slope of each pair of it.
 use Rattle.std.proofs.Common.{◌≡◌, ℕ, zero, suc, List, [], ◌++◌, Bool, true, false, refl, sym, ap, ◌∙◌, subst, inl, inr, append-nil, arith}
-use Rattle.std.proofs.lemmas.Bool.{eqb-true}
-use Rattle.std.proofs.lemmas.Int.{ints}
 use Rattle.std.specs.Prelude.{ℤ, pos, negsuc, ◌*ℤ◌, ◌-ℤ◌, neg_ℤ, ◌==◌, ◌||◌, if◌then◌else◌, Option, Some, None}
-use Rattle.std.specs.Str.{bytes_eq}
-use Rattle.calc_terms.specs.Fractions.{Fraction, times, one_fraction, minus_one_fraction, whole_fraction, quotient}
-use Rattle.calc_terms.specs.Trees.{Tree, num, symbol, undef, add, mult, power, root, neg, sub, div, Trees, none, more, append, whole_num}
-use Rattle.calc_algebra.specs.Meanings.{Assignment, IsWholePower, Means, MeansSum, MeansProduct}
-use Rattle.calc_algebra.specs.SquareClasses.{Same, Inverts}
-use Rattle.calc_algebra.specs.Surds.{Surd, surd_of, surd_one, surd_scale, surd_times, surd_power}
-use Rattle.calc_algebra.proofs.InverseLaws.{Inverts-surd_times}
-use Rattle.calc_algebra.proofs.MeaningLaws.{Means-Same, Same-sym}
+use Rattle.dual_diff.proofs.Names.{Fraction, times, minus_one_fraction, whole_fraction, quotient, Tree, num, symbol, undef, add, mult, power, root, neg, sub, div, Trees, none, more, append, whole_num, Assignment, IsWholePower, Means, MeansSum, MeansProduct, Same, Inverts, Surd, surd_of, surd_one, surd_scale, surd_times, surd_power, Inverts-surd_times, Means-Same, Same-sym, Same-trans, Same-Agree, Agree, Agree-refl, Agree-sym, Agree-trans, Agree-eq, Agree-append, Agree-Same, surd_times-nil, surd_times-surd_one, surd_times-surd_of, Same-refl, Same-eq, whole_value, opposite, whole_literal, occurs, occurs_in, Pair, SamePair, pair_over, HasPair, HasPairSum, HasPairProduct, IsPowerSlope, IsRootPair, two, where_occurs, quotient_rule, lowered, power_rule, literal_power_rule, root_rule, sum_of_products, derivative, derivatives, products, eqb-true, ints, bytes_eq}
+use Rattle.calc_terms.specs.Fractions.{one_fraction}
 use Rattle.calc_algebra.proofs.MeaningRewrites.{product_more, product_one, product_two, product_append}
 use Rattle.calc_algebra.proofs.ExponentLaws.{whole_times}
 use Rattle.calc_algebra.proofs.NumberRewrites.{fraction_whole}
 use Rattle.calc_algebra.proofs.PowerRewrites.{power_whole}
-use Rattle.calc_algebra.proofs.SquareClassLaws.{Same-trans, Same-Agree}
-use Rattle.calc_algebra.proofs.SurdLaws.{Agree, Agree-refl, Agree-sym, Agree-trans, Agree-eq, Agree-append, Agree-Same, surd_times-nil, surd_times-surd_one, surd_times-surd_of}
-use Rattle.calc_algebra.proofs.TermLaws.{Same-refl, Same-eq}
-use Rattle.calc_measures.specs.Literals.{whole_value, opposite, whole_literal}
-use Rattle.dual_diff.specs.Occurring.{occurs, occurs_in}
-use Rattle.dual_diff.specs.Pairs.{Pair, SamePair, pair_over, HasPair, HasPairSum, HasPairProduct, IsPowerSlope, IsRootPair}
-use Rattle.dual_diff.specs.Derivatives.{two, where_occurs, quotient_rule, lowered, power_rule, literal_power_rule, root_rule, sum_of_products, derivative, derivatives, products}
 use Rattle.dual_diff.proofs.Occurring.{neither}
 use Rattle.dual_diff.proofs.SlopeLaws.{zero_number, product_slope, product_still, quotient_slope, quotient_still, scale_right, half_inverts}
 use Rattle.dual_diff.proofs.Still.{still}
@@ -160,11 +145,7 @@ module _ (x : List ℕ) (f : Assignment) where
 
   by_factor : (b : Bool) (t : Tree) (us : Trees) (p a a' c c' v d : Surd) → (b ≡ false → Agree a' []) → Means t f v → Agree v (surd_times p (surd_times a' c)) → MeansProducts us (surd_times p a) c'
       → d ≡ surd_times a c' ++ surd_times a' c → MeansProducts (if b then more t us else us) p d
-  by_factor true t us p a a' c c' v d z m s h e = record {
-    sum = v ++ h.sum;
-    means = (v, h.sum, m, h.means, refl);
-    same = Agree-trans (Agree-append s (Agree-refl h.sum)) (Agree-trans (product_slope p a a' c c' h.sum h.same) (Agree-eq (ap (surd_times p) (sym e))));
-  }
+  by_factor true t us p a a' c c' v d z m s h e = record { sum = v ++ h.sum; means = (v, h.sum, m, h.means, refl); same = Agree-trans (Agree-append s (Agree-refl h.sum)) (Agree-trans (product_slope p a a' c c' h.sum h.same) (Agree-eq (ap (surd_times p) (sym e)))) }
   by_factor false t us p a a' c c' v d z m s h e = record { sum = h.sum; means = h.means; same = Agree-trans (product_still p a a' c c' h.sum (z refl) h.same) (Agree-eq (ap (surd_times p) (sym e))) }
 
   mutual

@@ -1,19 +1,9 @@
 -- Exponents that are whole literals, and the powers that are derivable.
 use Rattle.std.proofs.Common.{◌≡◌, ℕ, List, ℤ, ◌≤◌, Bool, true, false, refl, sym, ap, ◌∙◌, subst}
 use Rattle.std.specs.Prelude.{◌==◌, ◌↔◌, Contains, IsTrue, Some, None, neg_ℤ, nat_abs, if◌then◌else◌}
-use Rattle.std.proofs.lemmas.Bool.{eqb-true, eq-eqb}
-use Rattle.calc_measures.specs.Literals.{whole_value, opposite, whole_literal}
+use Rattle.dual_diff.proofs.Names.{whole_value, opposite, whole_literal, Rat, Fraction, negative, ratio_of, value_of, Tree, power, names, root_kind, ratio_parts, nth, children_of, by_test, IsDerivable, IsDerivableExponent, exponent_limit, occurs, eqb-true, eq-eqb}
 use Rattle.calc_terms.specs.declared.kind.Kind.TheVariants as kind
-use Rattle.calc_terms.specs.declared.rat.Rat.{Rat}
-use Rattle.calc_terms.specs.Fractions.{Fraction, negative}
-use Rattle.calc_terms.specs.Rat.{ratio_of, value_of}
-use Rattle.calc_terms.specs.Trees.{Tree, num, symbol, undef, add, mult, power, root, neg, sub, div, names, root_kind}
-use Rattle.rational128.proofs.LowestTerms.{ratio_parts}
 use Rattle.rational128.proofs.Reciprocals.{negative_parts}
-use Rattle.tree_handles.specs.Expressions.{nth, children_of}
-use Rattle.tree_handles.proofs.Outcomes.{by_test}
-use Rattle.dual_diff.specs.Derivatives.{IsDerivable, IsDerivableExponent, exponent_limit}
-use Rattle.dual_diff.specs.Occurring.{occurs}
 use Rattle.dual_diff.proofs.Occurring.{told, names_occur}
 
 -- ---- whole numbers
@@ -44,15 +34,6 @@ opposite_whole q =
 
 -- ---- literals by the kind of the root
 
-pub no_literal : (t : Tree) → (root_kind t ≡ kind.Num → ⊥) → (root_kind t ≡ kind.Neg → ⊥) → whole_literal t ≡ None
-no_literal (num q) h k = absurd (h refl)
-no_literal (neg a) h k = absurd (k refl)
-no_literal t h k = refl
-
-pub no_opposite : (t : Tree) → (root_kind t ≡ kind.Num → ⊥) → whole_literal (neg t) ≡ None
-no_opposite (num q) h = absurd (h refl)
-no_opposite t h = refl
-
 -- ---- derivable powers
 
 pub power_derivable : (x : List ℕ) (t : Tree) → root_kind t ≡ kind.Pow → IsDerivableExponent (nth 1 (children_of t)) → IsDerivable x t
@@ -64,35 +45,16 @@ derivable_exponent x (power b e) h o d = d o
 derivable_exponent x t h o d = absurd cc
 
 pub absent_derivable : (x : List ℕ) (t : Tree) → occurs x t ≡ false → IsDerivable x t
-absent_derivable x (num q) o = tt
-absent_derivable x (symbol y) o = tt
-absent_derivable x undef o = tt
-absent_derivable x (add ts) o = tt
-absent_derivable x (mult ts) o = tt
 absent_derivable x (power b e) o = λ held. absurd (cc (held, o))
-absent_derivable x (root a) o = tt
-absent_derivable x (neg a) o = tt
-absent_derivable x (sub a b) o = tt
-absent_derivable x (div a b) o = tt
+absent_derivable x t o = tt
 
 pub other_derivable : (x : List ℕ) (t : Tree) → (root_kind t ≡ kind.Pow → ⊥) → IsDerivable x t
-other_derivable x (num q) o = tt
-other_derivable x (symbol y) o = tt
-other_derivable x undef o = tt
-other_derivable x (add ts) o = tt
-other_derivable x (mult ts) o = tt
 other_derivable x (power b e) o = absurd (o refl)
-other_derivable x (root a) o = tt
-other_derivable x (neg a) o = tt
-other_derivable x (sub a b) o = tt
-other_derivable x (div a b) o = tt
+other_derivable x t o = tt
 
 -- what a reader tells
 pub held : (b : Bool) (x : List ℕ) (t : Tree) → (IsTrue b ↔ Contains (names t) x) → occurs x t ≡ b
 held b x t h = sym (told b (occurs x t) (Contains (names t) x) h (names_occur x t))
-
-pub exponent_some : (t : Tree) (z : ℤ) → Some z ≡ whole_literal t → nat_abs z ≤ exponent_limit → IsDerivableExponent t
-exponent_some t z e l = record { number = z; literal = sym e; small = l }
 
 pub exponent_small : (t : Tree) (z : ℤ) → Some z ≡ whole_literal t → IsDerivableExponent t → nat_abs z ≤ exponent_limit
 exponent_small t z e d =

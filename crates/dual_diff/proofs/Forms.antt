@@ -1,26 +1,22 @@
 -- The form of a tree by the kind of its root, and its children.
 use Rattle.std.proofs.Common.{◌≡◌, ℕ, zero, suc, ◌+◌, ◌<◌, ◌≤◌, refl, sym, ap, ◌∙◌, arith}
 use Rattle.calc_terms.specs.declared.kind.Kind.TheVariants as kind
-use Rattle.calc_terms.specs.Trees.{Tree, num, symbol, undef, add, mult, power, root, neg, sub, div, Trees, none, more, append, count, root_kind, root_size, nodes, nodes_of, size, sizes}
-use Rattle.tree_handles.specs.Expressions.{nth, children_of}
+use Rattle.dual_diff.proofs.Names.{Tree, undef, add, mult, power, root, div, Trees, none, more, append, count, root_kind, root_size, nodes, nodes_of, size, sizes, nth, children_of, behind, first}
 use Rattle.tree_handles.proofs.Room.{least_size}
-use Rattle.dual_diff.specs.Lists.{behind, first}
 
 pub quotient_form : (t : Tree) → root_kind t ≡ kind.Div → t ≡ div (nth 0 (children_of t)) (nth 1 (children_of t))
 quotient_form (div a b) h = refl
 quotient_form t h = absurd cc
 
-pub power_form : (t : Tree) → root_kind t ≡ kind.Pow → t ≡ power (nth 0 (children_of t)) (nth 1 (children_of t))
-power_form (power b e) h = refl
-power_form t h = absurd cc
+pub quotient_nodes : (t : Tree) {a b : Tree} → root_kind t ≡ kind.Div → a ≡ nth 0 (children_of t) → b ≡ nth 1 (children_of t) → nodes t ≡ suc (nodes a + nodes b)
+quotient_nodes t h e f = omega (arith, ap nodes (quotient_form t h), ap nodes e, ap nodes f)
 
 pub root_form : (t : Tree) → root_kind t ≡ kind.Root → t ≡ root (nth 0 (children_of t))
 root_form (root a) h = refl
 root_form t h = absurd cc
 
-pub opposite_form : (t : Tree) → root_kind t ≡ kind.Neg → t ≡ neg (nth 0 (children_of t))
-opposite_form (neg a) h = refl
-opposite_form t h = absurd cc
+pub root_of : (t : Tree) {a : Tree} → root_kind t ≡ kind.Root → a ≡ nth 0 (children_of t) → t ≡ root a
+root_of t h e = root_form t h ∙ ap root (sym e)
 
 pub product_form : (t : Tree) → root_kind t ≡ kind.Mult → t ≡ mult (children_of t)
 product_form (mult ts) h = refl
@@ -38,23 +34,11 @@ pub one_argument : (t : Tree) → root_kind t ≡ kind.Root → count (children_
 one_argument (root a) h = refl
 one_argument t h = absurd cc
 
-pub one_child : (t : Tree) → root_kind t ≡ kind.Neg → count (children_of t) ≡ 1
-one_child (neg a) h = refl
-one_child t h = absurd cc
-
 -- ---- children by their places
 
 pub nodes_children : (t : Tree) → nodes t ≡ suc (nodes_of (children_of t))
-nodes_children (num q) = refl
-nodes_children (symbol x) = refl
-nodes_children undef = refl
 nodes_children (add ts) = refl
-nodes_children (mult ts) = refl
-nodes_children (power b e) = omega arith
-nodes_children (root a) = omega arith
-nodes_children (neg a) = omega arith
-nodes_children (sub a b) = omega arith
-nodes_children (div a b) = omega arith
+nodes_children t = omega arith
 
 nodes_nth : (n : ℕ) (ts : Trees) → n < count ts → nodes (nth n ts) ≤ nodes_of ts
 nodes_nth n none h = absurd (omega arith)
@@ -64,6 +48,9 @@ nodes_nth (suc n) (more t ts) h = omega (arith, nodes_nth n ts (omega arith))
 -- a child has fewer nodes
 pub fewer : (n : ℕ) (t : Tree) → n < count (children_of t) → nodes (nth n (children_of t)) < nodes t
 fewer n t h = omega (arith, nodes_children t, nodes_nth n (children_of t) h)
+
+pub smaller_child : {a : Tree} (n : ℕ) (t : Tree) → n < count (children_of t) → a ≡ nth n (children_of t) → nodes a < nodes t
+smaller_child n t h e = omega (arith, ap nodes e, fewer n t h)
 
 pub first_all : (n : ℕ) (ts : Trees) → count ts ≤ n → first n ts ≡ ts
 first_all zero none h = refl
@@ -127,16 +114,8 @@ append_assoc none us vs = refl
 append_assoc (more t ts) us vs = ap (more t) (append_assoc ts us vs)
 
 pub size_children : (t : Tree) → size t ≡ root_size t + sizes (children_of t)
-size_children (num q) = omega arith
-size_children (symbol x) = refl
-size_children undef = refl
 size_children (add ts) = refl
-size_children (mult ts) = refl
-size_children (power b e) = omega arith
-size_children (root a) = omega arith
-size_children (neg a) = omega arith
-size_children (sub a b) = omega arith
-size_children (div a b) = omega arith
+size_children t = omega arith
 
 size_nth : (n : ℕ) (ts : Trees) → n < count ts → size (nth n ts) ≤ sizes ts
 size_nth n none h = absurd (omega arith)

@@ -1,3 +1,4 @@
+pub mod Names
 pub mod Occurring
 pub mod SlopeLaws
 pub mod Still
@@ -11,3 +12,4 @@ pub mod Products
 pub mod Numbers
 pub mod Slices
 pub mod Rules
+pub mod Turns

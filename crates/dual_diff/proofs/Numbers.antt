@@ -1,19 +1,11 @@
 -- Whole numbers that are placed.
-use Rattle.std.proofs.Common.{◌≡◌, ◌<◌, ◌≤◌, ◌^◌, zero, suc, ℤ, pos, negsuc, ◌-ℤ◌, true, false, nat_eq, of_z, to_z, refl, sym, ap, ◌∙◌, subst, arith}
-use Rattle.std.proofs.lemmas.Bool.{eqb-true}
-use Rattle.std.proofs.lemmas.Int.{ints}
-use Rattle.std.specs.Int.{w128}
-use Rattle.std.specs.Prelude.{nat_abs}
-use Rattle.calc_terms.specs.declared.rat.Rat.{Rat}
-use Rattle.calc_terms.specs.Fractions.{lowest, whole_fraction}
+use Rattle.std.proofs.Common.{◌≡◌, ◌<◌, ◌≤◌, ◌^◌, ℕ, List, zero, suc, ℤ, pos, negsuc, ◌-ℤ◌, true, false, nat_eq, of_z, to_z, refl, sym, ap, ◌∙◌, subst, arith}
+use Rattle.std.specs.Prelude.{FitsSigned, Some, nat_abs}
+use Rattle.dual_diff.proofs.Names.{whole_literal, Rat, lowest, whole_fraction, rational, size_of_payload, ratio_of, value_of, Tree, num, root_kind, size, whole_num, told, by_test, children_of, nth, derivative, exponent_limit, lowered, power_rule, occurs, eqb-true, fits_signed_from_abs, ints, w128}
+use Rattle.calc_terms.specs.declared.kind.Kind.TheVariants as kind
 use Rattle.calc_terms.specs.Integers.{int_is_one, int_is_zero}
-use Rattle.calc_terms.specs.Payload.{rational, size_of_payload}
-use Rattle.calc_terms.specs.Rat.{ratio_of, value_of}
 use Rattle.calc_terms.specs.Ratio.{Ratio, whole}
-use Rattle.calc_terms.specs.Trees.{Tree, num, size, whole_num}
-use Rattle.rational128.proofs.Signed.{told}
-use Rattle.tree_handles.proofs.Outcomes.{by_test}
-use Rattle.dual_diff.specs.Derivatives.{exponent_limit, lowered, power_rule}
+use Rattle.dual_diff.proofs.Rules.{power_by_rule}
 
 pub placed_value : (r : Rat) (z : ℤ) → nat_abs z < 2 ^ 127 → ratio_of r ≡ whole (to_z w128 (of_z w128 z)) → value_of r ≡ whole_fraction z
 placed_value r z fits e = ap (λ (x : Ratio). lowest x.num x.den) e ∙ ap whole_fraction (told z fits)
@@ -25,14 +17,11 @@ placed_size r z fits e = ap (λ (x : Ratio). size_of_payload (rational x)) e ∙
 
 zero_bits : (z : ℤ) → nat_eq (of_z w128 z) 0 ≡ false → false ≡ int_is_zero z
 zero_bits (pos zero) e = cc
-zero_bits (pos (suc n)) e = refl
-zero_bits (negsuc n) e = refl
+zero_bits n e = refl
 
 one_bits : (z : ℤ) → nat_eq (of_z w128 z) 1 ≡ false → false ≡ int_is_one z
-one_bits (pos zero) e = refl
 one_bits (pos (suc zero)) e = cc
-one_bits (pos (suc (suc n))) e = refl
-one_bits (negsuc n) e = refl
+one_bits n e = refl
 
 pub told_zero : (z : ℤ) → nat_abs z < 2 ^ 127 → nat_eq (of_z w128 z) 0 ≡ int_is_zero z
 told_zero z fits = by_test (λ t. nat_eq (of_z w128 z) 0 ≡ t → t ≡ int_is_zero z) (nat_eq (of_z w128 z) 0)
@@ -46,20 +35,16 @@ told_one z fits = by_test (λ t. nat_eq (of_z w128 z) 1 ≡ t → t ≡ int_is_o
 
 pub zero_rule : (n : ℤ) (b b' : Tree) → int_is_zero n ≡ true → power_rule n b b' ≡ whole_num 0
 zero_rule (pos zero) b b' h = refl
-zero_rule (pos (suc n)) b b' h = absurd cc
-zero_rule (negsuc n) b b' h = absurd cc
+zero_rule n b b' h = absurd cc
 
 pub one_rule : (n : ℤ) (b b' : Tree) → int_is_one n ≡ true → power_rule n b b' ≡ b'
-one_rule (pos zero) b b' h = absurd cc
 one_rule (pos (suc zero)) b b' h = refl
-one_rule (pos (suc (suc n))) b b' h = absurd cc
-one_rule (negsuc n) b b' h = absurd cc
+one_rule n b b' h = absurd cc
 
 pub lowered_rule : (n : ℤ) (b b' : Tree) → int_is_zero n ≡ false → int_is_one n ≡ false → power_rule n b b' ≡ lowered n b b'
 lowered_rule (pos zero) b b' h k = absurd cc
 lowered_rule (pos (suc zero)) b b' h k = absurd cc
-lowered_rule (pos (suc (suc n))) b b' h k = refl
-lowered_rule (negsuc n) b b' h k = refl
+lowered_rule n b b' h k = refl
 
 pub small_fits : (z : ℤ) → nat_abs z ≤ exponent_limit → nat_abs z < 2 ^ 127
 small_fits z h = omega arith
@@ -68,3 +53,38 @@ pub less_fits : (z : ℤ) → nat_abs z ≤ exponent_limit → nat_abs (z -ℤ p
 less_fits (pos zero) h = omega (arith, ints)
 less_fits (pos (suc n)) h = subst (λ (k : ℤ). nat_abs k < 2 ^ 127) (let e : pos n ≡ pos (suc n) -ℤ pos 1 = omega (arith, ints) in e) (omega arith)
 less_fits (negsuc n) h = subst (λ (k : ℤ). nat_abs k < 2 ^ 127) (let e : negsuc (suc n) ≡ negsuc n -ℤ pos 1 = omega (arith, ints) in e) (omega arith)
+
+-- ---- as the machine holds them
+
+pub told_small : (z : ℤ) → nat_abs z ≤ exponent_limit → nat_abs (to_z w128 (of_z w128 z)) ≤ exponent_limit
+told_small z h = subst (λ (k : ℤ). nat_abs k ≤ exponent_limit) (sym (told z (small_fits z h))) h
+
+pub told_fits : (z : ℤ) → nat_abs z ≤ exponent_limit → nat_abs (to_z w128 (of_z w128 z)) < 2 ^ 127
+told_fits z h = small_fits (to_z w128 (of_z w128 z)) (told_small z h)
+
+pub told_less : (z : ℤ) → nat_abs z ≤ exponent_limit → to_z w128 (of_z w128 (to_z w128 (of_z w128 z) -ℤ pos 1)) ≡ z -ℤ pos 1
+told_less z h = ap (λ (k : ℤ). to_z w128 (of_z w128 (k -ℤ pos 1))) (told z (small_fits z h)) ∙ told (z -ℤ pos 1) (less_fits z h)
+
+pub told_less_fits : (z : ℤ) → nat_abs z ≤ exponent_limit → nat_abs (to_z w128 (of_z w128 (to_z w128 (of_z w128 z) -ℤ pos 1))) < 2 ^ 127
+told_less_fits z h = subst (λ (k : ℤ). nat_abs k < 2 ^ 127) (sym (told_less z h)) (less_fits z h)
+
+pub less_fits_signed : (z : ℤ) → nat_abs z ≤ exponent_limit → FitsSigned w128 (to_z w128 (of_z w128 z) -ℤ pos 1)
+less_fits_signed z h = fits_signed_from_abs w128 (to_z w128 (of_z w128 z) -ℤ pos 1) (less_fits (to_z w128 (of_z w128 z)) (told_small z h))
+
+-- ---- a power's derivative, by its exponent
+
+module _ (x : List ℕ) (t : Tree) (n : ℤ) {b e : Tree} (h : root_kind t ≡ kind.Pow) (o : occurs x t ≡ true) (base : b ≡ nth 0 (children_of t)) (exponent : e ≡ nth 1 (children_of t)) (l : Some n ≡ whole_literal e) (small : nat_abs n ≤ exponent_limit) where
+  by_exponent : derivative x t ≡ power_rule n b (derivative x b)
+  by_exponent = power_by_rule x t n h o (ap whole_literal (sym exponent) ∙ sym l) base
+
+  machine : n ≡ to_z w128 (of_z w128 n)
+  machine = sym (told n (small_fits n small))
+
+  pub zero_power : int_is_zero (to_z w128 (of_z w128 n)) ≡ true → derivative x t ≡ whole_num 0
+  zero_power z = by_exponent ∙ zero_rule n _ _ (ap int_is_zero machine ∙ z)
+
+  pub first_power : int_is_one (to_z w128 (of_z w128 n)) ≡ true → derivative x t ≡ derivative x b
+  first_power z = by_exponent ∙ one_rule n _ _ (ap int_is_one machine ∙ z)
+
+  pub lowered_power : int_is_zero (to_z w128 (of_z w128 n)) ≡ false → int_is_one (to_z w128 (of_z w128 n)) ≡ false → derivative x t ≡ lowered n b (derivative x b)
+  lowered_power z w = by_exponent ∙ lowered_rule n _ _ (ap int_is_zero machine ∙ z) (ap int_is_one machine ∙ w)

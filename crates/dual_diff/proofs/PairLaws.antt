@@ -1,16 +1,8 @@
 -- What is the same as a pair of a tree is one too.
 use Rattle.std.proofs.Common.{ℕ, List, inl, inr}
 use Rattle.std.specs.Prelude.{ℤ, zero, suc, pos, negsuc}
-use Rattle.calc_terms.specs.Trees.{Tree, num, symbol, undef, add, mult, power, root, neg, sub, div}
-use Rattle.calc_algebra.specs.Meanings.{Assignment, IsRoot, IsRootOf}
-use Rattle.calc_algebra.specs.SquareClasses.{Same}
-use Rattle.calc_algebra.specs.Surds.{Surd}
-use Rattle.calc_algebra.proofs.InverseLaws.{Inverts-Same}
-use Rattle.calc_algebra.proofs.MeaningLaws.{Means-Same, Same-sym}
+use Rattle.dual_diff.proofs.Names.{Tree, num, symbol, undef, add, mult, power, root, neg, sub, div, Assignment, IsRoot, IsRootOf, Same, Surd, Inverts-Same, Means-Same, Same-sym, Same-trans, Same-refl, Pair, SamePair, HasPair, IsPowerSlope, IsStill}
 use Rattle.calc_algebra.proofs.PowerLaws.{IsWholePower-Same}
-use Rattle.calc_algebra.proofs.SquareClassLaws.{Same-trans}
-use Rattle.calc_algebra.proofs.TermLaws.{Same-refl}
-use Rattle.dual_diff.specs.Pairs.{Pair, SamePair, HasPair, IsPowerSlope, IsStill}
 
 same_pair_from : {p q r : Pair} → SamePair p q → SamePair p r → SamePair q r
 same_pair_from s e = record { values = Same-trans (Same-sym s.values) e.values; slopes = Same-trans (Same-sym s.slopes) e.slopes }

@@ -1,17 +1,10 @@
 -- The products of a product's derivative, factor by factor.
-use Rattle.std.proofs.Common.{◌≡◌, ℕ, suc, ◌+◌, ◌<◌, ◌≤◌, List, Bool, true, false, refl, sym, ap, ◌∙◌, arith}
+use Rattle.std.proofs.Common.{◌≡◌, ℕ, suc, ◌+◌, ◌<◌, ◌≤◌, List, Bool, true, false, refl, sym, ap, ◌∙◌, subst, arith}
 use Rattle.std.specs.Prelude.{◌||◌, if◌then◌else◌}
-use Rattle.calc_terms.specs.Trees.{mult, Trees, none, more, append, count, size, sizes}
-use Rattle.tree_handles.specs.Expressions.{nth}
-use Rattle.dual_diff.specs.Derivatives.{derivative, derivatives, products, sum_of_products, with_derivative}
-use Rattle.dual_diff.specs.Lists.{behind, first}
-use Rattle.dual_diff.specs.Occurring.{occurs, occurs_in}
-use Rattle.dual_diff.specs.Placing.{capped}
-use Rattle.dual_diff.proofs.Forms.{append_assoc, behind_all, behind_at, count_append, first_all, first_behind, first_next, sizes_append}
-
-pub append_none : (ts : Trees) → append ts none ≡ ts
-append_none none = refl
-append_none (more t ts) = ap (more t) (append_none ts)
+use Rattle.calc_terms.specs.declared.kind.Kind.TheVariants as kind
+use Rattle.dual_diff.proofs.Names.{Tree, mult, root_kind, Trees, none, more, append, count, size, sizes, children_of, nth, derivative, derivatives, products, sum_of_products, with_derivative, behind, first, occurs, occurs_in, capped, append-none}
+use Rattle.dual_diff.proofs.Forms.{append_assoc, behind_all, behind_at, count_append, count_behind, count_first, first_all, first_behind, first_next, sizes_append}
+use Rattle.dual_diff.proofs.Rules.{product_held, product_sum}
 
 -- ---- derivatives of children
 
@@ -21,6 +14,13 @@ derivatives_append x (more t ts) us = ap (more (derivative x t)) (derivatives_ap
 
 pub derivatives_next : (x : List ℕ) (n : ℕ) (ts : Trees) → n < count ts → derivatives x (first (suc n) ts) ≡ append (derivatives x (first n ts)) (more (derivative x (nth n ts)) none)
 derivatives_next x n ts h = ap (derivatives x) (first_next n ts h) ∙ derivatives_append x (first n ts) (more (nth n ts) none)
+
+pub derivatives_more : (x : List ℕ) (n : ℕ) (ts : Trees) → n < count ts → append (derivatives x (first n ts)) (more (derivative x (nth n ts)) none) ≡ derivatives x (first (n + 1) ts)
+derivatives_more x n ts h = sym (derivatives_next x n ts h) ∙ ap (λ (k : ℕ). derivatives x (first k ts)) (let one : suc n ≡ n + 1 = omega arith in one)
+
+pub derivatives_sizes : (x : List ℕ) (n m : ℕ) (ts : Trees) → n < count ts → suc n ≡ m → sizes (derivatives x (first m ts)) ≡ sizes (derivatives x (first n ts)) + size (derivative x (nth n ts))
+derivatives_sizes x n m ts h next =
+    omega (arith, ap (λ (k : ℕ). sizes (derivatives x (first k ts))) next, ap sizes (derivatives_next x n ts h), sizes_append (derivatives x (first n ts)) (more (derivative x (nth n ts)) none))
 
 pub derivatives_all : (x : List ℕ) (n : ℕ) (ts : Trees) → count ts ≤ n → derivatives x (first n ts) ≡ derivatives x ts
 derivatives_all x n ts h = ap (derivatives x) (first_all n ts h)
@@ -66,7 +66,17 @@ made_same x n made ts h o m =
     record { all = m.all ∙ ap (append made) (step_by x n ts h ∙ ap (λ (b : Bool). if b then more (with_derivative x n ts) rest else rest) o) }
 
 pub made_all : (x : List ℕ) (n : ℕ) (made ts : Trees) → count ts ≤ n → AreMade x n made ts → products x none ts ≡ made
-made_all x n made ts h m = m.all ∙ ap (λ (us : Trees). append made (products x (first n ts) us)) (behind_all n ts h) ∙ append_none made
+made_all x n made ts h m = m.all ∙ ap (λ (us : Trees). append made (products x (first n ts) us)) (behind_all n ts h) ∙ append-none made
+
+pub made_rule : (x : List ℕ) (n : ℕ) (made : Trees) (t : Tree) → root_kind t ≡ kind.Mult → count (children_of t) ≤ n → AreMade x n made (children_of t) → derivative x t ≡ sum_of_products made
+made_rule x n made t k h m = product_sum x t k ∙ ap sum_of_products (made_all x n made (children_of t) h m)
+
+-- the factors with the derivative of the one at a place in its place
+abbrev pub with_factors : List ℕ → ℕ → Trees → Trees
+with_factors x n ts = append (first n ts) (more (derivative x (nth n ts)) (behind (n + 1) ts))
+
+pub count_with : (x : List ℕ) (n : ℕ) (ts : Trees) → n < count ts → count (with_factors x n ts) ≡ count ts
+count_with x n ts h = omega (arith, count_append (first n ts) (more (derivative x (nth n ts)) (behind (n + 1) ts)), count_first n ts (omega arith), count_behind (n + 1) ts (omega arith))
 
 -- the bytes of a product with the derivative of a factor
 pub with_size : (x : List ℕ) (n : ℕ) (ts : Trees) → n < count ts → size (with_derivative x n ts) + size (nth n ts) ≡ size (mult ts) + size (derivative x (nth n ts))
@@ -89,29 +99,27 @@ pub record IsCounted (x : List ℕ) (n many bytes : ℕ) (ts : Trees) : Type 0 w
 pub counted_none : (x : List ℕ) (ts : Trees) → IsCounted x 0 0 0 ts
 counted_none x ts = record { made = none; is = made_none x ts; many-is = refl; few = omega arith; bytes-are = refl }
 
-pub counted_more : {x : List ℕ} {n many bytes : ℕ} {ts : Trees} (others slope product total : ℕ) → n < count ts → occurs x (nth n ts) ≡ true → IsCounted x n many bytes ts
-    → others + size (nth n ts) ≡ size (mult ts) → slope ≡ capped (size (derivative x (nth n ts))) → product ≡ capped (others + slope) → total ≡ capped (bytes + product) → IsCounted x (suc n) (many + 1) total ts
-counted_more {x} {n} {many} {bytes} {ts} others slope product total h o k e d p t =
+pub counted_more : {x : List ℕ} {n m many bytes : ℕ} {ts : Trees} (others slope product total : ℕ) → n < count ts → suc n ≡ m → occurs x (nth n ts) ≡ true → IsCounted x n many bytes ts
+    → others + size (nth n ts) ≡ size (mult ts) → slope ≡ capped (size (derivative x (nth n ts))) → product ≡ capped (others + slope) → total ≡ capped (bytes + product) → IsCounted x m (many + 1) total ts
+counted_more {x} {n} {m} {many} {bytes} {ts} others slope product total h next o k e d p t =
     record {
       made = append k.made (more (with_derivative x n ts) none);
-      is = made_more x n k.made ts h o k.is;
+      is = subst (λ (i : ℕ). AreMade x i (append k.made (more (with_derivative x n ts) none)) ts) next (made_more x n k.made ts h o k.is);
       many-is = omega (arith, k.many-is, count_append k.made (more (with_derivative x n ts) none));
-      few = omega (arith, k.few);
+      few = omega (arith, next, k.few);
       bytes-are = omega (arith, t, p, d, k.bytes-are, e, with_size x n ts h, sizes_append k.made (more (with_derivative x n ts) none));
     }
 
-pub counted_same : {x : List ℕ} {n many bytes : ℕ} {ts : Trees} → n < count ts → occurs x (nth n ts) ≡ false → IsCounted x n many bytes ts → IsCounted x (suc n) many bytes ts
-counted_same {x} {n} {ts = ts} h o k = record { made = k.made; is = made_same x n k.made ts h o k.is; many-is = k.many-is; few = omega (arith, k.few); bytes-are = k.bytes-are }
+pub counted_same : {x : List ℕ} {n m many bytes : ℕ} {ts : Trees} → n < count ts → suc n ≡ m → occurs x (nth n ts) ≡ false → IsCounted x n many bytes ts → IsCounted x m many bytes ts
+counted_same {x} {n} {m} {ts = ts} h next o k = record { made = k.made; is = subst (λ (i : ℕ). AreMade x i k.made ts) next (made_same x n k.made ts h o k.is); many-is = k.many-is; few = omega (arith, next, k.few); bytes-are = k.bytes-are }
 
 pub sum_bytes_one : (us : Trees) (bytes : ℕ) → count us ≡ 1 → bytes ≡ capped (sizes us) → bytes ≡ capped (size (sum_of_products us))
-sum_bytes_one none bytes c b = absurd (omega arith)
 sum_bytes_one (more t none) bytes c b = omega (arith, b)
-sum_bytes_one (more t (more u us)) bytes c b = absurd (omega arith)
+sum_bytes_one us bytes c b = absurd (omega arith)
 
 pub sum_bytes_more : (us : Trees) (bytes node total : ℕ) → 1 < count us → bytes ≡ capped (sizes us) → node ≡ 8 → total ≡ capped (bytes + node) → total ≡ capped (size (sum_of_products us))
-sum_bytes_more none bytes node total c b n t = absurd (omega arith)
-sum_bytes_more (more t none) bytes node total c b n t' = absurd (omega arith)
 sum_bytes_more (more t (more u us)) bytes node total c b n t' = omega (arith, b, t')
+sum_bytes_more us bytes node total c b n t' = absurd (omega arith)
 
 -- some product is there where some factor holds the name
 pub some_product : (x : List ℕ) (earlier ts : Trees) → occurs_in x ts ≡ true → 1 ≤ count (products x earlier ts)
@@ -123,12 +131,14 @@ some_product x earlier (more t ts) o = by (occurs x t) (occurs_in x ts) o (λ r.
     by true c h r = omega arith
     by false c h r = r h
 
+pub made_some : (x : List ℕ) (n : ℕ) (made : Trees) (t : Tree) → root_kind t ≡ kind.Mult → occurs x t ≡ true → count (children_of t) ≤ n → AreMade x n made (children_of t) → 1 ≤ count made
+made_some x n made t k o h m = subst (λ us. 1 ≤ count us) (made_all x n made (children_of t) h m) (some_product x none (children_of t) (product_held x t k o))
+
 -- ---- room
 
 pub sum_room : (us : Trees) → sizes us ≤ size (sum_of_products us)
-sum_room none = omega arith
 sum_room (more t none) = omega arith
-sum_room (more t (more u us)) = omega arith
+sum_room us = omega arith
 
 pub products_room : (x : List ℕ) (n : ℕ) (made ts : Trees) → n < count ts → occurs x (nth n ts) ≡ true → AreMade x n made ts → sizes made + size (with_derivative x n ts) ≤ sizes (products x none ts)
 products_room x n made ts h o m =

@@ -1,14 +1,8 @@
 -- The derivative of a tree by the kind of its root, where the tree holds the name.
-use Rattle.std.proofs.Common.{◌≡◌, ℕ, ◌+◌, ℤ, List, Bool, true, false, refl, ap, ◌∙◌, arith}
+use Rattle.std.proofs.Common.{◌≡◌, ℕ, ◌+◌, ℤ, List, Bool, true, false, refl, ap, sym, subst, ◌∙◌, arith}
 use Rattle.std.specs.Prelude.{◌||◌, if◌then◌else◌, Some}
-use Rattle.std.specs.Str.{bytes_eq}
-use Rattle.calc_measures.specs.Literals.{whole_literal}
+use Rattle.dual_diff.proofs.Names.{whole_literal, Kind, bare, size_of_payload, Tree, num, symbol, undef, add, mult, power, root, neg, sub, div, Trees, none, more, append, count, root_kind, size, sizes, whole_num, nth, children_of, compound, takes_kind, derivative, derivatives, is_linear, literal_power_rule, power_rule, products, quotient_rule, root_rule, sum_of_products, where_occurs, occurs, occurs_in, bytes_eq}
 use Rattle.calc_terms.specs.declared.kind.Kind.TheVariants as kind
-use Rattle.calc_terms.specs.Payload.{bare, size_of_payload}
-use Rattle.calc_terms.specs.Trees.{Tree, num, symbol, undef, add, mult, power, root, neg, sub, div, Trees, none, more, append, count, root_kind, size, sizes, whole_num}
-use Rattle.tree_handles.specs.Expressions.{nth, children_of, compound, takes_kind}
-use Rattle.dual_diff.specs.Derivatives.{derivative, derivatives, is_linear, literal_power_rule, power_rule, products, quotient_rule, root_rule, sum_of_products, where_occurs}
-use Rattle.dual_diff.specs.Occurring.{occurs, occurs_in}
 use Rattle.dual_diff.proofs.Occurring.{either_left, either_right}
 
 -- ---- a tree without the name
@@ -62,31 +56,34 @@ symbol_one x (symbol y) h o = held_symbol (bytes_eq y x) o
 symbol_one x t h o = absurd cc
 
 -- a sum, a difference or an opposite
-pub record IsSame (x : List ℕ) (t : Tree) : Type 0 where
-  pub linear : is_linear (root_kind t) ≡ true
-  pub rule : derivative x t ≡ compound (root_kind t) (derivatives x (children_of t))
-  pub bytes : size (derivative x t) ≡ size_of_payload (bare (root_kind t)) + sizes (derivatives x (children_of t))
+pub record IsSame (x : List ℕ) (k : Kind) (t : Tree) : Type 0 where
+  pub rule : derivative x t ≡ compound k (derivatives x (children_of t))
+  pub bytes : size (derivative x t) ≡ size_of_payload (bare k) + sizes (derivatives x (children_of t))
+  pub takes : takes_kind k (count (children_of t)) ≡ true
 
-same_from : (x : List ℕ) (t d : Tree) → derivative x t ≡ d → d ≡ compound (root_kind t) (derivatives x (children_of t)) → size d ≡ size_of_payload (bare (root_kind t)) + sizes (derivatives x (children_of t)) → is_linear (root_kind t) ≡ true → IsSame x t
-same_from x t d e r s l = record { linear = l; rule = e ∙ r; bytes = ap size e ∙ s }
+same_from : (x : List ℕ) (t d : Tree) → derivative x t ≡ d → d ≡ compound (root_kind t) (derivatives x (children_of t)) → size d ≡ size_of_payload (bare (root_kind t)) + sizes (derivatives x (children_of t)) → takes_kind (root_kind t) (count (children_of t)) ≡ true → IsSame x (root_kind t) t
+same_from x t d e r s l = record { rule = e ∙ r; bytes = ap size e ∙ s; takes = l }
 
-pub same_node : (x : List ℕ) (t : Tree) → occurs x t ≡ true → (root_kind t ≡ kind.Sym → ⊥) → (root_kind t ≡ kind.Mult → ⊥) → (root_kind t ≡ kind.Div → ⊥) → (root_kind t ≡ kind.Pow → ⊥) → (root_kind t ≡ kind.Root → ⊥) → IsSame x t
-same_node x (num q) o s m d p r = absurd cc
-same_node x (symbol y) o s m d p r = absurd (s refl)
-same_node x undef o s m d p r = absurd cc
-same_node x (add ts) o s m d p r = same_from x (add ts) (add (derivatives x ts)) (held_where (occurs_in x ts) (add (derivatives x ts)) o) refl refl refl
-same_node x (mult ts) o s m d p r = absurd (m refl)
-same_node x (power b e) o s m d p r = absurd (p refl)
-same_node x (root a) o s m d p r = absurd (r refl)
-same_node x (neg a) o s m d p r = same_from x (neg a) (neg (derivative x a)) (held_where (occurs x a) (neg (derivative x a)) o) refl (omega arith) refl
-same_node x (sub a b) o s m d p r = same_from x (sub a b) (sub (derivative x a) (derivative x b)) (held_where (occurs x a || occurs x b) (sub (derivative x a) (derivative x b)) o) refl (omega arith) refl
-same_node x (div a b) o s m d p r = absurd (d refl)
+same_root : (x : List ℕ) (t : Tree) → occurs x t ≡ true → is_linear (root_kind t) ≡ true → IsSame x (root_kind t) t
+same_root x (add ts) o l = same_from x (add ts) (add (derivatives x ts)) (held_where (occurs_in x ts) (add (derivatives x ts)) o) refl refl refl
+same_root x (neg a) o l = same_from x (neg a) (neg (derivative x a)) (held_where (occurs x a) (neg (derivative x a)) o) refl (omega arith) refl
+same_root x (sub a b) o l = same_from x (sub a b) (sub (derivative x a) (derivative x b)) (held_where (occurs x a || occurs x b) (sub (derivative x a) (derivative x b)) o) refl (omega arith) refl
+same_root x t o l = absurd cc
 
-pub linear_node : (x : List ℕ) (t : Tree) → occurs x t ≡ true → is_linear (root_kind t) ≡ true → IsSame x t
-linear_node x (add ts) o l = same_from x (add ts) (add (derivatives x ts)) (held_where (occurs_in x ts) (add (derivatives x ts)) o) refl refl refl
-linear_node x (neg a) o l = same_from x (neg a) (neg (derivative x a)) (held_where (occurs x a) (neg (derivative x a)) o) refl (omega arith) refl
-linear_node x (sub a b) o l = same_from x (sub a b) (sub (derivative x a) (derivative x b)) (held_where (occurs x a || occurs x b) (sub (derivative x a) (derivative x b)) o) refl (omega arith) refl
-linear_node x t o l = absurd cc
+pub same_node : (x : List ℕ) (k : Kind) (t : Tree) → k ≡ root_kind t → is_linear k ≡ true → occurs x t ≡ true → IsSame x k t
+same_node x k t e l o = subst (λ (j : Kind). is_linear j ≡ true → IsSame x j t) (sym e) (same_root x t o) l
+
+-- the kind of a tree that holds the name and is none of those with a rule of their own
+pub other_linear : (x : List ℕ) (k : Kind) (t : Tree) → k ≡ root_kind t → occurs x t ≡ true → (k ≡ kind.Sym → ⊥) → (k ≡ kind.Mult → ⊥) → (k ≡ kind.Div → ⊥) → (k ≡ kind.Pow → ⊥) → (k ≡ kind.Root → ⊥) → is_linear k ≡ true
+other_linear x k (symbol y) e o s m d p r = absurd (s e)
+other_linear x k (mult ts) e o s m d p r = absurd (m e)
+other_linear x k (div a b) e o s m d p r = absurd (d e)
+other_linear x k (power b e') e o s m d p r = absurd (p e)
+other_linear x k (root a) e o s m d p r = absurd (r e)
+other_linear x k (add ts) e o s m d p r = ap is_linear e
+other_linear x k (neg a) e o s m d p r = ap is_linear e
+other_linear x k (sub a b) e o s m d p r = ap is_linear e
+other_linear x k t e o s m d p r = absurd cc
 
 pub product_sum : (x : List ℕ) (t : Tree) → root_kind t ≡ kind.Mult → derivative x t ≡ sum_of_products (products x none (children_of t))
 product_sum x (mult ts) h = refl
@@ -108,26 +105,23 @@ left_of : (a b : Bool) → (a || b) ≡ true → b ≡ false → a ≡ true
 left_of true b h k = refl
 left_of false b h k = absurd (cc (h, k))
 
--- a quotient whose divisor holds the name, and one whose dividend alone does
-pub quotient_whole : (x : List ℕ) (t : Tree) → root_kind t ≡ kind.Div → occurs x (nth 1 (children_of t)) ≡ true
-    → derivative x t ≡ quotient_rule (nth 0 (children_of t)) (derivative x (nth 0 (children_of t))) (nth 1 (children_of t)) (derivative x (nth 1 (children_of t)))
-quotient_whole x (div a b) h o = if_true (occurs x b) _ _ o
-quotient_whole x t h o = absurd cc
+-- a quotient a/b whose divisor holds the name, and one whose dividend alone does
+pub quotient_whole : (x : List ℕ) (t : Tree) {a b : Tree} → root_kind t ≡ kind.Div → a ≡ nth 0 (children_of t) → b ≡ nth 1 (children_of t) → occurs x b ≡ true → derivative x t ≡ quotient_rule a (derivative x a) b (derivative x b)
+quotient_whole x (div c d) h e f o = if_true (occurs x d) _ _ (ap (occurs x) (sym f) ∙ o) ∙ (λ i. quotient_rule (sym e i) (derivative x (sym e i)) (sym f i) (derivative x (sym f i)))
+quotient_whole x t h e f o = absurd cc
 
-pub quotient_divided : (x : List ℕ) (t : Tree) → root_kind t ≡ kind.Div → occurs x t ≡ true → occurs x (nth 1 (children_of t)) ≡ false → derivative x t ≡ div (derivative x (nth 0 (children_of t))) (nth 1 (children_of t))
-quotient_divided x (div a b) h o n = if_false (occurs x b) _ _ n ∙ held_where (occurs x a) _ (left_of (occurs x a) (occurs x b) o n)
-quotient_divided x t h o n = absurd cc
+pub quotient_divided : (x : List ℕ) (t : Tree) {a b : Tree} → root_kind t ≡ kind.Div → occurs x t ≡ true → a ≡ nth 0 (children_of t) → b ≡ nth 1 (children_of t) → occurs x b ≡ false → derivative x t ≡ div (derivative x a) b
+quotient_divided x (div c d) h o e f n =
+    let absent : occurs x d ≡ false = ap (occurs x) (sym f) ∙ n in
+    if_false (occurs x d) _ _ absent ∙ held_where (occurs x c) _ (left_of (occurs x c) (occurs x d) o absent) ∙ (λ i. div (derivative x (sym e i)) (sym f i))
+quotient_divided x t h o e f n = absurd cc
 
-pub power_by_rule : (x : List ℕ) (t : Tree) (n : ℤ) → root_kind t ≡ kind.Pow → occurs x t ≡ true → whole_literal (nth 1 (children_of t)) ≡ Some n → derivative x t ≡ power_rule n (nth 0 (children_of t)) (derivative x (nth 0 (children_of t)))
-power_by_rule x (power b e) n h o l = held_where (occurs x b || occurs x e) _ o ∙ ap (λ k. literal_power_rule k b (derivative x b)) l
-power_by_rule x t n h o l = absurd cc
+-- the power of a base b
+pub power_by_rule : (x : List ℕ) (t : Tree) (n : ℤ) {b : Tree} → root_kind t ≡ kind.Pow → occurs x t ≡ true → whole_literal (nth 1 (children_of t)) ≡ Some n → b ≡ nth 0 (children_of t) → derivative x t ≡ power_rule n b (derivative x b)
+power_by_rule x (power c e) n h o l f = held_where (occurs x c || occurs x e) _ o ∙ ap (λ k. literal_power_rule k c (derivative x c)) l ∙ (λ i. power_rule n (sym f i) (derivative x (sym f i)))
+power_by_rule x t n h o l f = absurd cc
 
-pub root_by_rule : (x : List ℕ) (t : Tree) → root_kind t ≡ kind.Root → occurs x t ≡ true → derivative x t ≡ root_rule (nth 0 (children_of t)) (derivative x (nth 0 (children_of t)))
-root_by_rule x (root a) h o = held_where (occurs x a) _ o
-root_by_rule x t h o = absurd cc
-
-pub linear_takes : (t : Tree) → is_linear (root_kind t) ≡ true → takes_kind (root_kind t) (count (children_of t)) ≡ true
-linear_takes (add ts) h = refl
-linear_takes (neg a) h = refl
-linear_takes (sub a b) h = refl
-linear_takes t h = absurd cc
+-- the root of an argument a
+pub root_by_rule : (x : List ℕ) (t : Tree) {a : Tree} → root_kind t ≡ kind.Root → occurs x t ≡ true → a ≡ nth 0 (children_of t) → derivative x t ≡ root_rule a (derivative x a)
+root_by_rule x (root c) h o e = held_where (occurs x c) _ o ∙ (λ i. root_rule (sym e i) (derivative x (sym e i)))
+root_by_rule x t h o e = absurd cc

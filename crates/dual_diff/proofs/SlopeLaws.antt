@@ -1,13 +1,8 @@
 -- Slopes of products, quotients, powers and roots, up to equality at every number.
 use Rattle.std.proofs.Common.{◌≡◌, [], ◌++◌, refl, ◌∙◌, arith, append-nil}
 use Rattle.std.specs.Prelude.{pos}
-use Rattle.calc_terms.specs.Fractions.{Fraction, times, zero_fraction, one_fraction, minus_one_fraction, quotient, whole_fraction, times_lowest, same_lowest}
-use Rattle.calc_algebra.specs.Surds.{Surd, surd_of, surd_one, surd_scale, surd_times}
-use Rattle.calc_algebra.specs.SquareClasses.{Inverts}
-use Rattle.calc_algebra.proofs.InverseLaws.{Inverts-sym, Inverts-surd_of, Inverts-surd_times}
-use Rattle.calc_algebra.proofs.SquareClassLaws.{Same-Agree}
-use Rattle.calc_algebra.proofs.SurdLaws.{Agree, Agree-refl, Agree-sym, Agree-trans, Agree-eq, Agree-append, Agree-surd_scale, Agree-surd_times, Agree-surd_times_right, append_comm, surd_times-append, surd_times-nil, surd_times-one, surd_times_assoc, surd_times_comm, surd_times_left_comm, surd_times_exchange, surd_times-surd_of}
-use Rattle.calc_algebra.proofs.TermLaws.{Agree-zero_term}
+use Rattle.dual_diff.proofs.Names.{Fraction, times, minus_one_fraction, quotient, whole_fraction, times_lowest, same_lowest, Surd, surd_of, surd_one, surd_scale, surd_times, Inverts, Inverts-sym, Inverts-surd_of, Inverts-surd_times, Same-Agree, Agree, Agree-refl, Agree-sym, Agree-trans, Agree-eq, Agree-append, Agree-surd_scale, Agree-surd_times, Agree-surd_times_right, append_comm, surd_times-append, surd_times-nil, surd_times-one, surd_times_assoc, surd_times_comm, surd_times_left_comm, surd_times_exchange, surd_times-surd_of, Agree-zero_term}
+use Rattle.calc_terms.specs.Fractions.{zero_fraction, one_fraction}
 
 -- ---- zero
 

@@ -12,11 +12,11 @@ ghost use Rattle.tree_handles.specs.Expressions.{IsExpression, plain, children_o
 ghost use Rattle.tree_handles.specs.Inside.{tree_at};
 ghost use Rattle.tree_handles.specs.Standing.{Stands, forest};
 
-use crate::derivable::{is_one, is_zero, whole_exponent};
+use crate::derivable::{is_one, is_zero, literal_exponent};
+use crate::reading::{child_of, holds};
 use calc_terms::{Kind, Leaf, Name, Rat};
 use node_pool::{Id, Pool};
-use tree_handles::{child_id, child_ids, kind, tree_bytes};
-use tree_walks::holds_name;
+use tree_handles::{child_ids, kind, tree_bytes};
 
 /// The bytes of a tree's derivative, or the largest number where there are more.
 #[cycle(counting)]
@@ -26,7 +26,7 @@ pub(crate) fn derivative_bytes(pool: &Pool, tree: Id, name: Name) -> u32
     requires derivable { HasDerivative (name_of name) (plain (tree_at tree (forest pool.now))) }
     ensures { result ≡ capped (size (derivative (name_of name) (plain (tree_at tree (forest pool.now))))) }
 {
-    if !holds_name(pool, tree, name) {
+    if !holds(pool, tree, name) {
         return number_bytes(0);
     }
     match kind(pool, tree) {
@@ -72,7 +72,7 @@ fn product_bytes(pool: &Pool, tree: Id, name: Name) -> u32
     let mut bytes = 0u32;
     let mut products = 0u32;
     for factor in child_ids(pool, tree, 0) {
-        if !holds_name(pool, factor, name) {
+        if !holds(pool, factor, name) {
             continue;
         }
         let others = whole - tree_bytes(pool, factor);
@@ -98,13 +98,13 @@ fn quotient_bytes(pool: &Pool, tree: Id, name: Name) -> u32
     requires held { occurs (name_of name) (plain (tree_at tree (forest pool.now))) ≡ true }
     ensures { result ≡ capped (size (derivative (name_of name) (plain (tree_at tree (forest pool.now))))) }
 {
-    let dividend = child_id(pool, tree, 0);
-    let divisor = child_id(pool, tree, 1);
+    let dividend = child_of(pool, tree, 0);
+    let divisor = child_of(pool, tree, 1);
     let slope = derivative_bytes(pool, dividend, name);
     let divided = node_bytes(Kind::Div)
         .saturating_add(tree_bytes(pool, divisor))
         .saturating_add(slope);
-    if !holds_name(pool, divisor, name) {
+    if !holds(pool, divisor, name) {
         return divided;
     }
     let difference = node_bytes(Kind::Sub)
@@ -132,11 +132,9 @@ fn power_bytes(pool: &Pool, tree: Id, name: Name) -> u32
     requires held { occurs (name_of name) (plain (tree_at tree (forest pool.now))) ≡ true }
     ensures { result ≡ capped (size (derivative (name_of name) (plain (tree_at tree (forest pool.now))))) }
 {
-    let base = child_id(pool, tree, 0);
-    let exponent = child_id(pool, tree, 1);
-    let Some(number) = whole_exponent(pool, exponent) else {
-        unreachable!()
-    };
+    let base = child_of(pool, tree, 0);
+    let exponent = child_of(pool, tree, 1);
+    let number = literal_exponent(pool, exponent);
     if is_zero(number) {
         return number_bytes(0);
     }
@@ -163,7 +161,7 @@ fn root_bytes(pool: &Pool, tree: Id, name: Name) -> u32
     requires held { occurs (name_of name) (plain (tree_at tree (forest pool.now))) ≡ true }
     ensures { result ≡ capped (size (derivative (name_of name) (plain (tree_at tree (forest pool.now))))) }
 {
-    let argument = child_id(pool, tree, 0);
+    let argument = child_of(pool, tree, 0);
     let slope = derivative_bytes(pool, argument, name);
     node_bytes(Kind::Div)
         .saturating_add(slope)

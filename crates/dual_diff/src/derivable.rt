@@ -1,21 +1,21 @@
 //! Which trees have a derivative, and the exponents that are whole literals.
-ghost use Rattle.std.specs.Prelude.{◌≡◌, ◌≤◌, ◌<◌, ◌↔◌, ◌^◌, IsTrue, IfSome, nat_abs};
+ghost use Rattle.std.specs.Prelude.{◌≡◌, ◌≤◌, ◌<◌, ◌↔◌, ◌^◌, IsTrue, IfSome, Some, nat_abs};
 ghost use Rattle.calc_measures.specs.Literals.{whole_literal, whole_value};
 ghost use Rattle.calc_terms.specs.declared.kind.Kind.TheVariants as kinds;
 ghost use Rattle.calc_terms.specs.Integers.{int_is_one, int_is_zero};
 ghost use Rattle.calc_terms.specs.Leaf.{name_of};
 ghost use Rattle.calc_terms.specs.Rat.{value_of};
 ghost use Rattle.calc_terms.specs.Trees.{depth, root_kind, neg as neg_of};
-ghost use Rattle.dual_diff.specs.Derivatives.{HasDerivative, IsDerivable, IsDerivableExponent};
+ghost use Rattle.dual_diff.specs.Derivatives.{HasDerivative, IsDerivable, IsDerivableExponent, exponent_limit};
 ghost use Rattle.tree_handles.specs.Expressions.{IsExpression, plain};
 ghost use Rattle.tree_handles.specs.Inside.{tree_at};
 ghost use Rattle.tree_handles.specs.Standing.{Stands, forest};
 
+use crate::reading::{child_of, holds};
 use calc_terms::{Kind, Name, Rat};
 use node_pool::{Id, Pool};
 use rational128::neg;
-use tree_handles::{child_id, child_ids, kind, rational};
-use tree_walks::holds_name;
+use tree_handles::{child_ids, kind, rational};
 
 /// The largest magnitude of the exponent of a power that is derived.
 const EXPONENT_LIMIT: u128 = 1_000_000;
@@ -68,8 +68,8 @@ fn is_derivable_power(pool: &Pool, power: Id, name: Name) -> bool
     requires power { root_kind (plain (tree_at power (forest pool.now))) ≡ kinds.Pow }
     ensures { IsTrue result ↔ IsDerivable (name_of name) (plain (tree_at power (forest pool.now))) }
 {
-    if holds_name(pool, power, name) {
-        return is_derivable_exponent(pool, child_id(pool, power, 1));
+    if holds(pool, power, name) {
+        return is_derivable_exponent(pool, child_of(pool, power, 1));
     }
     true
 }
@@ -85,8 +85,22 @@ fn is_derivable_exponent(pool: &Pool, exponent: Id) -> bool
     }
 }
 
+/// The whole literal that the exponent of a derivable power is.
+pub(crate) fn literal_exponent(pool: &Pool, exponent: Id) -> i128
+    requires stands { Stands pool.now }
+    requires expression { IsExpression exponent (forest pool.now) }
+    requires derivable { IsDerivableExponent (plain (tree_at exponent (forest pool.now))) }
+    ensures value { Some result ≡ whole_literal (plain (tree_at exponent (forest pool.now))) }
+    ensures small { nat_abs result ≤ exponent_limit }
+{
+    match whole_exponent(pool, exponent) {
+        Some(number) => number,
+        None => unreachable!(),
+    }
+}
+
 /// The whole number that an exponent is as a literal.
-pub(crate) fn whole_exponent(pool: &Pool, exponent: Id) -> Option<i128>
+fn whole_exponent(pool: &Pool, exponent: Id) -> Option<i128>
     requires stands { Stands pool.now }
     requires expression { IsExpression exponent (forest pool.now) }
     ensures value { result ≡ whole_literal (plain (tree_at exponent (forest pool.now))) }
@@ -94,7 +108,7 @@ pub(crate) fn whole_exponent(pool: &Pool, exponent: Id) -> Option<i128>
 {
     match kind(pool, exponent) {
         Kind::Num => whole_number(rational(pool, exponent)),
-        Kind::Neg => opposite_number(pool, child_id(pool, exponent, 0)),
+        Kind::Neg => opposite_number(pool, child_of(pool, exponent, 0)),
         _ => None,
     }
 }

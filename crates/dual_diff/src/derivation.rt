@@ -13,12 +13,12 @@ ghost use Rattle.tree_handles.specs.Inside.{tree_at};
 ghost use Rattle.tree_handles.specs.Standing.{Stands, forest, KeepsRefusals};
 
 use crate::bytes::derivative_bytes;
-use crate::derivable::{is_one, is_zero, whole_exponent};
+use crate::derivable::{is_one, is_zero, literal_exponent};
 use crate::placing::{place_copies, place_copy, place_number, place_over, place_power_of};
+use crate::reading::{child_of, holds};
 use calc_terms::{Kind, Name};
 use node_pool::{Full, Id, Pool};
-use tree_handles::{Handle, child_id, children, kind};
-use tree_walks::holds_name;
+use tree_handles::{Handle, children, kind};
 
 /// The derivative of a tree, as a new tree. Its bytes are counted first, so a refusal changes nothing, and is not counted.
 ///
@@ -59,7 +59,7 @@ fn place_derivative(pool: &mut Pool, tree: Id, name: Name) -> Handle
     requires room { size (derivative (name_of name) (plain (tree_at tree (forest pool.old)))) ≤ free_of pool.old }
     ensures { Adds pool.old pool.new (derivative (name_of name) (plain (tree_at tree (forest pool.old)))) result }
 {
-    if !holds_name(pool, tree, name) {
+    if !holds(pool, tree, name) {
         return place_number(pool, 0);
     }
     match kind(pool, tree) {
@@ -88,7 +88,7 @@ fn place_same(pool: &mut Pool, tree: Id, kind: Kind, name: Name) -> Handle
     let begin = pool.used();
     let children = children(pool, tree);
     for at in 0..children {
-        let child = child_id(pool, tree, at);
+        let child = child_of(pool, tree, at);
         place_derivative(pool, child, name);
     }
     place_over(pool, kind, children, begin)
@@ -112,8 +112,8 @@ fn place_products(pool: &mut Pool, tree: Id, name: Name) -> Handle
     let mut last = None;
     let mut products = 0u16;
     for at in 0..factors {
-        let factor = child_id(pool, tree, at);
-        if !holds_name(pool, factor, name) {
+        let factor = child_of(pool, tree, at);
+        if !holds(pool, factor, name) {
             continue;
         }
         last = Some(place_product(pool, tree, at, name));
@@ -138,7 +138,7 @@ fn place_product(pool: &mut Pool, tree: Id, at: u16, name: Name) -> Handle
 {
     let begin = pool.used();
     let factors = children(pool, tree);
-    let factor = child_id(pool, tree, at);
+    let factor = child_of(pool, tree, at);
     place_copies(pool, tree, 0, at);
     place_derivative(pool, factor, name);
     place_copies(pool, tree, at + 1, factors);
@@ -157,10 +157,10 @@ fn place_quotient(pool: &mut Pool, tree: Id, name: Name) -> Handle
     requires room { size (derivative (name_of name) (plain (tree_at tree (forest pool.old)))) ≤ free_of pool.old }
     ensures { Adds pool.old pool.new (derivative (name_of name) (plain (tree_at tree (forest pool.old)))) result }
 {
-    let dividend = child_id(pool, tree, 0);
-    let divisor = child_id(pool, tree, 1);
+    let dividend = child_of(pool, tree, 0);
+    let divisor = child_of(pool, tree, 1);
     let begin = pool.used();
-    if !holds_name(pool, divisor, name) {
+    if !holds(pool, divisor, name) {
         place_derivative(pool, dividend, name);
         place_copy(pool, divisor);
         return place_over(pool, Kind::Div, 2, begin);
@@ -208,11 +208,9 @@ fn place_power(pool: &mut Pool, tree: Id, name: Name) -> Handle
     requires room { size (derivative (name_of name) (plain (tree_at tree (forest pool.old)))) ≤ free_of pool.old }
     ensures { Adds pool.old pool.new (derivative (name_of name) (plain (tree_at tree (forest pool.old)))) result }
 {
-    let base = child_id(pool, tree, 0);
-    let exponent = child_id(pool, tree, 1);
-    let Some(number) = whole_exponent(pool, exponent) else {
-        unreachable!()
-    };
+    let base = child_of(pool, tree, 0);
+    let exponent = child_of(pool, tree, 1);
+    let number = literal_exponent(pool, exponent);
     if is_zero(number) {
         return place_number(pool, 0);
     }
@@ -254,7 +252,7 @@ fn place_root(pool: &mut Pool, tree: Id, name: Name) -> Handle
     requires room { size (derivative (name_of name) (plain (tree_at tree (forest pool.old)))) ≤ free_of pool.old }
     ensures { Adds pool.old pool.new (derivative (name_of name) (plain (tree_at tree (forest pool.old)))) result }
 {
-    let argument = child_id(pool, tree, 0);
+    let argument = child_of(pool, tree, 0);
     let begin = pool.used();
     place_derivative(pool, argument, name);
     let middle = pool.used();

@@ -6,6 +6,7 @@ mod derivable;
 mod derivation;
 pub mod laws;
 mod placing;
+mod reading;
 
 pub use derivable::has_derivative;
 pub use derivation::derive;

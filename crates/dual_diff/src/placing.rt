@@ -1,19 +1,18 @@
 //! Trees placed behind all others, where room was made sure of.
-ghost use Rattle.std.specs.Prelude.{◌≡◌, ◌≤◌, ◌<◌, ◌-◌, ◌^◌, nat_abs, true};
+ghost use Rattle.std.specs.Prelude.{◌≡◌, ◌≤◌, ◌<◌, ◌-◌, ◌^◌, nat_abs};
 ghost use Rattle.calc_terms.specs.Fractions.{whole_fraction};
-ghost use Rattle.calc_terms.specs.Payload.{bare, size_of_payload};
 ghost use Rattle.calc_terms.specs.Trees.{Trees, count, num, power, size, sizes};
 ghost use Rattle.dual_diff.specs.Lists.{behind, first};
-ghost use Rattle.dual_diff.specs.Placing.{Adds, AddsAll};
-ghost use Rattle.node_pool.specs.Nodes.{used};
+ghost use Rattle.dual_diff.specs.Placing.{Adds, AddsAll, CanCopy, CanJoin};
 ghost use Rattle.node_pool.specs.State.{State, free_of};
-ghost use Rattle.tree_handles.specs.Expressions.{IsExpression, children_of, compound, plain, takes_kind};
+ghost use Rattle.tree_handles.specs.Expressions.{IsExpression, children_of, compound, plain};
 ghost use Rattle.tree_handles.specs.Inside.{tree_at};
 ghost use Rattle.tree_handles.specs.Standing.{Stands, forest};
 
+use crate::reading::child_of;
 use calc_terms::{Kind, Rat};
 use node_pool::{Id, Pool};
-use tree_handles::{Handle, child_id, copy_tree, node_over_last, number};
+use tree_handles::{Handle, copy_tree, node_over_last, number};
 
 /// A whole number.
 #[inline(never)]
@@ -32,9 +31,7 @@ pub(crate) fn place_number(pool: &mut Pool, value: i128) -> Handle
 /// A copy of a tree.
 #[inline(never)]
 pub(crate) fn place_copy(pool: &mut Pool, source: Id) -> Handle
-    requires stands { Stands pool.old }
-    requires expression { IsExpression source (forest pool.old) }
-    requires room { size (plain (tree_at source (forest pool.old))) ≤ free_of pool.old }
+    requires { CanCopy source pool.old }
     ensures { Adds pool.old pool.new (plain (tree_at source (forest pool.old))) result }
 {
     match copy_tree(pool, source) {
@@ -46,11 +43,7 @@ pub(crate) fn place_copy(pool: &mut Pool, source: Id) -> Handle
 /// A node over the last trees, which were added since so many bytes were in use.
 #[inline(never)]
 pub(crate) fn place_over(pool: &mut Pool, kind: Kind, trees: u16, begin: u32) -> Handle
-    requires stands { Stands pool.old }
-    requires takes { takes_kind kind trees ≡ true }
-    requires added { (s : State) × (ts : Trees) × Stands s × AddsAll s pool.old ts
-        × (count ts ≡ trees) × (begin ≡ used s.nodes) }
-    requires room { size_of_payload (bare kind) ≤ free_of pool.old }
+    requires { CanJoin kind trees begin pool.old }
     ensures { (s : State) (ts : Trees) → Stands s → AddsAll s pool.old ts → count ts ≡ trees
         → Adds s pool.new (compound kind ts) result }
 {
@@ -86,7 +79,7 @@ pub(crate) fn place_copies(pool: &mut Pool, parent: Id, from: u16, to: u16)
     ensures { AddsAll pool.old pool.new (first (to - from) (behind from (children_of (plain (tree_at parent (forest pool.old)))))) }
 {
     for at in from..to {
-        let child = child_id(pool, parent, at);
+        let child = child_of(pool, parent, at);
         place_copy(pool, child);
     }
 }

@@ -1,15 +1,6 @@
 use Rattle.std.proofs.Common.{◌≡◌, ◌+◌, ◌*◌, length}
-use Rattle.calc_terms.specs.Leaf.{name_of}
-use Rattle.calc_terms.specs.Trees.{nodes, sizes}
-use Rattle.dual_diff.specs.Derivatives.{derivatives}
-use Rattle.dual_diff.specs.Lists.{first}
-use Rattle.dual_diff.specs.Placing.{capped}
+use Rattle.dual_diff.proofs.Names.{name_of, nodes, sizes, derivatives, first, capped, root_ids, children_of, plain, rest_trees, tree_at, kids_of, forest}
 use Rattle.dual_diff.proofs.Products.{IsCounted}
-use Rattle.tree_handles.specs.Children.{root_ids}
-use Rattle.tree_handles.specs.Expressions.{children_of, plain}
-use Rattle.tree_handles.specs.Forest.{rest_trees}
-use Rattle.tree_handles.specs.Inside.{tree_at, kids_of}
-use Rattle.tree_handles.specs.Standing.{forest}
 use Rattle.dual_diff.proofs.bytes.+counting.Given as goal
 
 abbrev pub decreases-derivative_bytes : goal.decreases-derivative_bytes

@@ -1,9 +1,5 @@
 use Rattle.std.proofs.Common.{◌≡◌, refl, ◌∙◌}
-use Rattle.calc_terms.specs.Leaf.{name_of}
-use Rattle.calc_terms.specs.Trees.{root_kind}
-use Rattle.tree_handles.specs.Expressions.{plain}
-use Rattle.tree_handles.specs.Inside.{tree_at}
-use Rattle.tree_handles.specs.Standing.{forest}
+use Rattle.dual_diff.proofs.Names.{name_of, root_kind, plain, tree_at, forest}
 use Rattle.dual_diff.proofs.Exponents.{other_derivable}
 use Rattle.dual_diff.proofs.derivable.is_derivable.Goals as goal
 

@@ -1,7 +1,5 @@
 use Rattle.std.proofs.Common.{◌∙◌, ap, sym}
-use Rattle.calc_measures.specs.Literals.{whole_literal, whole_value}
-use Rattle.calc_terms.specs.Rat.{value_of}
-use Rattle.calc_terms.specs.Trees.{Tree, neg}
+use Rattle.dual_diff.proofs.Names.{whole_literal, whole_value, value_of, Tree, neg}
 use Rattle.dual_diff.proofs.Exponents.{opposite_whole}
 use Rattle.dual_diff.proofs.derivable.opposite_number.Goals as goal
 

@@ -1,9 +1,6 @@
 use Rattle.std.proofs.Common.{◌∙◌, sym, rules}
 use Rattle.std.specs.Prelude.{FitsSigned}
-use Rattle.std.specs.Int.{w128}
-use Rattle.std.proofs.lemmas.Int.{to_z-of_z}
-use Rattle.calc_terms.specs.Rat.{value_of}
-use Rattle.rational128.proofs.LowestTerms.{ratio_parts}
+use Rattle.dual_diff.proofs.Names.{value_of, ratio_parts, w128, to_z-of_z}
 use Rattle.dual_diff.proofs.Exponents.{whole_some, whole_none, rat_whole}
 use Rattle.dual_diff.proofs.derivable.whole_number.Goals as goal
 

@@ -1,13 +1,6 @@
 use Rattle.std.proofs.Common.{◌+◌, ◌*◌}
-use Rattle.calc_terms.specs.Leaf.{name_of}
-use Rattle.calc_terms.specs.Trees.{nodes}
-use Rattle.dual_diff.specs.Derivatives.{derivatives}
-use Rattle.dual_diff.specs.Lists.{first}
-use Rattle.dual_diff.specs.Placing.{AddsAll}
+use Rattle.dual_diff.proofs.Names.{name_of, nodes, derivatives, first, AddsAll, children_of, plain, tree_at, forest}
 use Rattle.dual_diff.proofs.Added.{ArePlaced}
-use Rattle.tree_handles.specs.Expressions.{children_of, plain}
-use Rattle.tree_handles.specs.Inside.{tree_at}
-use Rattle.tree_handles.specs.Standing.{forest}
 use Rattle.dual_diff.proofs.derivation.+derivation.Given as goal
 
 abbrev pub decreases-place_derivative : goal.decreases-place_derivative

@@ -1,9 +1,5 @@
 use Rattle.std.proofs.Common.{◌-◌}
-use Rattle.dual_diff.specs.Lists.{behind, first}
-use Rattle.dual_diff.specs.Placing.{AddsAll}
-use Rattle.tree_handles.specs.Expressions.{children_of, plain}
-use Rattle.tree_handles.specs.Inside.{tree_at}
-use Rattle.tree_handles.specs.Standing.{forest}
+use Rattle.dual_diff.proofs.Names.{behind, first, AddsAll, children_of, plain, tree_at, forest}
 use Rattle.dual_diff.proofs.placing.place_copies.Given as goal
 
 abbrev pub invariant-loop-at : goal.invariant-loop-at

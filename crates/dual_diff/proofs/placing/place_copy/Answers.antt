@@ -1,10 +1,6 @@
 use Rattle.std.proofs.Common.{◌≤◌, arith}
-use Rattle.node_pool.specs.State.{free_of}
-use Rattle.tree_handles.specs.Forest.{bytes_in}
-use Rattle.tree_handles.specs.Inside.{tree_at}
-use Rattle.tree_handles.specs.Standing.{forest}
+use Rattle.dual_diff.proofs.Names.{free_of, bytes_in, tree_at, forest, size-plain}
 use Rattle.tree_handles.proofs.Measures.{one_at}
-use Rattle.tree_handles.proofs.Plains.{size-plain}
 use Rattle.dual_diff.proofs.placing.place_copy.Goals as goal
 
 pub returns : goal.returns

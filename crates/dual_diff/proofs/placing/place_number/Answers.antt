@@ -1,18 +1,10 @@
 use Rattle.std.proofs.Common.{◌≤◌, ◌∙◌, ap, refl, arith}
-use Rattle.calc_terms.specs.Payload.{rational, size_of_payload}
-use Rattle.calc_terms.specs.Rat.{ratio_of}
-use Rattle.calc_terms.specs.Trees.{num}
-use Rattle.node_pool.specs.State.{free_of}
-use Rattle.tree_handles.proofs.Given.{gives_as}
+use Rattle.dual_diff.proofs.Names.{rational, size_of_payload, ratio_of, num, free_of, gives_as}
 use Rattle.dual_diff.proofs.Numbers.{placed_value, placed_size}
 use Rattle.dual_diff.proofs.placing.place_number.Goals as goal
 
 pub returns : goal.returns
-returns c = record {
-  gives = gives_as c.in-Ok.ensures.given refl (λ t e. e ∙ ap num (placed_value c.whole.result c.args.value c.requires.fits c.whole.ensures));
-  kept = c.in-Ok.ensures.kept;
-  stands = c.in-Ok.ensures.stands;
-}
+returns c = record { gives = gives_as c.in-Ok.ensures.given refl (λ t e. e ∙ ap num (placed_value c.whole.result c.args.value c.requires.fits c.whole.ensures)); kept = c.in-Ok.ensures.kept; stands = c.in-Ok.ensures.stands }
 
 pub unreachable-requires : goal.unreachable-requires
 unreachable-requires c =

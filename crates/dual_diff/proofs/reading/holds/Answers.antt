@@ -1,0 +1,8 @@
+use Rattle.std.proofs.Common.{sym}
+use Rattle.dual_diff.proofs.Names.{name_of}
+use Rattle.dual_diff.proofs.Added.{tree_of}
+use Rattle.dual_diff.proofs.Exponents.{held}
+use Rattle.dual_diff.proofs.reading.holds.Goals as goal
+
+pub returns : goal.returns
+returns c = sym (held c.holds_name.result (name_of c.args.name) (tree_of c.args.tree c.args.pool.now) c.holds_name.ensures)
