@@ -1,19 +1,13 @@
 -- How many bytes the face of a tree without its minus sign takes: at least 8 less than three times the tree's.
-use Rattle.std.proofs.Common.{◌≡◌, ℕ, pos, ap, zero, suc, ◌+◌, ◌-◌, ◌*◌, ◌≤◌, refl, arith, Bool, true, false, ◌==◌, nat_abs, if◌then◌else◌}
-use Rattle.calc_language.specs.Faces.{fraction_of, product_of, power_below, unsigned_face, unless_one, exponent_below, has_minus, with_minus, factor_above, factor_below, factors_above, factors_below, next_term, next_terms}
-use Rattle.calc_terms.specs.Fractions.{Fraction, lowest}
+use Rattle.std.proofs.Common.{◌≡◌, ℕ, pos, ap, zero, suc, ◌+◌, ◌-◌, ◌*◌, ◌≤◌, refl, arith, Bool, true, false, nat_abs}
+use Rattle.beautify.proofs.Names.{fraction_of, product_of, power_below, unsigned_face, unless_one, exponent_below, has_minus, with_minus, factor_above, factor_below, factors_above, factors_below, next_term, next_terms, Fraction, lowest, num_least, num_most, whole_size, SoFar, single, summed, multiplied, as_tree, Tree, num, symbol, undef, add, mult, power, root, Trees, none, more, count, size, sizes, whole_num, HasTwo, AllParts, AllPartsOf, root_size, children_of, node_room, number_room, fraction_room, product_room, IsShowable, IsFactor, AreFactors, unsigned_faces}
 use Rattle.calc_terms.specs.declared.kind.Kind.TheVariants as kind
 use Rattle.calc_terms.specs.Kind.{size_by_form}
 use Rattle.calc_terms.specs.Short.{is_short}
 use Rattle.calc_terms.proofs.ShortForm.{short_whole}
-use Rattle.calc_terms.proofs.Sizes.{num_least, num_most, whole_size}
-use Rattle.calc_language.specs.Grammar.{SoFar, single, summed, multiplied, as_tree}
-use Rattle.calc_terms.specs.Trees.{Tree, num, symbol, undef, add, mult, power, root, Trees, none, more, count, size, sizes, whole_num, HasTwo, AllParts, AllPartsOf, root_size}
-use Rattle.tree_handles.specs.Expressions.{children_of}
-use Rattle.beautify.specs.Room.{node_room, number_room, fraction_room, product_room}
 use Rattle.beautify.proofs.Places.{fraction_room-small}
-use Rattle.beautify.specs.Showing.{IsShowable, IsFactor, AreFactors, unsigned_faces}
 use Rattle.beautify.proofs.Sizes.{sizes-append, eight_each}
+use Rattle.beautify.proofs.Trees.{unless_one_by, power_below_by}
 
 size-minus : (b : Bool) (t : Tree) → size (with_minus b t) ≤ size t + 8
 size-minus true t = omega arith
@@ -27,28 +21,17 @@ one_bytes : size (whole_num 1) ≡ 16
 one_bytes = whole_size 1 (omega arith)
 
 sizes-unless_one : (n : ℕ) (ts : Trees) → sizes (unless_one n ts) ≤ sizes ts + 40
-sizes-unless_one n ts = by (n == 1)
-  where
-    by : (b : Bool) → sizes (if b then ts else more (whole_num n) ts) ≤ sizes ts + 40
-    by true = omega arith
-    by false = omega (arith, number_bytes n)
+sizes-unless_one n ts = unless_one_by (λ us. sizes us ≤ sizes ts + 40) n ts (omega arith) (omega (arith, number_bytes n))
 
 -- a whole number that stands alone
 size-alone : (n : ℕ) → size (product_of (unless_one n none)) ≤ 40
-size-alone n = by (n == 1)
-  where
-    by : (b : Bool) → size (product_of (if b then none else more (whole_num n) none)) ≤ 40
-    by true = omega (arith, one_bytes)
-    by false = number_bytes n
+size-alone n = unless_one_by (λ us. size (product_of us) ≤ 40) n none (omega (arith, one_bytes)) (number_bytes n)
 
 size-number : (n d : ℕ) → size (fraction_of (unless_one n none) (unless_one d none)) ≤ 112
-size-number n d = by (n == 1) (d == 1)
-  where
-    by : (a b : Bool) → size (fraction_of (if a then none else more (whole_num n) none) (if b then none else more (whole_num d) none)) ≤ 112
-    by true true = omega (arith, one_bytes)
-    by true false = omega (arith, one_bytes, number_bytes d)
-    by false true = omega (arith, number_bytes n)
-    by false false = omega (arith, number_bytes n, number_bytes d)
+size-number n d =
+    unless_one_by (λ us. size (fraction_of us (unless_one d none)) ≤ 112) n none
+    (unless_one_by (λ vs. size (fraction_of none vs) ≤ 112) d none (omega (arith, one_bytes)) (omega (arith, one_bytes, number_bytes d)))
+    (unless_one_by (λ vs. size (fraction_of (more (whole_num n) none) vs) ≤ 112) d none (omega (arith, number_bytes n)) (omega (arith, number_bytes n, number_bytes d)))
 
 unless-one : (d : ℕ) (ts : Trees) → d ≡ 1 → unless_one d ts ≡ ts
 unless-one d ts e = ap (λ (k : ℕ). unless_one k ts) e
@@ -59,11 +42,7 @@ number_face true q e = omega (arith, ap (λ (vs : Trees). size (fraction_of (unl
 number_face false q e = omega (arith, size-number (nat_abs q.num) q.den)
 
 size-power_below : (b : Tree) (n : ℕ) → size (power_below b n) ≤ size b + 48
-size-power_below b n = by (n == 1)
-  where
-    by : (k : Bool) → size (if k then b else power b (whole_num n)) ≤ size b + 48
-    by true = omega arith
-    by false = omega (arith, number_bytes n)
+size-power_below b n = power_below_by (λ t. size t ≤ size b + 48) b n (omega arith) (omega (arith, number_bytes n))
 
 size-next : (s : SoFar) (b : Bool) (t : Tree) → size (as_tree (next_term s b t)) ≤ size (as_tree s) + size t + 8
 size-next s true t = omega arith
@@ -91,11 +70,7 @@ record Adds (t : Tree) : Type 0 where
   above_below : (us vs : Trees) → sizes (factor_above t us) + sizes (factor_below t vs) + 8 * count (factor_below t vs) + 8 ≤ sizes us + sizes vs + 8 * count vs + 3 * size t
 
 count-unless_one : (n : ℕ) (ts : Trees) → count (unless_one n ts) ≤ count ts + 1
-count-unless_one n ts = by (n == 1)
-  where
-    by : (b : Bool) → count (if b then ts else more (whole_num n) ts) ≤ count ts + 1
-    by true = omega arith
-    by false = omega arith
+count-unless_one n ts = unless_one_by (λ us. count us ≤ count ts + 1) n ts (omega arith) (omega arith)
 
 number_factors : (b : Bool) (q : Fraction) → is_short q ≡ b → (us vs : Trees) → sizes (unless_one (nat_abs q.num) us) + sizes (unless_one q.den vs) + 8 * count (unless_one q.den vs) + 8 ≤ sizes us + sizes vs + 8 * count vs + 3 * size_by_form kind.Num b
 number_factors true q e us vs = let one = unless-one q.den vs (short_whole q e) in omega (arith, sizes-unless_one (nat_abs q.num) us, ap sizes one, ap count one)
@@ -113,7 +88,7 @@ bound_product (more t (more u ts)) two w =
     omega (arith, size-fraction (factors_above all) (factors_below all) k (omega (arith, eight_each all)) (omega (arith, w)), eight_each all)
 
 mutual
-  bound : (t : Tree) → AllParts IsShowable t → size (unsigned_face t) + 8 ≤ 3 * size t
+  pub bound : (t : Tree) → AllParts IsShowable t → size (unsigned_face t) + 8 ≤ 3 * size t
   bound (num q) h = number_face (is_short q) q refl
   bound (symbol x) h = omega arith
   bound undef h = absurd h
@@ -165,16 +140,9 @@ pub bounds : (ts : Trees) → AllPartsOf IsShowable ts → sizes (unsigned_faces
 bounds none h = omega arith
 bounds (more t ts) h = omega (arith, bound t h.0, bounds ts h.1)
 
-pub bound_tree : (t : Tree) → AllParts IsShowable t → size (unsigned_face t) + 8 ≤ 3 * size t
-bound_tree t h = bound t h
-
 -- the room of a number by its form
 unless_room : (n : ℕ) → sizes (unless_one n none) + product_room (count (unless_one n none)) ≤ 48
-unless_room n = by (n == 1)
-  where
-    by : (b : Bool) → sizes (if b then none else more (whole_num n) none) + product_room (count (if b then none else more (whole_num n) none)) ≤ 48
-    by true = omega (arith, one_bytes)
-    by false = omega (arith, number_bytes n)
+unless_room n = unless_one_by (λ us. sizes us + product_room (count us) ≤ 48) n none (omega (arith, one_bytes)) (omega (arith, number_bytes n))
 
 number_needs : (b : Bool) (q : Fraction) → is_short q ≡ b → number_room (nat_abs q.num) q.den + 8 ≤ 4 * size_by_form kind.Num b
 number_needs true q e =

@@ -1,20 +1,8 @@
 -- The children of a node that stands before a stack.
 use Rattle.std.proofs.Common.{◌≡◌, ℕ, ◌<◌, sym, ap, ◌∙◌, subst, arith}
-use Rattle.calc_terms.specs.Trees.{Tree, count, root_kind}
-use Rattle.calc_terms.specs.declared.kind.Kind.{Kind}
+use Rattle.beautify.proofs.Names.{Tree, count, root_kind, Kind, AreDistinct, State, plain, nth, children_of, IsExpression, AllExpressions, Forest, kids, arity, flatten, tree_nth, root_id, Gives, holds, tree_at, kids_of, Stands, forest, Distinct, distinct, child_tree, flatten-join, children_of-plain, count-plains, whole_child, expression_child}
 use Rattle.calc_terms.specs.declared.kind.Kind.TheVariants as kind
-use Rattle.node_pool.specs.Nodes.{AreDistinct}
-use Rattle.node_pool.specs.State.{State}
 use Rattle.node_pool.proofs.Ids.{AreDistinct-parts}
-use Rattle.tree_handles.specs.Expressions.{plain, nth, children_of, IsExpression, AllExpressions}
-use Rattle.tree_handles.specs.Forest.{Forest, kids, arity, flatten, tree_nth, root_id}
-use Rattle.tree_handles.specs.Handed.{Gives}
-use Rattle.tree_handles.specs.Inside.{holds, tree_at, kids_of}
-use Rattle.tree_handles.specs.Standing.{Stands, forest}
-use Rattle.tree_handles.proofs.Distinct.{Distinct, distinct, child_tree}
-use Rattle.tree_handles.proofs.Forests.{flatten-join}
-use Rattle.tree_handles.proofs.Plains.{children_of-plain, count-plains}
-use Rattle.tree_handles.proofs.Readings.{whole_child, expression_child}
 use Rattle.beautify.proofs.NodeKinds.{IsPower, IsRoot, power_parts, root_parts}
 use Rattle.beautify.proofs.Stacking.{in_base}
 
@@ -36,10 +24,7 @@ child_of {g = g} {i = i} s n j st h e w is =
     let here : j ≡ root_id (tree_nth n (kids_of i g)) = is ∙ ap (λ (t : Forest). root_id (tree_nth n (kids t))) (in_base h e).1 in
     let x = child_tree n i g (base_distinct s st h) (omega (arith, w, many_children i g e)) in
     let tree : tree_at j g ≡ tree_nth n (kids_of i g) = ap (λ (m : ℕ). tree_at m g) here ∙ x.tree-is in
-    record {
-      expression = record { live = ap (λ (m : ℕ). holds m g) here ∙ x.live; whole = subst AllExpressions (sym tree) (whole_child n i g e.whole) };
-      plain-is = ap plain tree ∙ expression_child n i g e;
-    }
+    record { expression = record { live = ap (λ (m : ℕ). holds m g) here ∙ x.live; whole = subst AllExpressions (sym tree) (whole_child n i g e.whole) }; plain-is = ap plain tree ∙ expression_child n i g e }
 
 -- ---- the kind of a node, and the sides of a power and of a root
 

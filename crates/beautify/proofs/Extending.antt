@@ -1,17 +1,8 @@
 -- A sum on top of a stack that takes the next tree as its last term; and a divisor that is left of a quotient.
 use Rattle.std.proofs.Common.{◌≡◌, ℕ, ◌<◌, ◌≤◌, refl, ◌∙◌, arith, true}
-use Rattle.calc_terms.specs.Trees.{Tree, add, Trees, none, more, append, count, is_add, is_div}
+use Rattle.beautify.proofs.Names.{Tree, add, Trees, none, more, append, count, is_add, is_div, State, nth, inserted, children_of, plain, Forest, kids, tree_nth, without_nth, with_nth, Ends, Gives, has_root, root_tree, without_root, put, Stands, forest, given_told, last_root, behind, cut}
 use Rattle.calc_terms.specs.declared.kind.Kind.TheVariants as kind
-use Rattle.node_pool.specs.State.{State}
-use Rattle.tree_handles.specs.Expressions.{nth, inserted, children_of, plain}
-use Rattle.tree_handles.specs.Forest.{Forest, kids, tree_nth, without_nth, with_nth}
-use Rattle.tree_handles.specs.Handed.{Ends, Gives}
-use Rattle.tree_handles.specs.Roots.{has_root, root_tree, without_root, put}
-use Rattle.tree_handles.specs.Standing.{Stands, forest}
-use Rattle.tree_handles.proofs.Given.{given_told}
-use Rattle.tree_handles.proofs.Lasts.{last_root}
-use Rattle.beautify.specs.Lists.{behind, cut}
-use Rattle.beautify.proofs.Opens.{Opens, opens_as, opened_as, closed, pushed, taken, IsTaken, taken_under, IsTakenUnder}
+use Rattle.beautify.proofs.Opens.{Opens, opens_as, opened_as, pushed, taken, IsTaken, taken_under, IsTakenUnder}
 use Rattle.beautify.proofs.Stacking.{is_under, given_opens, opens_stack}
 use Rattle.beautify.proofs.Trees.{add_kind, div_kind, two_parts, count-cut, nth-behind, inserted-end, behind-behind}
 
@@ -43,9 +34,6 @@ extended {h = h} {n = n} ts t x many e =
 
 pub stack_left : {base b : Forest} {stack sum h : ℕ} (ts : Trees) → (x : IsTakenUnder base b stack sum h 0 kind.Add kind.Add (cut 0 1 ts) (children_of (nth 0 ts))) → Gives base x.under stack (λ t. t ≡ add (behind 2 ts))
 stack_left ts x = opens_stack (opens_as x.left (behind-behind 1 ts))
-
-pub sum_given : {g f : Forest} {i : ℕ} {ts : Trees} → Opens g f i kind.Add ts → Gives g f i (λ t. t ≡ add ts)
-sum_given o = closed o refl
 
 -- ---- a quotient
 

@@ -1,27 +1,14 @@
 -- A face keeps each meaning of its tree.
-use Rattle.std.proofs.Common.{◌≡◌, ℕ, zero, suc, ◌*◌, ◌<◌, ◌==◌, ◌++◌, [], ℤ, pos, negsuc, ◌*ℤ◌, nat_abs, Bool, true, false, not, if◌then◌else◌, refl, sym, ap, ◌∙◌, arith, subst, append_assoc, append-nil, inl, inr}
+use Rattle.std.proofs.Common.{◌≡◌, ℕ, zero, suc, ◌*◌, ◌<◌, ◌++◌, [], ℤ, pos, negsuc, ◌*ℤ◌, nat_abs, Bool, true, false, not, if◌then◌else◌, refl, sym, ap, ◌∙◌, arith, subst, append_assoc, append-nil, inl, inr}
 use Rattle.std.specs.Prelude.{⊤}
-use Rattle.std.proofs.lemmas.Int.{ints}
-use Rattle.std.proofs.lemmas.Bool.{eqb-true, and_parts}
-use Rattle.calc_terms.specs.Integers.{int_is_negative, parts, diffs, eq_diff}
-use Rattle.calc_terms.specs.Fractions.{Fraction, lowest, times, one_fraction, whole_fraction, minus_one_fraction, lowest_parts, same_lowest, times_lowest, den_pos, mul_pos}
-use Rattle.calc_terms.specs.Trees.{Tree, num, symbol, undef, add, mult, power, root, neg, sub, div, Trees, none, more, AllParts, AllPartsOf, is_num, whole_num}
-use Rattle.calc_algebra.specs.Surds.{Surd, surd_of, surd_one, surd_scale, surd_times, surd_power}
-use Rattle.calc_algebra.specs.SquareClasses.{Same}
-use Rattle.calc_algebra.specs.Meanings.{Assignment, Means, MeansSum, MeansProduct, IsPower, IsWholePower}
-use Rattle.calc_language.specs.Grammar.{SoFar, single, summed, multiplied, as_tree}
-use Rattle.calc_language.specs.Faces.{face, has_minus, with_minus, unsigned_face, unless_one, product_of, fraction_of, power_below, exponent_below, below_zero, factor_above, factor_below, factors_above, factors_below, face_of_sum, next_term, next_terms}
-use Rattle.calc_algebra.specs.Numbers.{is_radicand, is_number, IsTerm}
-use Rattle.calc_algebra.specs.Reduced.{none_is, num_one, split, split_product, is_reduced, NoneIs, HasForm, IsReduced}
-use Rattle.calc_algebra.proofs.ReducedLaws.{reduced_words, AllParts-map}
-use Rattle.calc_algebra.proofs.SurdLaws.{Agree, Agree-refl, Agree-sym, Agree-trans, Agree-eq, Agree-Same, Agree-append, Agree-surd_times, Agree-surd_times_right, surd_times_assoc, surd_times-surd_one, surd_times-one, surd_times_left_comm, surd_times-surd_of, inverse_times, inverse_power}
+use Rattle.beautify.proofs.Names.{int_is_negative, parts, diffs, eq_diff, Fraction, lowest, times, whole_fraction, minus_one_fraction, lowest_parts, same_lowest, times_lowest, den_pos, mul_pos, Tree, num, symbol, undef, add, mult, power, root, neg, sub, div, Trees, none, more, AllParts, AllPartsOf, is_num, whole_num, Surd, surd_of, surd_one, surd_scale, surd_times, surd_power, Assignment, Means, MeansSum, MeansProduct, IsPower, IsWholePower, SoFar, single, summed, multiplied, as_tree, face, has_minus, with_minus, unsigned_face, unless_one, product_of, fraction_of, power_below, exponent_below, below_zero, factor_above, factor_below, factors_above, factors_below, face_of_sum, next_term, next_terms, is_radicand, IsTerm, none_is, num_one, split, split_product, is_reduced, NoneIs, HasForm, IsReduced, reduced_words, AllParts-map, Agree, Agree-refl, Agree-sym, Agree-trans, Agree-eq, Agree-Same, Agree-append, Agree-surd_times, Agree-surd_times_right, surd_times_assoc, surd_times-surd_one, surd_times-one, surd_times_left_comm, surd_times-surd_of, inverse_times, inverse_power, Same-refl, ints, and_parts}
+use Rattle.calc_terms.specs.Fractions.{one_fraction}
+use Rattle.calc_algebra.specs.Numbers.{is_number}
 use Rattle.calc_algebra.proofs.SquareClassLaws.{Same-Agree}
 use Rattle.calc_algebra.proofs.MeaningLaws.{Means-Same}
 use Rattle.calc_algebra.proofs.PowerRewrites.{exponent_is}
 use Rattle.beautify.proofs.FaceRewrites.{sum_joined}
-
-Same-refl : (v : Surd) → Same v v
-Same-refl v = Agree-Same (Agree-refl v)
+use Rattle.beautify.proofs.Trees.{unless_one_test, power_below_test}
 
 -- in each product, no factor but the first is a rational
 abbrev pub LeadsOnly : Tree → Type 0
@@ -84,26 +71,10 @@ module _ (f : Assignment) where
     same : Agree v (surd_times top inverse)
 
   no_factors : Sides none none surd_one
-  no_factors = record {
-    top = surd_one;
-    bottom = surd_one;
-    inverse = surd_one;
-    above_means = refl;
-    below_means = refl;
-    inverts = Agree-eq (surd_times-surd_one surd_one);
-    same = Agree-sym (Agree-eq (surd_times-surd_one surd_one));
-  }
+  no_factors = record { top = surd_one; bottom = surd_one; inverse = surd_one; above_means = refl; below_means = refl; inverts = Agree-eq (surd_times-surd_one surd_one); same = Agree-sym (Agree-eq (surd_times-surd_one surd_one)) }
 
   same_sides : (above below : Trees) (v w : Surd) → Sides above below v → Agree w v → Sides above below w
-  same_sides above below v w h e = record {
-    top = h.top;
-    bottom = h.bottom;
-    inverse = h.inverse;
-    above_means = h.above_means;
-    below_means = h.below_means;
-    inverts = h.inverts;
-    same = Agree-trans e h.same;
-  }
+  same_sides above below v w h e = record { top = h.top; bottom = h.bottom; inverse = h.inverse; above_means = h.above_means; below_means = h.below_means; inverts = h.inverts; same = Agree-trans e h.same }
 
   one_above : (t : Tree) (above below : Trees) (p v : Surd) → Means t f p → Sides above below v → Sides (more t above) below (surd_times p v)
   one_above t above below p v m h = record {
@@ -145,25 +116,16 @@ module _ (f : Assignment) where
 
   whole_above : (n : ℕ) (above below : Trees) (v : Surd) → Sides above below v → Sides (unless_one n above) below (surd_times (surd_of (whole_fraction (pos n))) v)
   unfolding one_fraction
-  whole_above n above below v h = by (n == 1) refl
-    where
-      one : n ≡ 1 → Agree (surd_times (surd_of (whole_fraction (pos n))) v) v
-      one e = Agree-eq (ap (λ k. surd_times (surd_of (whole_fraction (pos k))) v) e ∙ surd_times-surd_one v)
-
-      by : (b : Bool) → (n == 1) ≡ b → Sides (if b then above else more (whole_num n) above) below (surd_times (surd_of (whole_fraction (pos n))) v)
-      by true e = same_sides above below v _ h (one (eqb-true n 1 e))
-      by false e = one_above (whole_num n) above below _ v (Same-refl _) h
+  whole_above n above below v h =
+      unless_one_test (λ us. Sides us below (surd_times (surd_of (whole_fraction (pos n))) v)) n above
+      (λ e. same_sides above below v _ h (Agree-eq (ap (λ k. surd_times (surd_of (whole_fraction (pos k))) v) e ∙ surd_times-surd_one v))) (one_above (whole_num n) above below _ v (Same-refl _) h)
 
   whole_below : (d : ℕ) (above below : Trees) (v : Surd) → 0 < d → Sides above below v → Sides above (unless_one d below) (surd_times (surd_of (lowest (pos 1) d)) v)
   unfolding one_fraction
-  whole_below d above below v p h = by (d == 1) refl
-    where
-      one : d ≡ 1 → Agree (surd_times (surd_of (lowest (pos 1) d)) v) v
-      one e = Agree-eq (ap (λ k. surd_times (surd_of (lowest (pos 1) k)) v) e ∙ surd_times-surd_one v)
-
-      by : (b : Bool) → (d == 1) ≡ b → Sides above (if b then below else more (whole_num d) below) (surd_times (surd_of (lowest (pos 1) d)) v)
-      by true e = same_sides above below v _ h (one (eqb-true d 1 e))
-      by false e = one_below (whole_num d) above below (surd_of (whole_fraction (pos d))) (surd_of (lowest (pos 1) d)) v (Same-refl _) (Agree-eq (ap surd_of (inverse_of_whole d p))) h
+  whole_below d above below v p h =
+      unless_one_test (λ us. Sides above us (surd_times (surd_of (lowest (pos 1) d)) v)) d below
+      (λ e. same_sides above below v _ h (Agree-eq (ap (λ k. surd_times (surd_of (lowest (pos 1) k)) v) e ∙ surd_times-surd_one v)))
+      (one_below (whole_num d) above below (surd_of (whole_fraction (pos d))) (surd_of (lowest (pos 1) d)) v (Same-refl _) (Agree-eq (ap surd_of (inverse_of_whole d p))) h)
 
   leading : (q : Fraction) (above below : Trees) (v : Surd) → Sides above below v → Sides (unless_one (nat_abs q.num) above) (unless_one q.den below) (surd_times (surd_of (magnitude q)) v)
   leading q above below v h =
@@ -198,11 +160,9 @@ module _ (f : Assignment) where
   inverse_exponent e n w x v h m i = cc
 
   power_below_means : (b : Tree) (n : ℕ) (w : Surd) → Means b f w → Means (power_below b (suc n)) f (surd_power w (suc n))
-  power_below_means b n w m = by (suc n == 1) refl
-    where
-      by : (k : Bool) → (suc n == 1) ≡ k → Means (if k then b else power b (whole_num (suc n))) f (surd_power w (suc n))
-      by true e = let z : zero ≡ n = omega (arith, eqb-true (suc n) 1 e) in subst (λ k. Means b f (surd_power w (suc k))) z m
-      by false e = (w, surd_of (whole_fraction (pos (suc n))), m, Same-refl _, inl (pos (suc n), Same-refl _, Same-refl _))
+  power_below_means b n w m =
+      power_below_test (λ t. Means t f (surd_power w (suc n))) b (suc n) (λ e. let z : zero ≡ n = omega (arith, e) in subst (λ k. Means b f (surd_power w (suc k))) z m)
+      (w, surd_of (whole_fraction (pos (suc n))), m, Same-refl _, inl (pos (suc n), Same-refl _, Same-refl _))
 
   inverted : (b : Tree) (n : ℕ) (w v : Surd) (above below : Trees) (r : Surd) → Means b f w → IsWholePower (negsuc n) w v → Sides above below r → Sides above (more (power_below b (suc n)) below) (surd_times v r)
   inverted b n w v above below r m (y, i, e) h =

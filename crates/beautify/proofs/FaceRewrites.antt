@@ -1,13 +1,6 @@
 -- Rewritings that keep meanings, and what a Number means.
 use Rattle.std.proofs.Common.{◌++◌, ap, ◌∙◌, append_assoc}
-use Rattle.calc_algebra.specs.Meanings.{Assignment, MeansSum}
-use Rattle.calc_algebra.specs.SquareClasses.{Same}
-use Rattle.calc_algebra.specs.Surds.{Surd}
-use Rattle.calc_terms.specs.Trees.{Tree, Trees, none, more, append}
-use Rattle.calc_algebra.proofs.SurdLaws.{Agree-refl, Agree-Same}
-
-Same-refl : (v : Surd) → Same v v
-Same-refl v = Agree-Same (Agree-refl v)
+use Rattle.beautify.proofs.Names.{Assignment, MeansSum, Surd, Tree, Trees, none, more, append}
 
 abbrev two : Tree → Tree → Trees
 two a b = more a (more b none)

@@ -1,16 +1,12 @@
 -- The text of a reduced tree's face reads as that face.
-use Rattle.std.proofs.Common.{◌≡◌, ℕ, zero, suc, ◌==◌, nat_abs, inl, inr, Bool, true, false, if◌then◌else◌, refl, sym, ap, ◌∙◌, arith}
+use Rattle.std.proofs.Common.{◌≡◌, ℕ, zero, suc, nat_abs, inl, inr, Bool, true, false, refl, sym, ap, ◌∙◌, arith}
 use Rattle.std.specs.Prelude.{⊤}
 use Rattle.calc_terms.specs.Name.{is_name}
-use Rattle.calc_terms.specs.Trees.{Tree, num, symbol, undef, add, mult, power, root, neg, sub, div, Trees, none, more, append, AllParts, AllPartsOf, is_mult, is_undef, whole_num, HasTwo, IsComplete, AreComplete}
-use Rattle.calc_language.specs.Grammar.{SoFar, single, summed, multiplied, as_tree}
+use Rattle.beautify.proofs.Names.{Tree, num, symbol, undef, add, mult, power, root, neg, sub, div, Trees, none, more, append, AllParts, AllPartsOf, is_mult, is_undef, whole_num, HasTwo, IsComplete, AreComplete, SoFar, single, summed, multiplied, as_tree, face, has_minus, with_minus, unsigned_face, unless_one, product_of, fraction_of, power_below, exponent_below, factor_above, factor_below, factors_above, factors_below, face_of_sum, next_term, next_terms, IsTerm, is_reduced, NoneIs, HasForm, IsReduced, reduced_words, AllParts-zip}
 use Rattle.calc_language.specs.Texts.{text, IsWritable, AreWritable, IsNamed, HasNames}
 use Rattle.calc_language.specs.Reads.{Reads}
-use Rattle.calc_language.specs.Faces.{face, has_minus, with_minus, unsigned_face, unless_one, product_of, fraction_of, power_below, exponent_below, factor_above, factor_below, factors_above, factors_below, face_of_sum, next_term, next_terms}
-use Rattle.calc_algebra.specs.Numbers.{IsTerm}
-use Rattle.calc_algebra.specs.Reduced.{is_reduced, NoneIs, HasForm, IsReduced}
-use Rattle.calc_algebra.proofs.ReducedLaws.{reduced_words, AllParts-zip}
 use Rattle.calc_language.proofs.ReadLaws.{text_reads}
+use Rattle.beautify.proofs.Trees.{unless_one_by, power_below_by}
 
 -- what the face of a tree asks of each of its nodes
 abbrev IsFaceable : Tree → Type 0
@@ -41,11 +37,7 @@ ready_more : (t : Tree) (ts : Trees) → Ready t → AreReady ts → AreReady (m
 ready_more t ts h k = ((h.0, k.0), (h.1, k.1))
 
 ready_unless_one : (n : ℕ) (ts : Trees) → AreReady ts → AreReady (unless_one n ts)
-ready_unless_one n ts h = by (n == 1)
-  where
-    by : (b : Bool) → AreReady (if b then ts else more (whole_num n) ts)
-    by true = h
-    by false = ready_more (whole_num n) ts (ready_whole n) h
+ready_unless_one n ts h = unless_one_by AreReady n ts h (ready_more (whole_num n) ts (ready_whole n) h)
 
 ready_product : (ts : Trees) → AreReady ts → Ready (product_of ts)
 ready_product none h = ready_whole 1
@@ -60,11 +52,7 @@ ready_fraction above (more t ts) h k =
     ((p.0, q.0), (p.1, q.1))
 
 ready_power_below : (b : Tree) (n : ℕ) → Ready b → Ready (power_below b n)
-ready_power_below b n h = by (n == 1)
-  where
-    by : (k : Bool) → Ready (if k then b else power b (whole_num n))
-    by true = h
-    by false = ((h.0, tt), (h.1, (n, refl)))
+ready_power_below b n h = power_below_by Ready b n h ((h.0, tt), (h.1, (n, refl)))
 
 ready_append : (us : Trees) (t : Tree) → AreReady us → Ready t → AreReady (append us (more t none))
 ready_append none t h k = ready_more t none k (tt, tt)
@@ -140,18 +128,14 @@ term_faceable _ h = absurd h
 
 faceable : (t : Tree) → HasForm t → IsNamed t → IsFaceable t
 faceable (symbol x) h n = n
-faceable undef (inl h) n = h
-faceable undef (inr h) n = h
+faceable undef h n = elim h [ inl x ↦ x | inr x ↦ x ]
 faceable (add none) (inl h) n = absurd (omega (arith, h.0))
 faceable (add none) (inr h) n = h.two
 faceable (mult ts) (inl h) n = term_faceable ts h
 faceable (mult ts) (inr h) n = h.no_product
-faceable (neg a) (inl h) n = h
-faceable (neg a) (inr h) n = h
-faceable (sub a b) (inl h) n = h
-faceable (sub a b) (inr h) n = h
-faceable (div a b) (inl h) n = h
-faceable (div a b) (inr h) n = h
+faceable (neg a) h n = elim h [ inl x ↦ x | inr x ↦ x ]
+faceable (sub a b) h n = elim h [ inl x ↦ x | inr x ↦ x ]
+faceable (div a b) h n = elim h [ inl x ↦ x | inr x ↦ x ]
 faceable t h n = tt
 
 pub face_reads : (t : Tree) → is_reduced t ≡ true → is_undef t ≡ false → HasNames t → Reads (text (face t)) (face t)

@@ -1,19 +1,7 @@
 -- The face of a tree that is handed, in its place.
 use Rattle.std.proofs.Common.{◌≡◌, ◌<◌, ◌≤◌, ◌+◌, ℕ, ◌∷◌, [], ap, sym, ◌∙◌, subst, arith, true}
-use Rattle.calc_language.specs.Faces.{face}
-use Rattle.calc_algebra.specs.Reduced.{is_reduced}
-use Rattle.calc_terms.specs.Trees.{Tree, add, none}
+use Rattle.beautify.proofs.Names.{face, is_reduced, Tree, add, none, State, free_of, Full, LacksBytes, Stands, forest, KeepsRefusals, IsRefused, KeepsMeanings, Forest, join, IsHanded, Gives, Ends, Starts, KeepsFront, without_root, join_assoc, ends_without, used_forest}
 use Rattle.beautify.proofs.FaceLaws.{reduced_face_means}
-use Rattle.node_pool.specs.State.{State, free_of}
-use Rattle.node_pool.specs.declared.full.Full.{Full}
-use Rattle.tree_handles.specs.Standing.{LacksBytes, Stands, forest, KeepsRefusals, IsRefused}
-use Rattle.calc_algebra.specs.Rewritings.{KeepsMeanings}
-use Rattle.tree_handles.specs.Forest.{Forest, join}
-use Rattle.tree_handles.specs.Handed.{IsHanded, Gives, Ends, Starts, KeepsFront}
-use Rattle.tree_handles.specs.Roots.{without_root}
-use Rattle.tree_handles.proofs.Forests.{join_assoc}
-use Rattle.tree_handles.proofs.Lasts.{ends_without}
-use Rattle.tree_handles.proofs.Places.{used_forest}
 use Rattle.beautify.proofs.Stacking.{bytes_of_stack}
 
 pub face_keeps : (t : Tree) → is_reduced t ≡ true → KeepsMeanings t (face t)

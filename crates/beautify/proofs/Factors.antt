@@ -1,16 +1,12 @@
 -- The factors of a product on a stack, split one after another from the last.
 use Rattle.std.proofs.Common.{◌≡◌, ℕ, zero, suc, ◌+◌, ◌<◌, ◌≤◌, refl, sym, ap, ◌∙◌, arith, true}
-use Rattle.calc_language.specs.Faces.{fraction_of, unsigned_face, factor_above, factor_below, factors_above, factors_below}
-use Rattle.calc_terms.specs.Trees.{Tree, mult, Trees, none, more, append, count, is_mult}
-use Rattle.tree_handles.specs.Expressions.{nth, children_of}
-use Rattle.beautify.specs.Lists.{first, behind}
-use Rattle.beautify.specs.Showing.{unsigned_faces, IsShowable, IsFactor, AreFactors, HoldsFaces}
+use Rattle.beautify.proofs.Names.{fraction_of, unsigned_face, factor_above, factor_below, factors_above, factors_below, Tree, mult, Trees, none, more, append, count, is_mult, nth, children_of, first, behind, unsigned_faces, IsShowable, IsFactor, AreFactors, HoldsFaces}
 use Rattle.beautify.proofs.Splits.{fraction_lists}
-use Rattle.beautify.proofs.Trees.{append_assoc, count-append}
+use Rattle.beautify.proofs.Trees.{append_assoc, count-append, count-first}
 
-first-all : (ts : Trees) → first (count ts) ts ≡ ts
-first-all none = refl
-first-all (more t ts) = ap (more t) (first-all ts)
+pub all_first : (ts : Trees) → first (count ts) ts ≡ ts
+all_first none = refl
+all_first (more t ts) = ap (more t) (all_first ts)
 
 behind-all : (ts : Trees) → behind (count ts) ts ≡ none
 behind-all none = refl
@@ -26,7 +22,7 @@ behind-suc n none h = absurd (omega (arith, h))
 behind-suc zero (more t ts) h = refl
 behind-suc (suc n) (more t ts) h = behind-suc n ts (omega (arith, h))
 
-faces-append : (ts us : Trees) → unsigned_faces (append ts us) ≡ append (unsigned_faces ts) (unsigned_faces us)
+pub faces-append : (ts us : Trees) → unsigned_faces (append ts us) ≡ append (unsigned_faces ts) (unsigned_faces us)
 faces-append none us = refl
 faces-append (more t ts) us = ap (more (unsigned_face t)) (faces-append ts us)
 
@@ -34,18 +30,13 @@ pub count-faces : (ts : Trees) → count (unsigned_faces ts) ≡ count ts
 count-faces none = refl
 count-faces (more t ts) = ap suc (count-faces ts)
 
-count-first : (n : ℕ) (ts : Trees) → n ≤ count ts → count (first n ts) ≡ n
-count-first zero ts h = refl
-count-first (suc n) none h = absurd (omega (arith, h))
-count-first (suc n) (more t ts) h = ap suc (count-first n ts (omega (arith, h)))
-
 -- the stack while n factors are left
 abbrev pub in_split : ℕ → Trees → Trees → Trees
 in_split n us rest = append (unsigned_faces (first n us)) (append (factors_above (behind n us)) (append (factors_below (behind n us)) rest))
 
 pub split_start : (n : ℕ) (us ts : Trees) → n ≡ count us → HoldsFaces us ts → ts ≡ in_split n us (behind (count us) ts)
 split_start n us ts e h =
-    let f : first n us ≡ us = rw e (first-all us) in
+    let f : first n us ≡ us = rw e (all_first us) in
     let b : behind n us ≡ none = rw e (behind-all us) in
     h.begins ∙ rw (f, b) refl
 

@@ -1,18 +1,7 @@
 -- Trees of a stack that become the children of a new node.
 use Rattle.std.proofs.Common.{◌≡◌, ℕ, suc, true, ◌+◌, ◌<◌, ◌≤◌, sym, ap, ◌∙◌, subst, arith, add-one}
-use Rattle.calc_terms.specs.Payload.{bare}
-use Rattle.calc_terms.specs.Trees.{Tree, Trees, none, more, count}
-use Rattle.calc_terms.specs.declared.kind.Kind.{Kind}
+use Rattle.beautify.proofs.Names.{bare, Tree, Trees, none, more, count, Kind, nth, inserted, takes_kind, compound, plain, Forest, empty, kids, one_tree, tree_nth, without_nth, with_nth, Ends, Gives, has_root, root_tree, without_root, put, Stands, forest, State, represents_none, given_told, first, behind, cut, stacked, IsStack}
 use Rattle.calc_terms.specs.declared.kind.Kind.TheVariants as kind
-use Rattle.tree_handles.specs.Expressions.{nth, inserted, takes_kind, compound, plain}
-use Rattle.tree_handles.specs.Forest.{Forest, empty, kids, one_tree, tree_nth, without_nth, with_nth}
-use Rattle.tree_handles.specs.Handed.{Ends, Gives}
-use Rattle.tree_handles.specs.Roots.{has_root, root_tree, without_root, put}
-use Rattle.tree_handles.specs.Standing.{Stands, forest}
-use Rattle.node_pool.specs.State.{State}
-use Rattle.tree_handles.proofs.Given.{represents_none, given_told}
-use Rattle.beautify.specs.Lists.{first, behind, cut}
-use Rattle.beautify.specs.Stacks.{stacked, IsStack}
 use Rattle.beautify.proofs.Opens.{Opens, opens_as, closed, pushed, taken_under, IsTakenUnder}
 use Rattle.beautify.proofs.Stacking.{stack_opens, IsUnder, is_under}
 use Rattle.beautify.proofs.Trees.{cut-zero, cut-cut, nth-cut, count-cut, count-first, count-behind, first-more}
@@ -24,11 +13,7 @@ pub record IsGathering (base now : Forest) (stack over : ℕ) (k : Kind) (at n :
   pub top : Opens under now over k (first n (behind at ts))
 
 pub gathering_start : {f new : Forest} {stack over : ℕ} {k : Kind} (at : ℕ) → IsStack stack f → Ends over (one_tree over (bare k) empty) f new → IsGathering (without_root stack f) new stack over k at 0 (stacked stack f)
-gathering_start {f = f} {stack = stack} at s e = record {
-  under = f;
-  left = opens_as (stack_opens s) (sym (cut-zero at (stacked stack f)));
-  top = record { below = empty; ends = e; holds = represents_none };
-}
+gathering_start {f = f} {stack = stack} at s e = record { under = f; left = opens_as (stack_opens s) (sym (cut-zero at (stacked stack f))); top = record { below = empty; ends = e; holds = represents_none } }
 
 -- there is a tree at the place
 pub more_there : (at n m : ℕ) (ts : Trees) → n < m → at + m ≤ count ts → at < count (cut at n ts)
@@ -52,11 +37,7 @@ gathering_next {b = b} {h = h} at n m {ts = ts} t less w e =
     let child : plain (root_tree h b) ≡ nth n (behind at ts) = given_told t.top ∙ nth-cut at n ts in
     let room : n < count (behind at ts) = omega (arith, count-behind at ts, less, w) in
     let step : inserted n (more (plain (root_tree h b)) none) (first n (behind at ts)) ≡ first (suc n) (behind at ts) = ap (λ (x : Tree). inserted n (more x none) (first n (behind at ts))) child ∙ first-more n (behind at ts) room in
-    rw (add-one n) (record {
-      under = t.under;
-      left = opens_as t.left (cut-cut at n ts);
-      top = opens_as (pushed n t.over t.top e) step;
-    })
+    rw (add-one n) (record { under = t.under; left = opens_as t.left (cut-cut at n ts); top = opens_as (pushed n t.over t.top e) step })
 
 pub gathered_all : {base now : Forest} {stack over : ℕ} {k : Kind} {at n : ℕ} {ts : Trees} (m : ℕ) → n ≡ m → IsGathering base now stack over k at n ts → IsGathering base now stack over k at m ts
 gathered_all {base = base} {now = now} {stack = stack} {over = over} {k = k} {at = at} {ts = ts} m e g = subst (λ (x : ℕ). IsGathering base now stack over k at x ts) e g

@@ -1,15 +1,7 @@
 -- Marks at nodes of a tree.
 use Rattle.std.proofs.Common.{◌≡◌, ℕ, zero, suc, ◌+◌, ◌<◌, add-one, List, [], ◌∷◌, ◌++◌, length, drop, refl, sym, ap, ◌∙◌, subst, arith, true}
 use Rattle.std.proofs.lemmas.List.{append-nil}
-use Rattle.beautify.specs.Marks.{IsMark, IsChildMark}
-use Rattle.beautify.specs.declared.marks.Mark.{Mark}
-use Rattle.calc_terms.specs.Node.{Node}
-use Rattle.node_pool.specs.Nodes.{first_of}
-use Rattle.tree_handles.specs.Forest.{Forest, empty, tree, arity, first_trees, flatten, kids, nodes_in, root_id, tree_nth}
-use Rattle.tree_handles.specs.Inside.{holds, tree_at, kids_of}
-use Rattle.tree_handles.proofs.Forests.{nodes-flatten}
-use Rattle.tree_handles.proofs.Parts.{at}
-use Rattle.tree_walks.proofs.Orders.{root_at}
+use Rattle.beautify.proofs.Names.{IsMark, IsChildMark, Mark, Node, first_of, Forest, empty, tree, arity, first_trees, flatten, kids, nodes_in, root_id, tree_nth, holds, tree_at, kids_of, nodes-flatten, at, root_at}
 
 -- a tree's root is marked
 pub at_root : (m : Mark) (i : ℕ) (f : Forest) → m.tree ≡ i → m.node ≡ i → m.before ≡ 0 → holds i f ≡ true → IsMark m f
@@ -20,10 +12,7 @@ pub same_tree : (j i : ℕ) (f g : Forest) → j ≡ i → tree_at i f ≡ tree_
 same_tree j i f g e t = ap (λ (k : ℕ). tree_at k f) e ∙ t ∙ ap (λ (k : ℕ). tree_at k g) (sym e)
 
 pub still_marked : (m : Mark) (f g : Forest) → tree_at m.tree f ≡ tree_at m.tree g → IsMark m f → IsMark m g
-still_marked m f g e h = record {
-  within = omega (arith, h.within, ap nodes_in e);
-  id-is = h.id-is ∙ ap (λ (t : Forest). (first_of (drop m.before (flatten t))).id) e;
-}
+still_marked m f g e h = record { within = omega (arith, h.within, ap nodes_in e); id-is = h.id-is ∙ ap (λ (t : Forest). (first_of (drop m.before (flatten t))).id) e }
 
 -- ---- children
 
@@ -61,10 +50,7 @@ child_marked n m f h w c =
     let before : m.before ≡ suc (nodes_in (first_trees n k)) = omega (arith, c.before-is) in
     let nodes : drop m.before (flatten (tree_at m.tree f)) ≡ drop (nodes_in (first_trees n k)) (flatten k) =
     ap (λ (g : Forest). drop m.before (flatten g)) t ∙ ap (λ (j : ℕ). drop j (flatten (tree p.label k empty))) before ∙ ap (drop (nodes_in (first_trees n k))) (append-nil (flatten k)) in
-    record {
-      within = omega (arith, before, x.1, ap nodes_in t);
-      id-is = c.node-is ∙ sym x.0 ∙ ap (λ (z : List Node). (first_of z).id) (sym nodes);
-    }
+    record { within = omega (arith, before, x.1, ap nodes_in t); id-is = c.node-is ∙ sym x.0 ∙ ap (λ (z : List Node). (first_of z).id) (sym nodes) }
 
 -- the mark behind a child is that of the next
 pub next_marked : (n : ℕ) (m next : Mark) (f : Forest) → holds m.tree f ≡ true → n + 1 < arity (kids_of m.tree f) → IsChildMark n m f → next.tree ≡ m.tree → next.before ≡ m.before + nodes_in (tree_nth n (kids_of m.tree f))
@@ -77,10 +63,7 @@ next_marked n m next f h w c tree-same before node =
     let there : next.before ≡ suc (nodes_in (first_trees (n + 1) k)) = omega (arith, before, c.before-is, nodes-next n k (omega (arith, w))) in
     let nodes : drop next.before (flatten (tree_at m.tree f)) ≡ drop (nodes_in (first_trees (n + 1) k)) (flatten k) =
     ap (λ (g : Forest). drop next.before (flatten g)) t ∙ ap (λ (j : ℕ). drop j (flatten (tree p.label k empty))) there ∙ ap (drop (nodes_in (first_trees (n + 1) k))) (append-nil (flatten k)) in
-    record {
-      before-is = omega (arith, there, ap (λ (i : ℕ). nodes_in (first_trees (n + 1) (kids_of i f))) tree-same);
-      node-is = node ∙ ap (λ (z : List Node). (first_of z).id) nodes ∙ x.0 ∙ ap (λ (i : ℕ). root_id (tree_nth (n + 1) (kids_of i f))) (sym tree-same);
-    }
+    record { before-is = omega (arith, there, ap (λ (i : ℕ). nodes_in (first_trees (n + 1) (kids_of i f))) tree-same); node-is = node ∙ ap (λ (z : List Node). (first_of z).id) nodes ∙ x.0 ∙ ap (λ (i : ℕ). root_id (tree_nth (n + 1) (kids_of i f))) (sym tree-same) }
 
 pub next_within : (n : ℕ) (m : Mark) (f : Forest) → holds m.tree f ≡ true → n + 1 < arity (kids_of m.tree f) → IsChildMark n m f → m.before + nodes_in (tree_nth n (kids_of m.tree f)) < nodes_in (tree_at m.tree f)
 next_within n m f h w c =
@@ -89,10 +72,7 @@ next_within n m f h w c =
     omega (arith, c.before-is, nodes-next n k (omega (arith, w)), (child_node (n + 1) k w).1, ap nodes_in t)
 
 pub still_child : (n k : ℕ) (m : Mark) (f g : Forest) → n ≡ k → tree_at m.tree f ≡ tree_at m.tree g → IsChildMark n m f → IsChildMark k m g
-still_child n k m f g q e h = subst (λ (j : ℕ). IsChildMark j m g) q (record {
-  before-is = h.before-is ∙ ap (λ (t : Forest). 1 + nodes_in (first_trees n (kids t))) e;
-  node-is = h.node-is ∙ ap (λ (t : Forest). root_id (tree_nth n (kids t))) e;
-})
+still_child n k m f g q e h = subst (λ (j : ℕ). IsChildMark j m g) q (record { before-is = h.before-is ∙ ap (λ (t : Forest). 1 + nodes_in (first_trees n (kids t))) e; node-is = h.node-is ∙ ap (λ (t : Forest). root_id (tree_nth n (kids t))) e })
 
 pub child_there : (n i : ℕ) (m : Mark) (f : Forest) → m.tree ≡ i → IsChildMark n m f → m.node ≡ root_id (tree_nth n (kids_of i f))
 child_there n i m f e h = h.node-is ∙ ap (λ (j : ℕ). root_id (tree_nth n (kids_of j f))) e

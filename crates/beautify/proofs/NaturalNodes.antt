@@ -1,24 +1,8 @@
 -- The rationals of a tree, node by node.
 use Rattle.std.proofs.Common.{◌≡◌, ℕ, List, [], ◌∷◌, ◌++◌, ℤ, Bool, true, false, not, ◌&&◌, ◌==◌, refl, sym, ap, ◌∙◌, arith}
-use Rattle.std.proofs.lemmas.Bool.{eqb-true, eq-eqb}
-use Rattle.beautify.specs.OwnFaces.{is_natural, has_natural_numbers, holds_natural}
-use Rattle.calc_algebra.specs.Reduced.{all_parts, all_parts_of}
-use Rattle.calc_terms.specs.Node.{Node}
-use Rattle.calc_terms.specs.Integers.{int_is_negative}
-use Rattle.calc_terms.specs.Payload.{Payload, rational, named, bare, kind_of_payload}
-use Rattle.calc_terms.specs.Trees.{Trees, none, more, count}
-use Rattle.calc_terms.specs.declared.kind.Kind.{Kind}
+use Rattle.beautify.proofs.Names.{is_natural, has_natural_numbers, holds_natural, all_parts, all_parts_of, Node, int_is_negative, Payload, rational, named, bare, kind_of_payload, Trees, none, more, count, Kind, Visit, flatten-join, seen, found-join, visit_here, visits_left, no_visit, one_at, by_test, alone, count-plains, nth, grown, compound, plains, plain, takes, takes_kind, AllExpressions, IsExpression, Forest, empty, tree, join, flatten, root_payload, holds, payload_in, tree_at, eqb-true, eq-eqb}
 use Rattle.calc_terms.specs.declared.kind.Kind.TheVariants as kind
-use Rattle.tree_handles.specs.declared.visits.Visit.{Visit}
 use Rattle.tree_handles.specs.Visits.{visits_of, visit_at, AreFound}
-use Rattle.tree_handles.proofs.Forests.{flatten-join}
-use Rattle.tree_handles.proofs.Visiting.{seen, found-join, visit_here, visits_left, no_visit}
-use Rattle.tree_handles.proofs.Measures.{one_at}
-use Rattle.tree_handles.proofs.Outcomes.{by_test}
-use Rattle.tree_handles.proofs.Plains.{alone, count-plains}
-use Rattle.tree_handles.specs.Expressions.{nth, grown, compound, plains, plain, takes, takes_kind, AllExpressions, IsExpression}
-use Rattle.tree_handles.specs.Forest.{Forest, empty, tree, join, flatten, root_payload}
-use Rattle.tree_handles.specs.Inside.{holds, payload_in, tree_at}
 
 -- the same of a list of nodes
 abbrev pub hold_naturals : List Node → Bool
@@ -109,12 +93,7 @@ read {v = v} {left = left} {total = total} {base = base} w e = by w.trees (sym w
         let y = seen l k r h (visit_here l k r q) in
         let next : (b : Bool) → holds_natural (payload_in v.id base) ≡ b → total ≡ (b && hold_naturals (flatten (join k r))) =
         λ b t. s ∙ ap (λ (z : Bool). z && hold_naturals (flatten k ++ flatten r)) (sym (ap (λ (g : Forest). holds_natural (root_payload g)) y.tree-is) ∙ t) ∙ ap (λ (z : List Node). b && hold_naturals z) (sym (flatten-join k r)) in
-        record {
-          live = y.live;
-          visit-is = y.visit-is;
-          here = λ t. next false t;
-          more = λ t. record { trees = join k r; left-are = visits_left l k r q; found = found-join base k r h.1 h.2; same = next true t };
-        }
+        record { live = y.live; visit-is = y.visit-is; here = λ t. next false t; more = λ t. record { trees = join k r; left-are = visits_left l k r q; found = found-join base k r h.1 h.2; same = next true t } }
 
 -- where none is left, all are natural
 pub read_all : {xs : List Visit} {total : Bool} {base : Forest} → IsReading xs total base → xs ≡ [] → total ≡ true

@@ -1,13 +1,7 @@
 -- What a node is, by the kind of its root.
 use Rattle.std.proofs.Common.{◌≡◌, ◌≤◌, refl, sym, ap, subst, arith, true}
-use Rattle.calc_language.specs.Faces.{unsigned_face, has_minus, with_minus}
-use Rattle.calc_terms.specs.Trees.{Tree, num, symbol, undef, add, mult, power, root, neg, Trees, none, more, count, root_kind, is_add, is_mult}
-use Rattle.calc_terms.specs.declared.kind.Kind.{Kind}
+use Rattle.beautify.proofs.Names.{unsigned_face, has_minus, with_minus, Tree, num, symbol, undef, add, mult, power, root, neg, Trees, none, more, count, root_kind, is_add, is_mult, Kind, nth, children_of, behind, node_room, IsShowable, HoldsFaces}
 use Rattle.calc_terms.specs.declared.kind.Kind.TheVariants as kind
-use Rattle.tree_handles.specs.Expressions.{nth, children_of}
-use Rattle.beautify.specs.Lists.{behind}
-use Rattle.beautify.specs.Room.{node_room}
-use Rattle.beautify.specs.Showing.{IsShowable, HoldsFaces}
 
 abbrev is_pow_kind : Kind → Tree
 is_pow_kind kind.Pow = add none

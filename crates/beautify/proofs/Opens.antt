@@ -1,17 +1,6 @@
 -- A node over trees that stands last, and trees that come to it or leave it.
 use Rattle.std.proofs.Common.{◌≡◌, ℕ, zero, suc, ◌<◌, refl, sym, ap, ◌∙◌, subst, arith, true}
-use Rattle.calc_terms.specs.Payload.{Payload, rational, named, bare, is_bare, kind_of_payload}
-use Rattle.calc_terms.specs.Trees.{Tree, Trees, none, more, count, root_kind}
-use Rattle.calc_terms.specs.declared.kind.Kind.{Kind}
-use Rattle.tree_handles.specs.Expressions.{nth, inserted, compound, grown, plain, plains, takes_kind, children_of, IsWhole, AllExpressions}
-use Rattle.tree_handles.specs.Forest.{Label, Forest, empty, tree, join, arity, kids, one_tree, first_trees, rest_trees, tree_nth, without_nth, with_nth}
-use Rattle.tree_handles.specs.Handed.{IsOnce, AllOnce, IsOwned, Represents, Ends, Gives}
-use Rattle.tree_handles.specs.Roots.{root_tree, without_root, put}
-use Rattle.tree_handles.proofs.Forests.{all-join, all-first_trees, all-rest_trees, arity-tree_nth}
-use Rattle.tree_handles.proofs.Given.{gives, represents_node, represents_handed, represents_with, given_handed, given_same, given_rest, given_told}
-use Rattle.tree_handles.proofs.Lasts.{last_root, last_tree, last_rest, last_put, ends_put, ends_without, ends_as, other_tree}
-use Rattle.tree_handles.proofs.Plains.{count-plains, plain-tree_nth, alone, grown_whole}
-use Rattle.beautify.specs.Lists.{cut}
+use Rattle.beautify.proofs.Names.{Payload, rational, named, bare, is_bare, kind_of_payload, Tree, Trees, none, more, count, root_kind, Kind, nth, inserted, compound, grown, plain, plains, takes_kind, children_of, IsWhole, AllExpressions, Label, Forest, empty, tree, join, arity, kids, one_tree, first_trees, rest_trees, tree_nth, without_nth, with_nth, IsOnce, AllOnce, IsOwned, Represents, Ends, Gives, root_tree, without_root, put, all-join, all-first_trees, all-rest_trees, arity-tree_nth, gives, represents_node, represents_handed, represents_with, given_handed, given_same, given_rest, given_told, last_root, last_tree, last_rest, last_put, ends_put, ends_without, ends_as, other_tree, count-plains, plain-tree_nth, alone, grown_whole, cut}
 
 -- a node of a kind over these trees stands last, behind the others
 pub record Opens (others f : Forest) (i : ℕ) (k : Kind) (ts : Trees) : Type 0 where
@@ -31,11 +20,7 @@ bare_payload (bare j) k b e = ap bare e
 open_node : (l : Label) (below : Forest) (i : ℕ) (k : Kind) (others f : Forest) → Ends i (tree l below empty) others f → AllOnce (tree l below empty) → AllExpressions (tree l below empty) → l.payload ≡ bare k → Opens others f i k (plains below)
 open_node l below i k others f e o w p =
     let label : l ≡ record { id = i; count = 1; payload = bare k } = λ j. record { id = e.root j; count = o.0 j; payload = p j } in
-    record {
-      below = below;
-      ends = subst (λ (x : Label). Ends i (tree x below empty) others f) label e;
-      holds = record { once = o.1; whole = w.1; plain_trees = refl };
-    }
+    record { below = below; ends = subst (λ (x : Label). Ends i (tree x below empty) others f) label e; holds = record { once = o.1; whole = w.1; plain_trees = refl } }
 
 open_tree : (t : Forest) (i : ℕ) (k : Kind) (others f : Forest) → Ends i t others f → AllOnce t → AllExpressions t → is_bare k ≡ true → root_kind (plain t) ≡ k → Opens others f i k (children_of (plain t))
 open_tree empty i k others f e o w b h = absurd (omega (arith, e.alone))
@@ -65,11 +50,7 @@ pushed {g = g} {f = f} {j-others = before} {new = new} {i = i} {j = j} {k = k} a
     let c = root_tree j f in
     let below : kids (root_tree i f) ≡ o.below = ap kids (given_same i t (last_root o.ends) ∙ last_tree o.ends) in
     let now : new ≡ join g (one_tree i (bare k) (with_nth at c o.below)) = e ∙ rw (below, given_rest t) (last_put (with_nth at c o.below) o.ends) in
-    record {
-      below = with_nth at c o.below;
-      ends = record { whole = now; alone = refl; root = refl; clear = o.ends.clear };
-      holds = represents_with at (represents_handed (given_handed t)) o.holds;
-    }
+    record { below = with_nth at c o.below; ends = record { whole = now; alone = refl; root = refl; clear = o.ends.clear }; holds = represents_with at (represents_handed (given_handed t)) o.holds }
 
 -- ---- a child becomes the last tree
 
@@ -99,11 +80,7 @@ represents_without {f = f} n r = record {
 pub put_without : {g f : Forest} {i : ℕ} {k : Kind} {ts : Trees} (at : ℕ) → Opens g f i k ts → Opens g (put i (without_nth at (kids (root_tree i f))) f) i k (cut at 1 ts)
 put_without {g = g} {f = f} {i = i} {k = k} at o =
     let below : kids (root_tree i f) ≡ o.below = ap kids (last_tree o.ends) in
-    record {
-      below = without_nth at o.below;
-      ends = record { whole = rw below (last_put (without_nth at o.below) o.ends); alone = refl; root = refl; clear = o.ends.clear };
-      holds = represents_without at o.holds;
-    }
+    record { below = without_nth at o.below; ends = record { whole = rw below (last_put (without_nth at o.below) o.ends); alone = refl; root = refl; clear = o.ends.clear }; holds = represents_without at o.holds }
 
 -- what is taken from the last tree
 pub record IsTaken (g new : Forest) (i h at : ℕ) (k : Kind) (ts : Trees) : Type 0 where
@@ -115,11 +92,7 @@ pub taken : {g f new : Forest} {i h : ℕ} {k : Kind} {ts : Trees} (at : ℕ) �
     → Ends h (tree_nth at (kids (root_tree i f))) (put i (without_nth at (kids (root_tree i f))) f) new → IsTaken g new i h at k ts
 taken {f = f} {i = i} {ts = ts} at o m e =
     let below : kids (root_tree i f) ≡ o.below = ap kids (last_tree o.ends) in
-    record {
-      under = put i (without_nth at (kids (root_tree i f))) f;
-      left = put_without at o;
-      top = gives e (subst (λ (x : Forest). Represents (tree_nth at x) (more (nth at ts) none)) (sym below) (represents_nth at o.holds m)) refl;
-    }
+    record { under = put i (without_nth at (kids (root_tree i f))) f; left = put_without at o; top = gives e (subst (λ (x : Forest). Represents (tree_nth at x) (more (nth at ts) none)) (sym below) (represents_nth at o.holds m)) refl }
 
 -- from the tree before the last one
 pub record IsTakenUnder (g new : Forest) (i n h at : ℕ) (k m : Kind) (ts us : Trees) : Type 0 where

@@ -1,22 +1,12 @@
 -- A reduced tree whose rationals are written as they are is its own face.
-use Rattle.std.proofs.Common.{◌≡◌, ℕ, ℤ, pos, negsuc, zero, suc, ◌==◌, nat_abs, true, false, not, if◌then◌else◌, inl, inr, refl, sym, ap, ◌∙◌, arith}
+use Rattle.std.proofs.Common.{◌≡◌, ℕ, ℤ, pos, negsuc, zero, suc, nat_abs, true, false, not, inl, inr, refl, sym, ap, ◌∙◌, arith}
 use Rattle.std.specs.Prelude.{◌≢◌, ⊤}
-use Rattle.std.proofs.lemmas.Bool.{and_parts, eqb-true}
-use Rattle.beautify.specs.OwnFaces.{is_natural, has_natural_numbers}
+use Rattle.beautify.proofs.Names.{is_natural, has_natural_numbers, reduced_words, IsTerm, all_parts_of, none_is, is_reduced, HasForm, IsReduced, IsFrontForm, face, has_minus, with_minus, unsigned_face, unless_one, product_of, fraction_of, power_below, exponent_below, below_zero, factor_above, factor_below, factors_above, factors_below, face_of_sum, next_terms, summed, as_tree, Fraction, whole_fraction, int_is_negative, Tree, num, symbol, undef, add, mult, power, root, neg, sub, div, Trees, none, more, append, AllParts, AllPartsOf, HasTwo, is_num, whole_num, append-none, and_parts, eqb-true}
 use Rattle.beautify.proofs.FaceLaws.{form_leads}
 use Rattle.beautify.proofs.Showables.{first_part, formed, two_terms, two_factors}
 use Rattle.calc_algebra.proofs.NumberRewrites.{fraction_whole}
-use Rattle.calc_algebra.proofs.ReducedLaws.{reduced_words}
-use Rattle.calc_algebra.specs.Numbers.{IsTerm}
-use Rattle.calc_algebra.specs.Reduced.{all_parts_of, none_is, is_reduced, HasForm, IsReduced, IsFrontForm}
-use Rattle.calc_language.specs.Faces.{face, has_minus, with_minus, unsigned_face, unless_one, product_of, fraction_of, power_below, exponent_below, below_zero, factor_above, factor_below, factors_above, factors_below, face_of_sum, next_terms}
-use Rattle.calc_language.specs.Grammar.{summed, as_tree}
-use Rattle.calc_terms.specs.Fractions.{Fraction, one_fraction, whole_fraction}
-use Rattle.calc_terms.specs.Integers.{int_is_negative}
-use Rattle.calc_terms.specs.Trees.{Tree, num, symbol, undef, add, mult, power, root, neg, sub, div, Trees, none, more, append, AllParts, AllPartsOf, HasTwo, is_num, whole_num}
-use Rattle.beautify.proofs.Trees.{append_assoc}
-use Rattle.tree_handles.proofs.Given.{append-none}
-use Rattle.tree_handles.proofs.Outcomes.{by_test}
+use Rattle.calc_terms.specs.Fractions.{one_fraction}
+use Rattle.beautify.proofs.Trees.{append_assoc, unless_one_test}
 
 -- ---- whole numbers
 
@@ -39,14 +29,10 @@ whole q h = by q.num refl (and_parts _ _ h).1
 -- it is written, unless it is 1
 written : (n : ℕ) (q : Fraction) (rest : Trees) → q ≡ whole_fraction (pos n) → q ≢ one_fraction → unless_one n rest ≡ more (num q) rest
 unfolding one_fraction
-written n q rest e h =
-    by_test (λ t. (n == 1) ≡ t → (if t then rest else more (whole_num n) rest) ≡ more (num q) rest) (n == 1)
-    (λ u k. absurd (h (e ∙ ap (λ (m : ℕ). whole_fraction (pos m)) (eqb-true n 1 k)))) (λ u k. ap (λ (p : Fraction). more (num p) rest) (sym e)) refl
+written n q rest e h = unless_one_test (λ us. us ≡ more (num q) rest) n rest (λ k. absurd (h (e ∙ ap (λ (m : ℕ). whole_fraction (pos m)) k))) (ap (λ (p : Fraction). more (num p) rest) (sym e))
 
 alone : (n : ℕ) (q : Fraction) → q ≡ whole_fraction (pos n) → product_of (unless_one n none) ≡ num q
-alone n q e =
-    by_test (λ t. (n == 1) ≡ t → product_of (if t then none else more (whole_num n) none) ≡ num q) (n == 1)
-    (λ u k. ap (λ (m : ℕ). whole_num m) (sym (eqb-true n 1 k)) ∙ ap num (sym e)) (λ u k. ap num (sym e)) refl
+alone n q e = unless_one_test (λ us. product_of us ≡ num q) n none (λ k. ap (λ (m : ℕ). whole_num m) (sym k) ∙ ap num (sym e)) (ap num (sym e))
 
 number_face : (q : Fraction) → is_natural (num q) ≡ true → unsigned_face (num q) ≡ num q
 number_face q h =
@@ -144,10 +130,7 @@ mutual
   own undef f h = record { plus = refl; unsigned = refl }
   own (add ts) f h = record { plus = refl; unsigned = sum ts (two_terms ts f.0) f.1 h }
   own (mult none) f h = absurd (two_factors none f.0).0
-  own (mult (more t ts)) f h = record {
-    plus = first_sign t ts (own_part t (and_parts _ _ h).0);
-    unsigned = let k = factors (more t ts) (none_is_one (more t ts) f.0) f.1 h in product (more t ts) _ _ (two_factors (more t ts) f.0).0 k.0 k.1;
-  }
+  own (mult (more t ts)) f h = record { plus = first_sign t ts (own_part t (and_parts _ _ h).0); unsigned = let k = factors (more t ts) (none_is_one (more t ts) f.0) f.1 h in product (more t ts) _ _ (two_factors (more t ts) f.0).0 k.0 k.1 }
   own (power b e) f h =
       let k = and_parts _ _ h in
       record { plus = refl; unsigned = raised b e (not_below e k.1) (own b f.1 k.0) (own e f.2 k.1) }

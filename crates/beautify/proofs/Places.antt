@@ -1,14 +1,8 @@
 -- What changes at a place of a stack leave of the trees around it.
 use Rattle.std.proofs.Common.{◌≡◌, ℕ, zero, suc, ◌+◌, ◌<◌, ◌≤◌, refl, sym, ap, ◌∙◌, arith, Bool, if◌then◌else◌}
-use Rattle.std.proofs.lemmas.Bool.{ne_eqb}
-use Rattle.calc_language.specs.Faces.{product_of, fraction_of, unless_one}
-use Rattle.calc_terms.specs.Trees.{Tree, mult, neg, div, Trees, none, more, append, count, whole_num}
+use Rattle.beautify.proofs.Names.{product_of, fraction_of, unless_one, Tree, mult, neg, div, Trees, none, more, append, count, whole_num, nth, inserted, first, behind, cut, gathered, fraction_room, product_room, whole_size, ne_eqb}
 use Rattle.calc_terms.specs.declared.kind.Kind.TheVariants as kind
-use Rattle.tree_handles.specs.Expressions.{nth, inserted}
-use Rattle.beautify.specs.Lists.{first, behind, cut, gathered}
-use Rattle.beautify.specs.Room.{fraction_room, product_room}
-use Rattle.calc_terms.proofs.Sizes.{whole_size}
-use Rattle.beautify.proofs.Trees.{count-first, count-behind}
+use Rattle.beautify.proofs.Trees.{count-first, count-behind, count-append}
 
 pub nth-first : (us : Trees) → nth 0 (first 1 us) ≡ nth 0 us
 nth-first none = refl
@@ -61,10 +55,6 @@ fraction_room-small a (suc b) = omega (arith, product_room-small a)
 
 pub count-inserted : (at : ℕ) (us ts : Trees) → count (inserted at us ts) ≡ count us + count ts
 count-inserted zero us ts = count-append us ts
-  where
-    count-append : (xs ys : Trees) → count (append xs ys) ≡ count xs + count ys
-    count-append none ys = omega arith
-    count-append (more x xs) ys = omega (arith, count-append xs ys)
 count-inserted (suc at) us none = omega arith
 count-inserted (suc at) us (more t ts) = omega (arith, count-inserted at us ts)
 

@@ -1,14 +1,7 @@
 -- The parts of a reduced tree can be shown.
 use Rattle.std.proofs.Common.{◌≡◌, ◌≤◌, ℕ, ℤ, zero, suc, pos, negsuc, Bool, if◌then◌else◌, [], length, inl, inr, refl, sym, ap, ◌∙◌, arith, true, false}
-use Rattle.calc_terms.specs.Trees.{Tree, num, symbol, undef, add, mult, power, root, neg, sub, div, Trees, none, more, AllParts, AllPartsOf, is_mult, is_undef, HasTwo}
-use Rattle.calc_terms.specs.Fractions.{Fraction, is_zero_fraction}
-use Rattle.calc_language.specs.Faces.{below_zero, exponent_below, has_minus}
-use Rattle.calc_algebra.specs.Numbers.{IsTerm, classes}
-use Rattle.calc_algebra.specs.Surds.{surd_of}
+use Rattle.beautify.proofs.Names.{Tree, num, symbol, undef, add, mult, power, root, neg, sub, div, Trees, none, more, AllParts, AllPartsOf, is_mult, is_undef, HasTwo, Fraction, is_zero_fraction, below_zero, exponent_below, has_minus, IsTerm, classes, surd_of, is_reduced, NoneIs, HasForm, IsReduced, IsWholePowerForm, reduced_words, IsShowable, IsFactor, AreFactors}
 use Rattle.calc_algebra.proofs.NumberLaws.{number_test}
-use Rattle.calc_algebra.specs.Reduced.{is_reduced, NoneIs, HasForm, IsReduced, IsWholePowerForm}
-use Rattle.calc_algebra.proofs.ReducedLaws.{reduced_words}
-use Rattle.beautify.specs.Showing.{IsShowable, IsFactor, AreFactors}
 
 -- the root of a part of a reduced tree
 abbrev pub IsFormed : Tree → Type 0
@@ -19,14 +12,10 @@ IsFormed undef = ⊥
 IsFormed _ = Unit {0}
 
 pub formed : (t : Tree) → HasForm t → IsFormed t
-formed undef (inl h) = h
-formed undef (inr h) = h
-formed (neg a) (inl h) = h
-formed (neg a) (inr h) = h
-formed (sub a b) (inl h) = h
-formed (sub a b) (inr h) = h
-formed (div a b) (inl h) = h
-formed (div a b) (inr h) = h
+formed undef h = elim h [ inl x ↦ x | inr x ↦ x ]
+formed (neg a) h = elim h [ inl x ↦ x | inr x ↦ x ]
+formed (sub a b) h = elim h [ inl x ↦ x | inr x ↦ x ]
+formed (div a b) h = elim h [ inl x ↦ x | inr x ↦ x ]
 formed _ h = tt
 
 pub first_part : (t : Tree) → AllParts HasForm t → HasForm t

@@ -1,13 +1,9 @@
 -- Signs and exponents of trees.
 use Rattle.std.proofs.Common.{◌≡◌, ℕ, zero, suc, refl, ap, arith, true, false}
 use Rattle.std.specs.Prelude.{ℤ, pos, negsuc, nat_abs}
-use Rattle.std.proofs.lemmas.Bool.{le-ltb}
 use lib.Signed.{lt_z}
-use Rattle.calc_language.specs.Faces.{below_zero}
-use Rattle.calc_terms.specs.Integers.{int_is_negative}
-use Rattle.calc_terms.specs.Trees.{Tree, num, root_kind}
+use Rattle.beautify.proofs.Names.{below_zero, int_is_negative, Tree, num, root_kind, is_negative_num, le-ltb}
 use Rattle.calc_terms.specs.declared.kind.Kind.TheVariants as kind
-use Rattle.beautify.specs.Showing.{is_negative_num}
 
 pub lt_z-zero : (p : ℤ) → lt_z p (pos 0) ≡ int_is_negative p
 lt_z-zero (pos n) = le-ltb n 0 (omega arith)
@@ -26,8 +22,3 @@ below_zero-positive (negsuc n) d h = absurd cc
 pub below_zero-whole : (p : ℤ) (d : ℕ) → int_is_negative p ≡ true → d ≡ 1 → below_zero p d ≡ nat_abs p
 below_zero-whole (pos n) d h e = absurd cc
 below_zero-whole (negsuc n) d h e = ap (below_zero (negsuc n)) e
-
--- no rational
-pub no_number : (t : Tree) → (root_kind t ≡ kind.Num → ⊥) → is_negative_num t ≡ false
-no_number (num q) h = absurd (h refl)
-no_number _ h = refl

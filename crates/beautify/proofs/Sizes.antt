@@ -1,16 +1,7 @@
 -- Bytes of the trees of a stack, before a change and after it.
 use Rattle.std.proofs.Common.{◌≡◌, ℕ, zero, suc, ◌+◌, ◌*◌, ◌<◌, ◌≤◌, ap, ◌∙◌, arith, true}
-use Rattle.std.proofs.lemmas.Bool.{eqb-true}
-use Rattle.calc_terms.specs.Trees.{Tree, num, add, div, Trees, none, more, append, count, size, sizes, is_add, is_div}
-use Rattle.calc_terms.specs.declared.kind.Kind.{Kind}
+use Rattle.beautify.proofs.Names.{Tree, add, div, Trees, none, more, append, count, size, sizes, is_add, is_div, Kind, used, State, free_of, nth, inserted, compound, takes_kind, children_of, Stands, forest, first, behind, cut, gathered, stacked, IsStack, Restacks, least_size, eqb-true}
 use Rattle.calc_terms.specs.declared.kind.Kind.TheVariants as kind
-use Rattle.calc_terms.proofs.Sizes.{num_least}
-use Rattle.node_pool.specs.Nodes.{used}
-use Rattle.node_pool.specs.State.{State, free_of}
-use Rattle.tree_handles.specs.Expressions.{nth, inserted, compound, takes_kind, children_of}
-use Rattle.tree_handles.specs.Standing.{Stands, forest}
-use Rattle.beautify.specs.Lists.{first, behind, cut, gathered}
-use Rattle.beautify.specs.Stacks.{stacked, IsStack, Restacks}
 use Rattle.beautify.proofs.Stacking.{free_after, bytes_of_stack, same_stack}
 use Rattle.beautify.proofs.Trees.{count-first, count-behind}
 
@@ -101,12 +92,11 @@ sizes-divisor at to ts h w =
 -- ---- how many trees
 
 pub some_size : (t : Tree) → 8 ≤ size t
-some_size (num q) = omega (arith, num_least q)
-some_size t = omega arith
+some_size t = least_size t
 
 pub eight_each : (ts : Trees) → 8 * count ts ≤ sizes ts
 eight_each none = omega arith
-eight_each (more t ts) = omega (arith, some_size t, eight_each ts)
+eight_each (more t ts) = omega (arith, least_size t, eight_each ts)
 
 -- a stack has fewer trees than a pool can have nodes
 pub few_stacked : {i : ℕ} (s : State) → Stands s → IsStack i (forest s) → count (stacked i (forest s)) ≤ 65534

@@ -1,16 +1,9 @@
 -- Fractions on a stack: numbers, powers and factors.
 use Rattle.std.proofs.Common.{◌≡◌, ℕ, zero, suc, ◌+◌, ◌<◌, ◌≤◌, refl, sym, ap, ◌∙◌, arith, Bool, true, false, ◌==◌, nat_abs, if◌then◌else◌}
 use Rattle.std.specs.Prelude.{ℤ, pos, negsuc}
-use Rattle.std.proofs.lemmas.Bool.{ltb-true, ltb-false, eqb-true, ne_eqb}
-use Rattle.calc_language.specs.Faces.{fraction_of, product_of, power_below, unsigned_face, unless_one, exponent_below, below_zero, has_minus, with_minus, factor_above, factor_below}
-use Rattle.calc_terms.specs.Fractions.{Fraction}
-use Rattle.calc_terms.specs.Trees.{Tree, num, symbol, add, power, root, Trees, none, more, append, count, is_div, whole_num, root_kind}
+use Rattle.beautify.proofs.Names.{fraction_of, product_of, power_below, unsigned_face, unless_one, exponent_below, below_zero, has_minus, with_minus, factor_above, factor_below, Fraction, Tree, num, symbol, add, power, root, Trees, none, more, append, count, is_div, whole_num, root_kind, nth, inserted, children_of, first, behind, cut, node_room, IsFactor, HoldsFaces, stands_below, ltb-true, ltb-false, ne_eqb}
 use Rattle.calc_terms.specs.declared.kind.Kind.TheVariants as kind
-use Rattle.tree_handles.specs.Expressions.{nth, inserted, children_of}
-use Rattle.beautify.specs.Lists.{first, behind, cut}
-use Rattle.beautify.specs.Room.{node_room}
-use Rattle.beautify.specs.Showing.{IsFactor, HoldsFaces, stands_below}
-use Rattle.beautify.proofs.Trees.{first-append, behind-append, append_assoc, count-append, inserted-append, cut-append}
+use Rattle.beautify.proofs.Trees.{first-append, behind-append, append_assoc, count-append, inserted-append, cut-append, unless_one_test}
 
 -- the lists of a fraction, by their lengths
 pub fraction_lists : (a b : ℕ) (us vs ts ts2 : Trees) → a ≡ count us → b ≡ count vs → ts2 ≡ append us (append vs ts) → more (fraction_of (first a ts2) (first b (behind a ts2))) (behind (a + b) ts2) ≡ more (fraction_of us vs) ts
@@ -47,11 +40,7 @@ pub power_face : (b e : Tree) (k : ℕ) → exponent_below e ≡ k → unsigned_
 power_face b e k h = ap (λ (n : ℕ). face_by n (signed b) (signed e)) h
 
 one_or_more : (n : ℕ) → product_of (unless_one n none) ≡ whole_num n
-one_or_more n = by (n == 1) refl
-  where
-    by : (b : Bool) → (n == 1) ≡ b → product_of (if b then none else more (whole_num n) none) ≡ whole_num n
-    by true h = ap whole_num (sym (eqb-true n 1 h))
-    by false h = refl
+one_or_more n = unless_one_test (λ us. product_of us ≡ whole_num n) n none (λ e. ap whole_num (sym e)) refl
 
 -- the face of an exponent below the line
 below_face : (n d k : ℕ) → below_zero (negsuc n) d ≡ suc k → fraction_of (unless_one (suc n) none) (unless_one d none) ≡ whole_num (suc k)
@@ -117,11 +106,7 @@ pub record IsBelow (t : Tree) : Type 0 where
 is_power_below : (b e : Tree) (k : ℕ) → exponent_below e ≡ suc k → IsBelow (power b e)
 is_power_below b e k h =
     let face = power_face b e (suc k) h in
-    record {
-      quotient = ap is_div face;
-      above = λ us. ap (λ (n : ℕ). above_by n (signed b) (signed e) us) h;
-      below = λ us. ap (λ (n : ℕ). below_by n (signed b) us) h ∙ ap (λ (t : Tree). more (nth 1 (children_of t)) us) (sym face);
-    }
+    record { quotient = ap is_div face; above = λ us. ap (λ (n : ℕ). above_by n (signed b) (signed e) us) h; below = λ us. ap (λ (n : ℕ). below_by n (signed b) us) h ∙ ap (λ (t : Tree). more (nth 1 (children_of t)) us) (sym face) }
 
 some : (n : ℕ) → 0 < n → (k : ℕ) × (n ≡ suc k)
 some zero h = absurd (omega (arith, h))
@@ -137,10 +122,7 @@ pub record IsAbove (t : Tree) : Type 0 where
   pub below : (us : Trees) → factor_below t us ≡ us
 
 power_is_above : (b e : Tree) → exponent_below e ≡ 0 → IsAbove (power b e)
-power_is_above b e h = record {
-  above = λ us. ap (λ (n : ℕ). above_by n (signed b) (signed e) us) h ∙ ap (λ (t : Tree). more t us) (sym (power_face b e 0 h));
-  below = λ us. ap (λ (n : ℕ). below_by n (signed b) us) h;
-}
+power_is_above b e h = record { above = λ us. ap (λ (n : ℕ). above_by n (signed b) (signed e) us) h ∙ ap (λ (t : Tree). more t us) (sym (power_face b e 0 h)); below = λ us. ap (λ (n : ℕ). below_by n (signed b) us) h }
 
 pub above_factor : (t : Tree) → IsFactor t → (root_kind t ≡ kind.Num → ⊥) → stands_below t ≡ false → IsAbove t
 above_factor (num q) f n h = absurd (n refl)
@@ -156,13 +138,6 @@ unless_one-append n us = by (n == 1)
     by : (b : Bool) → (if b then us else more (whole_num n) us) ≡ append (if b then none else more (whole_num n) none) us
     by true = refl
     by false = refl
-
-pub unless_one-few : (n : ℕ) → count (unless_one n none) ≤ 1
-unless_one-few n = by (n == 1)
-  where
-    by : (b : Bool) → count (if b then none else more (whole_num n) none) ≤ 1
-    by true = omega arith
-    by false = omega arith
 
 -- ---- a factor among the others
 

@@ -1,26 +1,8 @@
 -- What the calls on a stack want and give.
-use Rattle.std.proofs.Common.{◌≡◌, ◌↔◌, ℕ, ◌+◌, ◌<◌, ◌≤◌, refl, sym, ap, ◌∙◌, subst, arith, true, false, Result, Ok, Err, IsErr, IsErrAnd, IfErr, OnOk}
-use Rattle.calc_terms.specs.Trees.{Tree, add, Trees, none, more, count, size, sizes, is_add}
-use Rattle.calc_terms.specs.declared.kind.Kind.{Kind}
+use Rattle.std.proofs.Common.{◌≡◌, ◌↔◌, ℕ, ◌+◌, ◌<◌, ◌≤◌, refl, sym, ap, ◌∙◌, subst, arith, true, false, Result, Ok, Err, IfErr, OnOk}
+use Rattle.beautify.proofs.Names.{Tree, add, Trees, none, more, count, size, sizes, is_add, Kind, used, State, free_of, Full, plain, inserted, children_of, IsExpression, AllExpressions, Forest, arity, kids, bytes_in, Gives, Ends, Starts, holds, kids_of, tree_at, has_root, root_tree, without_root, Stands, forest, IsRefused, bytes_in-join, keeps_after, refuses_after, given_rest, given_told, gives_as, last_root, last_tree, other_root, other_apart, other_tree, apart, kids_of_root, eqb-sym, used_forest, count-plains, size-plain, root_held, stacked, IsStack, Restacks, FailsAbove}
 use Rattle.calc_terms.specs.declared.kind.Kind.TheVariants as kind
-use Rattle.node_pool.specs.Nodes.{used}
-use Rattle.node_pool.specs.State.{State, free_of}
-use Rattle.node_pool.specs.declared.full.Full.{Full}
-use Rattle.tree_handles.specs.Expressions.{plain, inserted, children_of, IsExpression, AllExpressions}
-use Rattle.tree_handles.specs.Forest.{Forest, arity, kids, bytes_in}
-use Rattle.tree_handles.specs.Handed.{Gives, Ends, Starts}
-use Rattle.tree_handles.specs.Inside.{holds, kids_of, tree_at}
-use Rattle.tree_handles.specs.Roots.{has_root, root_tree, without_root}
-use Rattle.tree_handles.specs.Standing.{Stands, forest, IsRefused}
-use Rattle.tree_handles.proofs.Forests.{bytes_in-join, keeps_after, refuses_after}
-use Rattle.tree_handles.proofs.Given.{given_rest, given_told, gives_as}
 use Rattle.tree_handles.proofs.Joins.{holds-left, tree_at-join_left}
-use Rattle.tree_handles.proofs.Lasts.{last_root, last_tree, other_root, other_apart, other_tree, apart, kids_of_root}
-use Rattle.tree_handles.proofs.Outcomes.{eqb-sym}
-use Rattle.tree_handles.proofs.Places.{used_forest}
-use Rattle.tree_handles.proofs.Plains.{count-plains, size-plain}
-use Rattle.tree_handles.proofs.Roots.{root_held}
-use Rattle.beautify.specs.Stacks.{stacked, IsStack, Restacks, FailsAbove}
 use Rattle.beautify.proofs.Opens.{Opens, opened, opened_as, closed}
 use Rattle.beautify.proofs.Trees.{add_kind}
 
@@ -62,13 +44,7 @@ is_under {f = f} {i = i} {j = j} {ts = ts} s st o t =
     let under = last_root o.ends in
     let here = other_root i t under in
     let tree = other_tree i t under ∙ last_tree o.ends in
-    record {
-      live = root_held i (forest s) here;
-      top = here;
-      root = last_root t;
-      apart-is = apart i j st (eqb-sym j i (other_apart i t under)) here (last_root t);
-      many = ap arity (kids_of_root i st here ∙ ap kids tree) ∙ sym (count-plains o.below) ∙ ap count o.holds.plain_trees;
-    }
+    record { live = root_held i (forest s) here; top = here; root = last_root t; apart-is = apart i j st (eqb-sym j i (other_apart i t under)) here (last_root t); many = ap arity (kids_of_root i st here ∙ ap kids tree) ∙ sym (count-plains o.below) ∙ ap count o.holds.plain_trees }
 
 -- the last node alone
 pub many_last : {g : Forest} {i : ℕ} {k : Kind} {ts : Trees} (s : State) → Stands s → Opens g (forest s) i k ts → arity (kids_of i (forest s)) ≡ count ts
@@ -98,11 +74,7 @@ pub then : {i : ℕ} {s t u : State} {ts us : Trees} → Restacks i s t ts → R
 then {i = i} {s = s} {t = t} {u = u} a b = record { gives = gives_as b.gives (given_rest a.gives) (λ x e. e); kept = keeps_after s t u a.kept b.kept }
 
 pub fails_then : {i : ℕ} {s t u : State} {ts : Trees} {full : Full} → Restacks i s t ts → FailsAbove i t u full → FailsAbove i s u full
-fails_then {i = i} {s = s} {t = t} {u = u} {full = full} a b = record {
-  first = subst (λ (x : Forest). Starts x (forest u)) (given_rest a.gives) b.first;
-  refuses = refuses_after s t u full a.kept b.refuses;
-  lacks = b.lacks;
-}
+fails_then {i = i} {s = s} {t = t} {u = u} {full = full} a b = record { first = subst (λ (x : Forest). Starts x (forest u)) (given_rest a.gives) b.first; refuses = refuses_after s t u full a.kept b.refuses; lacks = b.lacks }
 
 pub restacks_as : {i : ℕ} {s t : State} {ts us : Trees} → Restacks i s t ts → ts ≡ us → Restacks i s t us
 restacks_as {i = i} {s = s} {t = t} r e = subst (Restacks i s t) e r
@@ -125,16 +97,7 @@ short n m e = grind (arith, no)
 pub fails_at_once : {i n : ℕ} {s t : State} {full : Full} → IsStack i (forest s) → IsRefused n s t full → free_of s < n → FailsAbove i s t full
 fails_at_once {n = n} {s = s} {t = t} {full = full} h r lack =
     let free : free_of t ≡ free_of s = ap free_of r.state in
-    record {
-      first = record { behind = h.last.tree; whole = r.same ∙ h.last.ends.whole };
-      refuses = r.refuses;
-      lacks = record { free = ap (λ (x : Full). x.free) r.told ∙ sym free; lacking = subst (λ (x : Full). x.free < x.needed) (sym r.told) lack };
-    }
-
--- what a `?` passes on
-pub passed_on : {A : Type 0} (r : Result A Full) (e : Full) (P : Full → Type 0) → IsErr r → IsErrAnd r (λ x. x ≡ e) → P e → IfErr r P
-passed_on (Ok x) e P h a p = let no : false ≡ true = h in cc
-passed_on (Err f) e P h a p = subst P (sym a) p
+    record { first = record { behind = h.last.tree; whole = r.same ∙ h.last.ends.whole }; refuses = r.refuses; lacks = record { free = ap (λ (x : Full). x.free) r.told ∙ sym free; lacking = subst (λ (x : Full). x.free < x.needed) (sym r.told) lack } }
 
 -- what a call promised where it succeeded
 pub on_ok : {A : Type 0} (r : Result A Full) {P Q : Type 0} → OnOk r P → (P → Q) → OnOk r Q

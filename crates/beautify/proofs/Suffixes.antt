@@ -1,28 +1,14 @@
 -- The nodes of a tree from the last to the first.
 use Rattle.std.proofs.Common.{◌≡◌, ℕ, zero, suc, ◌+◌, ◌*◌, ◌<◌, ◌≤◌, List, [], ◌∷◌, ◌++◌, length, take, drop, refl, sym, ap, ◌∙◌, subst, arith, true, false}
-use Rattle.calc_language.specs.Faces.{unsigned_face}
-use Rattle.calc_terms.specs.Node.{Node}
-use Rattle.calc_terms.specs.Trees.{Tree, num, symbol, undef, add, mult, power, root, Trees, none, more, append, count, size, sizes, root_size, AllParts, AllPartsOf}
-use Rattle.node_pool.specs.Nodes.{has, first_of, place_of, AreDistinct}
+use Rattle.beautify.proofs.Names.{unsigned_face, Node, Tree, num, symbol, undef, add, mult, power, root, Trees, none, more, append, count, size, sizes, root_size, AllParts, AllPartsOf, has, first_of, place_of, AreDistinct, plain, plains, grown, children_of, IsExpression, AllExpressions, IsWhole, Label, Forest, empty, tree, join, arity, flatten, node_of, holds, tree_at, kids_of, Distinct, distinct-tree_at, tree_at-inside, holds-tree_at, not_before, forest_of-flatten, forest_of_whole, has-flatten, first_trees-join, rest_trees-join, all-join, at, has_mid, plains-join, grown_whole, alone, behind, unsigned_faces, IsShowable, HoldsFaces, one_at, node_room, split_at, tail_of}
 use Rattle.node_pool.specs.Places.{since}
 use Rattle.node_pool.proofs.Cuts.{since-append}
 use Rattle.node_pool.proofs.Splits.{place_of-append}
-use Rattle.tree_handles.specs.Expressions.{plain, plains, grown, children_of, IsExpression, AllExpressions, IsWhole}
-use Rattle.tree_handles.specs.Forest.{Label, Forest, empty, tree, join, arity, flatten, forest_of, node_of}
-use Rattle.tree_handles.specs.Inside.{holds, tree_at, kids_of}
-use Rattle.tree_handles.proofs.Distinct.{Distinct, distinct-tree_at, tree_at-inside, holds-tree_at, not_before}
-use Rattle.tree_handles.proofs.Forests.{forest_of-flatten, forest_of_whole, has-flatten, first_trees-join, rest_trees-join, all-join}
-use Rattle.tree_handles.proofs.Parts.{at, has_mid}
-use Rattle.tree_handles.proofs.Plains.{plains-join, grown_whole, alone}
-use Rattle.beautify.specs.Lists.{behind}
-use Rattle.beautify.specs.Showing.{unsigned_faces, IsShowable, HoldsFaces}
-use Rattle.beautify.proofs.Factors.{count-faces}
+use Rattle.tree_handles.specs.Forest.{forest_of}
+use Rattle.beautify.proofs.Factors.{count-faces, faces-append}
 use Rattle.beautify.proofs.Sizes.{sizes-append}
-use Rattle.tree_handles.proofs.Measures.{one_at}
 use Rattle.beautify.proofs.Bounds.{bounds, needs}
-use Rattle.beautify.specs.Room.{node_room}
 use Rattle.beautify.proofs.Trees.{behind-append, count-append}
-use Rattle.tree_walks.proofs.Orders.{split_at, tail_of}
 
 -- ---- one node of a list by its identifier
 
@@ -56,15 +42,7 @@ next_node f n d h =
     let cut = same_split x.id (take n ns) (drop (suc n) ns) p.before (flatten k ++ p.after) x (node_of p.label k) (s.0 ∙ p.flat) refl p.id-is before p.first in
     let rest : forest_of (drop (suc n) ns) ≡ join k (forest_of p.after) = ap forest_of (tail_of cut) ∙ forest_of-flatten k p.after in
     let all : forest_of (drop n ns) ≡ tree p.label k (forest_of p.after) = ap forest_of (s.1 ∙ cut) ∙ rw (forest_of-flatten k p.after, first_trees-join k (forest_of p.after), rest_trees-join k (forest_of p.after)) refl in
-    record {
-      label = p.label;
-      below = k;
-      others = forest_of p.after;
-      live = live;
-      tree-is = p.tree-is;
-      here = all;
-      next = rest;
-    }
+    record { label = p.label; below = k; others = forest_of p.after; live = live; tree-is = p.tree-is; here = all; next = rest }
 
 -- ---- what holds of each rest of the nodes
 
@@ -128,10 +106,6 @@ suffix f d w p (suc n) h =
       small = omega (arith, s.small, ap (λ (y : Forest). sizes (plains y)) x.here, ap (λ (y : Forest). sizes (plains y)) x.next, o.bytes);
     }
 
-faces_append : (ts us : Trees) → unsigned_faces (append ts us) ≡ append (unsigned_faces ts) (unsigned_faces us)
-faces_append none us = refl
-faces_append (more t ts) us = ap (more (unsigned_face t)) (faces_append ts us)
-
 -- the node that is shown next, in the forest where its tree stands
 pub record Shows (i : ℕ) (g : Forest) (n : ℕ) (t : Tree) (ts : Trees) : Type 0 where
   pub expression : IsExpression (first_of (drop n (flatten (tree_at i g)))).id g
@@ -166,7 +140,7 @@ show_next i g n ts d e p h q =
     let kids = (grown_whole x.label x.below x.others w).children-are in
     let inside : tree_at id g ≡ tree x.label x.below empty = tree_at-inside i id g d x.live ∙ x.tree-is in
     let faces : ts ≡ append (unsigned_faces (children_of t)) (unsigned_faces (plains x.others)) =
-    q ∙ ap (λ (y : Forest). unsigned_faces (plains y)) x.next ∙ ap unsigned_faces (plains-join x.below x.others) ∙ faces_append (plains x.below) (plains x.others) ∙ ap (λ (y : Trees). append (unsigned_faces y) (unsigned_faces (plains x.others))) (sym kids) in
+    q ∙ ap (λ (y : Forest). unsigned_faces (plains y)) x.next ∙ ap unsigned_faces (plains-join x.below x.others) ∙ faces-append (plains x.below) (plains x.others) ∙ ap (λ (y : Trees). append (unsigned_faces y) (unsigned_faces (plains x.others))) (sym kids) in
     let hf = holds_faces (children_of t) ts (unsigned_faces (plains x.others)) faces in (
       t,
       record {

@@ -1,12 +1,7 @@
 -- The terms of a sum, one after another.
-use Rattle.std.proofs.Common.{◌≡◌, ℕ, zero, suc, ◌+◌, ◌-◌, ◌*◌, ◌<◌, ◌≤◌, refl, sym, ap, ◌∙◌, arith, add-one, Bool, true, false}
-use Rattle.calc_language.specs.Faces.{next_term, next_terms, has_minus, with_minus, unsigned_face}
-use Rattle.calc_language.specs.Grammar.{SoFar, single, as_tree}
-use Rattle.calc_terms.specs.Trees.{Tree, add, Trees, none, more, append, count, is_add}
-use Rattle.tree_handles.specs.Expressions.{nth, children_of}
-use Rattle.beautify.specs.Lists.{first, behind}
-use Rattle.beautify.specs.Room.{node_room}
-use Rattle.beautify.specs.Showing.{unsigned_faces, is_summed, IsShowable, HoldsFaces}
+use Rattle.std.proofs.Common.{◌≡◌, ℕ, zero, suc, ◌+◌, ◌-◌, ◌*◌, ◌<◌, ◌≤◌, refl, sym, ap, ◌∙◌, arith, add-one, Bool, true, false, subst}
+use Rattle.beautify.proofs.Names.{next_term, next_terms, has_minus, with_minus, unsigned_face, SoFar, single, as_tree, Tree, add, Trees, none, more, append, count, is_add, nth, children_of, first, behind, node_room, unsigned_faces, is_summed, IsShowable, HoldsFaces}
+use Rattle.beautify.proofs.Factors.{all_first}
 
 -- what the first n terms and one make
 abbrev pub so_far : ℕ → Trees → SoFar
@@ -23,10 +18,7 @@ so_far-more n none h = absurd (omega (arith, h))
 so_far-more n (more t ts) h = next_terms-more n (single (with_minus (has_minus t) (unsigned_face t))) ts (omega (arith, h))
 
 first-all : (n : ℕ) (ts : Trees) → count ts ≡ n → first n ts ≡ ts
-first-all zero none h = refl
-first-all zero (more t ts) h = absurd (omega (arith, h))
-first-all (suc n) none h = refl
-first-all (suc n) (more t ts) h = ap (more t) (first-all n ts (omega (arith, h)))
+first-all n ts h = subst (λ (k : ℕ). first k ts ≡ ts) h (all_first ts)
 
 pub so_far-all : (n : ℕ) (t : Tree) → is_add t ≡ true → count (children_of t) ≡ n + 1 → as_tree (so_far n (children_of t)) ≡ unsigned_face t
 so_far-all n (add none) h e = absurd (omega (arith, e))
@@ -67,31 +59,23 @@ next_face n us ts w h = ap (behind n) h.begins ∙ faces-nth n us (behind (count
 pub two_left : (n : ℕ) (us ts tops : Trees) (x : Tree) → n < count us → HoldsFaces us ts → tops ≡ more x (behind n ts) → 2 ≤ count tops
 two_left n us ts tops x w h e = omega (arith, ap count e, ap count (next_face n us ts w h))
 
+-- the next term joins those so far
+step : (n : ℕ) (us ts tops : Trees) (negative : Bool) → 1 ≤ n → n < count us → HoldsFaces us ts → tops ≡ more (as_tree (so_far (n - 1) us)) (behind n ts) → negative ≡ has_minus (nth n us)
+    → (next_term (so_far (n - 1) us) negative (nth 1 tops) ≡ so_far (n + 1 - 1) us) × (behind 2 tops ≡ behind (n + 1) ts)
+step zero us ts tops negative o w h e m = absurd (omega (arith, o))
+step (suc k) us ts tops negative o w h e m =
+    let one : suc k - 1 ≡ k = omega arith in
+    let two : suc k + 1 - 1 ≡ suc k = omega arith in
+    let all : tops ≡ more (as_tree (so_far k us)) (more (unsigned_face (nth (suc k) us)) (behind (suc (suc k)) ts)) = e ∙ rw (one, next_face (suc k) us ts w h) refl in
+    (rw (one, two, so_far-more k us (omega (arith, w)), m, all) refl, rw (add-one (suc k), all) refl)
+
 pub sum_step : (n : ℕ) (us ts tops : Trees) (negative : Bool) → 1 ≤ n → n < count us → HoldsFaces us ts → tops ≡ more (as_tree (so_far (n - 1) us)) (behind n ts) → negative ≡ has_minus (nth n us)
     → more (as_tree (next_term (so_far (n - 1) us) negative (nth 1 tops))) (behind 2 tops) ≡ more (as_tree (so_far (n + 1 - 1) us)) (behind (n + 1) ts)
-sum_step n us ts tops negative o w h e m = by n o w e m
-  where
-    by : (n : ℕ) → 1 ≤ n → n < count us → tops ≡ more (as_tree (so_far (n - 1) us)) (behind n ts) → negative ≡ has_minus (nth n us)
-        → more (as_tree (next_term (so_far (n - 1) us) negative (nth 1 tops))) (behind 2 tops) ≡ more (as_tree (so_far (n + 1 - 1) us)) (behind (n + 1) ts)
-    by zero o w e m = absurd (omega (arith, o))
-    by (suc k) o w e m =
-        let one : suc k - 1 ≡ k = omega arith in
-        let two : suc k + 1 - 1 ≡ suc k = omega arith in
-        let all : tops ≡ more (as_tree (so_far k us)) (more (unsigned_face (nth (suc k) us)) (behind (suc (suc k)) ts)) = e ∙ rw (one, next_face (suc k) us ts w h) refl in
-        rw (one, two, add-one (suc k), so_far-more k us (omega (arith, w)), m, all) refl
+sum_step n us ts tops negative o w h e m = let s = step n us ts tops negative o w h e m in λ i. more (as_tree (s.0 i)) (s.1 i)
 
 pub summed_step : (n : ℕ) (us ts tops : Trees) (negative now : Bool) → 1 ≤ n → n < count us → HoldsFaces us ts → tops ≡ more (as_tree (so_far (n - 1) us)) (behind n ts) → negative ≡ has_minus (nth n us)
     → now ≡ is_summed (next_term (so_far (n - 1) us) negative (nth 1 tops)) → now ≡ is_summed (so_far (n + 1 - 1) us)
-summed_step n us ts tops negative now o w h e m i = i ∙ by n o w e m
-  where
-    by : (n : ℕ) → 1 ≤ n → n < count us → tops ≡ more (as_tree (so_far (n - 1) us)) (behind n ts) → negative ≡ has_minus (nth n us)
-        → is_summed (next_term (so_far (n - 1) us) negative (nth 1 tops)) ≡ is_summed (so_far (n + 1 - 1) us)
-    by zero o w e m = absurd (omega (arith, o))
-    by (suc k) o w e m =
-        let one : suc k - 1 ≡ k = omega arith in
-        let two : suc k + 1 - 1 ≡ suc k = omega arith in
-        let all : tops ≡ more (as_tree (so_far k us)) (more (unsigned_face (nth (suc k) us)) (behind (suc (suc k)) ts)) = e ∙ rw (one, next_face (suc k) us ts w h) refl in
-        rw (one, two, so_far-more k us (omega (arith, w)), m, all) refl
+summed_step n us ts tops negative now o w h e m i = i ∙ ap is_summed (step n us ts tops negative o w h e m).0
 
 pub sum_end : (n m : ℕ) (t : Tree) (ts : Trees) → is_add t ≡ true → n ≡ m → 1 ≤ n → m ≡ count (children_of t) → more (as_tree (so_far (n - 1) (children_of t))) (behind n ts) ≡ more (unsigned_face t) (behind (count (children_of t)) ts)
 sum_end n m t ts h e o f =

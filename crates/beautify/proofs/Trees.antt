@@ -1,11 +1,7 @@
 -- Lists of trees and their places.
-use Rattle.std.proofs.Common.{◌≡◌, ℕ, zero, suc, ◌+◌, ◌-◌, ◌<◌, ◌≤◌, refl, ap, ◌∙◌, arith, true}
-use Rattle.calc_terms.specs.Trees.{Tree, add, div, Trees, none, more, append, count, is_add, is_div, root_kind}
-use Rattle.calc_terms.specs.Payload.{is_bare}
-use Rattle.calc_terms.specs.declared.kind.Kind.{Kind}
+use Rattle.std.proofs.Common.{◌≡◌, ℕ, zero, suc, ◌+◌, ◌-◌, ◌<◌, ◌≤◌, refl, ap, ◌∙◌, arith, true, ◌==◌, if◌then◌else◌}
+use Rattle.beautify.proofs.Names.{Tree, add, div, Trees, none, more, append, count, is_add, is_div, root_kind, is_bare, Kind, nth, inserted, takes_kind, children_of, first, behind, cut, append-none, whole_num, power, unless_one, power_below, by_test, eqb-true}
 use Rattle.calc_terms.specs.declared.kind.Kind.TheVariants as kind
-use Rattle.tree_handles.specs.Expressions.{nth, inserted, takes_kind, children_of}
-use Rattle.beautify.specs.Lists.{first, behind, cut}
 
 pub behind-behind : (n : ℕ) (ts : Trees) → behind 1 (behind n ts) ≡ behind (suc n) ts
 behind-behind zero ts = refl
@@ -56,10 +52,6 @@ count-first (suc n) none h = absurd (omega arith)
 count-first (suc n) (more t ts) h = ap suc (count-first n ts (omega arith))
 
 -- ---- places behind the first trees
-
-pub append-none : (xs : Trees) → append xs none ≡ xs
-append-none none = refl
-append-none (more x xs) = ap (more x) (append-none xs)
 
 pub inserted-append : (xs us ys : Trees) → inserted (count xs) us (append xs ys) ≡ append xs (append us ys)
 inserted-append none us ys = refl
@@ -112,3 +104,25 @@ pub bare_takes : (k : Kind) (n : ℕ) → takes_kind k n ≡ true → is_bare k 
 bare_takes kind.Num n h = absurd cc
 bare_takes kind.Sym n h = absurd cc
 bare_takes k n h = refl
+
+-- ---- the place before one
+
+pub pred_less : (n k : ℕ) → 0 < n → n ≤ k → n - 1 < k
+pred_less n k h w = omega (arith, h, w)
+
+pub pred_next : (n : ℕ) → 0 < n → n ≡ suc (n - 1)
+pred_next n h = omega (arith, h)
+
+-- ---- a whole number or an exponent that is not written where it is 1
+
+pub unless_one_test : (P : Trees → Type 0) (n : ℕ) (ts : Trees) → (n ≡ 1 → P ts) → P (more (whole_num n) ts) → P (unless_one n ts)
+unless_one_test P n ts h k = by_test (λ b. P (if b then ts else more (whole_num n) ts)) (n == 1) (λ e. h (eqb-true n 1 e)) (λ e. k)
+
+pub unless_one_by : (P : Trees → Type 0) (n : ℕ) (ts : Trees) → P ts → P (more (whole_num n) ts) → P (unless_one n ts)
+unless_one_by P n ts h k = unless_one_test P n ts (λ e. h) k
+
+pub power_below_test : (P : Tree → Type 0) (b : Tree) (n : ℕ) → (n ≡ 1 → P b) → P (power b (whole_num n)) → P (power_below b n)
+power_below_test P b n h k = by_test (λ t. P (if t then b else power b (whole_num n))) (n == 1) (λ e. h (eqb-true n 1 e)) (λ e. k)
+
+pub power_below_by : (P : Tree → Type 0) (b : Tree) (n : ℕ) → P b → P (power b (whole_num n)) → P (power_below b n)
+power_below_by P b n h k = power_below_test P b n (λ e. h) k

@@ -76,6 +76,7 @@ fn split_factor(
 }
 
 /// The same for a factor that is no rational.
+#[tactic(auto, using(crate::proofs::Sizes::few_stacked))]
 fn split_other(
     pool: &mut Pool,
     stack: &Handle,
@@ -114,6 +115,7 @@ fn split_other(
 
 /// The face of a rational at a place of the stack is released, and its numerator stands above the line,
 /// and its denominator below it, unless they are 1.
+#[tactic(auto, using(crate::proofs::Sizes::few_stacked))]
 fn split_number(
     pool: &mut Pool,
     stack: &Handle,

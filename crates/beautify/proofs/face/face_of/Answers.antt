@@ -1,25 +1,11 @@
-use Rattle.std.proofs.Common.{◌≡◌, ℕ, Bool, true, false, inl, ap, sym, ◌∙◌, subst, arith, refl}
-use Rattle.calc_language.specs.Faces.{face}
-use Rattle.calc_terms.specs.Trees.{count, size, AllParts}
-use Rattle.calc_algebra.specs.Rewritings.{KeepsMeanings}
-use Rattle.tree_handles.specs.Handed.{tree_of, Gives, Starts}
-use Rattle.tree_handles.specs.Expressions.{plain, nth, IsExpression}
-use Rattle.tree_handles.specs.Forest.{Forest}
-use Rattle.tree_handles.specs.Inside.{tree_at}
-use Rattle.tree_handles.specs.Roots.{without_root}
-use Rattle.tree_handles.specs.Standing.{forest}
-use Rattle.tree_handles.proofs.Forests.{refuses_after}
+use Rattle.std.proofs.Common.{◌≡◌, ℕ, Bool, true, false, inl, ap, sym, ◌∙◌, subst, arith, refl, rules}
+use Rattle.beautify.proofs.Names.{face, count, size, AllParts, KeepsMeanings, tree_of, Gives, Starts, plain, nth, IsExpression, Forest, tree_at, without_root, forest, refuses_after, given_rest, given_told, given_other, given_handed, gives, gives_as, owned, represents_handed, expression_root, last_tree, plain_root, has_natural_numbers, IsShowable, passed_on, least_size}
 use Rattle.tree_handles.proofs.Fronts.{behind_first, front_same, front_end, front_without, front_after}
-use Rattle.tree_handles.proofs.Given.{given_rest, given_told, given_other, given_handed, gives, gives_as, owned, represents_handed}
-use Rattle.tree_handles.proofs.Lasts.{expression_root, last_tree, plain_root}
-use Rattle.beautify.specs.OwnFaces.{has_natural_numbers}
-use Rattle.beautify.specs.Showing.{IsShowable}
 use Rattle.beautify.proofs.Faces.{face_keeps, other_gone, keeps_before, first_free, lacks_at_once}
 use Rattle.beautify.proofs.Opens.{gone_under}
 use Rattle.beautify.proofs.OwnFaces.{own_face}
 use Rattle.beautify.proofs.Showables.{reduced_showable}
-use Rattle.beautify.proofs.Sizes.{some_size}
-use Rattle.beautify.proofs.Stacking.{is_stack, stacked_is, given_opens, passed_on, short}
+use Rattle.beautify.proofs.Stacking.{is_stack, stacked_is, given_opens, short}
 use Rattle.beautify.proofs.face.face_of.Goals as goal
 use Rattle.beautify.proofs.face.face_of.Goals.{After-has_natural_numbers, After-release-2}
 
@@ -57,27 +43,20 @@ returns-in_err-show_tree-clause-own c h = absurd (another (tested (goal.at.retur
 pub returns-clause-own : goal.returns-clause-own
 returns-clause-own c h = absurd (another (tested (goal.at.returns-clause-own c).After-has_natural_numbers) c.if-has_natural_numbers.false h)
 
-pub show_tree-requires-clause-stack : goal.show_tree-requires-clause-stack
-show_tree-requires-clause-stack c = is_stack (c.in_ok-stack.ensures.given refl)
+pub show_tree-requires : goal.show_tree-requires
+show_tree-requires c =
+    let last = c.in_ok-stack.ensures.given refl in
+    let e : plain (tree_at c.id-2.result (without_root c.in_ok-stack.stack (forest c.node.new.pool))) ≡ tree_of c.args.reduced c.args.pool.now = (λ k. plain (tree_at (c.id-2.ensures k) (given_rest last k))) ∙ plain_root c.args.reduced c.requires.stands c.requires.handed.root in
+    record {
+      stands = search rules;
+      stack = is_stack last;
+      empty = stacked_is last;
+      expression = subst (λ (f : Forest). IsExpression c.id-2.result f) (sym (given_rest last)) (subst (λ (i : ℕ). IsExpression i (forest c.args.pool.now)) (sym c.id-2.ensures) (expression_root c.requires.stands c.requires.handed));
+      showable = subst (AllParts IsShowable) (sym e) (reduced_showable _ c.requires.reduced c.requires.defined);
+    }
 
-pub show_tree-requires-clause-empty : goal.show_tree-requires-clause-empty
-show_tree-requires-clause-empty c = stacked_is (c.in_ok-stack.ensures.given refl)
-
-pub show_tree-requires-clause-expression : goal.show_tree-requires-clause-expression
-show_tree-requires-clause-expression c =
-    subst (λ (f : Forest). IsExpression c.id-2.result f) (sym (given_rest (c.in_ok-stack.ensures.given refl))) (subst (λ (i : ℕ). IsExpression i (forest c.args.pool.now)) (sym c.id-2.ensures) (expression_root c.requires.stands c.requires.handed))
-
-pub show_tree-requires-clause-showable : goal.show_tree-requires-clause-showable
-show_tree-requires-clause-showable c =
-    let e : plain (tree_at c.id-2.result (without_root c.in_ok-stack.stack (forest c.node.new.pool))) ≡ tree_of c.args.reduced c.args.pool.now =
-    ap (λ (f : Forest). plain (tree_at c.id-2.result f)) (given_rest (c.in_ok-stack.ensures.given refl)) ∙ ap (λ (i : ℕ). plain (tree_at i (forest c.args.pool.now))) c.id-2.ensures ∙ plain_root c.args.reduced c.requires.stands c.requires.handed.root in
-    subst (AllParts IsShowable) (sym e) (reduced_showable _ c.requires.reduced c.requires.defined)
-
-pub pop-face-requires-clause-stack : goal.pop-face-requires-clause-stack
-pop-face-requires-clause-stack c = is_stack c.in_ok-show_tree.ensures.ok.gives
-
-pub pop-face-requires-clause-within : goal.pop-face-requires-clause-within
-pop-face-requires-clause-within c = omega (arith, ap count (stacked_is c.in_ok-show_tree.ensures.ok.gives))
+pub pop-face-requires : goal.pop-face-requires
+pop-face-requires c = let g = c.in_ok-show_tree.ensures.ok.gives in record { stands = search rules; stack = is_stack g; within = omega (arith, ap count (stacked_is g)) }
 
 pub release-requires-clause-releasable : goal.release-requires-clause-releasable
 release-requires-clause-releasable c = inl (given_other c.pop-face.ensures.gives (given_handed c.pop-face.ensures.left)).root
@@ -96,8 +75,7 @@ given c =
     let stack-gone = c.release.ensures.owned (owned (given_other c.pop-face.ensures.gives (given_handed c.pop-face.ensures.left))) in
     let alone = gives_as (gone_under (given_opens c.pop-face.ensures.left) c.pop-face.ensures.gives stack-gone) base (λ t e. e) in
     let tree-gone = c.release-2.ensures.owned (owned (given_other alone c.requires.handed)) in
-    let e : plain (tree_at c.id-2.result (without_root c.in_ok-stack.stack (forest c.node.new.pool))) ≡ tree_of c.args.reduced c.args.pool.now =
-    ap (λ (f : Forest). plain (tree_at c.id-2.result f)) (given_rest (c.in_ok-stack.ensures.given refl)) ∙ ap (λ (i : ℕ). plain (tree_at i (forest c.args.pool.now))) c.id-2.ensures ∙ plain_root c.args.reduced c.requires.stands c.requires.handed.root in
+    let e : plain (tree_at c.id-2.result (without_root c.in_ok-stack.stack (forest c.node.new.pool))) ≡ tree_of c.args.reduced c.args.pool.now = (λ k. plain (tree_at (c.id-2.ensures k) (given_rest (c.in_ok-stack.ensures.given refl) k))) ∙ plain_root c.args.reduced c.requires.stands c.requires.handed.root in
     gives_as (other_gone c.requires.handed alone tree-gone) refl (λ t q. q ∙ ap (nth 0) (stacked_is c.in_ok-show_tree.ensures.ok.gives) ∙ ap face e)
 
 pub returns-clause-ok : goal.returns-clause-ok
@@ -117,7 +95,7 @@ returns-in_err-stack-clause-caused c =
     passed_on c.from_residual.result c.in_err-stack.field-0.0 _ c.from_residual.ensures.0 c.from_residual.ensures.1 (lacks_at_once c.in_err-stack.ensures.full (short _ _ c.in_err-stack.ensures.exactly))
 
 pub returns-in_err-stack-clause-enough : goal.returns-in_err-stack-clause-enough
-returns-in_err-stack-clause-enough c h = absurd (omega (arith, h, some_size (tree_of c.args.reduced c.args.pool.now), short _ _ c.in_err-stack.ensures.exactly))
+returns-in_err-stack-clause-enough c h = absurd (omega (arith, h, least_size (tree_of c.args.reduced c.args.pool.now), short _ _ c.in_err-stack.ensures.exactly))
 
 pub returns-in_err-show_tree-clause-front : goal.returns-in_err-show_tree-clause-front
 returns-in_err-show_tree-clause-front c = keeps_before (subst (λ (f : Forest). Starts f (forest c.show_tree.new.pool)) (given_rest (c.in_ok-stack.ensures.given refl)) c.in_err-show_tree.ensures.fails.first)
@@ -133,6 +111,5 @@ returns-in_err-show_tree-clause-caused c =
 
 pub returns-in_err-show_tree-clause-enough : goal.returns-in_err-show_tree-clause-enough
 returns-in_err-show_tree-clause-enough c h =
-    let e : plain (tree_at c.id-2.result (without_root c.in_ok-stack.stack (forest c.node.new.pool))) ≡ tree_of c.args.reduced c.args.pool.now =
-    ap (λ (f : Forest). plain (tree_at c.id-2.result f)) (given_rest (c.in_ok-stack.ensures.given refl)) ∙ ap (λ (i : ℕ). plain (tree_at i (forest c.args.pool.now))) c.id-2.ensures ∙ plain_root c.args.reduced c.requires.stands c.requires.handed.root in
+    let e : plain (tree_at c.id-2.result (without_root c.in_ok-stack.stack (forest c.node.new.pool))) ≡ tree_of c.args.reduced c.args.pool.now = (λ k. plain (tree_at (c.id-2.ensures k) (given_rest (c.in_ok-stack.ensures.given refl) k))) ∙ plain_root c.args.reduced c.requires.stands c.requires.handed.root in
     absurd (omega (arith, h, c.in_err-show_tree.ensures.room, ap size e, first_free c.args.pool.now c.node.new.pool c.requires.stands c.node.ensures.stands c.in_ok-stack.ensures.kept (c.in_ok-stack.ensures.given refl)))

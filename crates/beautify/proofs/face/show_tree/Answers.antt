@@ -1,34 +1,13 @@
-use Rattle.std.proofs.Common.{◌≡◌, ◌<◌, ◌≤◌, ◌-◌, ℕ, suc, drop, length, refl, ap, sym, ◌∙◌, subst, arith, Bool}
-use Rattle.calc_language.specs.Faces.{unsigned_face, has_minus, with_minus}
-use Rattle.calc_terms.specs.Trees.{Tree, Trees, none, more, count, sizes}
-use Rattle.node_pool.specs.Nodes.{first_of}
-use Rattle.node_pool.specs.State.{free_of}
-use Rattle.tree_handles.specs.Expressions.{plain, plains, nth, children_of, IsExpression}
-use Rattle.tree_handles.specs.Forest.{Forest, flatten, forest_of, nodes_in}
-use Rattle.tree_handles.specs.Inside.{holds, tree_at}
-use Rattle.tree_handles.specs.Roots.{without_root}
-use Rattle.tree_handles.specs.Standing.{forest}
-use Rattle.tree_handles.proofs.Forests.{nodes-flatten}
-use Rattle.tree_handles.proofs.Given.{given_rest}
-use Rattle.tree_handles.proofs.Measures.{one_at}
-use Rattle.beautify.specs.Lists.{behind}
-use Rattle.beautify.specs.Room.{node_room}
-use Rattle.beautify.specs.Showing.{unsigned_faces, IsShowable, HoldsFaces}
-use Rattle.beautify.specs.Stacks.{stacked}
-use Rattle.beautify.proofs.Bounds.{bound_tree}
+use Rattle.std.proofs.Common.{◌≡◌, ◌<◌, ◌≤◌, ◌-◌, ℕ, suc, drop, length, refl, ap, sym, ◌∙◌, subst, arith, Bool, rules}
+use Rattle.beautify.proofs.Names.{unsigned_face, has_minus, with_minus, Tree, Trees, none, more, count, sizes, first_of, free_of, plain, plains, nth, children_of, IsExpression, Forest, flatten, forest_of, nodes_in, holds, tree_at, without_root, forest, nodes-flatten, given_rest, one_at, behind, node_room, unsigned_faces, IsShowable, HoldsFaces, stacked, passed_on, least_size}
+use Rattle.beautify.proofs.Bounds.{bound}
 use Rattle.beautify.proofs.Children.{base_distinct}
 use Rattle.beautify.proofs.Marking.{at_root, same_tree, still_marked}
-use Rattle.beautify.proofs.Sizes.{some_size}
-use Rattle.beautify.proofs.Stacking.{in_base, same_base, is_stack, stacked_is, on_ok, if_err, restacks_as, nothing_done, then, fails_then, passed_on, free_after}
+use Rattle.beautify.proofs.Stacking.{in_base, same_base, is_stack, stacked_is, on_ok, if_err, restacks_as, nothing_done, then, fails_then, free_after}
 use Rattle.beautify.proofs.Suffixes.{Shows, show_next, all_shown, none_shown, own_part, room_left}
+use Rattle.beautify.proofs.Trees.{pred_less, pred_next}
 use Rattle.beautify.proofs.face.show_tree.Goals as goal
 use Rattle.beautify.proofs.face.show_tree.Goals.{After-node_at-id}
-
-less : (n k : ℕ) → 0 < n → n ≤ k → n - 1 < k
-less n k h w = omega (arith, h, w)
-
-before : (n : ℕ) → 0 < n → n ≡ suc (n - 1)
-before n h = omega (arith, h)
 
 pub tree_nodes-left-requires-clause-live : goal.tree_nodes-left-requires-clause-live
 tree_nodes-left-requires-clause-live c = (in_base c.requires.stack.last c.requires.expression).0.live
@@ -46,29 +25,29 @@ loop-left-init c =
       stands = c.requires.stands;
     }
 
-pub mark_before-mark-requires-clause-live : goal.mark_before-mark-requires-clause-live
-mark_before-mark-requires-clause-live c = ap (λ (k : ℕ). holds k (forest c.loop-left.pool)) c.loop-left.invariant.tree ∙ (in_base c.loop-left.invariant.holds.gives c.requires.expression).0.live
-
-pub mark_before-mark-requires-clause-mark : goal.mark_before-mark-requires-clause-mark
-mark_before-mark-requires-clause-mark c =
+pub mark_before-mark-requires : goal.mark_before-mark-requires
+mark_before-mark-requires c =
     let base = without_root c.args.stack.now (forest c.args.pool.now) in
-    let same = same_tree c.loop-left.mark.tree c.args.tree (forest c.loop-left.pool) base c.loop-left.invariant.tree (in_base c.loop-left.invariant.holds.gives c.requires.expression).1 in
-    still_marked c.loop-left.mark base (forest c.loop-left.pool) (sym same) c.loop-left.invariant.mark
+    let i = c.loop-left.invariant in
+    let b = in_base i.holds.gives c.requires.expression in
+    record {
+      stands = search rules;
+      live = ap (λ (k : ℕ). holds k (forest c.loop-left.pool)) i.tree ∙ b.0.live;
+      mark = still_marked c.loop-left.mark base (forest c.loop-left.pool) (sym (same_tree c.loop-left.mark.tree c.args.tree (forest c.loop-left.pool) base i.tree b.1)) i.mark;
+      within = omega (arith, pred_less _ _ c.loop-left-test.true i.within, nodes-flatten (tree_at c.args.tree base), ap nodes_in b.1, ap (λ (k : ℕ). nodes_in (tree_at k (forest c.loop-left.pool))) i.tree);
+    }
 
-pub mark_before-mark-requires-clause-within : goal.mark_before-mark-requires-clause-within
-mark_before-mark-requires-clause-within c =
-    let base = without_root c.args.stack.now (forest c.args.pool.now) in
-    let same = ap (λ (k : ℕ). nodes_in (tree_at k (forest c.loop-left.pool))) c.loop-left.invariant.tree in
-    omega (arith, less _ _ c.loop-left-test.true c.loop-left.invariant.within, nodes-flatten (tree_at c.args.tree base), ap nodes_in (in_base c.loop-left.invariant.holds.gives c.requires.expression).1, same)
-
-pub node_at-id-requires-clause-live : goal.node_at-id-requires-clause-live
-node_at-id-requires-clause-live c = ap (λ (k : ℕ). holds k (forest c.loop-left.pool)) (c.mark_before-mark.ensures.tree ∙ c.loop-left.invariant.tree) ∙ (in_base c.loop-left.invariant.holds.gives c.requires.expression).0.live
-
-pub node_at-id-requires-clause-within : goal.node_at-id-requires-clause-within
-node_at-id-requires-clause-within c =
+pub node_at-id-requires : goal.node_at-id-requires
+node_at-id-requires c =
     let base = without_root c.args.stack.now (forest c.args.pool.now) in
     let same = ap (λ (k : ℕ). nodes_in (tree_at k (forest c.loop-left.pool))) (c.mark_before-mark.ensures.tree ∙ c.loop-left.invariant.tree) in
-    omega (arith, less _ _ c.loop-left-test.true c.loop-left.invariant.within, nodes-flatten (tree_at c.args.tree base), ap nodes_in (in_base c.loop-left.invariant.holds.gives c.requires.expression).1, same)
+    record {
+      live = ap (λ (k : ℕ). holds k (forest c.loop-left.pool)) (c.mark_before-mark.ensures.tree ∙ c.loop-left.invariant.tree) ∙ (in_base c.loop-left.invariant.holds.gives c.requires.expression).0.live;
+      within = omega (arith, pred_less _ _ c.loop-left-test.true c.loop-left.invariant.within, nodes-flatten (tree_at c.args.tree base), ap nodes_in (in_base c.loop-left.invariant.holds.gives c.requires.expression).1, same);
+      stands = search rules;
+      mark = search rules;
+      order = search rules;
+    }
 
 -- the next node, and what stands behind it
 next : (c : After-node_at-id) → (t : Tree) × Shows c.args.tree (without_root c.args.stack.now (forest c.args.pool.now)) (c.loop-left.left - 1) t (stacked c.args.stack.now (forest c.loop-left.pool)) × (plain (tree_at c.node_at-id.result (without_root c.args.stack.now (forest c.loop-left.pool))) ≡ t) × IsExpression c.node_at-id.result (without_root c.args.stack.now (forest c.args.pool.now))
@@ -78,40 +57,35 @@ next c =
     let i = c.loop-left.invariant in
     let n = c.loop-left.left - 1 in
     let ns = flatten (tree_at c.args.tree base) in
-    let tops = stacked_is i.holds.gives ∙ ap (λ (k : ℕ). unsigned_faces (plains (forest_of (drop k ns)))) (before c.loop-left.left c.loop-left-test.true) in
-    let s = show_next c.args.tree base n _ (base_distinct c.args.pool.now c.requires.stands c.requires.stack.last) c.requires.expression c.requires.showable (less _ _ c.loop-left-test.true i.within) tops in
+    let tops = stacked_is i.holds.gives ∙ ap (λ (k : ℕ). unsigned_faces (plains (forest_of (drop k ns)))) (pred_next c.loop-left.left c.loop-left-test.true) in
+    let s = show_next c.args.tree base n _ (base_distinct c.args.pool.now c.requires.stands c.requires.stack.last) c.requires.expression c.requires.showable (pred_less _ _ c.loop-left-test.true i.within) tops in
     let id : c.node_at-id.result ≡ (first_of (drop n ns)).id = c.node_at-id.ensures ∙ ap (λ (k : ℕ). (first_of (drop n (flatten (tree_at k (forest c.loop-left.pool))))).id) (c.mark_before-mark.ensures.tree ∙ i.tree) ∙ ap (λ (f : Forest). (first_of (drop n (flatten f))).id) (in_base i.holds.gives c.requires.expression).1 in
     let expression = subst (λ (k : ℕ). IsExpression k base) (sym id) (s.1).expression in
     let is : plain (tree_at c.node_at-id.result (without_root c.args.stack.now (forest c.loop-left.pool))) ≡ s.0 = ap (λ (f : Forest). plain (tree_at c.node_at-id.result f)) (given_rest i.holds.gives) ∙ ap (λ (k : ℕ). plain (tree_at k base)) id ∙ (s.1).is in
     (s.0, s.1, is, expression, tops)
 
-pub show_node-requires-clause-stack : goal.show_node-requires-clause-stack
-show_node-requires-clause-stack c = is_stack c.loop-left.invariant.holds.gives
+pub show_node-requires : goal.show_node-requires
+show_node-requires c =
+    let s = next (goal.at.show_node-requires c).After-node_at-id in
+    record {
+      stands = search rules;
+      stack = is_stack c.loop-left.invariant.holds.gives;
+      expression = same_base c.loop-left.invariant.holds s.3;
+      showable = subst IsShowable (sym s.2) (own_part (s.0) (s.1).parts);
+      shown = subst (λ (t : Tree). HoldsFaces (children_of t) (stacked c.args.stack.now (forest c.loop-left.pool))) (sym s.2) (s.1).faces;
+    }
 
-pub show_node-requires-clause-expression : goal.show_node-requires-clause-expression
-show_node-requires-clause-expression c =
-    let s = next (goal.at.show_node-requires-clause-expression c).After-node_at-id in
-    same_base c.loop-left.invariant.holds s.3
-
-pub show_node-requires-clause-showable : goal.show_node-requires-clause-showable
-show_node-requires-clause-showable c =
-    let s = next (goal.at.show_node-requires-clause-showable c).After-node_at-id in
-    subst IsShowable (sym s.2) (own_part (s.0) (s.1).parts)
-
-pub show_node-requires-clause-shown : goal.show_node-requires-clause-shown
-show_node-requires-clause-shown c =
-    let s = next (goal.at.show_node-requires-clause-shown c).After-node_at-id in
-    subst (λ (t : Tree). HoldsFaces (children_of t) (stacked c.args.stack.now (forest c.loop-left.pool))) (sym s.2) (s.1).faces
-
-pub returns-in_err-show_node-clause-fails : goal.returns-in_err-show_node-clause-fails
-returns-in_err-show_node-clause-fails c = passed_on c.from_residual.result c.in_err-show_node.field-0.0 _ c.from_residual.ensures.0 c.from_residual.ensures.1 (fails_then c.loop-left.invariant.holds c.in_err-show_node.ensures.fails)
-
-pub returns-in_err-show_node-clause-room : goal.returns-in_err-show_node-clause-room
-returns-in_err-show_node-clause-room c =
-    let s = next (goal.at.returns-in_err-show_node-clause-room c).After-node_at-id in
+pub returns-in_err-show_node : goal.returns-in_err-show_node
+returns-in_err-show_node c =
+    let s = next (goal.at.returns-in_err-show_node c).After-node_at-id in
     let i = c.loop-left.invariant in
-    passed_on c.from_residual.result c.in_err-show_node.field-0.0 _ c.from_residual.ensures.0 c.from_residual.ensures.1
-    (room_left _ _ (s.1) (free_after c.requires.stands i.stands c.requires.stack i.holds) c.requires.empty (sym (stacked_is i.holds.gives)) s.4 (subst (λ (t : Tree). free_of c.loop-left.pool < node_room t) s.2 c.in_err-show_node.ensures.room))
+    record {
+      fails = passed_on c.from_residual.result c.in_err-show_node.field-0.0 _ c.from_residual.ensures.0 c.from_residual.ensures.1 (fails_then c.loop-left.invariant.holds c.in_err-show_node.ensures.fails);
+      room = passed_on c.from_residual.result c.in_err-show_node.field-0.0 _ c.from_residual.ensures.0 c.from_residual.ensures.1
+          (room_left _ _ (s.1) (free_after c.requires.stands i.stands c.requires.stack i.holds) c.requires.empty (sym (stacked_is i.holds.gives)) s.4 (subst (λ (t : Tree). free_of c.loop-left.pool < node_room t) s.2 c.in_err-show_node.ensures.room));
+      ok = search rules;
+      stands = search rules;
+    }
 
 pub loop-left-preserved : goal.loop-left-preserved
 loop-left-preserved c =
@@ -126,39 +100,28 @@ loop-left-preserved c =
       stands = c.show_node.ensures.stands;
     }
 
-pub sign-requires-clause-stack : goal.sign-requires-clause-stack
-sign-requires-clause-stack c = is_stack c.loop-left.invariant.holds.gives
-
-pub sign-requires-clause-expression : goal.sign-requires-clause-expression
-sign-requires-clause-expression c = same_base c.loop-left.invariant.holds c.requires.expression
-
 done : (n : ℕ) (f : Forest) → n ≤ 0 → unsigned_faces (plains (forest_of (drop n (flatten f)))) ≡ unsigned_faces (plains (forest_of (drop 0 (flatten f))))
 done n f h = let z : n ≡ 0 = omega (arith, h) in ap (λ (k : ℕ). unsigned_faces (plains (forest_of (drop k (flatten f))))) z
 
-pub sign-requires-clause-within : goal.sign-requires-clause-within
-sign-requires-clause-within c =
+pub sign-requires : goal.sign-requires
+sign-requires c =
     let f = tree_at c.args.tree (without_root c.args.stack.now (forest c.args.pool.now)) in
     let tops = stacked_is c.loop-left.invariant.holds.gives ∙ done c.loop-left.left f (omega (arith, c.loop-left-test.false)) ∙ all_shown f (one_at c.args.tree _ c.requires.expression.live) in
-    omega (arith, ap count tops)
+    record { stack = is_stack c.loop-left.invariant.holds.gives; expression = same_base c.loop-left.invariant.holds c.requires.expression; within = omega (arith, ap count tops); stands = search rules }
 
 signed : (us : Trees) (b d : Bool) (t : Tree) → us ≡ more (unsigned_face t) none → b ≡ d → more (with_minus b (nth 0 us)) (behind 1 us) ≡ more (with_minus d (unsigned_face t)) none
 signed us b d t e f = rw (e, f) refl
 
-pub returns-clause-ok : goal.returns-clause-ok
-returns-clause-ok c =
+pub returns : goal.returns
+returns c =
     let base = without_root c.args.stack.now (forest c.args.pool.now) in
     let f = tree_at c.args.tree base in
     let tops = stacked_is c.loop-left.invariant.holds.gives ∙ done c.loop-left.left f (omega (arith, c.loop-left-test.false)) ∙ all_shown f (one_at c.args.tree base c.requires.expression.live) in
-    on_ok c.sign.result c.sign.ensures.ok
-    (λ r. restacks_as (then c.loop-left.invariant.holds r) (signed _ _ _ (plain f) tops (ap (λ (g : Forest). has_minus (plain (tree_at c.args.tree g))) (given_rest c.loop-left.invariant.holds.gives))))
-
-pub returns-clause-fails : goal.returns-clause-fails
-returns-clause-fails c = if_err c.sign.result c.sign.ensures.fails (λ e f. fails_then c.loop-left.invariant.holds f)
-
-pub returns-clause-room : goal.returns-clause-room
-returns-clause-room c =
-    let base = without_root c.args.stack.now (forest c.args.pool.now) in
-    let f = tree_at c.args.tree base in
-    let tops = stacked_is c.loop-left.invariant.holds.gives ∙ done c.loop-left.left f (omega (arith, c.loop-left-test.false)) ∙ all_shown f (one_at c.args.tree base c.requires.expression.live) in
-    if_err c.sign.result c.sign.ensures.room
-    (λ e l. omega (arith, l, free_after c.requires.stands c.loop-left.invariant.stands c.requires.stack c.loop-left.invariant.holds, ap sizes c.requires.empty, ap sizes (sym (stacked_is c.loop-left.invariant.holds.gives) ∙ tops), bound_tree (plain f) c.requires.showable, some_size (plain f)))
+    record {
+      ok = on_ok c.sign.result c.sign.ensures.ok
+          (λ r. restacks_as (then c.loop-left.invariant.holds r) (signed _ _ _ (plain f) tops (ap (λ (g : Forest). has_minus (plain (tree_at c.args.tree g))) (given_rest c.loop-left.invariant.holds.gives))));
+      fails = if_err c.sign.result c.sign.ensures.fails (λ e f. fails_then c.loop-left.invariant.holds f);
+      room = if_err c.sign.result c.sign.ensures.room
+          (λ e l. omega (arith, l, free_after c.requires.stands c.loop-left.invariant.stands c.requires.stack c.loop-left.invariant.holds, ap sizes c.requires.empty, ap sizes (sym (stacked_is c.loop-left.invariant.holds.gives) ∙ tops), bound (plain f) c.requires.showable, least_size (plain f)));
+      stands = search rules;
+    }

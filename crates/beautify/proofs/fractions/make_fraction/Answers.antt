@@ -1,11 +1,7 @@
-use Rattle.std.proofs.Common.{◌≡◌, ◌≤◌, ℕ, ◌+◌, ap, arith}
-use Rattle.calc_terms.specs.Trees.{Tree, Trees, none, more, count}
-use Rattle.tree_handles.specs.Expressions.{inserted}
-use Rattle.tree_handles.specs.Standing.{forest}
-use Rattle.beautify.specs.Lists.{behind, cut}
-use Rattle.beautify.specs.Stacks.{stacked}
+use Rattle.std.proofs.Common.{◌≡◌, ◌≤◌, ℕ, ◌+◌, ap, arith, rules}
+use Rattle.beautify.proofs.Names.{Tree, Trees, none, more, count, inserted, forest, behind, cut, stacked, passed_on}
 use Rattle.beautify.proofs.Places.{fraction-above, fraction-both, count-inserted}
-use Rattle.beautify.proofs.Stacking.{is_stack, stacked_is, on_ok, restacks_as, then, fails_then, passed_on}
+use Rattle.beautify.proofs.Stacking.{is_stack, stacked_is, on_ok, restacks_as, then, fails_then}
 use Rattle.beautify.proofs.Trees.{count-cut, count-behind}
 use Rattle.beautify.proofs.fractions.make_fraction.Goals as goal
 
@@ -16,18 +12,22 @@ enough a b ts ts1 low w e = omega (arith, ap count e, count-inserted a (more low
 both : (a : ℕ) (ts1 ts2 : Trees) (t : Tree) → a + 1 ≤ count ts1 → ts2 ≡ more t (behind a ts1) → 2 ≤ count ts2
 both a ts1 ts2 t w e = omega (arith, ap count e, count-behind a ts1, w)
 
-pub make_product-requires-3-clause-stack : goal.make_product-requires-3-clause-stack
-make_product-requires-3-clause-stack c = is_stack c.in_ok-make_product.ensures.ok.gives
+pub make_product-requires-3 : goal.make_product-requires-3
+make_product-requires-3 c =
+    record {
+      stack = is_stack c.in_ok-make_product.ensures.ok.gives;
+      within = omega (arith, enough c.args.sides.above c.args.sides.below (stacked c.args.stack.now (forest c.args.pool.now)) _ _ c.requires.within (stacked_is c.in_ok-make_product.ensures.ok.gives));
+      stands = search rules;
+    }
 
-pub make_product-requires-3-clause-within : goal.make_product-requires-3-clause-within
-make_product-requires-3-clause-within c = omega (arith, enough c.args.sides.above c.args.sides.below (stacked c.args.stack.now (forest c.args.pool.now)) _ _ c.requires.within (stacked_is c.in_ok-make_product.ensures.ok.gives))
-
-pub gather-requires-clause-stack : goal.gather-requires-clause-stack
-gather-requires-clause-stack c = is_stack c.in_ok-make_product-2.ensures.ok.gives
-
-pub gather-requires-clause-within : goal.gather-requires-clause-within
-gather-requires-clause-within c =
-    both c.args.sides.above _ _ _ (enough c.args.sides.above c.args.sides.below (stacked c.args.stack.now (forest c.args.pool.now)) _ _ c.requires.within (stacked_is c.in_ok-make_product.ensures.ok.gives)) (stacked_is c.in_ok-make_product-2.ensures.ok.gives)
+pub gather-requires : goal.gather-requires
+gather-requires c =
+    record {
+      stack = is_stack c.in_ok-make_product-2.ensures.ok.gives;
+      within = both c.args.sides.above _ _ _ (enough c.args.sides.above c.args.sides.below (stacked c.args.stack.now (forest c.args.pool.now)) _ _ c.requires.within (stacked_is c.in_ok-make_product.ensures.ok.gives)) (stacked_is c.in_ok-make_product-2.ensures.ok.gives);
+      stands = search rules;
+      takes = search rules;
+    }
 
 pub returns-clause-ok : goal.returns-clause-ok
 returns-clause-ok c =

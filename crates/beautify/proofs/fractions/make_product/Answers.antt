@@ -1,12 +1,5 @@
 use Rattle.std.proofs.Common.{◌≡◌, ◌≤◌, ◌+◌, ℕ, ap, sym, ◌∙◌, arith}
-use Rattle.calc_language.specs.Faces.{product_of}
-use Rattle.calc_terms.specs.Fractions.{lowest}
-use Rattle.calc_terms.specs.Ratio.{Ratio}
-use Rattle.calc_terms.specs.Trees.{Tree, Trees, num, mult, none, more, count}
-use Rattle.tree_handles.specs.Expressions.{inserted}
-use Rattle.tree_handles.specs.Standing.{forest}
-use Rattle.beautify.specs.Lists.{first, behind, cut}
-use Rattle.beautify.specs.Stacks.{stacked}
+use Rattle.beautify.proofs.Names.{product_of, lowest, Ratio, Tree, Trees, num, mult, none, more, count, inserted, forest, first, behind, cut, stacked}
 use Rattle.beautify.proofs.Places.{product-one, product-more, put_back}
 use Rattle.beautify.proofs.Stacking.{on_ok, restacks_as, nothing_done}
 use Rattle.beautify.proofs.Trees.{cut-zero, count-first, count-behind}

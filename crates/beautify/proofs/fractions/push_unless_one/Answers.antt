@@ -1,13 +1,6 @@
 use Rattle.std.proofs.Common.{◌≡◌, ap, sym, ◌∙◌, arith, to_z}
 use Rattle.std.specs.Prelude.{pos}
-use Rattle.std.specs.Int.{w128}
-use Rattle.std.proofs.lemmas.Int.{to_z_pos}
-use Rattle.calc_terms.specs.Fractions.{lowest}
-use Rattle.calc_terms.specs.Ratio.{Ratio, whole}
-use Rattle.calc_terms.specs.Trees.{Trees, num, none, more}
-use Rattle.tree_handles.specs.Expressions.{inserted}
-use Rattle.tree_handles.specs.Standing.{forest}
-use Rattle.beautify.specs.Stacks.{stacked}
+use Rattle.beautify.proofs.Names.{lowest, Ratio, whole, Trees, num, none, more, inserted, forest, stacked, w128, to_z_pos}
 use Rattle.beautify.proofs.Places.{unless_one-one, unless_one-other, inserted-none}
 use Rattle.beautify.proofs.Stacking.{restacks_as, nothing_done}
 use Rattle.beautify.proofs.fractions.push_unless_one.Goals as goal

@@ -1,11 +1,6 @@
 use Rattle.std.proofs.Common.{◌≡◌, ◌+◌, ◌-◌, ◌≤◌, ◌<◌, ℕ, ap, ◌∙◌, arith, drop, true}
-use Rattle.beautify.specs.Marks.{IsMark}
-use Rattle.beautify.specs.declared.marks.Mark.{Mark}
-use Rattle.node_pool.specs.Nodes.{first_of}
-use Rattle.tree_handles.specs.Forest.{Forest, flatten, nodes_in}
-use Rattle.tree_handles.specs.Inside.{holds, tree_at}
-use Rattle.tree_handles.specs.Standing.{forest}
-use Rattle.tree_walks.specs.Orders.{HasBehind}
+use Rattle.beautify.proofs.Names.{IsMark, Mark, first_of, Forest, flatten, nodes_in, holds, tree_at, forest}
+use Rattle.tree_handles.specs.Orders.{HasBehind}
 use Rattle.beautify.proofs.marks.node_at.Goals as goal
 
 -- the steps that lead from a mark to a node

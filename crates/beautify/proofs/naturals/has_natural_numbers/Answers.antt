@@ -1,23 +1,14 @@
-use Rattle.std.proofs.Common.{◌∙◌, sym}
-use Rattle.tree_handles.specs.Inside.{tree_at}
-use Rattle.tree_handles.specs.Standing.{forest}
-use Rattle.tree_handles.proofs.Visiting.{found}
+use Rattle.std.proofs.Common.{◌∙◌, sym, rules}
+use Rattle.beautify.proofs.Names.{tree_at, forest, found}
 use Rattle.beautify.proofs.NaturalNodes.{tree_natural, read, read_all}
 use Rattle.beautify.proofs.naturals.has_natural_numbers.Goals as goal
 
 pub loop-node-init : goal.loop-node-init
-loop-node-init c = record {
-  trees = tree_at c.args.tree (forest c.args.pool.now);
-  left-are = (cc);
-  found = found c.args.tree c.args.pool.now c.requires.stands;
-  same = tree_natural c.args.tree (forest c.args.pool.now) c.requires.expression;
-}
+loop-node-init c = record { trees = tree_at c.args.tree (forest c.args.pool.now); left-are = (cc); found = found c.args.tree c.args.pool.now c.requires.stands; same = tree_natural c.args.tree (forest c.args.pool.now) c.requires.expression }
 
-pub holds_natural-requires-clause-live : goal.holds_natural-requires-clause-live
-holds_natural-requires-clause-live c = (read c.loop-node.invariant c.in-Some.ensures.steps).live
-
-pub holds_natural-requires-clause-node : goal.holds_natural-requires-clause-node
-holds_natural-requires-clause-node c = (read c.loop-node.invariant c.in-Some.ensures.steps).visit-is
+pub holds_natural-requires : goal.holds_natural-requires
+holds_natural-requires c =
+    record { live = (read c.loop-node.invariant c.in-Some.ensures.steps).live; node = (read c.loop-node.invariant c.in-Some.ensures.steps).visit-is; stands = search rules }
 
 pub returns-then-not-holds_natural : goal.returns-then-not-holds_natural
 returns-then-not-holds_natural c = sym ((read c.loop-node.invariant c.in-Some.ensures.steps).here (sym c.holds_natural.ensures ∙ c.if-not-holds_natural.true))

@@ -1,8 +1,5 @@
-use Rattle.beautify.specs.OwnFaces.{has_natural_numbers}
+use Rattle.beautify.proofs.Names.{has_natural_numbers, plain, tree_at, forest}
 use Rattle.beautify.proofs.NaturalNodes.{IsReading}
-use Rattle.tree_handles.specs.Expressions.{plain}
-use Rattle.tree_handles.specs.Inside.{tree_at}
-use Rattle.tree_handles.specs.Standing.{forest}
 use Rattle.beautify.proofs.naturals.has_natural_numbers.Given as goal
 
 abbrev pub invariant-loop-node : goal.invariant-loop-node

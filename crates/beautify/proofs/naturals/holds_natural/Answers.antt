@@ -1,8 +1,6 @@
 use Rattle.std.proofs.Common.{◌∙◌, sym, ap}
-use Rattle.beautify.specs.OwnFaces.{holds_natural}
+use Rattle.beautify.proofs.Names.{holds_natural, Visit, number_seen}
 use Rattle.beautify.proofs.NaturalNodes.{no_rational}
-use Rattle.tree_handles.specs.declared.visits.Visit.{Visit}
-use Rattle.tree_handles.proofs.Readings.{number_seen}
 use Rattle.beautify.proofs.naturals.holds_natural.Goals as goal
 
 pub rational-requires-clause-number : goal.rational-requires-clause-number

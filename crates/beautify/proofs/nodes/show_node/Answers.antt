@@ -1,10 +1,5 @@
-use Rattle.std.proofs.Common.{ap, sym, ◌∙◌, arith}
-use Rattle.tree_handles.specs.Expressions.{plain}
-use Rattle.tree_handles.specs.Inside.{tree_at}
-use Rattle.tree_handles.specs.Roots.{without_root}
-use Rattle.tree_handles.specs.Standing.{forest}
-use Rattle.beautify.specs.Room.{node_room}
-use Rattle.beautify.specs.Stacks.{stacked}
+use Rattle.std.proofs.Common.{ap, sym, ◌∙◌, arith, rules}
+use Rattle.beautify.proofs.Names.{plain, tree_at, without_root, forest, node_room, stacked}
 use Rattle.beautify.proofs.Children.{kind_seen, power_sides, root_argument}
 use Rattle.beautify.proofs.NodeKinds.{add_of_kind, mult_of_kind, mult_room, no_other, shown_as, faces_of, root_shown, one_there}
 use Rattle.beautify.proofs.Stacking.{in_base, on_ok, if_err, restacks_as}
@@ -40,76 +35,72 @@ child_id-exponent-requires-clause-within c =
     let p = power_sides c.args.pool.now c.requires.stands c.requires.stack.last c.requires.expression (kind_seen c.requires.stack.last c.requires.expression c.kind.ensures.plain ∙ c.in-Pow.is) in
     p.second
 
-pub show_power-requires-clause-base : goal.show_power-requires-clause-base
-show_power-requires-clause-base c =
+pub show_power-requires : goal.show_power-requires
+show_power-requires c =
     let p = power_sides c.args.pool.now c.requires.stands c.requires.stack.last c.requires.expression (kind_seen c.requires.stack.last c.requires.expression c.kind.ensures.plain ∙ c.in-Pow.is) in
-    p.base _ c.child_id-base.ensures.value
+    record {
+      base = p.base _ c.child_id-base.ensures.value;
+      exponent = p.exponent _ c.child_id-exponent.ensures.value;
+      shown = faces_of _ _ (stacked c.args.stack.now (forest c.args.pool.now)) (p.whole _ _ c.child_id-base.ensures.value c.child_id-exponent.ensures.value).parts c.requires.shown;
+      stands = search rules;
+      stack = search rules;
+    }
 
-pub show_power-requires-clause-exponent : goal.show_power-requires-clause-exponent
-show_power-requires-clause-exponent c =
+pub returns-in-Pow : goal.returns-in-Pow
+returns-in-Pow c =
     let p = power_sides c.args.pool.now c.requires.stands c.requires.stack.last c.requires.expression (kind_seen c.requires.stack.last c.requires.expression c.kind.ensures.plain ∙ c.in-Pow.is) in
-    p.exponent _ c.child_id-exponent.ensures.value
-
-pub show_power-requires-clause-shown : goal.show_power-requires-clause-shown
-show_power-requires-clause-shown c =
-    let p = power_sides c.args.pool.now c.requires.stands c.requires.stack.last c.requires.expression (kind_seen c.requires.stack.last c.requires.expression c.kind.ensures.plain ∙ c.in-Pow.is) in
-    faces_of _ _ (stacked c.args.stack.now (forest c.args.pool.now)) (p.whole _ _ c.child_id-base.ensures.value c.child_id-exponent.ensures.value).parts c.requires.shown
-
-pub returns-in-Pow-clause-ok : goal.returns-in-Pow-clause-ok
-returns-in-Pow-clause-ok c =
-    let p = power_sides c.args.pool.now c.requires.stands c.requires.stack.last c.requires.expression (kind_seen c.requires.stack.last c.requires.expression c.kind.ensures.plain ∙ c.in-Pow.is) in
-    on_ok c.show_power.result c.show_power.ensures.ok (λ r. restacks_as r (shown_as (plain (tree_at c.args.id (without_root c.args.stack.now (forest c.args.pool.now)))) _ (stacked c.args.stack.now (forest c.args.pool.now)) (p.whole _ _ c.child_id-base.ensures.value c.child_id-exponent.ensures.value).is))
-
-pub returns-in-Pow-clause-room : goal.returns-in-Pow-clause-room
-returns-in-Pow-clause-room c =
-    let p = power_sides c.args.pool.now c.requires.stands c.requires.stack.last c.requires.expression (kind_seen c.requires.stack.last c.requires.expression c.kind.ensures.plain ∙ c.in-Pow.is) in
-    if_err c.show_power.result c.show_power.ensures.room (λ e l. omega (arith, l, ap node_room (p.whole _ _ c.child_id-base.ensures.value c.child_id-exponent.ensures.value).is))
+    record {
+      ok = on_ok c.show_power.result c.show_power.ensures.ok (λ r. restacks_as r (shown_as (plain (tree_at c.args.id (without_root c.args.stack.now (forest c.args.pool.now)))) _ (stacked c.args.stack.now (forest c.args.pool.now)) (p.whole _ _ c.child_id-base.ensures.value c.child_id-exponent.ensures.value).is));
+      room = if_err c.show_power.result c.show_power.ensures.room (λ e l. omega (arith, l, ap node_room (p.whole _ _ c.child_id-base.ensures.value c.child_id-exponent.ensures.value).is));
+      fails = search rules;
+      stands = search rules;
+    }
 
 pub child_id-requires-clause-within : goal.child_id-requires-clause-within
 child_id-requires-clause-within c =
     let p = root_argument c.args.pool.now c.requires.stands c.requires.stack.last c.requires.expression (kind_seen c.requires.stack.last c.requires.expression c.kind.ensures.plain ∙ c.in-Root.is) in
     p.within
 
-pub show_root-requires-clause-argument : goal.show_root-requires-clause-argument
-show_root-requires-clause-argument c =
+pub show_root-requires : goal.show_root-requires
+show_root-requires c =
     let p = root_argument c.args.pool.now c.requires.stands c.requires.stack.last c.requires.expression (kind_seen c.requires.stack.last c.requires.expression c.kind.ensures.plain ∙ c.in-Root.is) in
-    p.expression _ c.child_id.ensures.value
+    record {
+      argument = p.expression _ c.child_id.ensures.value;
+      within = one_there _ (stacked c.args.stack.now (forest c.args.pool.now)) (faces_of _ _ (stacked c.args.stack.now (forest c.args.pool.now)) (p.whole _ c.child_id.ensures.value).parts c.requires.shown);
+      stands = search rules;
+      stack = search rules;
+    }
 
-pub show_root-requires-clause-within : goal.show_root-requires-clause-within
-show_root-requires-clause-within c =
-    let p = root_argument c.args.pool.now c.requires.stands c.requires.stack.last c.requires.expression (kind_seen c.requires.stack.last c.requires.expression c.kind.ensures.plain ∙ c.in-Root.is) in
-    one_there _ (stacked c.args.stack.now (forest c.args.pool.now)) (faces_of _ _ (stacked c.args.stack.now (forest c.args.pool.now)) (p.whole _ c.child_id.ensures.value).parts c.requires.shown)
-
-pub returns-in-Root-clause-ok : goal.returns-in-Root-clause-ok
-returns-in-Root-clause-ok c =
+pub returns-in-Root : goal.returns-in-Root
+returns-in-Root c =
     let p = root_argument c.args.pool.now c.requires.stands c.requires.stack.last c.requires.expression (kind_seen c.requires.stack.last c.requires.expression c.kind.ensures.plain ∙ c.in-Root.is) in
     let w = p.whole _ c.child_id.ensures.value in
-    on_ok c.show_root.result c.show_root.ensures.ok (λ r. restacks_as r (root_shown _ (stacked c.args.stack.now (forest c.args.pool.now)) (faces_of _ _ (stacked c.args.stack.now (forest c.args.pool.now)) w.parts c.requires.shown) ∙ shown_as (plain (tree_at c.args.id (without_root c.args.stack.now (forest c.args.pool.now)))) _ (stacked c.args.stack.now (forest c.args.pool.now)) w.is))
+    record {
+      ok = on_ok c.show_root.result c.show_root.ensures.ok (λ r. restacks_as r (root_shown _ (stacked c.args.stack.now (forest c.args.pool.now)) (faces_of _ _ (stacked c.args.stack.now (forest c.args.pool.now)) w.parts c.requires.shown) ∙ shown_as (plain (tree_at c.args.id (without_root c.args.stack.now (forest c.args.pool.now)))) _ (stacked c.args.stack.now (forest c.args.pool.now)) w.is));
+      room = if_err c.show_root.result c.show_root.ensures.room (λ e l. omega (arith, l, ap node_room (p.whole _ c.child_id.ensures.value).is));
+      fails = search rules;
+      stands = search rules;
+    }
 
-pub returns-in-Root-clause-room : goal.returns-in-Root-clause-room
-returns-in-Root-clause-room c =
-    let p = root_argument c.args.pool.now c.requires.stands c.requires.stack.last c.requires.expression (kind_seen c.requires.stack.last c.requires.expression c.kind.ensures.plain ∙ c.in-Root.is) in
-    if_err c.show_root.result c.show_root.ensures.room (λ e l. omega (arith, l, ap node_room (p.whole _ c.child_id.ensures.value).is))
-
-pub returns-in-Num-clause-ok : goal.returns-in-Num-clause-ok
-returns-in-Num-clause-ok c =
+pub returns-in-Num : goal.returns-in-Num
+returns-in-Num c =
     let is = sym (ap plain (in_base c.requires.stack.last c.requires.expression).1) ∙ c.rational.ensures.plain in
-    on_ok c.show_number.result c.show_number.ensures.ok (λ r. restacks_as r (shown_as (plain (tree_at c.args.id (without_root c.args.stack.now (forest c.args.pool.now)))) _ (stacked c.args.stack.now (forest c.args.pool.now)) is))
+    record {
+      ok = on_ok c.show_number.result c.show_number.ensures.ok (λ r. restacks_as r (shown_as (plain (tree_at c.args.id (without_root c.args.stack.now (forest c.args.pool.now)))) _ (stacked c.args.stack.now (forest c.args.pool.now)) is));
+      room = if_err c.show_number.result c.show_number.ensures.room (λ e l. omega (arith, l, ap node_room is));
+      fails = search rules;
+      stands = search rules;
+    }
 
-pub returns-in-Num-clause-room : goal.returns-in-Num-clause-room
-returns-in-Num-clause-room c =
-    let is = sym (ap plain (in_base c.requires.stack.last c.requires.expression).1) ∙ c.rational.ensures.plain in
-    if_err c.show_number.result c.show_number.ensures.room (λ e l. omega (arith, l, ap node_room is))
-
-pub returns-in-Sym-clause-ok : goal.returns-in-Sym-clause-ok
-returns-in-Sym-clause-ok c =
+pub returns-in-Sym : goal.returns-in-Sym
+returns-in-Sym c =
     let is = sym (ap plain (in_base c.requires.stack.last c.requires.expression).1) ∙ c.name.ensures.plain in
-    on_ok c.push_symbol.result c.push_symbol.ensures.ok (λ r. restacks_as r (shown_as (plain (tree_at c.args.id (without_root c.args.stack.now (forest c.args.pool.now)))) _ (stacked c.args.stack.now (forest c.args.pool.now)) is))
-
-pub returns-in-Sym-clause-room : goal.returns-in-Sym-clause-room
-returns-in-Sym-clause-room c =
-    let is = sym (ap plain (in_base c.requires.stack.last c.requires.expression).1) ∙ c.name.ensures.plain in
-    if_err c.push_symbol.result c.push_symbol.ensures.room (λ e l. omega (arith, l, ap node_room is))
+    record {
+      ok = on_ok c.push_symbol.result c.push_symbol.ensures.ok (λ r. restacks_as r (shown_as (plain (tree_at c.args.id (without_root c.args.stack.now (forest c.args.pool.now)))) _ (stacked c.args.stack.now (forest c.args.pool.now)) is));
+      room = if_err c.push_symbol.result c.push_symbol.ensures.room (λ e l. omega (arith, l, ap node_room is));
+      fails = search rules;
+      stands = search rules;
+    }
 
 pub returns-in-Mult-clause-room : goal.returns-in-Mult-clause-room
 returns-in-Mult-clause-room c =

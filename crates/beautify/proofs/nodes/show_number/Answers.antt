@@ -1,8 +1,7 @@
-use Rattle.calc_terms.specs.Rat.{value_of}
-use Rattle.tree_handles.specs.Standing.{forest}
-use Rattle.beautify.specs.Stacks.{stacked}
+use Rattle.std.proofs.Common.{rules}
+use Rattle.beautify.proofs.Names.{value_of, forest, stacked, passed_on}
 use Rattle.beautify.proofs.Splits.{number_stack}
-use Rattle.beautify.proofs.Stacking.{is_stack, stacked_is, on_ok, if_err, restacks_as, then, fails_then, passed_on}
+use Rattle.beautify.proofs.Stacking.{is_stack, stacked_is, on_ok, if_err, restacks_as, then, fails_then}
 use Rattle.beautify.proofs.nodes.show_number.Goals as goal
 
 pub push_unless_one-requires-2-clause-stack : goal.push_unless_one-requires-2-clause-stack
@@ -12,20 +11,23 @@ pub returns-in_err-above-clause-fails : goal.returns-in_err-above-clause-fails
 returns-in_err-above-clause-fails c =
     passed_on c.from_residual-in_err-above.result c.in_err-above.field-0.0 _ c.from_residual-in_err-above.ensures.0 c.from_residual-in_err-above.ensures.1 (fails_then c.in_ok-below.ensures.ok c.in_err-above.ensures.fails)
 
-pub make_fraction-requires-clause-stack : goal.make_fraction-requires-clause-stack
-make_fraction-requires-clause-stack c = is_stack c.in_ok-above.ensures.ok.gives
+pub make_fraction-requires : goal.make_fraction-requires
+make_fraction-requires c =
+    record {
+      stack = is_stack c.in_ok-above.ensures.ok.gives;
+      within = (number_stack c.numerator.result c.denominator.result _ _ (value_of c.args.value) (stacked c.args.stack.now (forest c.args.pool.now)) _ _ c.in_ok-above.ensures.came c.in_ok-below.ensures.came c.numerator.ensures.value c.denominator.ensures.value
+          (stacked_is c.in_ok-below.ensures.ok.gives) (stacked_is c.in_ok-above.ensures.ok.gives)).0;
+      stands = search rules;
+    }
 
-pub make_fraction-requires-clause-within : goal.make_fraction-requires-clause-within
-make_fraction-requires-clause-within c =
-    (number_stack c.numerator.result c.denominator.result _ _ (value_of c.args.value) (stacked c.args.stack.now (forest c.args.pool.now)) _ _ c.in_ok-above.ensures.came c.in_ok-below.ensures.came c.numerator.ensures.value c.denominator.ensures.value
-    (stacked_is c.in_ok-below.ensures.ok.gives) (stacked_is c.in_ok-above.ensures.ok.gives)).0
-
-pub returns-clause-ok : goal.returns-clause-ok
-returns-clause-ok c =
-    on_ok c.make_fraction.result c.make_fraction.ensures.ok
-    (λ r. restacks_as (then (then c.in_ok-below.ensures.ok c.in_ok-above.ensures.ok) r)
-    ((number_stack c.numerator.result c.denominator.result _ _ (value_of c.args.value) (stacked c.args.stack.now (forest c.args.pool.now)) _ _ c.in_ok-above.ensures.came c.in_ok-below.ensures.came c.numerator.ensures.value c.denominator.ensures.value
-    (stacked_is c.in_ok-below.ensures.ok.gives) (stacked_is c.in_ok-above.ensures.ok.gives)).1))
-
-pub returns-clause-fails : goal.returns-clause-fails
-returns-clause-fails c = if_err c.make_fraction.result c.make_fraction.ensures.fails (λ e f. fails_then (then c.in_ok-below.ensures.ok c.in_ok-above.ensures.ok) f)
+pub returns : goal.returns
+returns c =
+    record {
+      ok = on_ok c.make_fraction.result c.make_fraction.ensures.ok
+          (λ r. restacks_as (then (then c.in_ok-below.ensures.ok c.in_ok-above.ensures.ok) r)
+          ((number_stack c.numerator.result c.denominator.result _ _ (value_of c.args.value) (stacked c.args.stack.now (forest c.args.pool.now)) _ _ c.in_ok-above.ensures.came c.in_ok-below.ensures.came c.numerator.ensures.value c.denominator.ensures.value
+          (stacked_is c.in_ok-below.ensures.ok.gives) (stacked_is c.in_ok-above.ensures.ok.gives)).1));
+      fails = if_err c.make_fraction.result c.make_fraction.ensures.fails (λ e f. fails_then (then c.in_ok-below.ensures.ok c.in_ok-above.ensures.ok) f);
+      room = search rules;
+      stands = search rules;
+    }

@@ -1,18 +1,18 @@
-use Rattle.std.proofs.Common.{ap, arith}
-use Rattle.calc_terms.specs.Trees.{count}
+use Rattle.std.proofs.Common.{ap, arith, rules}
+use Rattle.beautify.proofs.Names.{count, gathered}
 use Rattle.calc_terms.specs.declared.kind.Kind.TheVariants as kind
-use Rattle.beautify.specs.Lists.{gathered}
 use Rattle.beautify.proofs.Stacking.{is_stack, stacked_is, on_ok, if_err, restacks_as, then, fails_then}
 use Rattle.beautify.proofs.nodes.show_root.Goals as goal
 
-pub gather-requires-clause-stack : goal.gather-requires-clause-stack
-gather-requires-clause-stack c = is_stack c.in_ok-sign.ensures.ok.gives
+pub gather-requires : goal.gather-requires
+gather-requires c =
+    record { stack = is_stack c.in_ok-sign.ensures.ok.gives; within = omega (arith, ap count (stacked_is c.in_ok-sign.ensures.ok.gives)); stands = search rules; takes = search rules }
 
-pub gather-requires-clause-within : goal.gather-requires-clause-within
-gather-requires-clause-within c = omega (arith, ap count (stacked_is c.in_ok-sign.ensures.ok.gives))
-
-pub returns-clause-ok : goal.returns-clause-ok
-returns-clause-ok c = on_ok c.gather.result c.gather.ensures.ok (λ r. restacks_as (then c.in_ok-sign.ensures.ok r) (ap (gathered kind.Root 0 1) (stacked_is c.in_ok-sign.ensures.ok.gives)))
-
-pub returns-clause-fails : goal.returns-clause-fails
-returns-clause-fails c = if_err c.gather.result c.gather.ensures.fails (λ e f. fails_then c.in_ok-sign.ensures.ok f)
+pub returns : goal.returns
+returns c =
+    record {
+      ok = on_ok c.gather.result c.gather.ensures.ok (λ r. restacks_as (then c.in_ok-sign.ensures.ok r) (ap (gathered kind.Root 0 1) (stacked_is c.in_ok-sign.ensures.ok.gives)));
+      fails = if_err c.gather.result c.gather.ensures.fails (λ e f. fails_then c.in_ok-sign.ensures.ok f);
+      room = search rules;
+      stands = search rules;
+    }

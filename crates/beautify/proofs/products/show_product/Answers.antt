@@ -1,19 +1,10 @@
-use Rattle.std.proofs.Common.{◌≡◌, ◌<◌, ◌≤◌, ◌-◌, ℕ, suc, ap, sym, ◌∙◌, subst, arith}
-use Rattle.calc_language.specs.Faces.{unsigned_face, factor_above, factor_below, factors_above, factors_below}
-use Rattle.calc_terms.specs.Trees.{Tree, count, append, more}
-use Rattle.tree_handles.specs.Expressions.{plain, nth, children_of}
-use Rattle.tree_handles.specs.Forest.{Forest}
-use Rattle.tree_handles.specs.Inside.{tree_at}
-use Rattle.tree_handles.specs.Roots.{without_root}
-use Rattle.tree_handles.specs.Standing.{forest}
-use Rattle.tree_handles.proofs.Given.{given_rest}
-use Rattle.beautify.specs.Lists.{first, behind}
-use Rattle.beautify.specs.Showing.{unsigned_faces, IsFactor}
-use Rattle.beautify.specs.Stacks.{stacked}
+use Rattle.std.proofs.Common.{◌≡◌, ◌<◌, ◌-◌, ℕ, suc, ap, sym, ◌∙◌, subst, arith, rules}
+use Rattle.beautify.proofs.Names.{unsigned_face, factor_above, factor_below, factors_above, factors_below, Tree, count, append, more, plain, nth, children_of, Forest, tree_at, without_root, forest, given_rest, first, behind, unsigned_faces, IsFactor, stacked}
 use Rattle.beautify.proofs.Children.{within_kids, child_of}
 use Rattle.beautify.proofs.Places.{fraction_room-small}
 use Rattle.beautify.proofs.Factors.{in_split, split_start, none_above, none_below, split_next, split_done, above_done, below_done, places, split_face, split_room, factor_of, split_end, split_fits}
 use Rattle.beautify.proofs.Stacking.{in_base, same_base, is_stack, stacked_is, on_ok, if_err, restacks_as, nothing_done, then, fails_then}
+use Rattle.beautify.proofs.Trees.{pred_less, pred_next}
 use Rattle.beautify.proofs.products.show_product.Goals as goal
 
 pub children-left-requires-clause-live : goal.children-left-requires-clause-live
@@ -33,51 +24,29 @@ loop-left-init c =
       stands = c.requires.stands;
     }
 
-less : (n k : ℕ) → 0 < n → n ≤ k → n - 1 < k
-less n k h w = omega (arith, h, w)
-
-before : (n : ℕ) → 0 < n → n ≡ suc (n - 1)
-before n h = omega (arith, h)
-
 pub child_id-factor-requires-clause-within : goal.child_id-factor-requires-clause-within
 child_id-factor-requires-clause-within c =
-    within_kids c.loop-left.pool (c.loop-left.left - 1) c.loop-left.invariant.holds.gives c.requires.expression (less _ _ c.loop-left-test.true c.loop-left.invariant.within)
+    within_kids c.loop-left.pool (c.loop-left.left - 1) c.loop-left.invariant.holds.gives c.requires.expression (pred_less _ _ c.loop-left-test.true c.loop-left.invariant.within)
 
-pub split_factor-requires-clause-stack : goal.split_factor-requires-clause-stack
-split_factor-requires-clause-stack c = is_stack c.loop-left.invariant.holds.gives
-
-pub split_factor-requires-clause-expression : goal.split_factor-requires-clause-expression
-split_factor-requires-clause-expression c =
-    let i = c.loop-left.invariant in
-    same_base i.holds (child_of c.loop-left.pool (c.loop-left.left - 1) _ i.stands i.holds.gives c.requires.expression (less _ _ c.loop-left-test.true i.within) c.child_id-factor.ensures.value).expression
-
-pub split_factor-requires-clause-factor : goal.split_factor-requires-clause-factor
-split_factor-requires-clause-factor c =
-    let t = plain (tree_at c.args.id (without_root c.args.stack.now (forest c.args.pool.now))) in
-    let i = c.loop-left.invariant in
-    let child = child_of c.loop-left.pool (c.loop-left.left - 1) _ i.stands i.holds.gives c.requires.expression (less _ _ c.loop-left-test.true i.within) c.child_id-factor.ensures.value in
-    let same : plain (tree_at c.child_id-factor.result (without_root c.args.stack.now (forest c.loop-left.pool))) ≡ nth (c.loop-left.left - 1) (children_of t) = ap (λ (f : Forest). plain (tree_at c.child_id-factor.result f)) (given_rest i.holds.gives) ∙ child.plain-is in
-    subst IsFactor (sym same) (factor_of (c.loop-left.left - 1) t c.requires.product c.requires.showable (less _ _ c.loop-left-test.true i.within))
-
-pub split_factor-requires-clause-shown : goal.split_factor-requires-clause-shown
-split_factor-requires-clause-shown c =
+pub split_factor-requires : goal.split_factor-requires
+split_factor-requires c =
     let t = plain (tree_at c.args.id (without_root c.args.stack.now (forest c.args.pool.now))) in
     let i = c.loop-left.invariant in
     let n = c.loop-left.left - 1 in
+    let few : n < count (children_of t) = pred_less _ _ c.loop-left-test.true i.within in
     let rest = behind (count (children_of t)) (stacked c.args.stack.now (forest c.args.pool.now)) in
-    let child = child_of c.loop-left.pool n _ i.stands i.holds.gives c.requires.expression (less _ _ c.loop-left-test.true i.within) c.child_id-factor.ensures.value in
+    let suc-is = pred_next c.loop-left.left c.loop-left-test.true in
+    let child = child_of c.loop-left.pool n _ i.stands i.holds.gives c.requires.expression few c.child_id-factor.ensures.value in
     let same : plain (tree_at c.child_id-factor.result (without_root c.args.stack.now (forest c.loop-left.pool))) ≡ nth n (children_of t) = ap (λ (f : Forest). plain (tree_at c.child_id-factor.result f)) (given_rest i.holds.gives) ∙ child.plain-is in
-    let tops = stacked_is i.holds.gives ∙ ap (λ (k : ℕ). in_split k (children_of t) rest) (before c.loop-left.left c.loop-left-test.true) in
-    split_face n (children_of t) rest _ (less _ _ c.loop-left-test.true i.within) tops ∙ ap unsigned_face (sym same)
-
-pub split_factor-requires-clause-within : goal.split_factor-requires-clause-within
-split_factor-requires-clause-within c =
-    let t = plain (tree_at c.args.id (without_root c.args.stack.now (forest c.args.pool.now))) in
-    let i = c.loop-left.invariant in
-    let rest = behind (count (children_of t)) (stacked c.args.stack.now (forest c.args.pool.now)) in
-    let suc-is = before c.loop-left.left c.loop-left-test.true in
-    split_room (c.loop-left.left - 1) _ _ (children_of t) rest _ (less _ _ c.loop-left-test.true i.within) (i.above ∙ ap (λ (k : ℕ). count (factors_above (behind k (children_of t)))) suc-is) (i.below ∙ ap (λ (k : ℕ). count (factors_below (behind k (children_of t)))) suc-is)
-    (stacked_is i.holds.gives ∙ ap (λ (k : ℕ). in_split k (children_of t) rest) suc-is)
+    let tops = stacked_is i.holds.gives ∙ ap (λ (k : ℕ). in_split k (children_of t) rest) suc-is in
+    record {
+      stands = search rules;
+      stack = is_stack i.holds.gives;
+      expression = same_base i.holds child.expression;
+      factor = subst IsFactor (sym same) (factor_of n t c.requires.product c.requires.showable few);
+      shown = split_face n (children_of t) rest _ few tops ∙ ap unsigned_face (sym same);
+      within = split_room n _ _ (children_of t) rest _ few (i.above ∙ ap (λ (k : ℕ). count (factors_above (behind k (children_of t)))) suc-is) (i.below ∙ ap (λ (k : ℕ). count (factors_below (behind k (children_of t)))) suc-is) tops;
+    }
 
 pub loop-left-preserved : goal.loop-left-preserved
 loop-left-preserved c =
@@ -85,9 +54,9 @@ loop-left-preserved c =
     let us = children_of t in
     let i = c.loop-left.invariant in
     let n = c.loop-left.left - 1 in
-    let few : n < count us = less _ _ c.loop-left-test.true i.within in
+    let few : n < count us = pred_less _ _ c.loop-left-test.true i.within in
     let rest = behind (count us) (stacked c.args.stack.now (forest c.args.pool.now)) in
-    let suc-is = before c.loop-left.left c.loop-left-test.true in
+    let suc-is = pred_next c.loop-left.left c.loop-left-test.true in
     let child = child_of c.loop-left.pool n _ i.stands i.holds.gives c.requires.expression few c.child_id-factor.ensures.value in
     let same : plain (tree_at c.child_id-factor.result (without_root c.args.stack.now (forest c.loop-left.pool))) ≡ nth n us = ap (λ (f : Forest). plain (tree_at c.child_id-factor.result f)) (given_rest i.holds.gives) ∙ child.plain-is in
     let high = factors_above (behind (suc n) us) in
@@ -103,25 +72,21 @@ loop-left-preserved c =
       stands = c.split_factor.ensures.stands;
     }
 
-pub make_fraction-requires-clause-stack : goal.make_fraction-requires-clause-stack
-make_fraction-requires-clause-stack c = is_stack c.loop-left.invariant.holds.gives
-
-pub make_fraction-requires-clause-within : goal.make_fraction-requires-clause-within
-make_fraction-requires-clause-within c =
+pub make_fraction-requires : goal.make_fraction-requires
+make_fraction-requires c =
     let us = children_of (plain (tree_at c.args.id (without_root c.args.stack.now (forest c.args.pool.now)))) in
     let i = c.loop-left.invariant in
-    split_fits c.loop-left.left _ _ us (behind (count us) (stacked c.args.stack.now (forest c.args.pool.now))) _ i.above i.below (stacked_is i.holds.gives)
+    record { stack = is_stack c.loop-left.invariant.holds.gives; within = split_fits c.loop-left.left _ _ us (behind (count us) (stacked c.args.stack.now (forest c.args.pool.now))) _ i.above i.below (stacked_is i.holds.gives); stands = search rules }
 
-pub returns-clause-ok : goal.returns-clause-ok
-returns-clause-ok c =
+pub returns : goal.returns
+returns c =
     let t = plain (tree_at c.args.id (without_root c.args.stack.now (forest c.args.pool.now))) in
     let i = c.loop-left.invariant in
     let rest = behind (count (children_of t)) (stacked c.args.stack.now (forest c.args.pool.now)) in
-    on_ok c.make_fraction.result c.make_fraction.ensures.ok
-    (λ r. restacks_as (then i.holds r) (split_end c.loop-left.left _ _ t rest _ c.requires.product (omega (arith, c.loop-left-test.false)) i.above i.below (stacked_is i.holds.gives)))
-
-pub returns-clause-fails : goal.returns-clause-fails
-returns-clause-fails c = if_err c.make_fraction.result c.make_fraction.ensures.fails (λ e f. fails_then c.loop-left.invariant.holds f)
-
-pub returns-clause-room : goal.returns-clause-room
-returns-clause-room c = if_err c.make_fraction.result c.make_fraction.ensures.room (λ e l. omega (arith, l, c.loop-left.invariant.cost, fraction_room-small c.loop-left.sides.above c.loop-left.sides.below))
+    record {
+      ok = on_ok c.make_fraction.result c.make_fraction.ensures.ok
+          (λ r. restacks_as (then i.holds r) (split_end c.loop-left.left _ _ t rest _ c.requires.product (omega (arith, c.loop-left-test.false)) i.above i.below (stacked_is i.holds.gives)));
+      fails = if_err c.make_fraction.result c.make_fraction.ensures.fails (λ e f. fails_then c.loop-left.invariant.holds f);
+      room = if_err c.make_fraction.result c.make_fraction.ensures.room (λ e l. omega (arith, l, c.loop-left.invariant.cost, fraction_room-small c.loop-left.sides.above c.loop-left.sides.below));
+      stands = search rules;
+    }

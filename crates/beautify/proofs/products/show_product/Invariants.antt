@@ -1,14 +1,5 @@
 use Rattle.std.proofs.Common.{◌≡◌, ◌≤◌}
-use Rattle.calc_language.specs.Faces.{factors_above, factors_below}
-use Rattle.calc_terms.specs.Trees.{append, count}
-use Rattle.node_pool.specs.State.{free_of}
-use Rattle.tree_handles.specs.Expressions.{plain, children_of}
-use Rattle.tree_handles.specs.Inside.{tree_at}
-use Rattle.tree_handles.specs.Roots.{without_root}
-use Rattle.tree_handles.specs.Standing.{Stands, forest}
-use Rattle.beautify.specs.Lists.{first, behind}
-use Rattle.beautify.specs.Showing.{unsigned_faces}
-use Rattle.beautify.specs.Stacks.{stacked, Restacks}
+use Rattle.beautify.proofs.Names.{factors_above, factors_below, append, count, free_of, plain, children_of, tree_at, without_root, Stands, forest, first, behind, unsigned_faces, stacked, Restacks}
 use Rattle.beautify.proofs.products.show_product.Given as goal
 
 abbrev pub invariant-loop-left : goal.invariant-loop-left

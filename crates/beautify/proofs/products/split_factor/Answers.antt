@@ -1,12 +1,5 @@
 use Rattle.std.proofs.Common.{◌≡◌, ap, sym, ◌∙◌}
-use Rattle.calc_language.specs.Faces.{unsigned_face}
-use Rattle.calc_terms.specs.Trees.{Tree, num, more, append, root_kind}
-use Rattle.calc_terms.specs.Rat.{value_of}
-use Rattle.tree_handles.specs.Expressions.{plain}
-use Rattle.tree_handles.specs.Forest.{Forest}
-use Rattle.tree_handles.specs.Inside.{tree_at}
-use Rattle.tree_handles.specs.Roots.{without_root}
-use Rattle.tree_handles.specs.Standing.{forest}
+use Rattle.beautify.proofs.Names.{unsigned_face, Tree, num, more, append, root_kind, value_of, plain, Forest, tree_at, without_root, forest}
 use Rattle.beautify.proofs.Stacking.{in_base}
 use Rattle.beautify.proofs.products.split_factor.Goals as goal
 

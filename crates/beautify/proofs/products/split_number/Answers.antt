@@ -1,14 +1,7 @@
-use Rattle.std.proofs.Common.{◌≡◌, ◌≤◌, ◌+◌, ℕ, ap, ◌∙◌, arith, refl, nat_abs}
-use Rattle.calc_language.specs.Faces.{unless_one}
-use Rattle.calc_terms.specs.Rat.{value_of}
-use Rattle.calc_terms.specs.Trees.{Trees, none, append, count}
-use Rattle.tree_handles.specs.Expressions.{inserted}
-use Rattle.tree_handles.specs.Standing.{forest}
-use Rattle.beautify.specs.Lists.{cut}
-use Rattle.beautify.specs.Stacks.{stacked}
+use Rattle.std.proofs.Common.{◌≡◌, ◌≤◌, ◌+◌, ℕ, ap, ◌∙◌, arith, refl, nat_abs, rules}
+use Rattle.beautify.proofs.Names.{unless_one, value_of, Trees, none, append, count, inserted, forest, cut, stacked}
 use Rattle.beautify.proofs.Places.{count-inserted}
-use Rattle.beautify.proofs.Sizes.{few_stacked}
-use Rattle.beautify.proofs.Splits.{number_split, unless_one-count, unless_one-few}
+use Rattle.beautify.proofs.Splits.{number_split, unless_one-count}
 use Rattle.beautify.proofs.Stacking.{is_stack, stacked_is, restacks_as, then}
 use Rattle.beautify.proofs.Trees.{count-cut}
 use Rattle.beautify.proofs.products.split_number.Goals as goal
@@ -19,29 +12,24 @@ one_less at a b ts ts1 w e = omega (arith, w, ap count e, count-cut at 1 ts (ome
 no_less : (at n : ℕ) (us ts1 ts2 : Trees) → at ≤ count ts1 → ts2 ≡ inserted n us ts1 → at ≤ count ts2
 no_less at n us ts1 ts2 w e = omega (arith, w, ap count e, count-inserted n us ts1)
 
-pub overflow_add-at : goal.overflow_add-at
-overflow_add-at c = record { fits = omega (arith, c.requires.within, few_stacked c.args.pool.now c.requires.stands c.requires.stack) }
+pub push_unless_one-requires : goal.push_unless_one-requires
+push_unless_one-requires c =
+    record {
+      stack = is_stack c.discard.ensures.ok.gives;
+      within = one_less c.args.at c.args.sides.above c.args.sides.below (stacked c.args.stack.now (forest c.args.pool.now)) _ c.requires.within (stacked_is c.discard.ensures.ok.gives);
+      stands = search rules;
+      fits = search rules;
+    }
 
-pub push_unless_one-requires-clause-stack : goal.push_unless_one-requires-clause-stack
-push_unless_one-requires-clause-stack c = is_stack c.discard.ensures.ok.gives
-
-pub push_unless_one-requires-clause-within : goal.push_unless_one-requires-clause-within
-push_unless_one-requires-clause-within c =
-    one_less c.args.at c.args.sides.above c.args.sides.below (stacked c.args.stack.now (forest c.args.pool.now)) _ c.requires.within (stacked_is c.discard.ensures.ok.gives)
-
-pub push_unless_one-requires-2-clause-stack : goal.push_unless_one-requires-2-clause-stack
-push_unless_one-requires-2-clause-stack c = is_stack c.in_ok-below.ensures.ok.gives
-
-pub push_unless_one-requires-2-clause-within : goal.push_unless_one-requires-2-clause-within
-push_unless_one-requires-2-clause-within c =
+pub push_unless_one-requires-2 : goal.push_unless_one-requires-2
+push_unless_one-requires-2 c =
     let one = one_less c.args.at c.args.sides.above c.args.sides.below (stacked c.args.stack.now (forest c.args.pool.now)) _ c.requires.within (stacked_is c.discard.ensures.ok.gives) in
-    no_less c.args.at (c.args.at + c.args.sides.above) (unless_one c.denominator.result none) (stacked c.args.stack.now (forest c.discard.new.pool)) _ (omega (arith, one)) (stacked_is c.in_ok-below.ensures.ok.gives)
-
-pub overflow_add-result : goal.overflow_add-result
-overflow_add-result c = record { fits = omega (arith, c.requires.within, few_stacked c.args.pool.now c.requires.stands c.requires.stack, c.in_ok-above.ensures.came, unless_one-few c.numerator.result) }
-
-pub overflow_add-result-2 : goal.overflow_add-result-2
-overflow_add-result-2 c = record { fits = omega (arith, c.requires.within, few_stacked c.args.pool.now c.requires.stands c.requires.stack, c.in_ok-below.ensures.came, unless_one-few c.denominator.result) }
+    record {
+      stack = is_stack c.in_ok-below.ensures.ok.gives;
+      within = no_less c.args.at (c.args.at + c.args.sides.above) (unless_one c.denominator.result none) (stacked c.args.stack.now (forest c.discard.new.pool)) _ (omega (arith, one)) (stacked_is c.in_ok-below.ensures.ok.gives);
+      stands = search rules;
+      fits = search rules;
+    }
 
 pub returns-clause-ok : goal.returns-clause-ok
 returns-clause-ok c before above below rest e f g h =

@@ -1,13 +1,5 @@
 use Rattle.std.proofs.Common.{ap, sym, ◌∙◌, arith, refl}
-use Rattle.calc_terms.specs.Trees.{count, is_div}
-use Rattle.tree_handles.specs.Expressions.{plain}
-use Rattle.tree_handles.specs.Forest.{Forest}
-use Rattle.tree_handles.specs.Inside.{tree_at}
-use Rattle.tree_handles.specs.Roots.{without_root}
-use Rattle.tree_handles.specs.Standing.{forest}
-use Rattle.beautify.specs.Showing.{stands_below}
-use Rattle.beautify.specs.Stacks.{stacked}
-use Rattle.beautify.proofs.Sizes.{few_stacked}
+use Rattle.beautify.proofs.Names.{count, is_div, plain, Forest, tree_at, without_root, forest, stands_below, stacked}
 use Rattle.beautify.proofs.Splits.{below_factor, above_factor, below_split, above_split}
 use Rattle.beautify.proofs.Stacking.{in_base, restacks_as, nothing_done}
 use Rattle.beautify.proofs.products.split_other.Goals as goal
@@ -15,19 +7,10 @@ use Rattle.beautify.proofs.products.split_other.Goals as goal
 pub is_below-requires-clause-expression : goal.is_below-requires-clause-expression
 is_below-requires-clause-expression c = (in_base c.requires.stack.last c.requires.expression).0
 
-pub overflow_add-at : goal.overflow_add-at
-overflow_add-at c = record { fits = omega (arith, c.requires.within, few_stacked c.args.pool.now c.requires.stands c.requires.stack) }
-
 pub keep_divisor-requires-clause-quotient : goal.keep_divisor-requires-clause-quotient
 keep_divisor-requires-clause-quotient c =
     let below = sym (c.is_below.ensures ∙ ap (λ (f : Forest). stands_below (plain f)) (in_base c.requires.stack.last c.requires.expression).1) ∙ c.if-is_below.true in
     ap is_div c.requires.shown ∙ (below_factor (plain (tree_at c.args.factor (without_root c.args.stack.now (forest c.args.pool.now)))) below).quotient
-
-pub overflow_add-result : goal.overflow_add-result
-overflow_add-result c = record { fits = omega (arith, c.requires.within, few_stacked c.args.pool.now c.requires.stands c.requires.stack) }
-
-pub overflow_add-result-2 : goal.overflow_add-result-2
-overflow_add-result-2 c = record { fits = omega (arith, c.requires.within, few_stacked c.args.pool.now c.requires.stands c.requires.stack) }
 
 pub returns-then-is_below-clause-ok : goal.returns-then-is_below-clause-ok
 returns-then-is_below-clause-ok c before above below rest e f g h =

@@ -1,9 +1,7 @@
 use Rattle.std.proofs.Common.{ap, sym, ◌∙◌, rules}
 use Rattle.std.specs.Prelude.{ℤ, pos, FitsSigned}
-use Rattle.std.specs.Int.{w128}
-use Rattle.std.proofs.lemmas.Int.{to_z-of_z}
 use lib.Signed.{lt_z}
-use Rattle.rational128.proofs.LowestTerms.{ratio_parts}
+use Rattle.beautify.proofs.Names.{ratio_parts, w128, to_z-of_z}
 use Rattle.beautify.proofs.Signs.{lt_z-zero}
 use Rattle.beautify.proofs.reading.is_below_zero.Goals as goal
 

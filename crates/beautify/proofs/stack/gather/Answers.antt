@@ -1,16 +1,8 @@
-use Rattle.std.proofs.Common.{false, ◌≡◌, ℕ, ◌<◌, ap, ◌∙◌, subst, arith}
-use Rattle.calc_terms.specs.Trees.{count}
-use Rattle.node_pool.specs.State.{free_of}
-use Rattle.tree_handles.specs.Roots.{without_root}
-use Rattle.tree_handles.specs.Standing.{forest}
-use Rattle.tree_handles.proofs.Forests.{keeps_after}
-use Rattle.tree_handles.proofs.Given.{given_rest}
-use Rattle.beautify.specs.Lists.{cut}
-use Rattle.beautify.specs.Stacks.{stacked}
+use Rattle.std.proofs.Common.{false, ◌≡◌, ℕ, ◌<◌, ap, ◌∙◌, subst, arith, rules}
+use Rattle.beautify.proofs.Names.{Restacks, count, free_of, without_root, forest, keeps_after, given_rest, cut, stacked, bare_size, passed_on}
 use Rattle.beautify.proofs.Gathering.{gathering_start, more_there, gathering_taken, gathering_over, gathering_next, gathered_all, gathering_end}
-use Rattle.beautify.proofs.Stacking.{is_under, is_stack, stacked_is, opens_stack, last_given, stack_under, came, fails_at_once, short, passed_on}
+use Rattle.beautify.proofs.Stacking.{is_under, is_stack, stacked_is, opens_stack, last_given, stack_under, came, fails_at_once, short}
 use Rattle.beautify.proofs.Trees.{bare_takes, count-cut}
-use Rattle.calc_terms.proofs.Sizes.{bare_size}
 use Rattle.beautify.proofs.Sizes.{costs, sizes-gathered}
 use Rattle.beautify.proofs.stack.gather.Goals as goal
 
@@ -26,21 +18,15 @@ take_child-child-requires-clause-within c =
     let u = is_under c.loop-place.pool c.loop-place.invariant.stands g.left g.top.ends in
     omega (arith, u.many, more_there c.args.at c.loop-place.place c.args.trees (stacked c.args.stack.now (forest c.args.pool.now)) c.loop-place-test.true c.requires.within)
 
-pub add_child-requires-clause-live : goal.add_child-requires-clause-live
-add_child-requires-clause-live c =
-    (gathering_over c.loop-place.pool c.take_child-child.new.pool c.loop-place.invariant.stands c.take_child-child.ensures.stands c.loop-place.invariant.gathering c.args.trees c.loop-place-test.true c.requires.within c.take_child-child.ensures.last).live
-
-pub add_child-requires-clause-root : goal.add_child-requires-clause-root
-add_child-requires-clause-root c =
-    (gathering_over c.loop-place.pool c.take_child-child.new.pool c.loop-place.invariant.stands c.take_child-child.ensures.stands c.loop-place.invariant.gathering c.args.trees c.loop-place-test.true c.requires.within c.take_child-child.ensures.last).root
-
-pub add_child-requires-clause-apart : goal.add_child-requires-clause-apart
-add_child-requires-clause-apart c =
-    (gathering_over c.loop-place.pool c.take_child-child.new.pool c.loop-place.invariant.stands c.take_child-child.ensures.stands c.loop-place.invariant.gathering c.args.trees c.loop-place-test.true c.requires.within c.take_child-child.ensures.last).apart-is
-
-pub add_child-requires-clause-within : goal.add_child-requires-clause-within
-add_child-requires-clause-within c =
-    omega (arith, (gathering_over c.loop-place.pool c.take_child-child.new.pool c.loop-place.invariant.stands c.take_child-child.ensures.stands c.loop-place.invariant.gathering c.args.trees c.loop-place-test.true c.requires.within c.take_child-child.ensures.last).many)
+pub add_child-requires : goal.add_child-requires
+add_child-requires c =
+    record {
+      live = (gathering_over c.loop-place.pool c.take_child-child.new.pool c.loop-place.invariant.stands c.take_child-child.ensures.stands c.loop-place.invariant.gathering c.args.trees c.loop-place-test.true c.requires.within c.take_child-child.ensures.last).live;
+      within = omega (arith, (gathering_over c.loop-place.pool c.take_child-child.new.pool c.loop-place.invariant.stands c.take_child-child.ensures.stands c.loop-place.invariant.gathering c.args.trees c.loop-place-test.true c.requires.within c.take_child-child.ensures.last).many);
+      root = (gathering_over c.loop-place.pool c.take_child-child.new.pool c.loop-place.invariant.stands c.take_child-child.ensures.stands c.loop-place.invariant.gathering c.args.trees c.loop-place-test.true c.requires.within c.take_child-child.ensures.last).root;
+      apart = (gathering_over c.loop-place.pool c.take_child-child.new.pool c.loop-place.invariant.stands c.take_child-child.ensures.stands c.loop-place.invariant.gathering c.args.trees c.loop-place-test.true c.requires.within c.take_child-child.ensures.last).apart-is;
+      stands = search rules;
+    }
 
 pub loop-place-preserved : goal.loop-place-preserved
 loop-place-preserved c =
@@ -52,44 +38,31 @@ loop-place-preserved c =
       stands = c.add_child.ensures.stands;
     }
 
-pub push-requires-clause-last : goal.push-requires-clause-last
-push-requires-clause-last c =
-    let g = gathered_all c.args.trees (omega (arith, c.loop-place.auto.place-end, c.loop-place-test.false)) c.loop-place.invariant.gathering in
-    last_given (gathering_end g c.requires.takes c.requires.within)
-
-pub push-requires-clause-stack : goal.push-requires-clause-stack
-push-requires-clause-stack c =
-    let g = gathered_all c.args.trees (omega (arith, c.loop-place.auto.place-end, c.loop-place-test.false)) c.loop-place.invariant.gathering in
-    stack_under (gathering_end g c.requires.takes c.requires.within) (is_stack (opens_stack g.left))
-
-pub push-requires-clause-within : goal.push-requires-clause-within
-push-requires-clause-within c =
+pub push-requires : goal.push-requires
+push-requires c =
     let g = gathered_all c.args.trees (omega (arith, c.loop-place.auto.place-end, c.loop-place-test.false)) c.loop-place.invariant.gathering in
     let ts = stacked c.args.stack.now (forest c.args.pool.now) in
     let under : stacked c.args.stack.now (without_root c.in_ok-over.over (forest c.loop-place.pool)) ≡ cut c.args.at c.args.trees ts = ap (stacked c.args.stack.now) (given_rest (gathering_end g c.requires.takes c.requires.within)) ∙ stacked_is (opens_stack g.left) in
-    omega (arith, ap count under, count-cut c.args.at c.args.trees ts c.requires.within, c.requires.within)
-
-pub returns-clause-ok : goal.returns-clause-ok
-returns-clause-ok c =
-    let g = gathered_all c.args.trees (omega (arith, c.loop-place.auto.place-end, c.loop-place-test.false)) c.loop-place.invariant.gathering in
     record {
-      gives = came c.args.at (opens_stack g.left) (gathering_end g c.requires.takes c.requires.within) c.push.ensures.gives;
-      kept = keeps_after c.args.pool.now c.loop-place.pool c.push.new.pool c.loop-place.invariant.kept c.push.ensures.kept;
+      last = last_given (gathering_end g c.requires.takes c.requires.within);
+      stack = stack_under (gathering_end g c.requires.takes c.requires.within) (is_stack (opens_stack g.left));
+      within = omega (arith, ap count under, count-cut c.args.at c.args.trees ts c.requires.within, c.requires.within);
+      stands = search rules;
     }
 
-pub returns-in_err-over-clause-fails : goal.returns-in_err-over-clause-fails
-returns-in_err-over-clause-fails c =
-    passed_on c.from_residual.result c.in_err-over.field-0.0 _ c.from_residual.ensures.0 c.from_residual.ensures.1 (fails_at_once c.requires.stack c.in_err-over.ensures.full (short _ _ c.in_err-over.ensures.exactly))
+pub returns-in_err-over : goal.returns-in_err-over
+returns-in_err-over c =
+    record {
+      fails = passed_on c.from_residual.result c.in_err-over.field-0.0 _ c.from_residual.ensures.0 c.from_residual.ensures.1 (fails_at_once c.requires.stack c.in_err-over.ensures.full (short _ _ c.in_err-over.ensures.exactly));
+      room = passed_on c.from_residual.result c.in_err-over.field-0.0 _ c.from_residual.ensures.0 c.from_residual.ensures.1
+          (subst (λ (n : ℕ). free_of c.args.pool.now < n) (bare_size c.args.kind false (bare_takes c.args.kind c.args.trees c.requires.takes)) (short _ _ c.in_err-over.ensures.exactly));
+      ok = search rules;
+      cost = search rules;
+      stands = search rules;
+    }
 
-pub returns-in_err-over-clause-room : goal.returns-in_err-over-clause-room
-returns-in_err-over-clause-room c =
-    passed_on c.from_residual.result c.in_err-over.field-0.0 _ c.from_residual.ensures.0 c.from_residual.ensures.1
-    (subst (λ (n : ℕ). free_of c.args.pool.now < n) (bare_size c.args.kind false (bare_takes c.args.kind c.args.trees c.requires.takes)) (short _ _ c.in_err-over.ensures.exactly))
-
-pub returns-clause-cost : goal.returns-clause-cost
-returns-clause-cost c =
+pub returns : goal.returns
+returns c =
     let g = gathered_all c.args.trees (omega (arith, c.loop-place.auto.place-end, c.loop-place-test.false)) c.loop-place.invariant.gathering in
-    costs 8 c.requires.stands c.push.ensures.stands c.requires.stack (record {
-      gives = came c.args.at (opens_stack g.left) (gathering_end g c.requires.takes c.requires.within) c.push.ensures.gives;
-      kept = keeps_after c.args.pool.now c.loop-place.pool c.push.new.pool c.loop-place.invariant.kept c.push.ensures.kept;
-    }) (sizes-gathered c.args.kind c.args.at c.args.trees (stacked c.args.stack.now (forest c.args.pool.now)) c.requires.takes c.requires.within)
+    let changed : Restacks c.args.stack.now c.args.pool.now c.push.new.pool _ = record { gives = came c.args.at (opens_stack g.left) (gathering_end g c.requires.takes c.requires.within) c.push.ensures.gives; kept = keeps_after c.args.pool.now c.loop-place.pool c.push.new.pool c.loop-place.invariant.kept c.push.ensures.kept } in
+    record { ok = changed; cost = costs 8 c.requires.stands c.push.ensures.stands c.requires.stack changed (sizes-gathered c.args.kind c.args.at c.args.trees (stacked c.args.stack.now (forest c.args.pool.now)) c.requires.takes c.requires.within); fails = search rules; room = search rules; stands = search rules }

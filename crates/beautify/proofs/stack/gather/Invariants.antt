@@ -1,12 +1,6 @@
-use Rattle.tree_handles.specs.Roots.{without_root}
-use Rattle.tree_handles.specs.Standing.{Stands, forest, KeepsRefusals}
-use Rattle.beautify.specs.Stacks.{stacked}
+use Rattle.beautify.proofs.Names.{without_root, Stands, forest, KeepsRefusals, stacked}
 use Rattle.beautify.proofs.Gathering.{IsGathering}
 use Rattle.beautify.proofs.stack.gather.Given as goal
 
 abbrev pub invariant-loop-place : goal.invariant-loop-place
-invariant-loop-place l = record {
-  gathering : IsGathering (without_root l.fn.stack (forest l.fn.pool)) (forest l.pool) l.fn.stack l.over l.fn.kind l.fn.at l.place (stacked l.fn.stack (forest l.fn.pool));
-  kept : KeepsRefusals l.fn.pool l.pool;
-  stands : Stands l.pool;
-}
+invariant-loop-place l = record { gathering : IsGathering (without_root l.fn.stack (forest l.fn.pool)) (forest l.pool) l.fn.stack l.over l.fn.kind l.fn.at l.place (stacked l.fn.stack (forest l.fn.pool)); kept : KeepsRefusals l.fn.pool l.pool; stands : Stands l.pool }

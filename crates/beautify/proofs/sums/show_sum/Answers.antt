@@ -1,22 +1,17 @@
-use Rattle.std.proofs.Common.{◌<◌, ◌+◌, ◌-◌, ℕ, refl, ap, sym, ◌∙◌, arith}
-use Rattle.calc_language.specs.Faces.{has_minus}
-use Rattle.calc_terms.specs.Trees.{Trees, count}
-use Rattle.tree_handles.specs.Expressions.{plain, nth, children_of}
-use Rattle.tree_handles.specs.Forest.{Forest, arity}
-use Rattle.tree_handles.specs.Inside.{tree_at, kids_of}
-use Rattle.tree_handles.specs.Roots.{without_root}
-use Rattle.tree_handles.specs.Standing.{forest}
-use Rattle.beautify.specs.Stacks.{stacked}
-use Rattle.beautify.specs.Marks.{IsChildMark}
+use Rattle.std.proofs.Common.{◌≡◌, ◌<◌, ◌+◌, ◌-◌, ℕ, refl, ap, sym, ◌∙◌, arith, rules}
+use Rattle.beautify.proofs.Names.{has_minus, Trees, count, plain, nth, children_of, Forest, arity, tree_at, kids_of, without_root, forest, stacked, IsChildMark, passed_on}
 use Rattle.beautify.proofs.Children.{within_kids, child_of}
 use Rattle.beautify.proofs.Marking.{child_there, same_tree, still_child}
-use Rattle.beautify.proofs.Stacking.{in_base, is_stack, stacked_is, restacks_as, then, fails_then, passed_on}
+use Rattle.beautify.proofs.Stacking.{in_base, is_stack, stacked_is, restacks_as, then, fails_then}
 use Rattle.beautify.proofs.Terms.{so_far, two_terms, sum_room, sum_start, not_summed, two_left, sum_step, summed_step, sum_end}
 use Rattle.beautify.proofs.sums.show_sum.Goals as goal
-use Rattle.beautify.proofs.sums.show_sum.Goals.{After-next_child-term}
+use Rattle.beautify.proofs.sums.show_sum.Goals.{After-children-terms, After-next_child-term}
 
 pub children-terms-requires-clause-live : goal.children-terms-requires-clause-live
 children-terms-requires-clause-live c = (in_base c.requires.stack.last c.requires.expression).0.live
+
+terms : (c : After-children-terms) → c.children-terms.result ≡ count (children_of (plain (tree_at c.args.id (without_root c.args.stack.now (forest c.args.pool.now)))))
+terms c = let b = in_base c.requires.stack.last c.requires.expression in c.children-terms.ensures.plain b.0 ∙ ap (λ (f : Forest). count (children_of (plain f))) b.1
 
 pub first_child-term-requires-clause-some : goal.first_child-term-requires-clause-some
 first_child-term-requires-clause-some c = within_kids c.args.pool.now 0 c.requires.stack.last c.requires.expression (omega (arith, two_terms _ c.requires.sum c.requires.showable))
@@ -44,8 +39,7 @@ loop-place-init c =
 
 pub next_child-term-requires-clause-child : goal.next_child-term-requires-clause-child
 next_child-term-requires-clause-child c =
-    let b = in_base c.requires.stack.last c.requires.expression in
-    let many = c.children-terms.ensures.plain b.0 ∙ ap (λ (f : Forest). count (children_of (plain f))) b.1 in
+    let many = terms (goal.at.next_child-term-requires-clause-child c).After-children-terms in
     let i = c.loop-place.invariant in
     let s = c.loop-place.pool in
     let base = without_root c.args.stack.now (forest c.args.pool.now) in
@@ -69,40 +63,36 @@ term_there c =
 
 pub is_negative-negative-requires-clause-expression : goal.is_negative-negative-requires-clause-expression
 is_negative-negative-requires-clause-expression c =
-    let b = in_base c.requires.stack.last c.requires.expression in
-    let many = c.children-terms.ensures.plain b.0 ∙ ap (λ (f : Forest). count (children_of (plain f))) b.1 in
+    let many = terms (goal.at.is_negative-negative-requires-clause-expression c).After-children-terms in
     let child = child_of c.loop-place.pool c.loop-place.place _ c.loop-place.invariant.stands c.loop-place.invariant.holds.gives c.requires.expression (omega (arith, many, c.loop-place-test.true)) (child_there c.loop-place.place c.args.id c.next_child-term.result (forest c.loop-place.pool) (c.next_child-term.ensures.tree ∙ c.loop-place.invariant.tree) (term_there (goal.at.is_negative-negative-requires-clause-expression c).After-next_child-term)) in
     (in_base c.loop-place.invariant.holds.gives child.expression).0
 
-pub next_term_of-requires-clause-stack : goal.next_term_of-requires-clause-stack
-next_term_of-requires-clause-stack c = is_stack c.loop-place.invariant.holds.gives
+pub next_term_of-requires : goal.next_term_of-requires
+next_term_of-requires c =
+    let many = terms (goal.at.next_term_of-requires c).After-children-terms in
+    record {
+      stack = is_stack c.loop-place.invariant.holds.gives;
+      two = two_left c.loop-place.place _ (stacked c.args.stack.now (forest c.args.pool.now)) _ _ (omega (arith, many, c.loop-place-test.true)) c.requires.shown (stacked_is c.loop-place.invariant.holds.gives);
+      made = (so_far (c.loop-place.place - 1) (children_of (plain (tree_at c.args.id (without_root c.args.stack.now (forest c.args.pool.now))))), ap (λ (us : Trees). nth 0 us) (stacked_is c.loop-place.invariant.holds.gives), sym c.loop-place.invariant.summed);
+      stands = search rules;
+    }
 
-pub next_term_of-requires-clause-two : goal.next_term_of-requires-clause-two
-next_term_of-requires-clause-two c =
-    let b = in_base c.requires.stack.last c.requires.expression in
-    let many = c.children-terms.ensures.plain b.0 ∙ ap (λ (f : Forest). count (children_of (plain f))) b.1 in
-    two_left c.loop-place.place _ (stacked c.args.stack.now (forest c.args.pool.now)) _ _ (omega (arith, many, c.loop-place-test.true)) c.requires.shown (stacked_is c.loop-place.invariant.holds.gives)
-
-pub next_term_of-requires-clause-made : goal.next_term_of-requires-clause-made
-next_term_of-requires-clause-made c = (so_far (c.loop-place.place - 1) (children_of (plain (tree_at c.args.id (without_root c.args.stack.now (forest c.args.pool.now))))), ap (λ (us : Trees). nth 0 us) (stacked_is c.loop-place.invariant.holds.gives), sym c.loop-place.invariant.summed)
-
-pub returns-in_err-summed-clause-fails : goal.returns-in_err-summed-clause-fails
-returns-in_err-summed-clause-fails c =
-    passed_on c.from_residual-in_err-summed.result c.in_err-summed.field-0.0 _ c.from_residual-in_err-summed.ensures.0 c.from_residual-in_err-summed.ensures.1 (fails_then c.loop-place.invariant.holds c.in_err-summed.ensures.fails)
-
-pub returns-in_err-summed-clause-room : goal.returns-in_err-summed-clause-room
-returns-in_err-summed-clause-room c =
-    let b = in_base c.requires.stack.last c.requires.expression in
-    let many = c.children-terms.ensures.plain b.0 ∙ ap (λ (f : Forest). count (children_of (plain f))) b.1 in
-    passed_on c.from_residual-in_err-summed.result c.in_err-summed.field-0.0 _ c.from_residual-in_err-summed.ensures.0 c.from_residual-in_err-summed.ensures.1
-    (omega (arith, c.in_err-summed.ensures.room, c.loop-place.invariant.cost, many, c.loop-place-test.true, sum_room _ c.requires.sum))
+pub returns-in_err-summed : goal.returns-in_err-summed
+returns-in_err-summed c =
+    let many = terms (goal.at.returns-in_err-summed c).After-children-terms in
+    record {
+      fails = passed_on c.from_residual-in_err-summed.result c.in_err-summed.field-0.0 _ c.from_residual-in_err-summed.ensures.0 c.from_residual-in_err-summed.ensures.1 (fails_then c.loop-place.invariant.holds c.in_err-summed.ensures.fails);
+      room = passed_on c.from_residual-in_err-summed.result c.in_err-summed.field-0.0 _ c.from_residual-in_err-summed.ensures.0 c.from_residual-in_err-summed.ensures.1
+          (omega (arith, c.in_err-summed.ensures.room, c.loop-place.invariant.cost, many, c.loop-place-test.true, sum_room _ c.requires.sum));
+      ok = search rules;
+      stands = search rules;
+    }
 
 pub loop-place-preserved : goal.loop-place-preserved
 loop-place-preserved c =
     let t = plain (tree_at c.args.id (without_root c.args.stack.now (forest c.args.pool.now))) in
     let ts = stacked c.args.stack.now (forest c.args.pool.now) in
-    let b = in_base c.requires.stack.last c.requires.expression in
-    let many = c.children-terms.ensures.plain b.0 ∙ ap (λ (f : Forest). count (children_of (plain f))) b.1 in
+    let many = terms (goal.at.loop-place-preserved c).After-children-terms in
     let less : c.loop-place.place < count (children_of t) = omega (arith, many, c.loop-place-test.true) in
     let i = c.loop-place.invariant in
     let child = child_of c.loop-place.pool c.loop-place.place _ i.stands i.holds.gives c.requires.expression less (child_there c.loop-place.place c.args.id c.next_child-term.result (forest c.loop-place.pool) (c.next_child-term.ensures.tree ∙ c.loop-place.invariant.tree) (term_there (goal.at.loop-place-preserved c).After-next_child-term)) in
@@ -123,7 +113,6 @@ loop-place-preserved c =
 pub returns-clause-ok : goal.returns-clause-ok
 returns-clause-ok c =
     let t = plain (tree_at c.args.id (without_root c.args.stack.now (forest c.args.pool.now))) in
-    let b = in_base c.requires.stack.last c.requires.expression in
-    let many = c.children-terms.ensures.plain b.0 ∙ ap (λ (f : Forest). count (children_of (plain f))) b.1 in
+    let many = terms (goal.at.returns-clause-ok c).After-children-terms in
     let i = c.loop-place.invariant in
     restacks_as i.holds (sum_end c.loop-place.place c.children-terms.result t (stacked c.args.stack.now (forest c.args.pool.now)) c.requires.sum (omega (arith, i.within, c.loop-place-test.false)) i.from_one many)

@@ -1,15 +1,5 @@
 use Rattle.std.proofs.Common.{◌≡◌, ◌≤◌, ◌+◌, ◌*◌, ◌-◌}
-use Rattle.calc_language.specs.Grammar.{as_tree}
-use Rattle.calc_terms.specs.Trees.{more}
-use Rattle.node_pool.specs.State.{free_of}
-use Rattle.tree_handles.specs.Expressions.{plain, children_of}
-use Rattle.tree_handles.specs.Inside.{tree_at}
-use Rattle.tree_handles.specs.Roots.{without_root}
-use Rattle.tree_handles.specs.Standing.{Stands, forest}
-use Rattle.beautify.specs.Lists.{behind}
-use Rattle.beautify.specs.Marks.{IsChildMark}
-use Rattle.beautify.specs.Showing.{is_summed}
-use Rattle.beautify.specs.Stacks.{stacked, Restacks}
+use Rattle.beautify.proofs.Names.{as_tree, more, free_of, plain, children_of, tree_at, without_root, Stands, forest, behind, IsChildMark, is_summed, stacked, Restacks}
 use Rattle.beautify.proofs.Terms.{so_far}
 use Rattle.beautify.proofs.sums.show_sum.Given as goal
 

@@ -1,11 +1,5 @@
 use Rattle.std.proofs.Common.{ap, sym, ◌∙◌, Bool}
-use Rattle.calc_language.specs.Faces.{has_minus, with_minus}
-use Rattle.calc_terms.specs.Trees.{none, more}
-use Rattle.tree_handles.specs.Expressions.{plain, nth, inserted}
-use Rattle.tree_handles.specs.Forest.{Forest}
-use Rattle.tree_handles.specs.Standing.{forest}
-use Rattle.beautify.specs.Lists.{cut}
-use Rattle.beautify.specs.Stacks.{stacked}
+use Rattle.beautify.proofs.Names.{has_minus, with_minus, none, more, plain, nth, inserted, Forest, forest, cut, stacked}
 use Rattle.beautify.proofs.Places.{gathered-neg, put_back}
 use Rattle.beautify.proofs.Stacking.{in_base, on_ok, restacks_as, nothing_done}
 use Rattle.beautify.proofs.sums.sign.Goals as goal
