@@ -90,7 +90,7 @@ module _ (room bits : Option (Tree → ℕ)) (old : State) (before checked : Lis
         let (is, same) = told_tree (report told) told read.reply_is refl in
         record {
           tree = t;
-          becomes = record { text = behind; asks = asked; tokens = read.tokens; tree = read.tree; reads = read.reads; left = read.left; is_made = read.is_made };
+          becomes = record { text = behind; asks = asked; becomes = record { tokens = read.tokens; tree = read.tree; reads = read.reads; left = read.left; is_made = read.is_made } };
           polynomial = is;
           told_is = same;
           meanings = record { means = λ f a v m. expanded_means f a t v is m };
@@ -99,14 +99,14 @@ module _ (room bits : Option (Tree → ℕ)) (old : State) (before checked : Lis
 
   module _ {t : Tree} (a : AsksExpansionOf old line t) where
     -- the reply to what the line becomes
-    reply_to : (reply : Reply) → (1024 < length line → reply ≡ long → ⊥) → IsReply room bits old before checked line reply → IsReplyToExpansion (free_bytes old) before checked a.left t reply
-    reply_to reply short h = reply_to_tree a.reads a.is_made reply (calculated a.text a.asks reply short h)
+    reply_to : (reply : Reply) → (1024 < length line → reply ≡ long → ⊥) → IsReply room bits old before checked line reply → IsReplyToExpansion (free_bytes old) before checked a.becomes.left t reply
+    reply_to reply short h = reply_to_tree a.becomes.reads a.becomes.is_made reply (calculated a.text a.asks reply short h)
 
     pub told_of : (told : List ℕ) → IsReply room bits old before checked line (report told) → told ≡ expansion_text t
     told_of told h = (told_tree (report told) told (reply_to (report told) (λ e k. no_long told k) h) refl).1
 
     module _ (short : length line ≤ 1024) (reply : Reply) (h : IsReply room bits old before checked line reply) where
-      within : IsReplyToExpansion (free_bytes old) before checked a.left t reply
+      within : IsReplyToExpansion (free_bytes old) before checked a.becomes.left t reply
       within = reply_to reply (λ over. omega (arith, short, over)) h
 
       pub is_denied : (reply ≡ not_polynomial) ↔ (is_polynomial t ≡ false)

@@ -105,7 +105,7 @@ module _ (room bits : Option (Tree → ℕ)) (old : State) (before checked : Lis
       let read = reply_to_text (report told) told (calculated (report told) (λ e k. report_long told k) h) refl in
       record {
         tree = read.becomes;
-        becomes = record { text = behind; asks = asked; tokens = read.tokens; tree = read.tree; reads = read.reads; left = read.left; is_made = read.is_made };
+        becomes = record { text = behind; asks = asked; becomes = record { tokens = read.tokens; tree = read.tree; reads = read.reads; left = read.left; is_made = read.is_made } };
         tells = told_tree read.left read.becomes (report told) told read.reply_is refl;
       }
 

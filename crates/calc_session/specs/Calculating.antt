@@ -4,7 +4,7 @@ use Rattle.breakers.specs.State.{State as Breaker}
 use Rattle.calc_commands.specs.Commands.{IsCommandLine, diff, solve, expand}
 use Rattle.calc_terms.specs.Trees.{Tree}
 use Rattle.calc_tokens.specs.Placed.{Placed}
-use Rattle.name_table.specs.Filling.{Filling, values}
+use Rattle.name_table.specs.Filling.{Filling, fills, values}
 use Rattle.calc_session.specs.Arguments.{IsNoExpression, ReadsText, bytes_before}
 use Rattle.calc_session.specs.Deriving.{IsReplyToDerivative}
 use Rattle.calc_session.specs.Evaluations.{IsReplyToMade, made}
@@ -16,6 +16,14 @@ use Rattle.calc_session.specs.States.{State, free_bytes, trees}
 -- a tree is built in a state, and the stored trees take the places of their names
 abbrev pub made_in : State → Tree → Filling
 made_in s t = made (free_bytes s) (values s.table (trees s)) t
+
+-- in a state the text is an expression that becomes this tree, once the stored trees are in the places of their names
+pub record ExpressionBecomes (old : State) (text : List ℕ) (t : Tree) : Type 0 where
+  pub tokens : List Placed
+  pub tree : Tree
+  pub reads : ReadsText text tokens None tree
+  pub left : ℕ
+  pub is_made : made_in old tree ≡ fills left t
 
 -- The replies to an expression that is calculated with: it is read, built and filled as a line is.
 pub data IsReplyToExpression (old : State) (before after : List Breaker) (line text : List ℕ) (IsReplyToTree : ℕ → Tree → Reply → Type 0) : Reply → Type 0 where

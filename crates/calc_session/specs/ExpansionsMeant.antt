@@ -1,28 +1,21 @@
 -- What the answers to lines that ask for an expansion mean.
-use Rattle.std.specs.Prelude.{ℕ, ◌≡◌, List, None, true}
+use Rattle.std.specs.Prelude.{ℕ, ◌≡◌, List, true}
 use Rattle.calc_algebra.specs.Rewritings.{KeepsMeanings}
 use Rattle.calc_commands.specs.Commands.{IsCommandLine, expand}
 use Rattle.calc_language.specs.Faces.{face}
 use Rattle.calc_terms.specs.Trees.{Tree}
-use Rattle.calc_tokens.specs.Placed.{Placed}
 use Rattle.expand_forms.specs.ExpandedTrees.{expanded}
 use Rattle.expand_forms.specs.Polynomials.{Monomial, coefficient_at}
 use Rattle.expand_forms.specs.PolynomialTrees.{is_polynomial, polynomial_of}
-use Rattle.name_table.specs.Filling.{fills}
-use Rattle.calc_session.specs.Arguments.{ReadsText}
-use Rattle.calc_session.specs.Calculating.{made_in}
+use Rattle.calc_session.specs.Calculating.{ExpressionBecomes}
 use Rattle.calc_session.specs.Expanding.{expansion_text}
 use Rattle.calc_session.specs.States.{State}
 
--- in a state the line asks for the expansion of what becomes this tree, once the stored trees are in the places of their names
+-- in a state the line asks for the expansion of a text that becomes this tree
 pub record AsksExpansionOf (old : State) (line : List ℕ) (t : Tree) : Type 0 where
   pub text : List ℕ
   pub asks : IsCommandLine line (expand text)
-  pub tokens : List Placed
-  pub tree : Tree
-  pub reads : ReadsText text tokens None tree
-  pub left : ℕ
-  pub is_made : made_in old tree ≡ fills left t
+  pub becomes : ExpressionBecomes old text t
 
 -- What the line becomes is a polynomial, and the text of the face of its expanded tree is told: under every assignment each meaning of the polynomial is a meaning of both.
 pub record TellsExpansion (old : State) (line told : List ℕ) : Type 0 where

@@ -1,27 +1,20 @@
 -- What the answers to lines that ask for a derivative mean.
-use Rattle.std.specs.Prelude.{ℕ, ◌≡◌, ◌⊎◌, List, None, codes, true, false}
+use Rattle.std.specs.Prelude.{ℕ, ◌≡◌, ◌⊎◌, List, codes, true, false}
 use Rattle.calc_algebra.specs.Meanings.{Assignment, IsAssignment, Means}
 use Rattle.calc_algebra.specs.Reduced.{is_reduced as is_reduced_tree}
 use Rattle.calc_commands.specs.Commands.{IsCommandLine, diff}
 use Rattle.calc_language.specs.Faces.{face}
 use Rattle.calc_language.specs.Texts.{text as text_of_tree}
 use Rattle.calc_terms.specs.Trees.{Tree, is_undef}
-use Rattle.calc_tokens.specs.Placed.{Placed}
 use Rattle.dual_diff.specs.Pairs.{Pair, HasPair}
-use Rattle.name_table.specs.Filling.{fills}
-use Rattle.calc_session.specs.Arguments.{ReadsText}
-use Rattle.calc_session.specs.Calculating.{made_in}
+use Rattle.calc_session.specs.Calculating.{ExpressionBecomes}
 use Rattle.calc_session.specs.States.{State}
 
--- in a state the line asks for the derivative of what becomes this tree, once the stored trees are in the places of their names
+-- in a state the line asks for the derivative of a text that becomes this tree
 pub record AsksDerivativeOf (old : State) (line x : List ℕ) (t : Tree) : Type 0 where
   pub text : List ℕ
   pub asks : IsCommandLine line (diff x text)
-  pub tokens : List Placed
-  pub tree : Tree
-  pub reads : ReadsText text tokens None tree
-  pub left : ℕ
-  pub is_made : made_in old tree ≡ fills left t
+  pub becomes : ExpressionBecomes old text t
 
 -- the text of the face of a reduced tree is told: under every assignment the slope of each pair of the tree is a meaning of both
 pub record TellsSlope (x : List ℕ) (t : Tree) (told : List ℕ) : Type 0 where
