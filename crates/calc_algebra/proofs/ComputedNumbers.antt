@@ -2,7 +2,7 @@
 use Rattle.std.proofs.Common.{◌≡◌, ℕ, zero, suc, ◌+◌, ◌*◌, ◌^◌, ◌≤◌, ◌<◌, true, refl, arith, inl, inr, ◌/◌, ◌%◌, ap, sym, subst}
 use Rattle.std.specs.Prelude.{◌⊎◌}
 use Rattle.std.proofs.lemmas.Nat.Gcd.{mod-eq-zero_of_dvd, dvd_of_mod-eq-zero, dvd_trans}
-use native.Mathlib.Nat.{dvd_refl, dvd-mul_left, dvd-mul_right, mul-div_cancel'}
+use native.Mathlib.Nat.{dvd-mul_right, mul-div_cancel'}
 use Prim.Native.Nat.{◌∣◌}
 use Rattle.std.proofs.Math.Nat.{two-pow-succ}
 use Rattle.calc_algebra.specs.SquareRoots.{square_root}
@@ -24,14 +24,6 @@ pub alike_test : (r s : ℕ) → (t : ℕ) × (0 < t) × (t * t ≡ r * s) → a
 alike_test r s (t, p, e) = alike_true r s t (record { square = e; positive = p })
 
 -- ---- trial division
-
-without_divides : (steps d r : ℕ) → without steps d r ∣ r
-without_divides zero d r = dvd_refl r
-without_divides (suc steps) d r = by (r % d) refl (without_divides steps d (r / d))
-  where
-    by : (m : ℕ) → r % d ≡ m → without steps d (r / d) ∣ r / d → (elim m [ zero ↦ without steps d (r / d) | suc m' ↦ r ]) ∣ r
-    by zero e go = dvd_trans _ go (subst (λ x. r / d ∣ x) (mul-div_cancel' d (dvd_of_mod-eq-zero d e)) (dvd-mul_left (r / d) d))
-    by (suc m) e go = dvd_refl r
 
 positive_quotient : (d q r : ℕ) → 0 < r → d * q ≡ r → 0 < q
 positive_quotient d zero r p e = absurd (omega arith)

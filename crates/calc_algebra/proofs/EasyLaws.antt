@@ -163,9 +163,6 @@ root_by_part p a (in_root h) n = inl (p, h, n)
 pub bad_root : (a : Tree) → IsBad (root a) → IsBad a ⊎ IsNegative a
 bad_root a (p, h, n) = root_by_part p a h n
 
-pub root_of_negative_is_bad : (a : Tree) → IsNegative a → IsBad (root a)
-root_of_negative_is_bad a n = (root a, itself, n)
-
 pub undef_is_bad : IsBad undef
 undef_is_bad = (undef, itself, tt)
 
@@ -207,12 +204,6 @@ reduced_to_zero t r k e v m =
 -- what means a whole number is reduced to it
 pub whole_reduced : (t r : Tree) (n : ℤ) → KeepsMeanings t r → IsNumber r → IsWhole t n → r ≡ num (whole_fraction n)
 whole_reduced t r n k h w = number_rational r (whole_fraction n) h (Same-sym (value_reduced t r (surd_of (whole_fraction n)) k h w))
-
--- and only that
-pub reduced_to_rational : (t r : Tree) (q : Fraction) → KeepsMeanings t r → r ≡ num q → (v : Surd) → HasValue t v → HasValue t (surd_of q)
-reduced_to_rational t r q k e v m =
-    let n : Means (num q) [] v = subst (λ x. Means x [] v) e (k.means [] tt v m) in
-    Means-Same t [] v (surd_of q) m n
 
 pub rational_reduced : (t r : Tree) (q : Fraction) → KeepsMeanings t r → IsNumber r → HasValue t (surd_of q) → r ≡ num q
 rational_reduced t r q k h m = number_rational r q h (Same-sym (value_reduced t r (surd_of q) k h m))

@@ -81,10 +81,6 @@ Inverts-surd_power (suc n) y w h = Agree-Same (inverse_power n y w (Same-Agree h
 pub Inverts-one : (y z w : Surd) → Inverts y w → Inverts z w → Same y z
 Inverts-one y z w h k = Agree-Same (one_inverse y z w (Same-Agree h) (Same-Agree k))
 
--- the inverse of an inverse
-pub Inverts-twice : (z y w : Surd) → Inverts z y → Inverts y w → Same z w
-Inverts-twice z y w h k = Inverts-one z w y h (Inverts-sym y w k)
-
 zero_is_not_one : zero_fraction ≡ one_fraction → ⊥
 unfolding zero_fraction one_fraction lowest gcd
 zero_is_not_one e = let f : pos 0 ≡ pos 1 = ap (λ q. q.num) e in cc

@@ -145,10 +145,6 @@ KeepsMeanings-sum_append {ts} {ts'} {us} {us'} h k = record {
       sum_append f ts' us' v a b (h.means f once a x) (k.means f once b y) e;
 }
 
--- one child, wherever it stands
-pub KeepsMeanings-sum_at : (ts us : Trees) {t u : Tree} → KeepsMeanings t u → KeepsMeanings (add (append ts (more t us))) (add (append ts (more u us)))
-KeepsMeanings-sum_at ts us h = KeepsMeanings-sum_append (KeepsMeanings-refl (add ts)) (KeepsMeanings-sum_more h (KeepsMeanings-refl (add us)))
-
 pub KeepsMeanings-product_more : {t u : Tree} {ts us : Trees} → KeepsMeanings t u → KeepsMeanings (mult ts) (mult us) → KeepsMeanings (mult (more t ts)) (mult (more u us))
 KeepsMeanings-product_more {t} {u} {ts} {us} h k = record {
   means = λ f once v m.
@@ -162,9 +158,6 @@ KeepsMeanings-product_append {ts} {ts'} {us} {us'} h k = record {
       let (a, b, x, y, e) = append_product f ts us v m in
       product_append f ts' us' v a b (h.means f once a x) (k.means f once b y) e;
 }
-
-pub KeepsMeanings-product_at : (ts us : Trees) {t u : Tree} → KeepsMeanings t u → KeepsMeanings (mult (append ts (more t us))) (mult (append ts (more u us)))
-KeepsMeanings-product_at ts us h = KeepsMeanings-product_append (KeepsMeanings-refl (mult ts)) (KeepsMeanings-product_more h (KeepsMeanings-refl (mult us)))
 
 pub KeepsMeanings-neg : {a b : Tree} → KeepsMeanings a b → KeepsMeanings (neg a) (neg b)
 KeepsMeanings-neg {a} {b} h = record { means = λ f once v m. (m.0, h.means f once m.0 m.1, m.2) }
@@ -191,9 +184,6 @@ flat_sum ts us = record {
       sum_append f ts us v p.first p.rest p.first_means p.rest_means p.same;
 }
 
-pub flat_sum_at : (ts us vs : Trees) → KeepsMeanings (add (append ts (more (add us) vs))) (add (append ts (append us vs)))
-flat_sum_at ts us vs = KeepsMeanings-sum_append (KeepsMeanings-refl (add ts)) (flat_sum us vs)
-
 -- and back
 pub nested_sum : (ts us : Trees) → KeepsMeanings (add (append ts us)) (add (more (add ts) us))
 nested_sum ts us = record {
@@ -208,9 +198,6 @@ flat_product ts us = record {
       let p = product_parts f (mult ts) us v m in
       product_append f ts us v p.first p.rest p.first_means p.rest_means p.same;
 }
-
-pub flat_product_at : (ts us vs : Trees) → KeepsMeanings (mult (append ts (more (mult us) vs))) (mult (append ts (append us vs)))
-flat_product_at ts us vs = KeepsMeanings-product_append (KeepsMeanings-refl (mult ts)) (flat_product us vs)
 
 pub nested_product : (ts us : Trees) → KeepsMeanings (mult (append ts us)) (mult (more (mult ts) us))
 nested_product ts us = record {
@@ -310,9 +297,6 @@ empty_sum = record { means = λ f once v m. Same-trans (none_sum f v m) (Same-sy
 pub single_sum : (t : Tree) → KeepsMeanings (add (more t none)) t
 single_sum t = record { means = λ f once v m. one_sum f t v m }
 
-pub to_single_sum : (t : Tree) → KeepsMeanings t (add (more t none))
-to_single_sum t = record { means = λ f once v m. sum_one f t v m }
-
 pub empty_product : KeepsMeanings (mult none) (num one_fraction)
 empty_product = record { means = λ f once v m. none_product f v m }
 
@@ -330,20 +314,6 @@ joined_in_sum t u x ts h = KeepsMeanings-trans (nested_sum (two t u) ts) (KeepsM
 pub joined_in_product : (t u x : Tree) (ts : Trees) → KeepsMeanings (mult (two t u)) x → KeepsMeanings (mult (more t (more u ts))) (mult (more x ts))
 joined_in_product t u x ts h = KeepsMeanings-trans (nested_product (two t u) ts) (KeepsMeanings-product_more h (KeepsMeanings-refl (mult ts)))
 
--- two terms that stand apart become one, in the place of the first
-pub joined_apart_in_sum : (as' : Trees) (t : Tree) (bs : Trees) (u : Tree) (cs : Trees) (x : Tree) → KeepsMeanings (add (two t u)) x
-    → KeepsMeanings (add (append as' (more t (append bs (more u cs))))) (add (append as' (more x (append bs cs))))
-joined_apart_in_sum as' t bs u cs x h =
-    KeepsMeanings-sum_append (KeepsMeanings-refl (add as'))
-    (KeepsMeanings-trans (permuted_sum (permuted_more {t = t} (Permuted-to_front bs u cs))) (joined_in_sum t u x (append bs cs) h))
-
--- two factors that stand apart become one, in the place of the first
-pub joined_apart_in_product : (as' : Trees) (t : Tree) (bs : Trees) (u : Tree) (cs : Trees) (x : Tree) → KeepsMeanings (mult (two t u)) x
-    → KeepsMeanings (mult (append as' (more t (append bs (more u cs))))) (mult (append as' (more x (append bs cs))))
-joined_apart_in_product as' t bs u cs x h =
-    KeepsMeanings-product_append (KeepsMeanings-refl (mult as'))
-    (KeepsMeanings-trans (permuted_product (permuted_more {t = t} (Permuted-to_front bs u cs))) (joined_in_product t u x (append bs cs) h))
-
 -- ---- zero and one
 
 -- a term that is zero goes
@@ -356,9 +326,6 @@ zero_term_of_sum ts = record {
 
 pub zero_goes : (t : Tree) (ts : Trees) → KeepsMeanings t (num zero_fraction) → KeepsMeanings (add (more t ts)) (add ts)
 zero_goes t ts h = KeepsMeanings-trans (KeepsMeanings-sum_more h (KeepsMeanings-refl (add ts))) (zero_term_of_sum ts)
-
-pub zero_goes_at : (ts : Trees) (t : Tree) (us : Trees) → KeepsMeanings t (num zero_fraction) → KeepsMeanings (add (append ts (more t us))) (add (append ts us))
-zero_goes_at ts t us h = KeepsMeanings-sum_append (KeepsMeanings-refl (add ts)) (zero_goes t us h)
 
 -- a product with the factor zero is zero
 pub zero_product : (ts : Trees) → KeepsMeanings (mult (more (num zero_fraction) ts)) (num zero_fraction)
@@ -375,13 +342,6 @@ one_factor_of_product ts = record {
       let p = product_parts f (num one_fraction) ts v m in
       Means-Same (mult ts) f p.rest v p.rest_means (Same-sym (Same-trans p.same (Same-trans (Same-surd_times p.first_means (Same-refl p.rest)) (Same-eq (surd_times-surd_one p.rest)))));
 }
-
-pub one_goes_at : (ts : Trees) (t : Tree) (us : Trees) → KeepsMeanings t (num one_fraction) → KeepsMeanings (mult (append ts (more t us))) (mult (append ts us))
-one_goes_at ts t us h = KeepsMeanings-product_append (KeepsMeanings-refl (mult ts)) (KeepsMeanings-trans (KeepsMeanings-product_more h (KeepsMeanings-refl (mult us))) (one_factor_of_product us))
-
--- zero in a product makes it zero
-pub zero_product_at : (ts : Trees) (t : Tree) (us : Trees) → KeepsMeanings t (num zero_fraction) → KeepsMeanings (mult (append ts (more t us))) (num zero_fraction)
-zero_product_at ts t us h = KeepsMeanings-trans (permuted_product (Permuted-to_front ts t us)) (KeepsMeanings-trans (KeepsMeanings-product_more h (KeepsMeanings-refl (mult (append ts us)))) (zero_product (append ts us)))
 
 -- a factor 1 comes
 pub to_one_factor : (ts : Trees) → KeepsMeanings (mult ts) (mult (more (num one_fraction) ts))
@@ -450,7 +410,3 @@ sub_as_neg a b = record {
       let n : Surd = surd_scale minus_one_fraction m.1 in
       sum_two f a (neg b) v m.0 n m.2 (m.1, m.3, Same-refl n) m.4;
 }
-
--- a - b is a + -1 * b
-pub sub_as_sum : (a b : Tree) → KeepsMeanings (sub a b) (add (two a (mult (two (num minus_one_fraction) b))))
-sub_as_sum a b = KeepsMeanings-trans (sub_as_neg a b) (KeepsMeanings-sum_more (KeepsMeanings-refl a) (KeepsMeanings-sum_more (neg_as_product b) (KeepsMeanings-refl (add none))))

@@ -2,21 +2,21 @@
 use Rattle.std.proofs.Common.{◌≡◌, ◌≢◌, ℕ, zero, suc, ◌*◌, ◌<◌, ℤ, pos, negsuc, [], ◌∷◌, ◌++◌, Bool, true, false, if◌then◌else◌, sym, ap, ◌∙◌, arith, subst}
 use native.Mathlib.Nat.{one-mul, mul-one}
 use Rattle.calc_terms.specs.Fits.{fraction_power}
-use Rattle.calc_terms.specs.Fractions.{Fraction, lowest, plus, times, inverse, zero_fraction, minus_one_fraction, whole_fraction, lowest_parts, times_lowest}
+use Rattle.calc_terms.specs.Fractions.{Fraction, lowest, times, inverse, zero_fraction, whole_fraction, lowest_parts, times_lowest}
 use Rattle.calc_algebra.specs.Meanings.{Assignment, IsAssignment, Means, IsRootOf}
-use Rattle.calc_algebra.specs.Numbers.{IsNumber, AreTerms, value, terms_of, is_radicand, is_number}
+use Rattle.calc_algebra.specs.Numbers.{IsNumber, value, is_radicand, is_number}
 use Rattle.calc_algebra.specs.Reduced.{split, split_product, product_tree, part_of, num_one}
 use Rattle.calc_algebra.specs.SquareClasses.{Same, Inverts}
-use Rattle.calc_algebra.specs.Surds.{Surd, term, surd_of, surd_times, surd_power}
+use Rattle.calc_algebra.specs.Surds.{Surd, term, surd_of, surd_power}
 use Rattle.calc_terms.specs.Trees.{Tree, num, add, mult, power, root, Trees, none, more}
 use Rattle.calc_algebra.proofs.MeaningLaws.{one_meaning, Means-Same, Same-sym, surd_of_one}
-use Rattle.calc_algebra.proofs.NumberValues.{number_means, term_means}
+use Rattle.calc_algebra.proofs.NumberValues.{number_means}
 use Rattle.calc_algebra.proofs.SquareClassLaws.{Same-trans, Same-Agree}
 use Rattle.calc_algebra.proofs.SurdLaws.{Agree-sym, Agree-trans, Agree-Same}
-use Rattle.calc_algebra.proofs.TermLaws.{Same-refl, Same-eq, Same-append, Same-surd_times, Same-surd_power, extracted, joined_radicand}
+use Rattle.calc_algebra.proofs.TermLaws.{Same-refl, Same-eq, Same-append, Same-surd_times, Same-surd_power, extracted}
 use Rattle.calc_algebra.proofs.InverseLaws.{Inverts-Same, inverse_times_itself, Inverts-surd_of}
 use Rattle.calc_algebra.proofs.PowerLaws.{whole_power_negative, surd_power-surd_of}
-use Rattle.calc_algebra.proofs.MeaningRewrites.{KeepsMeanings, KeepsMeanings-refl, KeepsMeanings-eq, KeepsMeanings-trans, KeepsMeanings-sum_more, KeepsMeanings-product_more, two, two_sum, two_product, sum_more, sum_none, nested_product, flat_product, single_product, to_single_product, empty_product, product_none, one_factor_of_product, to_one_factor, one_times_tree, same_factor}
+use Rattle.calc_algebra.proofs.MeaningRewrites.{KeepsMeanings, KeepsMeanings-refl, KeepsMeanings-eq, KeepsMeanings-trans, KeepsMeanings-sum_more, KeepsMeanings-product_more, two, two_sum, two_product, nested_product, single_product, to_single_product, empty_product, one_factor_of_product, to_one_factor, one_times_tree, same_factor}
 use Rattle.calc_algebra.proofs.PowerRewrites.{power_parts}
 
 -- ---- the meanings of a Number
@@ -29,11 +29,6 @@ number_value f once t v h m = Agree-Same (one_meaning f once t v (value t) m (nu
 pub value_means : (f : Assignment) (t : Tree) (v : Surd) → IsNumber t → Same v (value t) → Means t f v
 value_means f t v h e = Means-Same t f (value t) v (number_means t f h) (Same-sym e)
 
--- terms mean the list of them
-pub terms_sum : (f : Assignment) (ts : Trees) → AreTerms ts → Means (add ts) f (terms_of ts)
-terms_sum f none h = sum_none f [] (Same-refl [])
-terms_sum f (more t ts) (h, hs) = sum_more f t ts (terms_of (more t ts)) _ (terms_of ts) (term_means t f h) (terms_sum f ts hs) (Same-refl (terms_of (more t ts)))
-
 -- ---- sums, products, powers and inverses of Numbers
 
 pub sum_of_numbers : (a b c : Tree) → IsNumber a → IsNumber b → IsNumber c → Same (value c) (value a ++ value b) → KeepsMeanings (add (two a b)) c
@@ -41,13 +36,6 @@ sum_of_numbers a b c h k l e = record {
   means = λ f once v m.
       let (x, y, p, q, s) = two_sum f a b v m in
       value_means f c v l (Same-trans s (Same-trans (Same-append (number_value f once a x h p) (number_value f once b y k q)) (Same-sym e)));
-}
-
-pub product_of_numbers : (a b c : Tree) → IsNumber a → IsNumber b → IsNumber c → Same (value c) (surd_times (value a) (value b)) → KeepsMeanings (mult (two a b)) c
-product_of_numbers a b c h k l e = record {
-  means = λ f once v m.
-      let (x, y, p, q, s) = two_product f a b v m in
-      value_means f c v l (Same-trans s (Same-trans (Same-surd_times (number_value f once a x h p) (number_value f once b y k q)) (Same-sym e)));
 }
 
 -- an exponent of at least 1
@@ -67,18 +55,7 @@ power_of_inverse a c y n h l i e = record {
       value_means f c v l (Same-trans (whole_power_negative n p.base v y j p.is) (Same-sym e));
 }
 
--- exponent -1
-pub inverse_of_number : (a c : Tree) → IsNumber a → IsNumber c → Inverts (value c) (value a) → KeepsMeanings (power a (num minus_one_fraction)) c
-inverse_of_number a c h l i = power_of_inverse a c (value c) 0 h l i (Same-refl (value c))
-
 -- ---- rationals
-
-pub sum_of_rationals : (p q : Fraction) → KeepsMeanings (add (two (num p) (num q))) (num (plus p q))
-sum_of_rationals p q = record {
-  means = λ f once v m.
-      let (x, y, h, k, s) = two_sum f (num p) (num q) v m in
-      Same-trans s (Same-trans (Same-append h k) (joined_radicand p q 1));
-}
 
 pub product_of_rationals : (p q : Fraction) → KeepsMeanings (mult (two (num p) (num q))) (num (times p q))
 product_of_rationals p q = record {
@@ -156,49 +133,15 @@ split_keeps (more (add us) ts) = by (is_number (add us))
     by false = to_one_factor (more (add us) ts)
 split_keeps ts = to_one_factor ts
 
--- and back
-pub split_back : (ts : Trees) → KeepsMeanings (mult (more (split_product ts).coefficient (split_product ts).factors)) (mult ts)
-split_back (more (num q) (more (root (num r)) ts)) = by (is_radicand r)
-  where
-    by : (b : Bool) → KeepsMeanings (mult (more (if b then split (mult (more (num q) (more (root (num r)) none))) ts else split (num q) (more (root (num r)) ts)).coefficient
-        (if b then split (mult (more (num q) (more (root (num r)) none))) ts else split (num q) (more (root (num r)) ts)).factors))
-        (mult (more (num q) (more (root (num r)) ts)))
-    by true = flat_product (two (num q) (root (num r))) ts
-    by false = KeepsMeanings-refl (mult (more (num q) (more (root (num r)) ts)))
-split_back (more (num q) ts) = KeepsMeanings-refl (mult (more (num q) ts))
-split_back (more (root (num r)) ts) = by (is_radicand r)
-  where
-    by : (b : Bool) → KeepsMeanings (mult (more (if b then split (root (num r)) ts else split num_one (more (root (num r)) ts)).coefficient
-        (if b then split (root (num r)) ts else split num_one (more (root (num r)) ts)).factors))
-        (mult (more (root (num r)) ts))
-    by true = KeepsMeanings-refl (mult (more (root (num r)) ts))
-    by false = one_factor_of_product (more (root (num r)) ts)
-split_back (more (add us) ts) = by (is_number (add us))
-  where
-    by : (b : Bool) → KeepsMeanings (mult (more (if b then split (add us) ts else split num_one (more (add us) ts)).coefficient
-        (if b then split (add us) ts else split num_one (more (add us) ts)).factors))
-        (mult (more (add us) ts))
-    by true = KeepsMeanings-refl (mult (more (add us) ts))
-    by false = one_factor_of_product (more (add us) ts)
-split_back ts = one_factor_of_product ts
-
 -- a list of factors as one tree
 pub product_tree_keeps : (ts : Trees) → KeepsMeanings (mult ts) (product_tree ts)
 product_tree_keeps none = empty_product
 product_tree_keeps (more t none) = single_product t
 product_tree_keeps (more t (more u ts)) = KeepsMeanings-refl (mult (more t (more u ts)))
 
-pub product_tree_back : (ts : Trees) → KeepsMeanings (product_tree ts) (mult ts)
-product_tree_back none = record { means = λ f once v m. product_none f v m }
-product_tree_back (more t none) = to_single_product t
-product_tree_back (more t (more u ts)) = KeepsMeanings-refl (mult (more t (more u ts)))
-
 -- factors behind a coefficient as one factor, and back
 pub factors_as_one : (c : Tree) (ts : Trees) → KeepsMeanings (mult (more c ts)) (mult (two c (product_tree ts)))
 factors_as_one c ts = KeepsMeanings-product_more (KeepsMeanings-refl c) (KeepsMeanings-trans (product_tree_keeps ts) (to_single_product (product_tree ts)))
-
-pub one_as_factors : (c : Tree) (ts : Trees) → KeepsMeanings (mult (two c (product_tree ts))) (mult (more c ts))
-one_as_factors c ts = KeepsMeanings-product_more (KeepsMeanings-refl c) (KeepsMeanings-trans (single_product (product_tree ts)) (product_tree_back ts))
 
 -- the coefficient of a term, beside its part
 abbrev pub coefficient_of : Tree → Tree
@@ -214,11 +157,6 @@ coefficient_times_part t = one_times_tree t
 pub one_times_part : (t : Tree) → KeepsMeanings (mult (two num_one t)) t
 one_times_part t = KeepsMeanings-trans (one_factor_of_product (more t none)) (single_product t)
 
--- and back
-pub part_with_coefficient : (t : Tree) → KeepsMeanings (mult (two (coefficient_of t) (part_of t))) t
-part_with_coefficient (mult ts) = KeepsMeanings-trans (one_as_factors (split_product ts).coefficient (split_product ts).factors) (split_back ts)
-part_with_coefficient t = one_times_part t
-
 -- terms with one part are that part times the sum of their coefficients
 pub same_parts : (t u : Tree) → part_of t ≡ part_of u → KeepsMeanings (add (two t u)) (mult (two (add (two (coefficient_of t) (coefficient_of u))) (part_of t)))
 same_parts t u e =
@@ -230,9 +168,3 @@ same_parts t u e =
 -- a coefficient in place of another
 pub with_coefficient : (c d p : Tree) → KeepsMeanings c d → KeepsMeanings (mult (two c p)) (mult (two d p))
 with_coefficient c d p h = KeepsMeanings-product_more h (KeepsMeanings-refl (mult (more p none)))
-
--- c times a term is c times its coefficient, times its part
-pub term_scaled : (c t : Tree) → KeepsMeanings (mult (two c t)) (mult (two (mult (two c (coefficient_of t))) (part_of t)))
-term_scaled c t =
-    KeepsMeanings-trans (KeepsMeanings-product_more (KeepsMeanings-refl c) (KeepsMeanings-product_more (coefficient_times_part t) (KeepsMeanings-refl (mult none))))
-    (KeepsMeanings-trans (KeepsMeanings-product_more (KeepsMeanings-refl c) (flat_product (two (coefficient_of t) (part_of t)) none)) (nested_product (two c (coefficient_of t)) (more (part_of t) none)))

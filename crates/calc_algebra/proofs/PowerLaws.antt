@@ -13,7 +13,7 @@ use Rattle.calc_algebra.proofs.MeaningLaws.{class_coefficient-surd_of, Same-sym}
 use Rattle.calc_algebra.proofs.SquareClassLaws.{Same-Agree, Same-trans}
 use Rattle.calc_algebra.proofs.SurdLaws.{Agree, Agree-refl, Agree-sym, Agree-trans, Agree-eq, Agree-Same, Agree-surd_times, Agree-surd_times_right, Agree-surd_power, surd_times_comm, surd_times_assoc, surd_times-surd_one, surd_times-one, surd_times_exchange}
 use Rattle.calc_algebra.proofs.TermLaws.{Same-refl, Same-eq, Same-surd_times, Same-surd_power, zero_term, extracted}
-use Rattle.calc_algebra.proofs.InverseLaws.{Inverts-sym, Inverts-Same, Inverts-surd_times, Inverts-surd_one, Inverts-surd_power, Inverts-not_zero, Inverts-one, Inverts-surd_of, Same-times_zero, inverse_times_itself}
+use Rattle.calc_algebra.proofs.InverseLaws.{Inverts-sym, Inverts-Same, Inverts-surd_times, Inverts-surd_one, Inverts-surd_power, Inverts-not_zero, Inverts-one, Same-times_zero}
 
 -- ---- natural exponents
 
@@ -200,13 +200,6 @@ not_zero_to_zero : (n : ℕ) (w v : Surd) → IsWholePower (pos n) w v → n ≡
 not_zero_to_zero zero w v (h, k) e = h
 not_zero_to_zero (suc n) w v k e = absurd (omega arith)
 
--- w to the first power is w
-pub whole_power_one : (w v : Surd) → IsWholePower (pos 1) w v → Same v w
-whole_power_one w v h = h
-
-pub whole_power_one_of : (w : Surd) → IsWholePower (pos 1) w w
-whole_power_one_of w = Same-refl w
-
 -- w^m * w^n where w has an inverse
 by_inverse : (m n : ℤ) (w u v y : Surd) → Inverts y w → IsWholePower m w u → IsWholePower n w v → IsWholePower (m +ℤ n) w (surd_times u v)
 by_inverse m n w u v y i h k =
@@ -291,21 +284,11 @@ whole_power_of_product (negsuc n) u w v (z, i, k) = (
         (Agree-trans (Agree-eq (surd_times_assoc z z (surd_times w u)))
         (Agree-trans (Agree-surd_times_right z (Agree-trans (Agree-surd_times_right z (surd_times_comm w u)) (Same-Agree i))) (surd_times-one z))))
 
--- and back, where the product is not zero at exponent 0
-pub whole_power_to_product : (n : ℤ) (u w p q : Surd) → (n ≡ pos 0 → ¬ (Same (surd_times u w) [])) → IsWholePower n u p → IsWholePower n w q → IsWholePower n (surd_times u w) (surd_times p q)
-whole_power_to_product (pos zero) u w p q h (a, b) (c, d) = (h refl, Same-trans (Same-surd_times b d) (Same-eq (surd_times-surd_one surd_one)))
-whole_power_to_product (pos (suc n)) u w p q h a b = Same-trans (Same-surd_times a b) (Same-sym (surd_power-surd_times u w (suc n)))
-whole_power_to_product (negsuc n) u w p q h (y, i, a) (z, j, b) = (surd_times y z, Inverts-surd_times y u z w i j, Same-trans (Same-surd_times a b) (Same-sym (surd_power-surd_times y z (suc n))))
-
 -- powers of 1 are 1
 pub whole_power_of_one : (n : ℤ) (v : Surd) → IsWholePower n surd_one v → Same v surd_one
 whole_power_of_one (pos zero) v (h, k) = k
 whole_power_of_one (pos (suc n)) v k = Same-trans k (surd_power-surd_one (suc n))
 whole_power_of_one (negsuc n) v (y, i, k) = Same-trans k (Same-trans (Same-surd_power (suc n) (Inverts-one y surd_one surd_one i Inverts-surd_one)) (surd_power-surd_one (suc n)))
-
--- 1/w is w^-1
-pub whole_power_inverse : (y w : Surd) → Inverts y w → IsWholePower (negsuc 0) w y
-whole_power_inverse y w i = (y, i, Same-refl y)
 
 -- w^-n is the power n of an inverse
 pub whole_power_negative : (n : ℕ) (w v y : Surd) → Inverts y w → IsWholePower (negsuc n) w v → Same v (surd_power y (suc n))
@@ -320,14 +303,8 @@ surd_of_zero q h = sym (class_coefficient-surd_of q) ∙ (Same-Agree h).at 1
 pub zero_surd_of : (q : Fraction) → q ≡ zero_fraction → Same (surd_of q) []
 zero_surd_of q e = Same-trans (Same-eq (ap surd_of e)) (zero_term 1)
 
-pub rational_to_zero : (q : Fraction) → q ≢ zero_fraction → IsWholePower (pos 0) (surd_of q) surd_one
-rational_to_zero q h = ((λ z. h (surd_of_zero q z)), Same-refl surd_one)
-
 pub rational_power : (q : Fraction) (n : ℕ) → IsWholePower (pos (suc n)) (surd_of q) (surd_of (fraction_power q (suc n)))
 rational_power q n = Same-sym (surd_power-surd_of q (suc n))
-
-pub rational_negative_power : (q : Fraction) (n : ℕ) → q ≢ zero_fraction → IsWholePower (negsuc n) (surd_of q) (surd_of (fraction_power (inverse q) (suc n)))
-rational_negative_power q n h = (surd_of (inverse q), Inverts-surd_of q (inverse q) (inverse_times_itself q h), Same-sym (surd_power-surd_of (inverse q) (suc n)))
 
 -- zero has no power with an exponent of at most 0
 pub no_power_of_zero : (n : ℕ) (w v : Surd) → Same w [] → IsWholePower (neg_ℤ (pos n)) w v → ⊥

@@ -1,10 +1,6 @@
 -- Surds term by term: what respects sameness, terms of one class joined, squares taken out, products of two terms, and the order of terms.
-use Rattle.std.proofs.Common.{length, get_or, set, subst, ◌≡◌, ℕ, zero, suc, ◌*◌, ◌/◌, ◌<◌, pos, [], ◌∷◌, ◌++◌, Bool, true, false, if◌then◌else◌, refl, sym, ap, ◌∙◌, arith, append_assoc}
-use Rattle.std.specs.List.Sorted.{IsPermutation}
-use Rattle.std.proofs.lemmas.List.Edits.{swap_is}
-use Rattle.std.proofs.lemmas.List.Sorted.{IsPermutation-keeps}
+use Rattle.std.proofs.Common.{length, get_or, set, ◌≡◌, ℕ, zero, suc, ◌*◌, ◌/◌, ◌<◌, pos, [], ◌∷◌, ◌++◌, Bool, true, false, if◌then◌else◌, refl, sym, ap, ◌∙◌, arith, append_assoc}
 use Rattle.std.specs.Int.{◌∣◌}
-use Rattle.std.proofs.Math.Nat.{mul-div_cancel'}
 use native.Mathlib.Nat.{one-mul}
 use Rattle.calc_terms.specs.FractionLaws.{times_comm, times_assoc, times_plus, zero_plus, zero_times}
 use Rattle.calc_terms.specs.Fractions.{Fraction, lowest, plus, times, zero_fraction, plus_assoc, times_lowest, mul_pos, quotient, whole_fraction}
@@ -68,12 +64,6 @@ exchanged (t ∷ v) zero (suc j) d h k = exchanged_first t v j d (omega arith)
 exchanged (t ∷ v) (suc i) zero d h k = exchanged_first t v i d (omega arith)
 exchanged (t ∷ v) (suc i) (suc j) d h k = Agree-append {v = t ∷ []} {v' = t ∷ []} (Agree-refl (t ∷ [])) (exchanged v i j d (omega arith) (omega arith))
 
--- the same terms in another order
-pub Same-permutation : (v w : Surd) → IsPermutation v w → Same v w
-Same-permutation v w h =
-    let d : Term = term zero_fraction 1 in
-    Agree-Same (IsPermutation-keeps v (λ x. Agree v x) (Agree-refl v) (λ x i j p q k. Agree-trans k (subst (λ y. Agree x y) (swap_is x i j d p q) (exchanged x i j d p q))) w h)
-
 -- ---- the share of one term
 
 pub alike_right : (r s t : ℕ) → Alike r s t → 0 < s
@@ -122,10 +112,6 @@ Agree-zero_term r = record { at = λ s. ap (λ x. plus x zero_fraction) (share_o
 -- a term with coefficient 0 is nothing
 pub zero_term : (r : ℕ) → Same (term zero_fraction r ∷ []) []
 zero_term r = Agree-Same (Agree-zero_term r)
-
--- and goes
-pub zero_term_goes : (r : ℕ) (v : Surd) → Same (term zero_fraction r ∷ v) v
-zero_term_goes r v = Same-append {v = term zero_fraction r ∷ []} {v' = []} (zero_term r) (Same-refl v)
 
 -- ---- squares are taken out
 
@@ -201,14 +187,6 @@ joined c d r s g a b e f =
     (Agree-append {v = term c r ∷ []} (Same-Agree (extracted c r a g (omega arith))) (Same-Agree (extracted d s b g (omega arith))))
     (Agree-joined (times c (whole_fraction (pos a))) (times d (whole_fraction (pos b))) g))
 
--- the same inside a sum
-pub joined_inside : (c d : Fraction) (r s g a b : ℕ) (u v w : Surd) → r ≡ g * a * a → s ≡ g * b * b
-    → Same (u ++ (term c r ∷ (v ++ (term d s ∷ w)))) (u ++ (term (plus (times c (whole_fraction (pos a))) (times d (whole_fraction (pos b)))) g ∷ (v ++ w)))
-joined_inside c d r s g a b u v w e f =
-    Same-append (Same-refl u) (Agree-Same (Agree-trans
-    (Agree-append {v = term c r ∷ []} {v' = term c r ∷ []} (Agree-refl _) (Agree-to_front v (term d s) w))
-    (Agree-append {v = term c r ∷ term d s ∷ []} {v' = term _ g ∷ []} (Same-Agree (joined c d r s g a b e f)) (Agree-refl (v ++ w)))))
-
 -- ---- products of two terms
 
 pub surd_times-terms : (q c : Fraction) (r s : ℕ) → surd_times (term q r ∷ []) (term c s ∷ []) ≡ term (times q c) (r * s) ∷ []
@@ -221,7 +199,3 @@ product_of_terms q c r s g a b e f = extracted (times q c) (r * s) g (a * b) (by
   where
     by : r ≡ g * a → s ≡ g * b → r * s ≡ g * g * (a * b)
     by e f = omega (arith, ap (λ n. n * s) e, ap (λ n. g * a * n) f)
-
-pub product_of_terms_over : (q c : Fraction) (r s g : ℕ) → g ∣ r → g ∣ s
-    → Same (surd_times (term q r ∷ []) (term c s ∷ [])) (term (times (times q c) (whole_fraction (pos g))) ((r / g) * (s / g)) ∷ [])
-product_of_terms_over q c r s g h k = product_of_terms q c r s g (r / g) (s / g) (sym (mul-div_cancel' g h)) (sym (mul-div_cancel' g k))

@@ -6,7 +6,6 @@ use Rattle.calc_algebra.specs.Meanings.{Assignment, IsAssignment, Means, MeansSu
 use Rattle.calc_algebra.specs.SquareClasses.{Same}
 use Rattle.calc_algebra.specs.Surds.{Surd}
 use Rattle.calc_terms.specs.Trees.{Tree, num, undef, add, mult, power, root, neg, sub, div, Trees, none, more, IsPart, itself, in_add, in_mult, in_base, in_exponent, in_root, in_neg, in_left, in_right, in_dividend, in_divisor, IsPartOf, first, later}
-use Rattle.calc_algebra.proofs.InverseLaws.{Inverts-not_zero}
 use Rattle.calc_algebra.proofs.MeaningRewrites.{KeepsMeanings, KeepsMeanings-refl}
 use Rattle.calc_algebra.proofs.NumberRewrites.{root_parts}
 use Rattle.calc_algebra.proofs.PowerLaws.{no_power_of_zero}
@@ -62,10 +61,6 @@ undefined_part p t h k = record {
 pub undef_part : (t : Tree) → IsPart undef t → KeepsMeanings t undef
 undef_part t h = undefined_part undef t h (KeepsMeanings-refl undef)
 
--- what has no meaning may be any tree
-pub undefined_is : (t u : Tree) → KeepsMeanings t undef → KeepsMeanings t u
-undefined_is t u h = record { means = λ f once v m. absurd (h.means f once v m) }
-
 zero_base : (b : Tree) → KeepsMeanings b (num zero_fraction) → (f : Assignment) → IsAssignment f → (w : Surd) → Means b f w → Same w []
 zero_base b h f once w m = Same-trans (h.means f once w m) (zero_term 1)
 
@@ -76,10 +71,6 @@ zero_to_nothing b n h = record {
       let p = power_parts f b (neg_ℤ (pos n)) v m in
       no_power_of_zero n p.base v (zero_base b h f once p.base p.base_means) p.is;
 }
-
--- a division by zero
-pub division_by_zero : (a b : Tree) → KeepsMeanings b (num zero_fraction) → KeepsMeanings (div a b) undef
-division_by_zero a b h = record { means = λ f once v m. Inverts-not_zero m.2 m.1 m.5 (zero_base b h f once m.1 m.4) }
 
 no_root : (z : ℤ) (d : ℕ) (v : Surd) → int_is_negative z ≡ true → IsRootOf z d v → ⊥
 no_root (pos n) d v h i = cc

@@ -48,9 +48,6 @@ pub record IsWritten (old : Content) (bytes : List ℕ) (at : ℕ) (now : Conten
   pub text : now ≡ extended old (entries 0 (take at bytes))
   pub short : length now.bytes ≤ length old.bytes + 3 * at
 
-pub written_none : (old : Content) (bytes : List ℕ) → IsWritten old bytes 0 old
-written_none old bytes = record { text = ap (λ (y : List ℕ). record old { bytes = y }) (sym (append-nil old.bytes)); short = omega arith }
-
 pub written_more : (old now then : Content) (bytes : List ℕ) (at b : ℕ) → IsWritten old bytes at now → at < length bytes → b ≡ get_or bytes at 0 → then ≡ extended now (entry at b) → IsWritten old bytes (at + 1) then
 written_more old now then bytes at b w h e q =
     let more : then ≡ extended old (entries 0 (take at bytes) ++ entry at b) = q ∙ ap (λ (c : Content). extended c (entry at b)) w.text ∙ ap (λ (y : List ℕ). record old { bytes = y }) (append_assoc old.bytes (entries 0 (take at bytes)) (entry at b)) in

@@ -1,12 +1,6 @@
 -- Lemmas on what came before the first failure.
-use Rattle.std.proofs.Common.{◌≡◌, ◌∙◌, ℕ, List, Option, refl}
-use Rattle.std.specs.Io.KnownBytes.{Keeps}
-use Rattle.calc_edges.specs.Faults.{Rose, StopsAtFailure}
-
--- what failed at once stopped there
-pub stops_at_once : {X : Type 0} (bytes : X → Option (List ℕ)) (faults : X → ℕ) (old new : X)
-    → Keeps (bytes old) (bytes new) → Rose (faults old) (faults new) → StopsAtFailure bytes faults old new
-stops_at_once bytes faults old new kept failed = record { last = old; calm = refl; kept = kept; failed = failed }
+use Rattle.std.proofs.Common.{◌≡◌, ◌∙◌, ℕ, List, Option}
+use Rattle.calc_edges.specs.Faults.{StopsAtFailure}
 
 -- where nothing had failed before, it stopped at the first failure in all
 pub stops_later : {X : Type 0} (bytes : X → Option (List ℕ)) (faults : X → ℕ) (old middle new : X)

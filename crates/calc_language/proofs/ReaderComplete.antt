@@ -39,11 +39,6 @@ product_joined (times_mark ∷ ts) e = refl
 product_joined (slash_mark ∷ ts) e = refl
 product_joined _ e = e
 
-sum_product : (ts : List Token) → ends_sum ts ≡ true → ends_product ts ≡ true
-sum_product (plus_mark ∷ ts) e = refl
-sum_product (minus_mark ∷ ts) e = refl
-sum_product _ e = e
-
 joins_power : (b c : List Token) → joins b ≡ true → ends_power (b ++ c) ≡ true
 joins_power (caret_mark ∷ b) c e = cc
 joins_power [] c e = cc

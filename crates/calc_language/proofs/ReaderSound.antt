@@ -5,7 +5,7 @@ use Rattle.calc_language.specs.Grammar.{SoFar, single, as_tree, plus_term, minus
 use Rattle.calc_language.specs.Tokens.{name, Token, literal, undef_mark, root_mark, plus_mark, minus_mark, times_mark, slash_mark, caret_mark, left_mark, right_mark}
 use Rattle.calc_terms.specs.Trees.{Tree, num, symbol, undef, power, root, neg, Trees, none, more, append}
 use Rattle.calc_language.proofs.Reader.{Read, andthen, closed, sum_at, terms_at, signed_at, product_at, factors_at, right_at, joined_at, powers_at, power_at, raise_at, exponent_at, primary_at}
-use Rattle.calc_language.proofs.ReaderComplete.{begins, power_begins, powers_on, sum_reads, terms_end}
+use Rattle.calc_language.proofs.ReaderComplete.{begins, power_begins, powers_on}
 
 -- a front of the tokens is of this kind
 pub record Took {A : Type 0} (P : List Token → A → Type 0) (ts : List Token) (y : A × List Token) : Type 0 where
@@ -258,12 +258,6 @@ sound_zero = record {
 pub sound : (k : ℕ) → Sound k
 sound zero = sound_zero
 sound (suc k) = sound_next k (sound k)
-
--- the grammar is what some number of steps reads
-pub Sum-reads : (a : List Token) (s : SoFar) → Sum a s → (k : ℕ) × (sum_at k a ≡ Some (s, []))
-Sum-reads a s d =
-    let (k, e) = sum_reads d [] (s, []) refl (1, terms_end s [] refl) in
-    (k, rw append-nil at e)
 
 pub reads-Sum : (a : List Token) (s : SoFar) (k : ℕ) → sum_at k a ≡ Some (s, []) → Sum a s
 reads-Sum a s k e =

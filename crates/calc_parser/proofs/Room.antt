@@ -27,7 +27,3 @@ length_weight (x ∷ s) = omega (arith, length_weight s, weight_of_pos x)
 pub parted : (s : List Open) (x : Open) → innermost s ≡ Some x → s ≡ x ∷ outer s
 parted [] x e = cc
 parted (y ∷ s) x e = ap (λ z. z ∷ s) (let same : y ≡ x = cc in same)
-
-pub weight_parted : (s : List Open) (x : Open) → innermost s ≡ Some x → weight s ≡ weight_of x + weight (outer s)
-weight_parted [] x e = cc
-weight_parted (y ∷ s) x e = ap (λ z. weight_of z + weight s) (let same : y ≡ x = cc in same)

@@ -17,10 +17,6 @@ pub some_completed : (l : Level) (s : List Open) (x : Open) → Some x ≡ inner
 some_completed l [] x e = cc
 some_completed l (y ∷ s) x e = ap (completed l) (let same : x ≡ y = cc in same)
 
-pub none_completed : (l : Level) (s : List Open) → None ≡ innermost s → None ≡ innermost_completed l s
-none_completed l [] e = refl
-none_completed l (y ∷ s) e = cc
-
 -- one more ends
 pub complete_one : (l : Level) (s : List Open) (o : List Node) (n : Node) → Some n ≡ innermost_completed l s → complete l (outer s) (o ++ n ∷ []) ≡ complete l s o
 complete_one l [] o n e = cc
@@ -52,10 +48,6 @@ length_pushed old new step e = ap length e ∙ length-append old (step ∷ [])
 pub some_place : (l : Level) (s : List Open) (x : Open) → Some x ≡ innermost s → place_in l x ≡ innermost_place l s
 some_place l [] x e = cc
 some_place l (y ∷ s) x e = ap (place_in l) (let same : x ≡ y = cc in same)
-
-pub none_place : (l : Level) (s : List Open) → None ≡ innermost s → None ≡ innermost_place l s
-none_place l [] e = refl
-none_place l (y ∷ s) e = cc
 
 pub place_child : (l : Level) (s : List Open) (o : List Node) (k : ℕ) → Some (Child k) ≡ innermost_place l s → ended (outer s) o (k + 1) ≡ take_place l s o
 place_child l [] o k e = cc

@@ -185,11 +185,6 @@ module _ (room bits : Option (Tree → ℕ)) (before after : List Breaker) (stor
   refused_reply A (fault.Overflow a) st st' r g k trips o want more = does_not_fit a o
   refused_reply A (fault.Interrupted a) st st' r g k trips o want more = is_interrupted trips
 
-pub refused_count : (A : Type 0) (s new : State) (f : ReduceFault) → CountsRefusals {A = A} s new (Err f) → CountsRefusal (refusal_in (reply_of (refusal_of f))) s new
-refused_count A s new (fault.Full full) r = r
-refused_count A s new (fault.Overflow a) r = r
-refused_count A s new (fault.Interrupted a) r = r
-
 -- the clauses of a reducer on an overflow, in one
 pub overflow_at : (A : Type 0) (bits : Option (Tree → ℕ)) (t : Tree) (before after : List Breaker) (r : Result A ReduceFault) → IfOverflow r Overflows → IfOverflow r (IsPlainOverflow (plain_value t))
     → IfOverflow r (λ _. MayExceed bits t 124) → IfOverflow r (λ _. CalmUpTo (nodes t) before after)

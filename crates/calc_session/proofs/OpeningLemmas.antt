@@ -12,7 +12,7 @@ use Rattle.name_table.proofs.Ready.{first_held}
 use Rattle.node_pool.specs.declared.full.Full.{Full}
 use Rattle.node_pool.specs.Nodes.{IsLeastFree, has}
 use Rattle.node_pool.specs.State.{State as PoolState}
-use Rattle.tree_handles.specs.Forest.{Forest, empty, flatten, forest_of, one_tree}
+use Rattle.tree_handles.specs.Forest.{empty, flatten, forest_of, one_tree}
 use Rattle.tree_handles.specs.Handed.{Ends}
 use Rattle.tree_handles.specs.Standing.{Stands, forest, KeepsRefusals}
 use Rattle.tree_handles.proofs.Forests.{forest_of_whole}
@@ -20,9 +20,6 @@ use Rattle.tree_handles.proofs.Given.{gives, represents_node, represents_none}
 use Rattle.tree_handles.proofs.Lasts.{ends_as}
 use Rattle.calc_session.specs.Seen.{Seen}
 use Rattle.calc_session.specs.States.{State, first_state, state_of}
-
-abbrev zero_tree : ℕ → Forest
-zero_tree i = one_tree i (rational (whole (pos 0))) empty
 
 keepable_zero : (i : ℕ) → IsKeepable None (first_table i) (whole_num 0)
 keepable_zero i = record { writable = (0, refl); clear = λ x m (k, l, e). absurd (omega arith) }

@@ -179,11 +179,6 @@ constant_first xs q qs = by (is_zero_fraction q)
     by true = refl
     by false = refl
 
-pub alone_is : (ts : Trees) → count ts ≡ 1 → ts ≡ more (sum_of_trees ts) none
-alone_is none e = absurd (omega (arith, e))
-alone_is (more t none) e = refl
-alone_is (more t (more u ts)) e = absurd (omega (arith, e))
-
 pub sum_is : (ts : Trees) → 1 < count ts → add ts ≡ sum_of_trees ts
 sum_is none h = absurd (omega (arith, h))
 sum_is (more t none) h = absurd (omega (arith, h))
@@ -235,10 +230,6 @@ form_none (Ok h) zero_rat s t u ts p z b e g k st =
     let empty : ts ≡ none = nothing_is ts p s t b e in
     let one : Adds t u (num (value_of zero_rat)) h = record { gives = g; kept = k; stands = st } in
     adds_tree (adds_first (adds_as b.adds empty) one) (ap num (whole_zero zero_rat z) ∙ sym (ap sum_of_trees empty))
-
--- one tree was placed
-pub form_one : (h : ℕ) (s t : State) (ts : Trees) (p : Placed) → IsPlaced s t ts p → p.last ≡ Some h → p.trees ≡ 1 → Adds s t (sum_of_trees ts) h
-form_one h s t ts p b e one = (subst (IsLast s t ts) e b.last).1 (sum_of_trees ts) (alone_is ts (sym b.trees ∙ one))
 
 pub several_are : (h : ℕ) (s t : State) (ts : Trees) (p : Placed) → IsPlaced s t ts p → p.last ≡ Some h → p.trees ≢ 1 → 1 < count ts
 several_are h s t ts p b e many = let some = (subst (IsLast s t ts) e b.last).0 in omega (arith, some, b.trees, many)

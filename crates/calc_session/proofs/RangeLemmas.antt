@@ -100,9 +100,3 @@ reads_many n text [] [] h = refl
 reads_many n text [] (e ∷ es) h = absurd h
 reads_many n text (r ∷ rs) [] h = absurd h
 reads_many n text (r ∷ rs) (e ∷ es) h = ap suc (reads_many n text rs es h.1)
-
-pub all_ranges : (k : ℕ) (rs : List EquationRange) → length rs ≤ k → take k rs ≡ rs
-all_ranges zero [] l = refl
-all_ranges zero (r ∷ rs) l = absurd (omega (arith, l))
-all_ranges (suc k) [] l = refl
-all_ranges (suc k) (r ∷ rs) l = ap (λ qs. r ∷ qs) (all_ranges k rs (omega (arith, l)))

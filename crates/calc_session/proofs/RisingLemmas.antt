@@ -186,14 +186,6 @@ listed_with xs n l e = listed_insert xs n l ∙ ap (λ k. insert (names_listed x
 
 -- ---- names of several trees
 
-pub includes_nothing : (xs : List (List ℕ)) → Includes [] xs xs true
-includes_nothing xs = record {
-  kept = λ x c. c;
-  only = λ x c. inl c;
-  all = λ e x (k, l, q). absurd (omega (arith, l));
-  lacks = λ e. absurd cc;
-}
-
 pub includes_both : {m n xs ys zs : List (List ℕ)} {told : Bool} → Includes m xs ys true → Includes n ys zs told → Includes (m ++ n) xs zs told
 includes_both {m} {n} {xs} {ys} {zs} h k = record {
   kept = λ x c. k.kept x (h.kept x c);

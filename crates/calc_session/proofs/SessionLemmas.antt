@@ -20,7 +20,7 @@ use Rattle.tree_handles.specs.Expressions.{IsExpression, plain}
 use Rattle.tree_handles.specs.Forest.{Forest, flatten}
 use Rattle.tree_handles.specs.Handed.{Gives}
 use Rattle.tree_handles.specs.Inside.{tree_at}
-use Rattle.tree_handles.specs.Standing.{Stands, forest, KeepsRefusals}
+use Rattle.tree_handles.specs.Standing.{Stands, forest}
 use Rattle.tree_handles.proofs.Forests.{flatten-join, has-flatten}
 use Rattle.tree_handles.proofs.Given.{given_handed, given_root, given_told}
 use Rattle.tree_handles.proofs.Lasts.{expression_root, plain_root}
@@ -194,9 +194,6 @@ module _ (room bits : Option (Tree → ℕ)) (before after : List Breaker) (line
   told_other s t (answer.Refused r) written other a = absurd (other r refl)
 
 -- ---- what the pool refused
-
-pub counts_kept : (old new : Seen) → KeepsRefusals (pool_of old) (pool_of new) → Counts None old new
-counts_kept old new k = (k.refusals, k.last_refused)
 
 pub counts_refusal : (refusal : Option Full) (old new : Seen) → CountsRefusal refusal (pool_of old) (pool_of new) → Counts refusal old new
 counts_refusal None old new k = (k.refusals, k.last_refused)

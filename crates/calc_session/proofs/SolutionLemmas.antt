@@ -71,12 +71,6 @@ module _ (xs : List (List ℕ)) (q : Fraction) (qs : List Fraction) {s t : State
 pub short_there : (s : State) (i : ℕ) (t : Tree) → Stands s → IsExpression i (forest s) → plain (tree_at i (forest s)) ≡ t → IsWritable t → length (text t) ≤ 2 * size t
 short_there s i t st e same w = omega (arith, short t w (subst (λ (u : Tree). HasFittingNumbers u) same (fitting i s st e.live)))
 
--- one more behind a comma
-pub commas_more : (ts : List (List ℕ)) (t : List ℕ) → 0 < length ts → with_commas (ts ++ t ∷ []) ≡ with_commas ts ++ (codes "," ++ t)
-commas_more [] t h = absurd (omega (arith, h))
-commas_more (u ∷ []) t h = refl
-commas_more (u ∷ v ∷ ts) t h = ap (λ (r : List ℕ). u ++ (codes "," ++ r)) (commas_more (v ∷ ts) t (omega arith)) ∙ ap (λ (r : List ℕ). u ++ r) (sym (append_assoc (codes ",") (with_commas (v ∷ ts)) (codes "," ++ t))) ∙ sym (append_assoc u (codes "," ++ with_commas (v ∷ ts)) (codes "," ++ t))
-
 -- what does not fit lacks bytes
 pub lacks_room : (n : ℕ) → (form_room ≤ n → ⊥) → n < form_room
 lacks_room n h = elim (cases_lt n form_room) [ inl l ↦ l | inr b ↦ absurd (h b) ]
@@ -106,10 +100,6 @@ module _ (xs : List (List ℕ)) (q : Fraction) (qs : List Fraction) {s t u : Sta
       omega (arith, l, n, face_of_form xs q qs few)
 
 -- ---- texts with commas between them
-
-pub comma_some : (at : ℕ) → at ≢ 0 → codes "," ≡ comma_before at
-comma_some zero h = absurd (h refl)
-comma_some (suc at) h = refl
 
 pub comma_short : (at : ℕ) → length (comma_before at) ≤ 1
 comma_short zero = omega arith

@@ -76,36 +76,12 @@ none_found f ls rs n e l h =
 pub found_within : (f : Forest) (ls rs : List ℕ) (n : ℕ) → length rs ≡ length ls → Some n ≡ first_not_linear (equations_in f ls rs) → n < length ls
 found_within f ls rs n e is = let (l, p, b) = position-Some (λ (x : Equation). not (is_linear_equation x)) (equations_in f ls rs) n (equation_at f 0 0) (sym is) in omega (arith, l, equations_many f ls rs e)
 
-pub both_linear : (a b : Bool) → a ≡ true → b ≡ true → (a && b) ≡ true
-both_linear a b p q = λ i. p i && q i
-
-pub left_not_linear : (a b : Bool) → a ≡ false → (a && b) ≡ false
-left_not_linear a b p = ap (λ (x : Bool). x && b) p
-
-pub right_not_linear : (a b : Bool) → b ≡ false → (a && b) ≡ false
-right_not_linear true b q = q
-right_not_linear false b q = refl
-
 -- ---- why they are not solved
 
 pub unsolved_reply : (free : ℕ) (xs : List (List ℕ)) (es : List Equation) (before after : List Breaker) (f : SolveFault) (r : Refusal) → AreNamesOf es xs → length xs ≤ 6 → first_not_linear es ≡ None
     → r ≡ refusal_to_solve f → OfOverflow (λ o. solving xs es ≡ Err (misfit_of o)) f → StopsWithin (nodes_of_sides es + length xs) before after f → IsReplyToSolve free es before after (reply_of r)
 unsolved_reply free xs es before after (fault.Overflow o) r names few linear e m s = subst (λ (x : Refusal). IsReplyToSolve free es before after (reply_of x)) (sym e) (are_linear names few linear (does_not_fit m s))
 unsolved_reply free xs es before after (fault.Interrupted i) r names few linear e m s = subst (λ (x : Refusal). IsReplyToSolve free es before after (reply_of x)) (sym e) (are_linear names few linear (is_interrupted s))
-
-same_interruption : (f : SolveFault) (place : ℕ) → refusal_to_solve f ≡ refusal.Interrupted place → f ≡ fault.Interrupted (record { by = place })
-same_interruption (fault.Overflow o) place e = cc
-same_interruption (fault.Interrupted i) place e = ap (λ by. fault.Interrupted (record { by = by })) (let e' : i.by ≡ place = cc in e')
-
-same_fault : (A : Type 0) (f : SolveFault) (place : ℕ) → ◌≡◌ {A = Result A SolveFault} (Err f) (Err (fault.Interrupted (record { by = place }))) → refusal_to_solve f ≡ refusal.Interrupted place
-same_fault A f place e = let same : f ≡ fault.Interrupted (record { by = place }) = cc in ap refusal_to_solve same
-
-pub unsolved_interrupts : (A : Type 0) (res : Result A SolveFault) (f : SolveFault) (r : Refusal) (place : ℕ) (Rose : Type 0) → res ≡ Err f → r ≡ refusal_to_solve f
-    → ((res ≡ Err (fault.Interrupted (record { by = place }))) ↔ Rose) → ((r ≡ refusal.Interrupted place) ↔ Rose)
-unsolved_interrupts A res f r place Rose is e told = (
-  λ i. told.0 (is ∙ ap Err (same_interruption f place (sym e ∙ i))),
-  λ rose. e ∙ same_fault A f place (sym is ∙ told.1 rose),
-)
 
 -- ---- elements of lists of roots
 

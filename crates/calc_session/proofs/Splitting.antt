@@ -156,11 +156,6 @@ pub record IsFirst (c n : ℕ) (text : List ℕ) : Type 0 where
   pub none : ¬ (Contains (take n text) c)
   pub ends : EndsAt c (drop n text)
 
-in_front_of : (c : ℕ) (xs ys : List ℕ) → Contains xs c → Contains (xs ++ ys) c
-in_front_of c [] ys (k, l, e) = absurd (omega arith)
-in_front_of c (x ∷ xs) ys (zero, l, e) = (0, omega arith, e)
-in_front_of c (x ∷ xs) ys (suc k, l, e) = later_in x c (xs ++ ys) (in_front_of c xs ys (k, omega arith, e))
-
 -- it is not before what has none
 first_past : (c n : ℕ) (xs ys : List ℕ) → ¬ (Contains xs c) → EndsAt c (drop n (xs ++ ys)) → length xs ≤ n
 first_past c n [] ys h m = omega arith

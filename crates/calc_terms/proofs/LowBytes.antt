@@ -1,5 +1,5 @@
 -- Numbers as bytes.
-use Rattle.std.proofs.Common.{◌≡◌, ℕ, zero, suc, ◌/◌, ◌^◌, ◌<◌, List, [], ◌∷◌, length, get_or, refl, ap, arith}
+use Rattle.std.proofs.Common.{◌≡◌, ℕ, zero, suc, ◌/◌, ◌^◌, ◌<◌, [], ◌∷◌, length, refl, ap, arith}
 use Rattle.calc_terms.specs.Node.{low_bytes, from_bytes}
 
 pub length-low_bytes : (k n : ℕ) → length (low_bytes k n) ≡ k
@@ -13,13 +13,3 @@ from_bytes-low_bytes zero n h = omega arith
 from_bytes-low_bytes (suc k) n h =
     let q : n / 256 < 256 ^ k = grind arith in
     rw (from_bytes-low_bytes k (n / 256) q) (omega arith)
-
-abbrev pub IsBytes : List ℕ → Type 0
-IsBytes bytes = (i : ℕ) → get_or bytes i 0 < 256
-
-pub from_bytes_bound : (bs : List ℕ) → IsBytes bs → from_bytes bs < 256 ^ length bs
-from_bytes_bound [] h = omega arith
-from_bytes_bound (b ∷ bs) h =
-    let first : b < 256 = h 0 in
-    let others : from_bytes bs < 256 ^ length bs = from_bytes_bound bs (λ i. h (suc i)) in
-    grind arith

@@ -119,9 +119,3 @@ pub front : (text : List ℕ) (n : ℕ) → HoldsName text → n ≡ length (bef
 front text n h e =
     let x = before_zero text in
     ap (λ (t : List ℕ). take n t) h.whole ∙ take_at x (replicate (8 - length x) 0) n (sym e)
-
--- two texts are equal exactly where their names are
-pub equal_names : (a b : List ℕ) (r : Bool) → HoldsName a → HoldsName b → r ≡ pointwise nat_eq a b → (r ≡ true → before_zero a ≡ before_zero b) × (before_zero a ≡ before_zero b → r ≡ true)
-equal_names a b r h k e =
-    let d = bytes_eq-Decides a b in
-    (λ t. ap before_zero (d.0 (sym e ∙ t)), λ n. e ∙ d.1 (h.whole ∙ ap padded n ∙ sym k.whole))

@@ -30,12 +30,6 @@ form_most kind.Num false = omega arith
 form_most kind.Sym b = omega arith
 form_most k b = omega arith
 
-pub form_eights : (k : Kind) (b : Bool) → size_by_form k b % 8 ≡ 0
-form_eights kind.Num true = refl
-form_eights kind.Num false = refl
-form_eights kind.Sym b = refl
-form_eights k b = refl
-
 -- a kind that stands alone
 pub bare_size : (k : Kind) (b : Bool) → is_bare k ≡ true → size_by_form k b ≡ 8
 bare_size kind.Num b h = absurd cc
@@ -48,9 +42,6 @@ payload_least x = form_least (kind_of_payload x) (has_short_form x)
 
 pub payload_most : (x : Payload) → size_of_payload x ≤ 40
 payload_most x = form_most (kind_of_payload x) (has_short_form x)
-
-pub payload_eights : (x : Payload) → size_of_payload x % 8 ≡ 0
-payload_eights x = form_eights (kind_of_payload x) (has_short_form x)
 
 pub root_least : (t : Tree) → 8 ≤ root_size t
 root_least t = form_least (root_kind t) (has_short_root t)

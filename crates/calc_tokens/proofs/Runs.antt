@@ -3,7 +3,6 @@ use Rattle.std.specs.Prelude.{ℕ, suc, ◌+◌, ◌≡◌, ◌≤◌, ◌<◌, 
 use Rattle.std.specs.List.{prefix_len, AllPass}
 use Rattle.std.proofs.Common.{refl, ap, arith, cond}
 use Rattle.std.proofs.Math.Numerals.{one-add}
-use Rattle.std.proofs.lemmas.Bool.{eqb-true}
 use Rattle.std.proofs.lemmas.List.Elements.{All-nil, All-cons}
 use Rattle.calc_terms.specs.Name.{is_digit}
 use Rattle.calc_language.specs.Tokens.{leading_run, keep, decimals}
@@ -56,38 +55,3 @@ pub decimals_le : (bytes : List ℕ) → length ((decimals bytes).1) ≤ length 
 decimals_le [] = omega arith
 decimals_le (b ∷ []) = omega arith
 decimals_le (b ∷ c ∷ bytes) = chosen_le ((b == 46) && is_digit c) b c bytes
-
-first_digit : (b : ℕ) (bytes : List ℕ) → 0 < length ((leading_run is_digit (b ∷ bytes)).0) → is_digit b ≡ true
-first_digit b bytes h = by (is_digit b) h
-  where
-    by : (x : Bool) → 0 < length ((keep x b bytes (leading_run is_digit bytes)).0) → x ≡ true
-    by true h = refl
-    by false h = absurd (omega arith)
-
--- behind a point the digits are the decimals
-pub decimals_behind : (point : ℕ) (others : List ℕ) → point ≡ 46 → 0 < length ((leading_run is_digit others).0) → decimals (point ∷ others) ≡ leading_run is_digit others
-decimals_behind point [] e h = absurd (omega arith)
-decimals_behind point (b ∷ bytes) e h =
-    let d : is_digit b ≡ true = first_digit b bytes h in
-    let test : ((point == 46) && is_digit b) ≡ true = rw (e, d) refl in
-    ap (λ x. chosen x point b bytes) test
-
--- where no digit stands behind a point, there are none
-pub no_decimals : (point : ℕ) (others : List ℕ) → (point ≡ 46 → 0 < length ((leading_run is_digit others).0) → ⊥) → decimals (point ∷ others) ≡ ([], point ∷ others)
-no_decimals point [] h = refl
-no_decimals point (b ∷ bytes) h = ap (λ x. chosen x point b bytes) (fails (is_digit b) refl)
-  where
-    fails : (d : Bool) → is_digit b ≡ d → ((point == 46) && d) ≡ false
-    fails false e = by (point == 46)
-      where
-        by : (x : Bool) → (x && false) ≡ false
-        by true = refl
-        by false = refl
-    fails true e = by (point == 46) refl
-      where
-        some : 0 < length ((leading_run is_digit (b ∷ bytes)).0)
-        some = rw e (omega arith)
-
-        by : (x : Bool) → (point == 46) ≡ x → (x && true) ≡ false
-        by true f = absurd (h (eqb-true point 46 f) some)
-        by false f = refl

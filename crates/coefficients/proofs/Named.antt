@@ -17,11 +17,6 @@ use Rattle.tree_handles.specs.declared.fault.NumberFault.TheVariants as fault
 
 -- ---- results
 
-pub not_named : {A : Type 0} (r : Result A NumberFault) (f : Full) (P : Overflow → Type 0) → IsErrAnd r (λ e. e ≡ fault.Full f) → IfErr r (OfOverflow P)
-not_named (Ok x) f P h = tt
-not_named (Err (fault.Full g)) f P h = tt
-not_named (Err (fault.Overflow o)) f P h = absurd cc
-
 pub named : {A : Type 0} (r : Result A NumberFault) (o : Overflow) (P : Overflow → Type 0) → IsErrAnd r (λ e. e ≡ fault.Overflow o) → P o → IfErr r (OfOverflow P)
 named (Ok x) o P h k = tt
 named (Err (fault.Full g)) o P h k = tt
@@ -55,17 +50,8 @@ leads_behind L c (more u done) t rest h = inr (leads_behind L c done t rest h)
 pub leads_number : (c d : Fraction) (t : Tree) → t ≡ num d → d ≡ c → Leads c t
 leads_number c d t e h = subst (Leads c) (sym e) h
 
-pub leads_factors : (c d : Fraction) (t : Tree) (ts : Trees) → t ≡ mult (more (num d) ts) → d ≡ c → Leads c t
-leads_factors c d t ts e h = subst (Leads c) (sym e) h
-
 pub leads_coefficient : (c : Fraction) (t : Tree) (us ts : Trees) → t ≡ mult (more (add us) ts) → is_number (add us) ≡ true → LeadsIn Leads c us → LeadsTerm c t
 leads_coefficient c t us ts e n h = subst (LeadsTerm c) (sym e) (n, h)
-
--- what leads no Number of two square classes or more leads the term
-pub leads_term : (c : Fraction) (t : Tree) → Leads c t → LeadsTerm c t
-leads_term c (num d) h = h
-leads_term c (mult (more (num d) ts)) h = h
-leads_term c t h = absurd h
 
 pub names_sum : (q : Fraction) (t : Tree) → is_add t ≡ true → (o : Overflow) → IsMultiple q (λ c. LeadsIn LeadsTerm c (children_of t)) o → NamesPut (num q) t o
 names_sum q (add ts) m o h = h

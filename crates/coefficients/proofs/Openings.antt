@@ -21,11 +21,6 @@ nth_opened parts n none h = absurd (omega arith)
 nth_opened parts zero (more t ts) h = refl
 nth_opened parts (suc n) (more t ts) h = nth_opened parts n ts (omega arith)
 
-pub count_opened : (parts : Tree → Trees) (n : ℕ) (ts : Trees) → n < count ts → n < count (opened_from parts (suc n) ts)
-count_opened parts n none h = absurd (omega arith)
-count_opened parts zero (more t ts) h = omega arith
-count_opened parts (suc n) (more t ts) h = omega (arith, count_opened parts n ts (omega arith))
-
 -- the child at the place before is opened where its parts are its children
 pub opened_at : (parts : Tree → Trees) (n : ℕ) (ts : Trees) → n < count ts → children_of (nth n ts) ≡ parts (nth n ts) → inserted n (children_of (nth n ts)) (removed n (opened_from parts (suc n) ts)) ≡ opened_from parts n ts
 opened_at parts n none h e = absurd (omega arith)

@@ -188,14 +188,6 @@ power_result n m t (Err f) p c room others = power_refused n m t f p c room othe
 
 -- ---- rewritten powers
 
-whole_spans : (gs : List ℕ) (e : Tree) → is_whole_num e ≡ true → SpansTree gs e
-whole_spans gs (num q) w = tt
-whole_spans gs e w = cc
-
-whole_calm : {ns : List (List ℕ)} {t : Tree} (e : Tree) → is_whole_num e ≡ true → IsCalmAtZero ns t → IsCalmAtZero ns e
-whole_calm (num q) w c = record { once = c.once; calm = tt }
-whole_calm e w c = cc
-
 -- what is handed on, and where bytes are lacking for it
 pub record IsReadyFor (gs : List ℕ) (ns : List (List ℕ)) (need own : ℕ) (v : Tree) : Type 0 where
   pub calm : IsCalmAtZero ns v

@@ -159,11 +159,6 @@ as_overflow (Ok h) k = tt
 as_overflow (Err (fault.Full full)) k = tt
 as_overflow (Err (fault.Overflow o)) k = k
 
-pub as_fault : (r : Result ℕ NumberFault) → IfOverflow r (λ o. ⊥) → IfErr r (OfOverflow (λ o. ⊥))
-as_fault (Ok h) k = tt
-as_fault (Err (fault.Full full)) k = tt
-as_fault (Err (fault.Overflow o)) k = k
-
 -- ---- what is said of a sum beside
 
 pub held_facts : (ts : Trees) (P : Tree → ℕ → ℕ → Type 0) (s : ℕ → Tree) (r : Result ℕ NumberFault) → ((h l : ℕ) → has_undef ts ≡ false → IsSumHeld (addends_of_each ts) h l → IfOk r (λ t. P (s t) h l))

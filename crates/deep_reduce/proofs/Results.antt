@@ -38,12 +38,6 @@ pub answer_as : (others rest : Forest) (s : State) (r : Result ℕ NumberFault) 
 answer_as others rest s (Ok h) P Q g e k = gives_as g e k
 answer_as others rest s (Err x) P Q g e k = tt
 
--- an overflow, with what is said of it where the operands are rationals
-pub overflowed : {C : Type 0} (v : PlainValue) (s : State) (r : Result ℕ NumberFault) (Q : Overflow → Type 0) → (C → AnswersRationals v s r) → ((o : Overflow) → (C → IsPlainOverflow v o) → Q o) → IfOverflow r Q
-overflowed v s (Ok h) Q a k = tt
-overflowed v s (Err (fault.Full full)) Q a k = tt
-overflowed v s (Err (fault.Overflow o)) Q a k = k o a
-
 pub overflow_as : (r : Result ℕ NumberFault) (P Q : Overflow → Type 0) → IfOverflow r P → ((o : Overflow) → P o → Q o) → IfOverflow r Q
 overflow_as (Ok h) P Q p k = tt
 overflow_as (Err (fault.Full full)) P Q p k = tt
@@ -57,12 +51,6 @@ overflow_on {A} {B} q (Err f) e P Q is p n a k = by f (subst (λ (x : NumberFaul
     by : (f : NumberFault) → IfOverflow {A = A} (Err f) P → IfOverflow {A = B} (Err f) Q
     by (fault.Full full) p = tt
     by (fault.Overflow o) p = k o p
-
--- a fact of any overflow
-pub any_overflow : (r : Result ℕ NumberFault) (Q : Overflow → Type 0) → ((o : Overflow) → Q o) → IfOverflow r Q
-any_overflow (Ok h) Q k = tt
-any_overflow (Err (fault.Full full)) Q k = tt
-any_overflow (Err (fault.Overflow o)) Q k = k o
 
 -- an overflow, of trees that are defined
 pub overflowed_defined : {C D : Type 0} (v : PlainValue) (s : State) (r : Result ℕ NumberFault) (Q : Overflow → Type 0) → (C → AnswersRationals v s r) → IfErr r (OfOverflow (λ o. D)) → ((o : Overflow) → D → (C → IsPlainOverflow v o) → Q o)

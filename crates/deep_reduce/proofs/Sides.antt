@@ -1,12 +1,11 @@
 -- Two trees taken from a node, or made, and put under a new one.
-use Rattle.std.proofs.Common.{◌≡◌, ℕ, eqb, false, [], ◌∷◌, refl, sym, ap, ◌∙◌}
+use Rattle.std.proofs.Common.{◌≡◌, ℕ, eqb, false, [], ◌∷◌, ap, ◌∙◌}
 use Rattle.calc_terms.specs.Trees.{Tree, Trees}
 use Rattle.calc_terms.specs.declared.kind.Kind.{Kind}
 use Rattle.deep_reduce.specs.Pairs.{GivesSides}
 use Rattle.deep_reduce.proofs.Steps.{two}
 use Rattle.tree_handles.proofs.Fronts.{behind_first, behind_later, behind_new, front_same, front_at, front_end, front_without, front_after_one, front_after_two}
 use Rattle.tree_handles.proofs.Given.{given_handed, given_told, given_rest, given_same, given_apart, given_without, handed_at}
-use Rattle.tree_handles.proofs.Lasts.{ends_as, ends_at, ends_without}
 use Rattle.tree_handles.proofs.Outcomes.{eqb-sym}
 use Rattle.tree_handles.specs.Expressions.{nth, plain, compound}
 use Rattle.tree_handles.specs.Forest.{Forest}
@@ -94,10 +93,3 @@ without_both = front_without (behind_later behind_first) (front_without behind_f
 -- both were put under a new node, which was reduced
 pub joined_front : {f h end : Forest} {left made p : ℕ} {Told : Tree → Type 0} → KeepsFront (left ∷ made ∷ []) f h → Gives (without_root made (without_root left f)) h p Told → KeepsFront (p ∷ []) h end → KeepsFront (left ∷ made ∷ []) f end
 joined_front k g l = front_after_one (behind_new g.ends without_both) k l
-
--- the left goes
-pub left_gone : {f end : Forest} {left made : ℕ} {Told : Tree → Type 0} → IsHanded left (without_root made f) → Gives (without_root made f) f made Told → end ≡ without_root left f
-    → Gives (without_root made (without_root left f)) end made Told × KeepsFront (left ∷ made ∷ []) f end
-left_gone {left = left} there m e =
-    let ends = ends_as (ends_at (ends_without left m.ends there.root) e) refl (sym (given_without m there)) in
-    (record { tree = m.tree; ends = ends; once = m.once; whole = m.whole; told = m.told }, front_end ends without_both)

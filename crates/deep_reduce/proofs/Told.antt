@@ -8,7 +8,7 @@ use Rattle.calc_terms.specs.Rat.{ratio_of, value_of}
 use Rattle.calc_terms.specs.Ratio.{Ratio, whole}
 use Rattle.calc_measures.specs.PlainValues.{PlainValue, nothing, plain_value}
 use Rattle.calc_algebra.specs.Reduced.{is_half_num, is_reduced, is_whole_num, are_reduced}
-use Rattle.calc_terms.specs.Trees.{Tree, num, symbol, undef, add, mult, power, root, neg, sub, div, Trees, none, more, count, is_add, is_mult, is_root, is_sub, is_div, is_num, is_undef, root_kind, are_rationals, has_undef}
+use Rattle.calc_terms.specs.Trees.{Tree, num, symbol, undef, add, mult, power, root, neg, sub, div, Trees, none, more, count, is_add, is_mult, is_root, is_sub, is_div, is_num, root_kind, are_rationals, has_undef}
 use Rattle.calc_terms.specs.declared.kind.Kind.TheVariants as kind
 use Rattle.calc_algebra.specs.Numbers.{value}
 use Rattle.calc_terms.specs.Integers.{int_is_negative}
@@ -19,8 +19,8 @@ use Rattle.deep_reduce.specs.Answers.{IsReducedProduct, IsReducedPower}
 use Rattle.calc_room.specs.Spans.{SpansTree}
 use Rattle.deep_reduce.specs.Nodes.{IsNodeAnswer, IsNodeOverflow, is_neg}
 use Rattle.deep_reduce.specs.Rooms.{KeepsSumRoom}
-use Rattle.deep_reduce.proofs.EasyNodes.{and_true, and_first, and_second, or_none}
-use Rattle.deep_reduce.proofs.Steps.{two, or_first, or_second, sum_answer, product_answer, power_answer, root_answer, empty_sum_answer, empty_product_answer, number_answer, symbol_answer, undef_answer}
+use Rattle.deep_reduce.proofs.EasyNodes.{and_true, and_first, and_second}
+use Rattle.deep_reduce.proofs.Steps.{two, sum_answer, product_answer, power_answer, root_answer, empty_sum_answer, empty_product_answer, number_answer, symbol_answer, undef_answer}
 use Rattle.power_reduce.specs.PowerAnswers.{base_in, exponent_in}
 use Rattle.power_reduce.proofs.Cases.{no_plain_value}
 use Rattle.power_reduce.proofs.Exponents.{whole_no_half}
@@ -207,20 +207,11 @@ minus_one_value r e = ap (λ (x : Ratio). num (lowest x.num x.den)) e
 pub two_reduced : (a b : Tree) → is_reduced a ≡ true → is_reduced b ≡ true → are_reduced (two a b) ≡ true
 two_reduced a b h k = and_true (is_reduced a) (is_reduced b && true) h (and_true (is_reduced b) true k refl)
 
-pub two_defined : (a b : Tree) → is_undef a ≡ false → is_undef b ≡ false → has_undef (two a b) ≡ false
-two_defined a b h k = or_none (is_undef a) (is_undef b || false) h (or_none (is_undef b) false k refl)
-
 pub first_reduced : (a b : Tree) → are_reduced (two a b) ≡ true → is_reduced a ≡ true
 first_reduced a b h = and_first (is_reduced a) (is_reduced b && true) h
 
 pub second_reduced : (a b : Tree) → are_reduced (two a b) ≡ true → is_reduced b ≡ true
 second_reduced a b h = and_first (is_reduced b) true (and_second (is_reduced a) (is_reduced b && true) h)
-
-pub first_defined : (a b : Tree) → has_undef (two a b) ≡ false → is_undef a ≡ false
-first_defined a b h = or_first (is_undef a) (is_undef b || false) h
-
-pub second_defined : (a b : Tree) → has_undef (two a b) ≡ false → is_undef b ≡ false
-second_defined a b h = or_first (is_undef b) false (or_second (is_undef a) (is_undef b || false) h)
 
 -- an overflow of a power that is the inverse of a defined tree
 pub inverse_overflowed : (t b : Tree) (o : Overflow) → t ≡ power b (num minus_one_fraction) → has_undef (children_of t) ≡ false → (are_rationals (children_of t) ≡ true → IsPlainOverflow (plain_value t) o) → IsNodeOverflow (power b (num minus_one_fraction)) o
@@ -229,17 +220,8 @@ inverse_overflowed t b o e d h = overflow_at {t = t} o e (record { defined = d; 
 pub only_reduced : (ts : Trees) (a : Tree) → ts ≡ more a none → are_reduced ts ≡ true → is_reduced a ≡ true
 only_reduced ts a e h = and_first (is_reduced a) true (ap are_reduced (sym e) ∙ h)
 
-pub only_defined : (ts : Trees) (a : Tree) → ts ≡ more a none → has_undef ts ≡ false → is_undef a ≡ false
-only_defined ts a e h = or_first (is_undef a) false (ap has_undef (sym e) ∙ h)
-
 pub right_reduced : (ts : Trees) (a b : Tree) → ts ≡ two a b → are_reduced ts ≡ true → is_reduced b ≡ true
 right_reduced ts a b e h = second_reduced a b (ap are_reduced (sym e) ∙ h)
 
-pub right_defined : (ts : Trees) (a b : Tree) → ts ≡ two a b → has_undef ts ≡ false → is_undef b ≡ false
-right_defined ts a b e h = second_defined a b (ap has_undef (sym e) ∙ h)
-
 pub left_reduced : (ts : Trees) (a b : Tree) → ts ≡ two a b → are_reduced ts ≡ true → is_reduced a ≡ true
 left_reduced ts a b e h = first_reduced a b (ap are_reduced (sym e) ∙ h)
-
-pub left_defined : (ts : Trees) (a b : Tree) → ts ≡ two a b → has_undef ts ≡ false → is_undef a ≡ false
-left_defined ts a b e h = first_defined a b (ap has_undef (sym e) ∙ h)

@@ -111,26 +111,6 @@ asked_all (div a c) b e =
     subst (λ b. asked kind.Div b (a ∷ c ∷ []) ≡ name_where_linear (div a c)) d.1
     (two_asked kind.Div (λ b c. refl) a c ∙ ap (λ x. answer (is_linear a && x) (has_name a || has_name c)) (n.0 ∙ sym d.0))
 
-pub not_asked : (t : Tree) → root_name t ≡ None → name_where_linear t ≡ None
-not_asked (num q) e = cc
-not_asked (symbol x) e = cc
-not_asked undef e = refl
-not_asked (add ts) e = cc
-not_asked (mult ts) e = cc
-not_asked (power x y) e = refl
-not_asked (root a) e = refl
-not_asked (neg a) e = cc
-not_asked (sub x y) e = cc
-not_asked (div a c) e = by (is_divisor c) e
-  where
-    and_false : (a : Bool) → (a && false) ≡ false
-    and_false true = refl
-    and_false false = refl
-
-    by : (d : Bool) → (if d then Some false else None) ≡ None → answer (is_linear a && d) (has_name a || has_name c) ≡ None
-    by true e = cc
-    by false e = ap (λ x. answer x (has_name a || has_name c)) (and_false (is_linear a))
-
 -- ---- a loop over the children
 
 pub asked_next : (k : Kind) (b c d : Bool) (ts : Trees) (i : ℕ) → i < count ts → name_where_linear (nth i ts) ≡ Some c → joined_name k b c ≡ Some d → asked k b (drop i (listed ts)) ≡ asked k d (drop (i + 1) (listed ts))

@@ -8,9 +8,6 @@ abbrev pub listed : Trees → List Tree
 listed none = []
 listed (more t ts) = t ∷ listed ts
 
-abbrev pub parts_below : Tree → List Tree
-parts_below t = listed (children_of t)
-
 pub length-listed : (ts : Trees) → length (listed ts) ≡ count ts
 length-listed none = refl
 length-listed (more t ts) = ap suc (length-listed ts)

@@ -1,6 +1,6 @@
 -- Keys, and the fronts of their trees.
 use Rattle.std.proofs.Common.{◌≡◌, ◌≢◌, ℕ, zero, suc, ◌-◌, ◌^◌, ◌<◌, ◌≤◌, [], ◌∷◌, length, eqb, cond, refl, sym, ap, ◌∙◌, subst, arith, append-nil, true}
-use Rattle.std.proofs.lemmas.Bool.{ne_eqb, eq-eqb}
+use Rattle.std.proofs.lemmas.Bool.{ne_eqb}
 use Rattle.calc_terms.specs.declared.kind.Kind.{Kind}
 use Rattle.calc_terms.specs.declared.kind.Kind.TheVariants as kind
 use Rattle.calc_terms.specs.Payload.{Payload, rational, named, bare}
@@ -62,10 +62,6 @@ more_factors : (f : Forest) → 2 ≤ arity f → product_tree (plains f) ≡ mu
 more_factors empty e = absurd (omega arith)
 more_factors (tree l k empty) e = absurd (omega arith)
 more_factors (tree l k (tree m j s)) e = refl
-
--- no factor is left out
-pub key_whole : (k : Key) (f : Forest) → k.behind ≡ 0 → key_tree k f ≡ plain (tree_at k.id f)
-key_whole k f e = ap (λ b. cond b (plain (tree_at k.id f)) (product_tree (trees_behind k.behind (children_of (plain (tree_at k.id f)))))) (eq-eqb k.behind 0 e)
 
 -- some children of a node have few nodes
 nodes_rest : (n : ℕ) (f : Forest) → nodes_in (rest_trees n f) ≤ nodes_in f

@@ -1,5 +1,5 @@
 -- What the kind of a root and the number of its children tell of a tree.
-use Rattle.std.proofs.Common.{◌≡◌, ◌≢◌, ℕ, refl, sym, ap, ◌∙◌, true, false, arith, subst}
+use Rattle.std.proofs.Common.{◌≡◌, ◌≢◌, ℕ, refl, sym, ap, ◌∙◌, true, arith, subst}
 use Rattle.calc_terms.specs.Fractions.{Fraction}
 use Rattle.calc_terms.specs.declared.kind.Kind.TheVariants as kind
 use Rattle.calc_terms.specs.Trees.{Tree, num, symbol, undef, add, mult, power, root, neg, sub, div, none, more, count, root_kind, is_mult}
@@ -7,7 +7,6 @@ use Rattle.calc_algebra.specs.Numbers.{classes, value, is_number}
 use Rattle.number_forms.proofs.Shaped.{length-terms_of, added_number}
 use Rattle.number_forms.specs.Sums.{IsSum, IsSumOf}
 use Rattle.calc_algebra.proofs.TermLaws.{Same-refl}
-use Rattle.number_forms.specs.Shapes.{has_term_shape}
 use Rattle.tree_handles.specs.Expressions.{nth, children_of, plain, IsExpression}
 use Rattle.tree_handles.specs.Forest.{Forest, arity, kids}
 use Rattle.tree_handles.specs.Inside.{tree_at, kids_of}
@@ -17,30 +16,6 @@ pub children_number : (i : ℕ) (f : Forest) → IsExpression i f → arity (kid
 children_number i f h = sym (ap count (children_of-plain (tree_at i f) h.whole) ∙ count-plains (kids (tree_at i f)))
 
 -- ---- by kind
-
-pub root_by_kind : (t : Tree) → root_kind t ≡ kind.Root → t ≡ root (nth 0 (children_of t))
-root_by_kind (root a) e = refl
-root_by_kind (num q) e = cc
-root_by_kind (symbol x) e = cc
-root_by_kind undef e = cc
-root_by_kind (add ts) e = cc
-root_by_kind (mult ts) e = cc
-root_by_kind (power b x) e = cc
-root_by_kind (neg a) e = cc
-root_by_kind (sub a b) e = cc
-root_by_kind (div a b) e = cc
-
-pub mult_by_kind : (t : Tree) → root_kind t ≡ kind.Mult → t ≡ mult (children_of t)
-mult_by_kind (mult ts) e = refl
-mult_by_kind (num q) e = cc
-mult_by_kind (symbol x) e = cc
-mult_by_kind undef e = cc
-mult_by_kind (add ts) e = cc
-mult_by_kind (root a) e = cc
-mult_by_kind (power b x) e = cc
-mult_by_kind (neg a) e = cc
-mult_by_kind (sub a b) e = cc
-mult_by_kind (div a b) e = cc
 
 pub add_by_kind : (t : Tree) → root_kind t ≡ kind.Add → t ≡ add (children_of t)
 add_by_kind (add ts) e = refl
@@ -53,19 +28,6 @@ add_by_kind (power b x) e = cc
 add_by_kind (neg a) e = cc
 add_by_kind (sub a b) e = cc
 add_by_kind (div a b) e = cc
-
--- another kind is none of a term
-pub shapeless : (t : Tree) → root_kind t ≢ kind.Num → root_kind t ≢ kind.Root → root_kind t ≢ kind.Mult → has_term_shape t ≡ false
-shapeless (num q) a b c = absurd (a refl)
-shapeless (root u) a b c = absurd (b refl)
-shapeless (mult ts) a b c = absurd (c refl)
-shapeless (symbol x) a b c = refl
-shapeless undef a b c = refl
-shapeless (add ts) a b c = refl
-shapeless (power b x) a d c = refl
-shapeless (neg u) a b c = refl
-shapeless (sub u v) a b c = refl
-shapeless (div u v) a b c = refl
 
 pub product_by_children : (t : Tree) (q r : Fraction) → is_mult t ≡ true → count (children_of t) ≡ 2 → nth 0 (children_of t) ≡ num q → nth 1 (children_of t) ≡ root (num r) → t ≡ mult (more (num q) (more (root (num r)) none))
 product_by_children (mult none) q r m e f g = absurd (omega arith)

@@ -83,16 +83,6 @@ nth_is_term none n l a = absurd (omega arith)
 nth_is_term (more t ts) zero l (h, a) = h
 nth_is_term (more t ts) (suc n) l (h, a) = nth_is_term ts n (omega arith) a
 
-pub first_of_one : (t : Tree) (n : ℕ) → IsTerm t → n < length (value t) → slice_get (value t) n ≡ Some (term_of t)
-first_of_one t n h l = by (value t) n (term_value t h) l
-  where
-    by : (v : Surd) (n : ℕ) → v ≡ term_of t ∷ [] → n < length v → slice_get v n ≡ Some (term_of t)
-    by v n e l = ap (λ (w : Surd). slice_get w n) e ∙ one n (let k : n < length (term_of t ∷ []) = subst (λ (w : Surd). n < length w) e l in k)
-      where
-        one : (n : ℕ) → n < length (term_of t ∷ []) → slice_get (term_of t ∷ []) n ≡ Some (term_of t)
-        one zero l = refl
-        one (suc n) l = absurd (omega arith)
-
 -- ---- the sum that is a Number
 
 pub zero_sum : (t : Tree) → IsSum t → count (children_of t) ≡ 0 → value t ≡ []

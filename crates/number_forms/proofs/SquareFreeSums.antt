@@ -75,14 +75,6 @@ below_up_to t m k r h l b x = by (at_most k m x)
     by (inl y) = let z = rises_in_sum t k m h y l in omega (arith, z, b)
     by (inr e) = subst (λ (n : ℕ). (term_of (nth n (children_of t))).radicand < r) (sym e) b
 
--- a place between a radicand that is below and one that is not
-pub place_between : (t : Tree) (n r : ℕ) → IsSum t → n ≤ count (children_of t) → (0 < n → (term_of (nth (n - 1) (children_of t))).radicand < r) → (n < count (children_of t) → r ≤ (term_of (nth n (children_of t))).radicand) → IsPlace n r (children_of t)
-place_between t n r h l b a = record {
-  within = l;
-  below = λ k x. below_up_to t (n - 1) k r h (omega (arith, l, x)) (b (omega (arith, x))) (omega (arith, x));
-  above = a;
-}
-
 -- the place of a radicand that a term has
 pub place_there : (t : Tree) (n r : ℕ) → IsSum t → n < count (children_of t) → r ≡ (term_of (nth n (children_of t))).radicand → IsPlace n r (children_of t)
 place_there t n r h l e = record {

@@ -1,5 +1,5 @@
 -- Lemmas on what is written of pictures.
-use Rattle.std.proofs.Common.{◌≡◌, ◌∙◌, ◌++◌, ◌∷◌, ℕ, List, [], Bool, true, false, Option, Some, Result, Ok, Err, sym, ap, subst, append-nil}
+use Rattle.std.proofs.Common.{◌≡◌, ◌∙◌, ◌++◌, ◌∷◌, ℕ, List, [], Bool, true, Option, Some, Result, Ok, Err, sym, ap, subst}
 use Rattle.std.specs.Io.KnownBytes.{Appends}
 use Rattle.calc_edges.specs.Taken.{AppendsPart}
 use Rattle.calc_session.specs.Drawing.{IsDrawn, IsDrawnInPart, rows_in}
@@ -46,6 +46,3 @@ same_place p s e = ap (λ (x : State). let q : Place = record { now = record { s
 
 pub picture_wanted : (draws : Bool) (s : State) → draws ≡ true → picture_if draws s ≡ picture_text s
 picture_wanted draws s e = ap (λ (b : Bool). picture_if b s) e
-
-pub picture_unwanted : (draws : Bool) (s : State) (out : List ℕ) → draws ≡ false → out ++ picture_if draws s ≡ out
-picture_unwanted draws s out e = ap (λ (b : Bool). out ++ picture_if b s) e ∙ append-nil out

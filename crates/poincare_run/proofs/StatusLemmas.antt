@@ -1,5 +1,5 @@
 -- Lemmas on the status of the program, and what it says.
-use Rattle.std.proofs.Common.{◌≡◌, ◌≢◌, ◌∙◌, ◌⊎◌, ℕ, ◌≤◌, List, [], ◌∷◌, ◌++◌, length, Bool, Option, Some, None, IfSome, Contains, inl, inr, refl, sym, ap, subst, arith, length-append}
+use Rattle.std.proofs.Common.{◌≡◌, ◌≢◌, ◌∙◌, ◌⊎◌, ℕ, ◌≤◌, List, [], ◌∷◌, ◌++◌, length, Bool, Option, Some, None, Contains, inl, inr, refl, sym, ap, subst, arith, length-append}
 use Rattle.std.proofs.lemmas.List.{append_cancel_right}
 use Rattle.std.specs.Io.KnownBytes.{Consumes}
 use Rattle.calc_edges.specs.Faults.{Rose, StopsAtFailure}
@@ -28,10 +28,6 @@ nothing_read t input rest status before after =
     let same : input ++ rest ≡ rest = cc in
     let none : length input ≡ 0 = omega (arith, length-append input rest, ap length same) in
     (omega arith, λ all. absurd (omega arith))
-
--- what holds of the value that is there
-pub if_known : {X : Type 0} (o : Option X) (x : X) (P : X → Type 0) → o ≡ Some x → P x → IfSome o P
-if_known o x P e h = rw e h
 
 pub not_there : {X : Type 0} (o : Option X) (x : X) → o ≡ Some x → o ≡ None → ⊥
 not_there o x e none = cc

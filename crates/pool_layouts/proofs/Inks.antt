@@ -119,10 +119,6 @@ inked_small n (c ∷ cs) h = both (blanks n) (c ∷ cs) (replicate_small n 32 (o
 pub bar_inked : (c n k : ℕ) → c < 128 → encode_utf8_all (inked n (replicate k c)) ≡ inked n (replicate k c)
 bar_inked c n k h = small_bytes (inked n (replicate k c)) (inked_small n (replicate k c) (replicate_small k c h))
 
-pub replicate_some : (k c : ℕ) → 0 < k → replicate k c ≢ []
-replicate_some zero c h = absurd (omega (arith, h))
-replicate_some (suc k) c h = λ e. cc
-
 -- ---- contents
 
 pub extended_twice : (t : Content) (a b : List ℕ) → extended (extended t a) b ≡ extended t (a ++ b)

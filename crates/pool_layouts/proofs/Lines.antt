@@ -12,9 +12,6 @@ use Rattle.pool_layouts.specs.Pictures.{Block, height, blanks, bar, roof, root_c
 
 -- ---- each row has as many characters as the picture is wide
 
-IsStraight : Block → Type 0
-IsStraight b = (y : ℕ) → length (b.line y) ≡ b.width
-
 blanks_long : (n : ℕ) → length (blanks n) ≡ n
 blanks_long n = length-replicate n 32
 

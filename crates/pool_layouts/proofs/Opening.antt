@@ -97,10 +97,6 @@ head_choice : (t : Bool) (a b : ℕ) (rest : List ℕ) → (if t then a else b) 
 head_choice true a b rest = refl
 head_choice false a b rest = refl
 
-none_if : (t : Bool) (A : Type 0) → t ≡ true → t ≡ false → A
-none_if true A e f = absurd (cc f)
-none_if false A e f = absurd (cc e)
-
 -- a level row is one of the block
 pub level_small : (above y own_above own_height z : ℕ) → level above y own_above own_height ≡ Some z → z < own_height
 level_small above y a h z e = by (nat_le above (y + a) && nat_lt (y + a - above) h) refl e

@@ -101,9 +101,6 @@ last_tree_is i begin f h = record {
   begin_is = h.begins ∙ ap bytes_in (sym (ap (before_last 1) h.ends.whole ∙ before_last-join 1 h.others h.tree (sym h.ends.alone)));
 }
 
-pub stands_bare : (i : ℕ) (f : Forest) → StandsIn None i f f i
-stands_bare i f = record { stands_in = λ t others e. e }
-
 pub stands_over : (k : Kind) (i id : ℕ) (f g : Forest) → Ends id (one_tree id (bare k) (last_trees 1 f)) (before_last 1 f) g → StandsIn (Some k) i f g id
 stands_over k i id f g e = record {
   stands_in = λ t others last.

@@ -1,11 +1,11 @@
 -- The extent of layouts side by side, gathered from the left.
-use Rattle.std.proofs.Common.{◌≡◌, ◌∙◌, ℕ, suc, ◌+◌, ◌<◌, ◌≤◌, max, List, length, get_or, sym, ap, subst, arith}
+use Rattle.std.proofs.Common.{◌≡◌, ◌∙◌, ℕ, suc, ◌+◌, ◌<◌, ◌≤◌, max, List, length, sym, ap, subst, arith}
 use Rattle.tree_handles.specs.Forest.{Label, Forest, empty, tree, arity, nodes_in}
 use Rattle.pool_layouts.specs.declared.extents.Extent.{Extent}
 use Rattle.pool_layouts.specs.Drawings.{drawings}
 use Rattle.pool_layouts.specs.Extents.{extent_from, extent_of, HasSmall, IsSmall}
 use Rattle.pool_layouts.specs.Pictures.{pictures, widths, most_above, most_below, side_by_side}
-use Rattle.pool_layouts.proofs.Measures.{blocks_of, first_read, first_within, first_small, behind_first, extent_same, bounded, bytes_nodes, most_heights}
+use Rattle.pool_layouts.proofs.Measures.{blocks_of, first_within, behind_first, extent_same, bounded, bytes_nodes, most_heights}
 
 -- so many layouts are gathered, and the others are listed from a place on
 pub record IsGathering (k : Forest) (count at : ℕ) (es : List Extent) (row : Extent) : Type 0 where
@@ -51,14 +51,8 @@ next_part {k = k} {count = count} {at = at} {es = es} {row = row} g few = by g.o
     by empty s n m w a b = absurd (omega (arith, n, few))
     by (tree l j r) s n m w a b = record { label = l; below = j; others = r; small = s; number = omega (arith, n); nodes = m; width = w; above = a; below_is = b }
 
-pub part_read : {k : Forest} {count at : ℕ} {es : List Extent} {row : Extent} (p : IsNextPart k count at es row) (d : Extent) → get_or es at d ≡ extent_of p.label.payload p.below
-part_read {at = at} {es = es} p d = first_read p.label p.below p.others at es d p.small
-
 pub part_within : {k : Forest} {count at : ℕ} {es : List Extent} {row : Extent} → IsNextPart k count at es row → at < length es
 part_within {at = at} {es = es} p = first_within p.label p.below p.others at es p.small
-
-pub part_small : {k : Forest} {count at : ℕ} {es : List Extent} {row : Extent} (p : IsNextPart k count at es row) → IsSmall (extent_of p.label.payload p.below)
-part_small {at = at} {es = es} p = first_small p.label p.below p.others at es p.small
 
 pub gathered_more : {k : Forest} {count at : ℕ} {es : List Extent} {row : Extent} (next : ℕ) (new part : Extent) (p : IsNextPart k count at es row) → part ≡ extent_of p.label.payload p.below → next ≡ at + part.nodes
     → new ≡ (record { nodes = row.nodes + part.nodes; width = row.width + part.width; above = max row.above part.above; below = max row.below part.below }) → IsGathering k (count + 1) next es new

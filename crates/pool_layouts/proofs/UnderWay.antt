@@ -630,10 +630,6 @@ mark_stopped {l = l} {old = old} {now = now} {frame = frame} after full n s =
       front = keeps_starting (forest old) (join (made_of n.outer) n.parts) (forest after) (starts_as n.whole s.front);
     }
 
--- some node is under way
-pub some_under_way : {l : Layout} {old now : State} {at : ℕ} {cells : List Visit} {frames : List Frame} → IsUnderWay l old now at cells frames → 0 < length frames
-some_under_way u = omega (arith, ap length u.frames_are, length-append (frames_of u.outer) (u.inner.frame ∷ []))
-
 pub none_left : (frames : List Frame) → nat_eq (length frames) 0 ≡ true → frames ≡ []
 none_left [] e = refl
 none_left (f ∷ fs) e = absurd (omega (arith, eqb-true (length (f ∷ fs)) 0 e))

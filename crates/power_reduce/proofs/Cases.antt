@@ -31,10 +31,10 @@ use Rattle.power_reduce.proofs.Rules.{rewriting}
 use Rattle.power_reduce.proofs.Whole.{whole_is}
 use Rattle.rational128.proofs.Signed.{told}
 use Rattle.rational128.specs.declared.overflow.Overflow.{Overflow}
-use Rattle.calc_measures.specs.PlainTrees.{IsPlainAnswer, IsPlainOverflow}
+use Rattle.calc_measures.specs.PlainTrees.{IsPlainOverflow}
 use Rattle.calc_algebra.specs.Rewritings.{Rewrites}
-use Rattle.tree_handles.specs.Handed.{tree_of, Gives}
-use Rattle.reduce_port.specs.Steps.{AnswersRationalStep, IfAgain}
+use Rattle.tree_handles.specs.Handed.{Gives}
+use Rattle.reduce_port.specs.Steps.{AnswersRationalStep}
 use Rattle.reduce_port.specs.declared.step.Step.{Step}
 use Rattle.reduce_port.specs.declared.step.Step.TheVariants as step
 use Rattle.tree_handles.specs.declared.fault.NumberFault.{NumberFault}
@@ -108,9 +108,6 @@ broken_other (root a) h = refl
 broken_other (neg a) h = refl
 broken_other (sub a b) h = refl
 broken_other (div a b) h = refl
-
-pub broken_number : (b e : Tree) → is_whole_num e ≡ false → (is_number b && is_whole_num e) ≡ false
-broken_number b e h = rw h (and_false (is_number b))
 
 pub no_number : (b e : Tree) → is_number b ≡ false → (is_number b && is_whole_num e) ≡ false
 no_number b e h = rw h refl
@@ -209,12 +206,6 @@ undef_base_kept b e h = absurd cc
 
 num_same : {p q : Fraction} → num p ≡ num q → p ≡ q
 num_same e = cc
-
--- an exponent that is neither whole nor half of an odd whole number
-pub broken_kept : (b e : Tree) → is_whole_num e ≡ false → is_half_num e ≡ false → rewritten b e ≡ None
-broken_kept b e w h =
-    as_whole b e h
-    ∙ outside_kept b e (rw w refl) (λ q k. ap (λ (x : Bool). x && int_is_even q.num && not (is_zero_fraction q)) (ap is_whole_num (sym k) ∙ w))
 
 -- the exponents 0 and 1
 whole_exponent_no_half : (e : Tree) (z : ℤ) → e ≡ num (whole_fraction z) → is_half_num e ≡ false
@@ -392,11 +383,6 @@ no_plain_value (root a) e h k w = absurd cc
 no_plain_value (neg a) e h k w = absurd cc
 no_plain_value (sub a b) e h k w = absurd cc
 no_plain_value (div a b) e h k w = absurd cc
-
--- a rational to an exponent that is not whole
-pub rational_kept : (t : Tree) (s : State) (x : Step) → is_power t ≡ true → is_whole_num (exponent_in t) ≡ false → IfAgain x (λ h. ⊥) → is_num (base_in t) ≡ true → is_num (exponent_in t) ≡ true → AnswersRationalStep (plain_value t) s (Ok x)
-rational_kept t s (step.Done h) p w k b e = subst (λ (v : PlainValue). IsPlainAnswer v (tree_of h s)) (sym (ap plain_value (power_is t p) ∙ no_plain_value (base_in t) (exponent_in t) b e w)) tt
-rational_kept t s (step.Again h) p w k b e = absurd k
 
 same_full : (g f : Full) → fault.Full g ≡ fault.Full f → g ≡ f
 same_full g f e = cc

@@ -2,17 +2,15 @@
 use Rattle.std.specs.Prelude.{⊤}
 use Rattle.coefficients.specs.Coefficients.{factors_of}
 use Rattle.number_forms.specs.Readers.{is_zero}
-use Rattle.std.proofs.Common.{◌≡◌, inl, inr, Bool, true, false, ◌&&◌, not, refl, if◌then◌else◌, sym, ap, ◌∙◌, subst}
-use Rattle.std.proofs.lemmas.Bool.{and_parts, and_from, or_left, not_from_false}
+use Rattle.std.proofs.Common.{◌≡◌, inl, inr, Bool, true, false, ◌&&◌, not, refl, if◌then◌else◌, ap, ◌∙◌}
+use Rattle.std.proofs.lemmas.Bool.{and_parts, and_from, or_left}
 use Rattle.calc_terms.specs.Fractions.{Fraction, is_zero_fraction, is_one_fraction}
 use Rattle.calc_algebra.specs.Numbers.{is_number, is_radicand, IsNumber, IsTerm, AreTerms}
-use Rattle.calc_algebra.specs.Reduced.{is_num_one, num_one, Split, split, split_product, product_tree, NoneIs, RisesBy, base_of, IsFrontForm, IsProductForm, is_undistributed, has_form, HasForm, all_parts, all_parts_of}
-use Rattle.calc_terms.specs.Trees.{Tree, num, symbol, undef, add, mult, power, root, neg, sub, div, Trees, none, more, append, HasTwo, is_mult}
-use Rattle.calc_terms.proofs.FractionFacts.{no_zero, no_one}
-use Rattle.calc_algebra.proofs.NumberLaws.{number_words, number_test, term_words}
+use Rattle.calc_algebra.specs.Reduced.{num_one, split, split_product, NoneIs, RisesBy, base_of, has_form, HasForm, all_parts, all_parts_of}
+use Rattle.calc_terms.specs.Trees.{Tree, num, symbol, undef, add, mult, power, root, neg, sub, div, Trees, none, more, append, is_mult}
+use Rattle.calc_algebra.proofs.NumberLaws.{number_words, number_test}
 use Rattle.calc_algebra.proofs.ReducedLaws.{form_words}
-use Rattle.product_reduce.specs.Factors.{opened, others_in, coefficient_before}
-use Rattle.product_reduce.proofs.Opened.{one_is_num}
+use Rattle.product_reduce.specs.Factors.{opened, others_in}
 
 -- ---- the split
 
@@ -40,13 +38,6 @@ split_of_number (add us) ts h k = ap (λ (b : Bool). if b then split (add us) ts
 split_of_number (mult (more (num q) (more (root (num r)) none))) ts h k =
     ap (λ (b : Bool). if b then split (mult (more (num q) (more (root (num r)) none))) ts else split (num q) (more (root (num r)) ts)) (and_parts (not (is_zero_fraction q) && not (is_one_fraction q)) (is_radicand r) h).1
 split_of_number c ts h k = cc
-
-pub split_with_coefficient : (c : Tree) (ts : Trees) → is_number c ≡ true → NoneIs is_number ts → split_product (coefficient_before c ts) ≡ split c ts
-split_with_coefficient c ts h k = by (is_num_one c) refl
-  where
-    by : (b : Bool) → is_num_one c ≡ b → split_product (if b then ts else append (factors_of c) ts) ≡ split c ts
-    by true e = split_of_others ts k ∙ ap (λ (x : Tree). split x ts) (sym (one_is_num c e))
-    by false e = split_of_number c ts h k
 
 -- ---- trees in their form
 
@@ -77,10 +68,6 @@ formed t h = record { form = form_words t (all_at_root has_form t h); parts = h 
 pub all_formed : (ts : Trees) → all_parts_of has_form ts ≡ true → AllFormed ts
 all_formed none h = tt
 all_formed (more t ts) h = let (a, b) = and_parts (all_parts has_form t) _ h in (formed t a, all_formed ts b)
-
-pub all_formed_test : (ts : Trees) → AllFormed ts → all_parts_of has_form ts ≡ true
-all_formed_test none h = refl
-all_formed_test (more t ts) h = and_from _ _ h.0.parts (all_formed_test ts h.1)
 
 pub formed-append : (ts us : Trees) → AllFormed ts → AllFormed us → AllFormed (append ts us)
 formed-append none us h k = k
@@ -173,28 +160,6 @@ others_no_numbers (more t ts) = by (others_no_numbers ts) (is_number t) refl
 
 -- ---- the product
 
--- a rational that is written in front is neither 0 nor 1
-number_front : (c : Tree) (ts : Trees) → is_number c ≡ true → is_zero c ≡ false → is_num_one c ≡ false → IsFrontForm (append (factors_of c) ts)
-unfolding is_number
-number_front (num q) ts h z o = (no_zero q (not_from_false _ z), no_one q (not_from_false _ o))
-number_front (root a) ts h z o = tt
-number_front (add us) ts h z o = tt
-number_front (mult (more (num q) (more (root (num r)) none))) ts h z o = let t = term_words (mult (more (num q) (more (root (num r)) none))) h in (t.0, t.1)
-number_front c ts h z o = cc
-
-others_front : (ts : Trees) → NoneIs is_number ts → IsFrontForm ts
-unfolding is_number
-others_front none h = tt
-others_front (more (num q) ts) h = absurd cc
-others_front (more t ts) h = tt
-
-coefficient_front : (c : Tree) (ts : Trees) → is_number c ≡ true → is_zero c ≡ false → NoneIs is_number ts → IsFrontForm (coefficient_before c ts)
-coefficient_front c ts h z k = by (is_num_one c) refl
-  where
-    by : (b : Bool) → is_num_one c ≡ b → IsFrontForm (if b then ts else append (factors_of c) ts)
-    by true e = others_front ts k
-    by false e = number_front c ts h z e
-
 -- what is known of a coefficient and of sorted factors
 pub record IsSorted (c : Tree) (ts : Trees) : Type 0 where
   pub number : is_number c ≡ true
@@ -203,36 +168,3 @@ pub record IsSorted (c : Tree) (ts : Trees) : Type 0 where
   pub no_number : NoneIs is_number ts
   pub no_product : NoneIs is_mult ts
   pub rising : RisesBy base_of ts
-
-pub no_product_with : (c : Tree) (ts : Trees) → is_number c ≡ true → NoneIs is_mult ts → NoneIs is_mult (coefficient_before c ts)
-no_product_with c ts h k = by (is_num_one c)
-  where
-    by : (b : Bool) → NoneIs is_mult (if b then ts else append (factors_of c) ts)
-    by true = k
-    by false = none-append is_mult (factors_of c) ts (factors_flat c (number_formed c h).form) k
-
-pub formed_with : (c : Tree) (ts : Trees) → is_number c ≡ true → AllFormed ts → AllFormed (coefficient_before c ts)
-formed_with c ts h k = by (is_num_one c)
-  where
-    by : (b : Bool) → AllFormed (if b then ts else append (factors_of c) ts)
-    by true = k
-    by false = formed-append (factors_of c) ts (formed_factors c (number_formed c h)) k
-
-pub product_form_with : (c : Tree) (ts : Trees) → IsSorted c ts → HasTwo (coefficient_before c ts) → is_undistributed (split c ts) ≡ false → IsProductForm (coefficient_before c ts)
-product_form_with c ts s two d =
-    let same : split c ts ≡ split_product (coefficient_before c ts) = sym (split_with_coefficient c ts s.number s.no_number) in
-    record {
-      two = two;
-      no_product = no_product_with c ts s.number s.no_product;
-      front = coefficient_front c ts s.number s.not_zero s.no_number;
-      no_number = subst (λ (x : Split). NoneIs is_number x.factors) same s.no_number;
-      rising = subst (λ (x : Split). RisesBy base_of x.factors) same s.rising;
-      distributed = subst (λ (x : Split). is_undistributed x ≡ false) same d;
-    }
-
--- a product with one factor is that factor
-pub product_tree_formed : (ts : Trees) → AllFormed ts → (HasTwo ts → IsFormed (mult ts)) → IsFormed (product_tree ts)
-unfolding is_number
-product_tree_formed none h k = number_formed num_one refl
-product_tree_formed (more t none) h k = h.0
-product_tree_formed (more t (more u ts)) h k = k tt

@@ -8,7 +8,6 @@ use Rattle.node_pool.specs.State.{State}
 use Rattle.number_forms.specs.Answers.{AnswersRationals}
 use Rattle.calc_algebra.specs.Reduced.{are_reduced}
 use Rattle.calc_measures.specs.PlainTrees.{IsPlainAnswer}
-use Rattle.reduce_port.specs.Steps.{AnswersRationalStep}
 use Rattle.tree_handles.specs.declared.fault.NumberFault.{NumberFault}
 use Rattle.tree_handles.specs.declared.fault.NumberFault.TheVariants as fault
 use Rattle.tree_handles.specs.Expressions.{plain, children_of}
@@ -125,10 +124,6 @@ refused v new (fault.Overflow o) h = h
 pub refused_as : (v : PlainValue) (new : State) (r : Result Joining NumberFault) (e : NumberFault) → IsErrAnd r (λ x. x ≡ e) → AnswersRationals v new (Err e) → AnswersRationalFactors v new r
 refused_as v new (Ok x) e h k = absurd h
 refused_as v new (Err x) e h k = subst (λ (y : NumberFault). AnswersRationalFactors v new (Err y)) (sym h) (refused v new e k)
-
-pub as_step : (v : PlainValue) (new : State) (e : NumberFault) → AnswersRationalFactors v new (Err e) → AnswersRationalStep v new (Err e)
-as_step v new (fault.Full full) h = h
-as_step v new (fault.Overflow o) h = h
 
 -- the opened rationals are the rationals
 pub opened_value : (ts us : Trees) → are_rationals ts ≡ true → us ≡ opened ts → us ≡ ts

@@ -150,10 +150,6 @@ other_answer a n u h = record {
 
 -- ---- what fits
 
--- a rational of at most 0 has no wide root
-pub not_wide : (q : Fraction) → (pos 0 <ℤ q.num → ⊥) → HasWideRoot (num q) → ⊥
-not_wide q h w = h w.0
-
 pub not_above_zero : (z : ℤ) → z ≡ pos 0 → pos 0 <ℤ z → ⊥
 not_above_zero z e h = absurd (omega (arith, ints))
 

@@ -3,7 +3,7 @@ use Rattle.std.proofs.Common.{◌≡◌, ℕ, zero, suc, ◌+◌, ◌-◌, ◌*�
 use Rattle.std.specs.Int.{IsGcd, Width, w128, trailing_zeros, bit_at, ◌∣◌}
 use Rattle.std.proofs.lemmas.Nat.{mod-pow-add, pow_pos, pow-add, shr_le}
 use Rattle.std.proofs.lemmas.Nat.Bits.{bit_at-trailing_zeros}
-use Rattle.std.proofs.lemmas.Nat.Gcd.{IsGcd-swap, IsGcd-from_sub, IsGcd-from_zero, dvd_refl, le_of_dvd, dvd_of_mod-eq-zero}
+use Rattle.std.proofs.lemmas.Nat.Gcd.{IsGcd-swap, IsGcd-from_sub, dvd_refl, le_of_dvd, dvd_of_mod-eq-zero}
 use Rattle.std.proofs.Math.Nat.{mul-div_cancel', dvd-mul_right, dvd-mul_left_of_dvd, one-dvd, pow-suc}
 use Rattle.calc_terms.specs.Gcd.{IsGcd-scaled}
 use mir.Val.{bits}
@@ -164,10 +164,6 @@ IsGcd-ordered x y low high g low-is high-is h = by (order x y)
         let e : low ≡ y = omega arith in
         let d : high ≡ x = omega arith in
         rw (← e, ← d) (IsGcd-swap _ _ _ h)
-
--- a number and 0
-pub IsGcd-zero_left : (a b : ℕ) → a ≡ 0 → IsGcd a b b
-IsGcd-zero_left a b e = IsGcd-swap b a b (IsGcd-from_zero b a e)
 
 -- the answer from the odd parts of both numbers, in the bits of the type
 pub IsGcd-from_odd : (a b g m : ℕ) → 0 < a → 0 < b → a < 2 ^ 128 → b < 2 ^ 128

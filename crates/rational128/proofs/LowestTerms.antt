@@ -66,10 +66,3 @@ whole_num n = (parts_themselves n 1 (is_lowest_from n 1 (omega arith) (one-dvd (
 -- what a rational shows are the parts of its value
 pub ratio_parts : (r : Rat) → HasParts (value_of r) (ratio_of r).num (ratio_of r).den
 ratio_parts r = parts_themselves (ratio_of r).num (ratio_of r).den (r.in_lowest_terms)
-
--- rationals of one value show one numerator and one denominator
-pub one_ratio : (a b : Rat) → value_of a ≡ value_of b → ratio_of a ≡ ratio_of b
-one_ratio a b e =
-    let p = ratio_parts a in
-    let q = ratio_parts b in
-    λ i. record { num = (sym p.num ∙ ap (λ (f : Fraction). f.num) e ∙ q.num) i; den = (sym p.den ∙ ap (λ (f : Fraction). f.den) e ∙ q.den) i }

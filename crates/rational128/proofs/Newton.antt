@@ -24,12 +24,6 @@ four_products a b = by (order a b)
         let k : 4 * (b * a) ≤ (b + a) * (b + a) = rw (← e) at h in
         omega arith
 
--- a divisor at least as great as the mean of itself and the quotient is no greater than the root
-pub at_most_root : (n x : ℕ) → 0 < x → x ≤ (x + n / x) / 2 → x * x ≤ n
-at_most_root n x positive h =
-    let le : x ≤ n / x = omega arith in
-    omega (arith, mul-le x x x (n / x) (omega arith) le)
-
 -- the mean of a divisor and the quotient is no less than the root
 pub mean_above : (n x : ℕ) → 0 < x → n < ((x + n / x) / 2 + 1) * ((x + n / x) / 2 + 1)
 mean_above n x positive = scaled ((x + n / x) / 2 + 1) (n / x) (omega arith) (omega (arith, mod_below n x positive))

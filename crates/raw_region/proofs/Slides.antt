@@ -1,12 +1,9 @@
 -- Bytes that move in parts.
 use Rattle.std.proofs.Common.{List, ap, append_assoc, arith, drop, length, refl, sym, take, ℕ, ◌++◌, ◌+◌, ◌-◌, ◌∙◌, ◌≡◌, ◌≤◌}
 use Rattle.std.proofs.Math.Seq.{take-add}
-use Rattle.std.proofs.lemmas.List.{drop-drop, drop-take, drop_at, length-append, length-drop, length-take-le, take-append-drop, take-take, take_at}
+use Rattle.std.proofs.lemmas.List.{drop-drop, drop-take, drop_at, length-append, length-drop, length-take-le, take-take, take_at}
 use Rattle.raw_region.specs.Bytes.{put, slid}
 use Rattle.raw_region.proofs.Puts.{length-put, put-put}
-
-pub slid_none : (xs : List ℕ) (a b n : ℕ) → n ≡ 0 → xs ≡ slid xs a b n
-slid_none xs a b n e = let same : b + 0 ≡ b = omega arith in rw (e, same) (sym (take-append-drop b xs))
 
 length-run : (xs : List ℕ) (a n : ℕ) → a + n ≤ length xs → length (take n (drop a xs)) ≡ n
 length-run xs a n h = length-take-le n (drop a xs) (omega (arith, length-drop a xs))

@@ -41,20 +41,6 @@ rotated_down xs x a b c h k fits e =
     let over : drop (c - (b - a) + length x) s ≡ drop c xs = sym one ∙ ap (λ (l : List ℕ). drop (b - a) l) (ap (drop (c - (b - a))) grouped ∙ drop_at (front ++ second) d (c - (b - a)) long) ∙ two in
     rw (first, over, e) (append_assoc front second (take (b - a) (drop a xs) ++ drop c xs) ∙ ap (λ (l : List ℕ). front ++ l) (sym (append_assoc second (take (b - a) (drop a xs)) (drop c xs))))
 
--- the first part moves up over the second, which comes before it
-pub rotated_up : (xs x : List ℕ) (a b c : ℕ) → a ≤ b → b ≤ c → c ≤ length xs → x ≡ take (c - b) (drop b xs) → put (slid xs a (a + (c - b)) (b - a)) a x ≡ rotated xs a b c
-rotated_up xs x a b c h k fits e =
-    let s = slid xs a (a + (c - b)) (b - a) in
-    let front = take (a + (c - b)) xs in
-    let first = take (b - a) (drop a xs) in
-    let d = drop (a + (c - b) + (b - a)) xs in
-    let count : length x ≡ c - b = ap length e ∙ length-take-le (c - b) (drop b xs) (omega (arith, length-drop b xs)) in
-    let long : length front ≡ a + (c - b) = length-take-le (a + (c - b)) xs (omega arith) in
-    let below : take a s ≡ take a xs = sym (take-take a (a + (c - b)) s (omega arith)) ∙ ap (λ (l : List ℕ). take a l) (take_at front (first ++ d) (a + (c - b)) long) ∙ take-take a (a + (c - b)) xs (omega arith) in
-    let last : d ≡ drop c xs = ap (λ (n : ℕ). drop n xs) (omega arith) in
-    let over : drop (a + length x) s ≡ first ++ drop c xs = ap (λ (n : ℕ). drop n s) (omega arith) ∙ drop_at front (first ++ d) (a + (c - b)) long ∙ ap (λ (l : List ℕ). first ++ l) last in
-    rw (below, over, e) (ap (λ (l : List ℕ). take a xs ++ l) (sym (append_assoc (take (c - b) (drop b xs)) first (drop c xs))))
-
 -- the same, by what the room held
 pub rotated_by : (xs s z room rest : List ℕ) (a b c : ℕ) → a ≤ b → b ≤ c → c ≤ length xs → s ≡ slid xs b a (c - b) → room ≡ take (b - a) (drop a xs) → z ≡ put s (c - (b - a)) (take (b - a) (room ++ rest)) → z ≡ rotated xs a b c
 rotated_by xs s z room rest a b c h k fits e r q =

@@ -6,7 +6,7 @@ use Rattle.coefficients.proofs.Places.{represents_count, once_count}
 use Rattle.tree_handles.proofs.Counted.{all-kids}
 use Rattle.tree_handles.proofs.Plains.{children_of-plain, count-plains, whole_kids, grown_whole}
 use Rattle.tree_handles.proofs.Roots.{root_arity}
-use Rattle.tree_handles.specs.Expressions.{nth, grown, plain, plains, takes, children_of, AllExpressions}
+use Rattle.tree_handles.specs.Expressions.{grown, plain, plains, takes, children_of, AllExpressions}
 use Rattle.tree_handles.specs.Forest.{Forest, empty, tree, arity, kids, root_payload, root_count}
 use Rattle.tree_handles.specs.Handed.{IsOnce, IsHanded, Represents}
 use Rattle.tree_handles.specs.Roots.{has_root, root_tree}
@@ -64,6 +64,3 @@ parent_tree {x = x} {i = i} {ts = ts} {f = f} h w = parent_one x ts (root_tree i
 
 pub parent_is_handed : {x : Payload} {i : ℕ} {ts : Trees} {f : Forest} → IsParent x i ts f → takes x (count ts) ≡ true → IsHanded i f
 parent_is_handed h w = let t = parent_tree h w in record { root = h.root; once = t.once; whole = t.whole }
-
-pub parent_plain : {x : Payload} {i : ℕ} {ts : Trees} {f : Forest} → IsParent x i ts f → takes x (count ts) ≡ true → plain (root_tree i f) ≡ grown x ts
-parent_plain h w = ap (nth 0) (parent_tree h w).plain_trees

@@ -64,9 +64,6 @@ one_rough_part n k m j n-positive m-positive k-smooth j-smooth n-rough m-rough e
     back : m ∣ n
     back = other_factor m k n (smooth_rough k m m-positive k-smooth m-rough) (subst (λ x. m ∣ x) (sym e) (dvd-mul_right m j))
 
-pub IsRough-divisor : (n m : ℕ) → m ∣ n → IsRough n → IsRough m
-IsRough-divisor n m d h = record { none = λ e two le em. h.none e two le (dvd_trans e em d) }
-
 pub IsRough-mul : (a b : ℕ) → 0 < a → IsRough a → IsRough b → IsRough (a * b)
 IsRough-mul a b positive h k = record { none = λ e two le d. by e two le d (common_or_coprime e a positive) }
   where
