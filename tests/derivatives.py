@@ -5,26 +5,19 @@
 code. 200 random lines are differentiated by `sympy`, too, and both are compared at random rationals. The last line says
 how many checks passed and failed; the status is 1 where one failed.
 """
-import pathlib
 import random
 import sys
 
-from sessions import answers, pool_and_bytes, run
+from sessions import answers, pool_and_bytes, run, sessions
 
-TABLE = pathlib.Path(__file__).resolve().parent / "derivatives.txt"
+TABLE = "derivatives.txt"
 POOL_LINES = [":diff x x^3", ":diff x 1/x", ":diff x √(x)×y", ":diff x (x+1)^2×(x-y)", ":diff y y^2/(1+y)", ":diff z 2+x"]
 CHECKED_LINES = [":diff x x^3", ":diff x √(x)", ":diff x (x+1)^2", ":diff x x×y/(1-x)"]
 
 
-def sessions():
-    for block in TABLE.read_text().strip().split("\n\n"):
-        rows = block.split("\n")
-        yield rows[0::2], [row.strip() for row in rows[1::2]]
-
-
 def check_answers():
     """The answers are those of the model."""
-    return all(answers(lines) == wanted for lines, wanted in sessions())
+    return all(answers(lines) == wanted for lines, wanted in sessions(TABLE))
 
 
 def check_pools():

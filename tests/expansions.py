@@ -5,13 +5,12 @@
 code. Those of a single line are compared with what `sympy` expands, too. The last line says how many checks passed and
 failed; the status is 1 where one failed.
 """
-import pathlib
 import sys
 
-from sessions import answers, pool_and_bytes, run
+from sessions import answers, is_interrupted_at_each_of, pool_and_bytes, run, sessions
 from solutions import names_in, parsed
 
-TABLE = pathlib.Path(__file__).resolve().parent / "expansions.txt"
+TABLE = "expansions.txt"
 COMMAND = ":expand "
 GREATEST_POOL = "--pool=524280"
 
@@ -41,15 +40,9 @@ ALIKE = [
 ]
 
 
-def sessions():
-    for block in TABLE.read_text().strip().split("\n\n"):
-        rows = block.split("\n")
-        yield rows[0::2], [row.strip() for row in rows[1::2]]
-
-
 def check_answers():
     """The answers are those of the model, with as much room as there can be."""
-    for lines, wanted in sessions():
+    for lines, wanted in sessions(TABLE):
         given = answers(lines, GREATEST_POOL)
         if given != wanted:
             print(f"{lines}: {given}")
@@ -62,7 +55,7 @@ def check_meanings():
     import sympy
 
     compared = 0
-    for lines, _ in sessions():
+    for lines, _ in sessions(TABLE):
         given = answers(lines, GREATEST_POOL)[0]
         if len(lines) > 1 or given.startswith("!"):
             continue
@@ -111,19 +104,8 @@ def check_pools():
 
 
 def check_interruptions():
-    """A line is interrupted by each of its checks, one for each node, with the pool as it was, and answered where none is
-    left."""
-    before = pool_and_bytes([])
-    for line, (nodes, _) in LINES.items():
-        wanted = answers([COMMAND + line])[0]
-        for after in range(nodes + 1):
-            given = answers([f":after {after}", COMMAND + line])[-1]
-            if given != (wanted if after == nodes else "! interrupted"):
-                print(f"{line} after {after}: {given}")
-                return False
-            if pool_and_bytes([f":after {after}", COMMAND + line]) != before:
-                return False
-    return True
+    """A line has one check for each node, and is interrupted by each."""
+    return all(is_interrupted_at_each_of(nodes, COMMAND + line) for line, (nodes, _) in LINES.items())
 
 
 CHECKS = [check_answers, check_meanings, check_forms, check_overflows, check_pools, check_interruptions]

@@ -24,8 +24,9 @@ def answers(lines, *words):
     return done.stdout.decode().splitlines()
 
 
-def sessions():
-    for block in (TOP / "tests" / "sessions.txt").read_text().strip().split("\n\n"):
+def sessions(table="sessions.txt"):
+    """The sessions of a table of this folder: their lines, and the answers wanted."""
+    for block in (TOP / "tests" / table).read_text().strip().split("\n\n"):
         rows = block.split("\n")
         yield rows[0::2], [row.strip() for row in rows[1::2]]
 
@@ -33,6 +34,20 @@ def sessions():
 def pool_and_bytes(lines, *words):
     """What `:pool` and `:dump` write behind the lines; what the lines themselves write is left out."""
     return answers([*lines, ":pool", ":dump"], *words)[len(lines):]
+
+
+def is_interrupted_at_each_of(checks, line):
+    """A line is interrupted by each of so many checks, with the pool as it was, and answered where none is left."""
+    wanted = answers([line])[0]
+    before = pool_and_bytes([])
+    for after in range(checks + 1):
+        given = answers([f":after {after}", line])[-1]
+        if given != (wanted if after == checks else "! interrupted"):
+            print(f"{line} after {after}: {given}")
+            return False
+        if pool_and_bytes([f":after {after}", line]) != before:
+            return False
+    return True
 
 
 def check_answers():

@@ -5,13 +5,12 @@
 code. The first 100 end with a system whose answer is compared as a set of solutions with that of `sympy`, too. The last
 line says how many checks passed and failed; the status is 1 where one failed.
 """
-import pathlib
 import re
 import sys
 
-from sessions import answers, pool_and_bytes, run
+from sessions import answers, is_interrupted_at_each_of, pool_and_bytes, run, sessions
 
-TABLE = pathlib.Path(__file__).resolve().parent / "solutions.txt"
+TABLE = "solutions.txt"
 SYSTEMS = 100
 COMMAND = ":solve "
 
@@ -28,15 +27,9 @@ MOST_NEEDED = 2048
 CHECKED_LINES = {":solve x=1": 3, ":solve x+y=3;x-y=1": 10, ":solve 1=2;0=-1/2": 7, ":solve 3(x-1)/2+y=z;z=2×z": 17}
 
 
-def sessions():
-    for block in TABLE.read_text().strip().split("\n\n"):
-        rows = block.split("\n")
-        yield rows[0::2], [row.strip() for row in rows[1::2]]
-
-
 def check_answers():
     """The answers are those of the model."""
-    return all(answers(lines) == wanted for lines, wanted in sessions())
+    return all(answers(lines) == wanted for lines, wanted in sessions(TABLE))
 
 
 # ---- sets of solutions
@@ -120,7 +113,7 @@ def is_solution(equations, given):
 
 def check_sets():
     """The sets of solutions are those of sympy."""
-    for lines, _ in list(sessions())[:SYSTEMS]:
+    for lines, _ in list(sessions(TABLE))[:SYSTEMS]:
         given = answers(lines)
         stored = [(line.partition("→")[2], tree) for line, tree in zip(lines[:-1], given)]
         if not is_solution(filled(lines[-1][len(COMMAND):], stored), given[-1]):
@@ -153,19 +146,8 @@ def check_pools():
 
 
 def check_interruptions():
-    """A line is interrupted by each of its checks, with the pool as it was, and answered where none is left: so many
-    as its sides have nodes, and one for each name."""
-    before = pool_and_bytes([])
-    for line, checks in CHECKED_LINES.items():
-        wanted = answers([line])[0]
-        for after in range(checks + 1):
-            given = answers([f":after {after}", line])[-1]
-            if given != (wanted if after == checks else "! interrupted"):
-                print(f"{line} after {after}: {given}")
-                return False
-            if pool_and_bytes([f":after {after}", line]) != before:
-                return False
-    return True
+    """A line has so many checks as its sides have nodes, and one for each name, and is interrupted by each."""
+    return all(is_interrupted_at_each_of(checks, line) for line, checks in CHECKED_LINES.items())
 
 
 CHECKS = [check_answers, check_sets, check_pools, check_interruptions]
