@@ -7,7 +7,7 @@ use Rattle.calc_terms.specs.Trees.{Tree, mult, Trees, more, size, sizes, is_mult
 use Rattle.calc_algebra.specs.Reduced.{num_one}
 use Rattle.coefficients.specs.Bytes.{bytes_as_product, bytes_of_coefficient, bytes_of_taking, IsShort}
 use Rattle.coefficients.specs.Coefficients.{coefficient_length}
-use Rattle.coefficients.proofs.Places.{IsOver}
+use Rattle.tree_handles.proofs.Over.{IsOver}
 use Rattle.coefficients.proofs.Steps.{IsPairTaken}
 use Rattle.node_pool.specs.declared.full.Full.{Full}
 use Rattle.node_pool.specs.State.{State, free_of}

@@ -17,7 +17,8 @@ use Rattle.tree_handles.proofs.Outcomes.{eqb-sym}
 use Rattle.tree_handles.proofs.Plains.{children_of-plain, whole_kids}
 use Rattle.tree_handles.proofs.Roots.{put-put}
 use Rattle.coefficients.specs.Coefficients.{factors_of}
-use Rattle.coefficients.proofs.Places.{IsOver, over_product, over_put, over_beside, over_same, over_gives, without_put, cut, cut_rest, once_count, represents_count}
+use Rattle.tree_handles.proofs.Over.{IsOver, over_product, over_put, over_beside, over_same, over_gives, without_put, once_count}
+use Rattle.tree_handles.proofs.Cuts.{cut, cut_rest, represents_count}
 
 -- ---- a root becomes the first factor
 

@@ -5,8 +5,7 @@ use Rattle.calc_terms.proofs.Sizes.{payload_most}
 use Rattle.coefficients.specs.Coefficients.{factors_of}
 use Rattle.coefficients.specs.Pairs.{LeavesRest}
 use Rattle.node_pool.specs.declared.full.Full.{Full}
-use Rattle.number_forms.proofs.FreeBytes.{replaced_free, refused_below}
-use Rattle.number_forms.proofs.RationalCalls.{bytes_without}
+use Rattle.tree_handles.proofs.FreeBytes.{replaced_free, refused_below, bytes_without}
 use Rattle.tree_handles.specs.Handed.{tree_of, IsHanded, Gives}
 use Rattle.tree_handles.proofs.Roots.{root_arity}
 use Rattle.calc_terms.specs.declared.kind.Kind.TheVariants as kind
@@ -15,7 +14,7 @@ use Rattle.calc_terms.specs.Trees.{Tree, mult, Trees, more, append, size, sizes}
 use Rattle.coefficients.specs.Multiples.{mapped}
 use Rattle.coefficients.proofs.Bytes.{bytes_put}
 use Rattle.coefficients.proofs.Loops.{IsNext}
-use Rattle.coefficients.proofs.Places.{IsOver, IsTaken}
+use Rattle.tree_handles.proofs.Over.{IsOver, IsTaken}
 use Rattle.node_pool.specs.State.{State, free_of}
 use Rattle.tree_handles.specs.Forest.{empty, bytes_in, kids}
 use Rattle.tree_handles.specs.Roots.{root_tree, without_root, put}

@@ -7,7 +7,7 @@ use Rattle.calc_terms.specs.Trees.{Tree, add, Trees, more, append, is_add, size,
 use Rattle.coefficients.proofs.NumberMultiples.{IsFactor, not_one_is}
 use Rattle.coefficients.proofs.Rooms.{sizes_append}
 use Rattle.node_pool.specs.declared.full.Full.{Full}
-use Rattle.number_forms.specs.Lacks.{OfFull}
+use Rattle.tree_handles.specs.Lacking.{OfFull}
 use Rattle.tree_handles.specs.Expressions.{children_of}
 use Rattle.tree_handles.specs.declared.fault.NumberFault.{NumberFault}
 use Rattle.tree_handles.specs.declared.fault.NumberFault.TheVariants as fault

@@ -18,8 +18,9 @@ use Rattle.coefficients.specs.Coefficients.{factors_of}
 use Rattle.coefficients.specs.Pairs.{LeavesRest}
 use Rattle.coefficients.specs.Multiples.{rational_times, rational_times_factors, rational_times_number, rational_times_term, leads_sum}
 use Rattle.coefficients.proofs.Lengths.{long}
-use Rattle.coefficients.proofs.Places.{IsOver, over_product, over_put, over_same}
-use Rattle.coefficients.proofs.Steps.{IsAdded, expression, seen, leaves_one}
+use Rattle.tree_handles.proofs.Over.{IsOver, over_product, over_put, over_same, IsAdded}
+use Rattle.coefficients.proofs.Steps.{leaves_one}
+use Rattle.tree_handles.proofs.Seen.{expression, seen}
 
 clash : false ≡ true → ⊥
 clash e = cc

@@ -10,8 +10,8 @@ use Rattle.tree_handles.specs.Roots.{root_tree, without_root, put}
 use Rattle.tree_handles.proofs.Fronts.{behind_first, front_same, front_at, front_put}
 use Rattle.tree_handles.proofs.Given.{gives_as, given_rest, append-none}
 use Rattle.tree_handles.proofs.Roots.{put-put, put-same}
-use Rattle.coefficients.proofs.Places.{IsOver, IsTaken, taken, over_put, inserted_behind}
-use Rattle.coefficients.proofs.Steps.{IsAdded, added_as}
+use Rattle.tree_handles.proofs.Over.{IsOver, IsTaken, taken, over_put, IsAdded, added_as}
+use Rattle.tree_handles.proofs.Cuts.{inserted_behind}
 
 -- ---- lists
 

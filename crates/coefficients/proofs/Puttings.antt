@@ -13,7 +13,7 @@ use Rattle.tree_handles.specs.Expressions.{children_of}
 use Rattle.tree_handles.specs.Faults.{Faults}
 use Rattle.tree_handles.specs.Standing.{KeepsRefusals}
 use Rattle.tree_handles.proofs.Forests.{keeps_after}
-use Rattle.number_forms.proofs.Loops.{faults_after}
+use Rattle.tree_handles.proofs.Refused.{faults_after}
 use Rattle.coefficients.specs.Coefficients.{spliced, rational_before, with_coefficient}
 use Rattle.coefficients.specs.Multiples.{rational_times_sum}
 

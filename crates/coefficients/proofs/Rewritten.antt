@@ -16,8 +16,7 @@ use Rattle.tree_handles.proofs.Lasts.{apart, other_apart}
 use Rattle.tree_handles.proofs.Outcomes.{eqb-sym}
 use Rattle.tree_handles.proofs.Roots.{put-put}
 use Rattle.coefficients.proofs.Forms.{reduced_parts, parts_reduced}
-use Rattle.coefficients.proofs.Places.{IsOver, IsTaken, over_end, over_put}
-use Rattle.coefficients.proofs.Steps.{IsAdded, added_as}
+use Rattle.tree_handles.proofs.Over.{IsOver, IsTaken, over_end, over_put, IsAdded, added_as}
 
 -- what is given stands behind the root without the child
 pub given_back : {k : Kind} {i n h j : ℕ} {t v : Tree} {others : Trees} {f new g : Forest} (a : IsTaken k i n t others f new h) → Gives (without_root h new) g j (λ u. u ≡ v) → Gives (put i a.now f) g j (λ u. u ≡ v)

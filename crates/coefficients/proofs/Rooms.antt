@@ -19,7 +19,7 @@ use Rattle.coefficients.proofs.NumberMultiples.{IsFactor, scaled}
 use Rattle.coefficients.proofs.SumMultiples.{EachTerm, each_term, number_term}
 use Rattle.coefficients.proofs.TermMultiples.{factors_behind, multiple}
 use Rattle.coefficients.specs.Rooms.{put_room, LacksRoom}
-use Rattle.number_forms.specs.Lacks.{OfFull}
+use Rattle.tree_handles.specs.Lacking.{OfFull}
 use Rattle.number_forms.proofs.Rooms.{number_size}
 use Rattle.tree_handles.specs.declared.fault.NumberFault.{NumberFault}
 use Rattle.tree_handles.specs.declared.fault.NumberFault.TheVariants as fault

@@ -1,21 +1,20 @@
 -- Steps of calls on a root that is a product or a sum: a child is taken out, put in, and the root goes last.
-use Rattle.std.proofs.Common.{◌≡◌, ℕ, ◌≤◌, [], ◌∷◌, refl, sym, ap, ◌∙◌, subst, arith, true, false, Result, Ok, Err}
-use Rattle.std.specs.Prelude.{IfOk, pos}
+use Rattle.std.proofs.Common.{◌≡◌, ℕ, ◌≤◌, ◌∷◌, refl, sym, ap, ◌∙◌, subst, arith, true, []}
+use Rattle.std.specs.Prelude.{pos}
 use Rattle.calc_algebra.specs.Reduced.{product_tree, is_reduced, num_one}
-use Rattle.calc_terms.specs.declared.kind.Kind.{Kind}
 use Rattle.calc_terms.specs.declared.kind.Kind.TheVariants as kind
-use Rattle.calc_terms.specs.Trees.{Tree, num, symbol, undef, add, mult, power, root, neg, sub, div, Trees, none, more, count, root_kind, is_mult, is_add, size}
+use Rattle.calc_terms.specs.Trees.{Tree, num, mult, root, Trees, none, more, count, is_mult, size}
 use Rattle.node_pool.specs.State.{State}
 use Rattle.tree_handles.specs.Handed.{tree_of, IsHanded, Represents, Ends, Gives, KeepsFront}
-use Rattle.tree_handles.specs.Expressions.{plain, compound, inserted, takes_kind, IsExpression, children_of}
-use Rattle.tree_handles.specs.Forest.{Forest, empty, one_tree, with_root_kids, arity, kids, with_nth, tree_nth, without_nth}
-use Rattle.tree_handles.specs.Inside.{holds, tree_at, kids_of}
+use Rattle.tree_handles.specs.Expressions.{plain, children_of}
+use Rattle.tree_handles.specs.Forest.{Forest, empty, one_tree, with_root_kids, kids, with_nth, tree_nth, without_nth}
+use Rattle.tree_handles.specs.Inside.{tree_at}
 use Rattle.tree_handles.specs.Roots.{has_root, root_tree, without_root, put}
 use Rattle.tree_handles.specs.Standing.{Stands, forest}
-use Rattle.tree_handles.proofs.Fronts.{behind_first, front_same, front_at, front_end, front_put, front_without}
+use Rattle.tree_handles.proofs.Fronts.{behind_first, front_same, front_end, front_put}
 use Rattle.tree_handles.proofs.Given.{gives, gives_as, given_handed, given_told, given_rest, given_root, represents_handed, represents_node, represents_none, represents_with}
-use Rattle.tree_handles.proofs.Lasts.{other_tree, ends_as, ends_at, ends_put, ends_without, kids_of_root, expression_root, plain_root}
-use Rattle.tree_handles.proofs.Roots.{root_held, put-put}
+use Rattle.tree_handles.proofs.Lasts.{ends_as, ends_at, ends_without}
+use Rattle.tree_handles.proofs.Roots.{put-put}
 use Rattle.calc_terms.specs.declared.rat.Rat.{Rat}
 use Rattle.calc_terms.specs.Fractions.{Fraction, lowest, one_fraction}
 use Rattle.calc_terms.specs.Rat.{ratio_of, value_of}
@@ -24,104 +23,13 @@ use Rattle.calc_terms.specs.Payload.{bare}
 use Rattle.coefficients.specs.Coefficients.{factors_of, coefficient_length}
 use Rattle.coefficients.specs.Pairs.{GivesTwo, LeavesRest}
 use Rattle.coefficients.proofs.Lengths.{measured, IsPairLed}
-use Rattle.coefficients.proofs.Places.{over_product, IsOver, taken, over_put, over_end, over_same, over_handed, over_gives, without_put, represents_count}
-
--- ---- reading a root
-
-pub live : {i j : ℕ} (s : State) → j ≡ i → has_root i (forest s) ≡ true → holds j (forest s) ≡ true
-live {i = i} {j = j} s e h = subst (λ (x : ℕ). holds x (forest s) ≡ true) (sym e) (root_held i (forest s) h)
-
-pub expression : {s : State} {i j : ℕ} → j ≡ i → Stands s → IsHanded i (forest s) → IsExpression j (forest s)
-expression {s = s} {i = i} {j = j} e st h = subst (λ (x : ℕ). IsExpression x (forest s)) (sym e) (expression_root st h)
-
--- what is read there is the root's tree
-pub seen : {s : State} {i j : ℕ} → j ≡ i → Stands s → IsHanded i (forest s) → plain (tree_at j (forest s)) ≡ tree_of i s
-seen {s = s} {i = i} {j = j} e st h = ap (λ (x : ℕ). plain (tree_at x (forest s))) e ∙ plain_root i st h.root
-
-pub children_in : {s : State} {k : Kind} {i : ℕ} {ts : Trees} → Stands s → IsOver k i ts (forest s) → arity (kids_of i (forest s)) ≡ count ts
-children_in {i = i} st h = ap arity (kids_of_root i st h.root) ∙ represents_count h.kids
-
--- ---- a child is put in
-
-pub record IsAdded (k : Kind) (i : ℕ) (ts : Trees) (old new : Forest) : Type 0 where
-  pub now : Forest
-  pub kids : Represents now ts
-  pub whole : new ≡ put i now old
-  pub over : IsOver k i ts new
-
-pub added : {k : Kind} {i j : ℕ} {ts : Trees} {old f new : Forest} {Told : Tree → Type 0} (n : ℕ) → IsOver k i ts old → Gives old f j Told
-    → new ≡ put i (with_nth n (root_tree j f) (kids (root_tree i f))) (without_root j f) → IsAdded k i (inserted n (more (plain (root_tree j f)) none) ts) old new
-added {k = k} {i = i} {j = j} {ts = ts} {old = old} {f = f} {new = new} n o g e =
-    let now = with_nth n (root_tree j f) (kids (root_tree i old)) in
-    let rep = represents_with n (represents_handed (given_handed g)) o.kids in
-    let whole : new ≡ put i now old =
-    e ∙ (λ x. put i (with_nth n (root_tree j f) (kids (other_tree i g.ends o.root x))) (given_rest g x)) in
-    record { now = now; kids = rep; whole = whole; over = over_same (over_put now o rep) whole }
-
--- the same where the tree is known
-pub added_as : {k : Kind} {i j : ℕ} {ts us : Trees} {t : Tree} {old f new : Forest} (n : ℕ) → IsOver k i ts old → Gives old f j (λ u. u ≡ t)
-    → new ≡ put i (with_nth n (root_tree j f) (kids (root_tree i f))) (without_root j f) → inserted n (more t none) ts ≡ us → IsAdded k i us old new
-added_as {k = k} {i = i} {ts = ts} {old = old} {new = new} n o g e w =
-    subst (λ (us : Trees). IsAdded k i us old new) (ap (λ (t : Tree). inserted n (more t none) ts) (given_told g) ∙ w) (added n o g e)
-
--- ---- the root goes last
-
-pub moved : {k : Kind} {i : ℕ} {us : Trees} {old f new : Forest} {Told : Tree → Type 0} → IsAdded k i us old f → takes_kind k (count us) ≡ true
-    → Ends i (root_tree i f) (without_root i f) new → Told (compound k us) → Gives (without_root i old) new i Told
-moved {i = i} {old = old} a w e told = gives_as (over_gives a.over w e told) (ap (without_root i) a.whole ∙ without_put i a.now old) (λ t x. x)
-
-pub moved_front : {k : Kind} {i : ℕ} {us : Trees} {t old f new : Forest} → IsAdded k i us old f → Ends i t (without_root i f) new → KeepsFront (i ∷ []) old new
-moved_front a e = front_end e (front_without behind_first (front_at (front_put a.now behind_first front_same) a.whole))
-
--- ---- kinds
-
-pub kind_of_root : {s : State} {i j : ℕ} {k : Kind} → j ≡ i → Stands s → IsHanded i (forest s) → (IsExpression j (forest s) → k ≡ root_kind (plain (tree_at j (forest s)))) → k ≡ root_kind (tree_of i s)
-kind_of_root e st h told = told (expression e st h) ∙ ap root_kind (seen e st h)
-
-pub product_kind : (t : Tree) → kind.Mult ≡ root_kind t → is_mult t ≡ true
-product_kind (mult ts) e = refl
-product_kind (num q) e = cc
-product_kind (symbol x) e = cc
-product_kind undef e = cc
-product_kind (add ts) e = cc
-product_kind (power b x) e = cc
-product_kind (root a) e = cc
-product_kind (neg a) e = cc
-product_kind (sub a b) e = cc
-product_kind (div a b) e = cc
-
-pub no_product_kind : (t : Tree) → (kind.Mult ≡ root_kind t → ⊥) → is_mult t ≡ false
-no_product_kind (mult ts) h = absurd (h refl)
-no_product_kind t h = refl
-
-pub sum_kind : (t : Tree) → kind.Add ≡ root_kind t → is_add t ≡ true
-sum_kind (add ts) e = refl
-sum_kind (num q) e = cc
-sum_kind (symbol x) e = cc
-sum_kind undef e = cc
-sum_kind (mult ts) e = cc
-sum_kind (power b x) e = cc
-sum_kind (root a) e = cc
-sum_kind (neg a) e = cc
-sum_kind (sub a b) e = cc
-sum_kind (div a b) e = cc
-
-pub no_sum_kind : (t : Tree) → (kind.Add ≡ root_kind t → ⊥) → is_add t ≡ false
-no_sum_kind (add ts) h = absurd (h refl)
-no_sum_kind t h = refl
+use Rattle.tree_handles.proofs.Over.{over_product, IsOver, taken, over_put, over_end, over_handed, over_gives, without_put}
+use Rattle.tree_handles.proofs.Beside.{gives_put, gives_without}
+use Rattle.tree_handles.proofs.Seen.{seen}
 
 pub product_factors : (t : Tree) → is_mult t ≡ true → t ≡ mult (factors_of t)
 product_factors (mult ts) h = refl
 product_factors t h = cc
-
--- ---- a product of one factor
-
--- how many children a reader tells of a root
-pub children_at : {s : State} {k : Kind} {i j : ℕ} {ts : Trees} → IsOver k i ts (forest s) → Stands s → j ≡ i → arity (kids_of j (forest s)) ≡ count ts
-children_at {s = s} o st e = ap (λ (x : ℕ). arity (kids_of x (forest s))) e ∙ children_in st o
-
-pub count_is : {s : State} {k : Kind} {i j n m : ℕ} {ts : Trees} → IsOver k i ts (forest s) → Stands s → j ≡ i → n ≡ arity (kids_of j (forest s)) → n ≡ m → count ts ≡ m
-count_is o st e h k = sym (children_at o st e) ∙ sym h ∙ k
 
 pub one_tree_of : (ts : Trees) → count ts ≡ 1 → ts ≡ more (product_tree ts) none
 one_tree_of none e = absurd (omega arith)
@@ -157,12 +65,6 @@ only_taken {i = i} {h = h} {ts = ts} {f = f} {new = new} o e d =
 
 -- ---- beside a root that goes
 
-pub gives_without : {others f : Forest} {i : ℕ} {Told : Tree → Type 0} (j : ℕ) → Gives others f i Told → has_root j others ≡ true → Gives (without_root j others) (without_root j f) i Told
-gives_without j g h = record { tree = g.tree; ends = ends_without j g.ends h; once = g.once; whole = g.whole; told = g.told }
-
-pub gives_put : {others f : Forest} {i : ℕ} {Told : Tree → Type 0} (j : ℕ) (n : Forest) → Gives others f i Told → has_root j others ≡ true → Gives (put j n others) (put j n f) i Told
-gives_put j n g h = record { tree = g.tree; ends = ends_put j n g.ends h; once = g.once; whole = g.whole; told = g.told }
-
 -- a child was taken, and then the root goes last
 pub leaves_two : {i h : ℕ} {us ts : Trees} {t : Tree} {old f new : Forest} → IsOver kind.Mult i us old → LeavesRest i old f h t ts → Ends i (root_tree i f) (without_root i f) new
     → GivesTwo (without_root i old) new h i (λ u. u ≡ t) (λ u. u ≡ mult ts)
@@ -170,7 +72,7 @@ leaves_two {i = i} {old = old} {f = f} o l e =
     let now = over_put l.kids o l.rest-are in
     record {
       between = without_root i f;
-      first-given = gives_as (gives_without i l.given now.root) (without_put i l.kids old) (λ t x. x);
+      first-given = gives_as (gives_without i l.given now.root refl) (without_put i l.kids old) (λ t x. x);
       second-given = over_gives (over_end now l.given.ends) refl e refl;
     }
 
@@ -198,10 +100,6 @@ pair_taken {i = i} {t = t} {u = u} {ts = ts} {old = old} {f = f} o d e =
 
 pub pair_front : {i h k : ℕ} {t u : Tree} {ts : Trees} {old new : Forest} → IsPairTaken i t u ts old new h k → KeepsFront (i ∷ []) old new
 pair_front p = front_end p.second.ends (front_end p.first.ends (front_put p.now behind_first front_same))
-
-pub if_map : {E : Type 0} (r : Result ℕ E) (P Q : ℕ → Type 0) → IfOk r P → ((h : ℕ) → P h → Q h) → IfOk r Q
-if_map (Ok h) P Q p f = f h p
-if_map (Err e) P Q p f = tt
 
 pub one_value : (r : Rat) → ratio_of r ≡ whole (pos 1) → value_of r ≡ one_fraction
 unfolding one_fraction

@@ -1,6 +1,6 @@
 -- For how few bytes a coefficient is not put back.
 use Rattle.std.specs.Prelude.{ℕ, ◌+◌, ◌*◌, ◌^◌, ◌<◌, List, length}
-use Rattle.number_forms.specs.Lacks.{OfFull}
+use Rattle.tree_handles.specs.Lacking.{OfFull}
 use Rattle.tree_handles.specs.declared.fault.NumberFault.{NumberFault}
 use Rattle.tree_room.specs.Needs.{tree_bytes}
 

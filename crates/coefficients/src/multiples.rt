@@ -12,7 +12,7 @@ ghost use Rattle.coefficients.specs.Multiples.{leads_sum, rational_times as time
 ghost use Rattle.coefficients.specs.Overflows.{Leads, LeadsIn, LeadsTerm, IsMultiple};
 ghost use Rattle.coefficients.specs.Rooms.{LacksRoom};
 ghost use Rattle.node_pool.specs.State.{free_of};
-ghost use Rattle.number_forms.specs.Lacks.{OfFull};
+ghost use Rattle.tree_handles.specs.Lacking.{OfFull};
 ghost use Rattle.tree_room.specs.Needs.{tree_bytes};
 ghost use Rattle.tree_handles.specs.Causes.{IsCaused};
 ghost use Rattle.tree_handles.specs.Standing.{LacksBytes, Stands, forest, KeepsRefusals, Refuses};

@@ -12,7 +12,7 @@ use Rattle.deep_reduce.proofs.TreeRooms.{ready}
 use Rattle.deep_reduce.proofs.Lacking.{lacks_as}
 use Rattle.reduce_walk.proofs.Walks.{nodes_by_children}
 use Rattle.node_pool.specs.State.{State, free_of}
-use Rattle.number_forms.specs.Lacks.{LacksBelow}
+use Rattle.tree_handles.specs.Lacking.{LacksBelow}
 use Rattle.power_reduce.specs.PowerAnswers.{base_in, exponent_in}
 use Rattle.power_reduce.proofs.RaisedBytes.{handed_bytes}
 use Rattle.tree_handles.specs.Expressions.{children_of}

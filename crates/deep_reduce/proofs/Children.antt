@@ -3,9 +3,10 @@ use Rattle.std.proofs.Common.{◌≡◌, ℕ, zero, suc, ◌≤◌, ◌<◌, ref
 use Rattle.calc_terms.specs.declared.kind.Kind.TheVariants as kind
 use Rattle.calc_terms.specs.Payload.{Payload, bare}
 use Rattle.calc_terms.specs.Trees.{Tree, add, power, Trees, none, more, append, count}
-use Rattle.coefficients.proofs.Places.{IsOver, IsTaken, taken, once_count, inserted_behind}
+use Rattle.tree_handles.proofs.Over.{IsOver, IsTaken, taken, once_count}
+use Rattle.tree_handles.proofs.Cuts.{inserted_behind}
 use Rattle.deep_reduce.specs.Unfinished.{replaced}
-use Rattle.number_forms.proofs.Loops.{gives_itself}
+use Rattle.tree_handles.proofs.Beside.{gives_itself}
 use Rattle.power_reduce.specs.PowerAnswers.{base_in, exponent_in}
 use Rattle.tree_handles.specs.Expressions.{nth, grown, plains, plain, inserted, children_of}
 use Rattle.tree_handles.specs.Forest.{Forest, empty, tree, kids, root_payload, tree_nth, without_nth}

@@ -14,7 +14,7 @@ use Rattle.deep_reduce.specs.Rooms.{SpansRootOf}
 use Rattle.deep_reduce.proofs.HalfPowers.{IsHalfStep}
 use Rattle.deep_reduce.proofs.Lacking.{lacks_as}
 use Rattle.deep_reduce.proofs.PowerRooms.{root_room}
-use Rattle.number_forms.specs.Lacks.{LacksBelow}
+use Rattle.tree_handles.specs.Lacking.{LacksBelow}
 use Rattle.number_forms.specs.Readers.{numerator}
 use Rattle.number_forms.proofs.Rooms.{full_as}
 use Rattle.power_reduce.specs.PowerAnswers.{base_in, exponent_in}

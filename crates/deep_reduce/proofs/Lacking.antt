@@ -2,14 +2,14 @@
 use Rattle.std.proofs.Common.{◌≡◌, ℕ, ℤ, suc, ◌+◌, ◌^◌, ◌≤◌, ◌<◌, List, length, Bool, true, false, not, ◌&&◌, if◌then◌else◌, Result, Ok, Err, refl, sym, ap, ◌∙◌, subst, arith}
 use Rattle.std.specs.Prelude.{IfErr, IsOk}
 use Rattle.calc_algebra.specs.Numbers.{is_number}
-use Rattle.calc_algebra.specs.Reduced.{is_reduced, is_whole_num, is_half_num}
+use Rattle.calc_algebra.specs.Reduced.{is_reduced, is_whole_num, is_half_num, base_of}
 use Rattle.calc_room.specs.Counts.{counted}
 use Rattle.calc_room.specs.Spans.{SpansRoot, SpansTree, SpansTrees}
 use Rattle.calc_terms.specs.Fractions.{whole_fraction}
 use Rattle.calc_terms.specs.Trees.{Tree, num, add, mult, power, root, Trees, none, more, append, is_mult, size, sizes}
 use Rattle.calc_terms.specs.declared.kind.Kind.TheVariants as kind
 use Rattle.coefficients.proofs.Bytes.{bytes_put}
-use Rattle.coefficients.proofs.Places.{IsOver}
+use Rattle.tree_handles.proofs.Over.{IsOver}
 use Rattle.deep_reduce.specs.Answers.{IsReducedProduct}
 use Rattle.deep_reduce.specs.Rooms.{IsCalmAtZero, IsJoinedFrom, IsRewritten, whole_power_room}
 use Rattle.deep_reduce.specs.Unfinished.{HandsOn, IsSummed, AreReducedPowers, IsLifted, IsMultiplied, IsProductOfPowers}
@@ -21,7 +21,7 @@ use Rattle.deep_reduce.proofs.JointBytes.{IsJoining, joining, exponents_lack as 
 use Rattle.deep_reduce.proofs.PowerBytes.{argument_needs, inner_needs, exponents_lack, part_lacks, product_lacks, IsSplitAt, split_at, all_first, sizes_append}
 use Rattle.deep_reduce.proofs.Rewritten.{IsByWay, of_root, of_power, of_product, by_way, parts_calm, parts_single, powers_raised, exponents_calm, exponents_span, raised_calm}
 use Rattle.node_pool.specs.State.{State, free_of}
-use Rattle.number_forms.specs.Lacks.{LacksBelow}
+use Rattle.tree_handles.specs.Lacking.{LacksBelow}
 use Rattle.number_forms.proofs.Rooms.{full_as, refusal_as}
 use Rattle.power_reduce.specs.PowerAnswers.{base_in, exponent_in}
 use Rattle.power_reduce.specs.PowerSteps.{parts_of, raised}
@@ -29,7 +29,6 @@ use Rattle.power_reduce.specs.Rooms.{LacksStep}
 use Rattle.power_reduce.proofs.Spanned.{parts_span}
 use Rattle.power_reduce.proofs.Whole.{whole_is}
 use Rattle.product_reduce.specs.Joining.{exponent_of, joint}
-use Rattle.calc_algebra.specs.Reduced.{base_of}
 use Rattle.tree_handles.specs.Expressions.{nth, children_of}
 use Rattle.tree_handles.specs.Forest.{Forest, empty, bytes_in, kids}
 use Rattle.tree_handles.specs.Roots.{root_tree, put}

@@ -3,7 +3,7 @@ use Rattle.std.proofs.Common.{◌≡◌, ℕ, ◌<◌, ◌+◌, ◌*◌, true, f
 use Rattle.calc_terms.specs.declared.kind.Kind.{Kind}
 use Rattle.calc_measures.specs.Loads.{nest_of, weight, load_of_factors}
 use Rattle.calc_terms.specs.Trees.{Tree, mult, power, root_kind, is_mult}
-use Rattle.coefficients.proofs.Steps.{expression, seen}
+use Rattle.tree_handles.proofs.Seen.{expression, seen}
 use Rattle.deep_reduce.specs.Unfinished.{nest_of_rewritten, weight_below, IsNested, IsUnfinished, IsMultiplied, IsLifted}
 use Rattle.deep_reduce.proofs.Measures.{of_product, of_exponent, exponents_fall}
 use Rattle.deep_reduce.proofs.Ranks.{rank}

@@ -28,7 +28,7 @@ use Rattle.power_reduce.specs.PowerAnswers.{base_in, exponent_in}
 use Rattle.power_reduce.proofs.Whole.{whole_is}
 use Rattle.radical_forms.specs.Refusals.{IsFull}
 use Rattle.radical_forms.specs.RootAnswers.{argument_of}
-use Rattle.number_forms.specs.Lacks.{LacksBelow}
+use Rattle.tree_handles.specs.Lacking.{LacksBelow}
 use Rattle.power_reduce.proofs.RaisedBytes.{handed_bytes}
 use Rattle.tree_handles.specs.Expressions.{nth, plain, children_of}
 use Rattle.tree_handles.specs.Forest.{Forest, bytes_in}

@@ -1,9 +1,10 @@
 -- A root with its children, whatever it holds: a child is taken out.
 use Rattle.std.proofs.Common.{◌≡◌, ℕ, [], ◌∷◌, eqb, cond, Bool, refl, sym, ap, ◌∙◌, subst, arith}
+use Rattle.tree_handles.proofs.Beside.{gives_without}
 use Rattle.calc_terms.specs.Payload.{Payload}
 use Rattle.calc_terms.specs.Trees.{Tree, Trees, none, more, append, count}
-use Rattle.coefficients.proofs.Places.{cut_at, represents_count, without_put}
-use Rattle.coefficients.proofs.Steps.{gives_without}
+use Rattle.tree_handles.proofs.Cuts.{cut_at, represents_count}
+use Rattle.tree_handles.proofs.Over.{without_put}
 use Rattle.deep_reduce.specs.Pairs.{GivesSides}
 use Rattle.node_pool.specs.State.{State}
 use Rattle.reduce_walk.proofs.Parents.{IsParent, held_at, parent_handed}
@@ -108,8 +109,8 @@ both_out {i = i} {u = u} {old = old} {mid = mid} a d ts p q =
       owned = parent_owned (parent_end b.parent b.gives.ends);
       sides = record {
         between = without_root i mid;
-        left-given = gives_as (gives_without i a.gives a.parent.root) (without_put i a.now old) (λ v e. e ∙ p);
-        right-given = gives_as (gives_without i b.gives b.parent.root) (without_put i b.now mid) (λ v e. e ∙ q);
+        left-given = gives_as (gives_without i a.gives a.parent.root refl) (without_put i a.now old) (λ v e. e ∙ p);
+        right-given = gives_as (gives_without i b.gives b.parent.root refl) (without_put i b.now mid) (λ v e. e ∙ q);
       };
       front = front_end b.gives.ends (front_put b.now behind_first (front_end a.gives.ends (front_put a.now behind_first front_same)));
     }
@@ -123,7 +124,7 @@ pub alone_out : {i h : ℕ} {old new : Forest} (t : Tree) → IsHanded i old →
     → IsTakenAlone i t old new h
 alone_out {i = i} {h = h} {old = old} {new = new} t hand e d =
     let a = taken_out 0 none t none (subst (λ (us : Trees). IsParent (held_at i old) i us old) e (parent_handed hand)) refl d in
-    let given : Gives (without_root i old) (without_root i new) h (λ u. u ≡ t) = gives_as (gives_without i a.gives a.parent.root) (without_put i a.now old) (λ v k. k) in
+    let given : Gives (without_root i old) (without_root i new) h (λ u. u ≡ t) = gives_as (gives_without i a.gives a.parent.root refl) (without_put i a.now old) (λ v k. k) in
     record {
       owned = parent_owned (parent_end a.parent a.gives.ends);
       given = λ {end} q. record { tree = given.tree; ends = ends_at given.ends q; once = given.once; whole = given.whole; told = given.told };

@@ -22,7 +22,7 @@ use Rattle.deep_reduce.proofs.NodeRewrites.{AreReducedFrom, IsOver, over_number,
 use Rattle.deep_reduce.proofs.Overflowing.{first_overflow, last_overflow}
 use Rattle.deep_reduce.proofs.PlainNodes.{child_overflow, overflowed_plain}
 use Rattle.deep_reduce.proofs.Steps.{number_answer, symbol_answer, undef_answer}
-use Rattle.number_forms.specs.Lacks.{LacksBelow, OfFull}
+use Rattle.tree_handles.specs.Lacking.{LacksBelow, OfFull}
 use Rattle.power_reduce.specs.PowerAnswers.{base_in, exponent_in}
 use Rattle.rational128.specs.declared.overflow.Overflow.{Overflow}
 use Rattle.reduce_walk.proofs.Bytes.{root_over}

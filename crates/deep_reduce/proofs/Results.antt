@@ -7,7 +7,7 @@ use Rattle.calc_room.specs.Powers.{HasPowersOf}
 use Rattle.calc_room.specs.Spans.{SpansTree}
 use Rattle.calc_terms.specs.Trees.{Tree, Trees, add}
 use Rattle.deep_reduce.specs.Rooms.{KeepsSumRoom}
-use Rattle.number_forms.proofs.Loops.{gives_itself}
+use Rattle.tree_handles.proofs.Beside.{gives_itself}
 use Rattle.node_pool.specs.State.{State}
 use Rattle.number_forms.specs.Answers.{AnswersRationals}
 use Rattle.tree_handles.specs.Faults.{IfOverflow, OfOverflow}

@@ -3,8 +3,8 @@ use Rattle.std.proofs.Common.{◌≡◌, ℕ, suc, ◌+◌, ◌≤◌, ◌<◌, 
 use Rattle.calc_terms.specs.declared.kind.Kind.TheVariants as kind
 use Rattle.calc_measures.specs.Loads.{nest, nest_of, weight}
 use Rattle.calc_terms.specs.Trees.{Tree, Trees, none, more, append, count}
-use Rattle.coefficients.proofs.Places.{IsOver, IsTaken, taken, over_put, inserted_behind}
-use Rattle.coefficients.proofs.Steps.{IsAdded, added_as}
+use Rattle.tree_handles.proofs.Over.{IsOver, IsTaken, taken, over_put, IsAdded, added_as}
+use Rattle.tree_handles.proofs.Cuts.{inserted_behind}
 use Rattle.deep_reduce.specs.Answers.{IsReducedPower}
 use Rattle.deep_reduce.specs.Unfinished.{weight_of_bases, IsTransparent, AreTransparent, AreReducedPowers}
 use Rattle.power_reduce.specs.PowerAnswers.{base_in, exponent_in}

@@ -15,7 +15,7 @@ ghost use Rattle.deep_reduce.specs.NodeRooms.{HasNodesFor};
 ghost use Rattle.deep_reduce.specs.Pairs.{GivesSides};
 ghost use Rattle.deep_reduce.specs.Rooms.{IsCalmAtZero};
 ghost use Rattle.node_pool.specs.State.{free_of};
-ghost use Rattle.number_forms.specs.Lacks.{LacksBelow};
+ghost use Rattle.tree_handles.specs.Lacking.{LacksBelow};
 ghost use Rattle.tree_room.specs.Handed.{sum_count, product_count};
 ghost use Rattle.tree_room.specs.Needs.{simple_room, sum_room, product_room, product_power_room};
 ghost use Rattle.tree_handles.specs.Causes.{IsCaused};

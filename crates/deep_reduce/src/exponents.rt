@@ -4,7 +4,7 @@ ghost use Rattle.calc_terms.specs.Trees.{add, count, size, power as power_tree};
 ghost use Rattle.calc_room.specs.Spans.{SpansTree};
 ghost use Rattle.deep_reduce.specs.Unfinished.{IsSummed};
 ghost use Rattle.node_pool.specs.State.{free_of};
-ghost use Rattle.number_forms.specs.Lacks.{LacksBelow};
+ghost use Rattle.tree_handles.specs.Lacking.{LacksBelow};
 ghost use Rattle.tree_room.specs.Handed.{sum_count};
 ghost use Rattle.tree_room.specs.Needs.{sum_room};
 ghost use Rattle.power_reduce.specs.PowerAnswers.{base_in, exponent_in};

@@ -11,7 +11,7 @@ ghost use Rattle.deep_reduce.specs.Rooms.{SpansRootOf};
 ghost use Rattle.number_forms.specs.Readers.{numerator};
 ghost use Rattle.power_reduce.specs.Bits.{IsHeldAsPowerOf, HasFewBitsRaised};
 ghost use Rattle.product_reduce.specs.Bits.{IsFactorHeld};
-ghost use Rattle.number_forms.specs.Lacks.{LacksBelow};
+ghost use Rattle.tree_handles.specs.Lacking.{LacksBelow};
 ghost use Rattle.tree_room.specs.Needs.{power_room};
 ghost use Rattle.deep_reduce.specs.Answers.{IsReducedPower};
 ghost use Rattle.deep_reduce.specs.Halves.{IsRooted};

@@ -9,7 +9,7 @@ ghost use Rattle.deep_reduce.specs.NodeRooms.{HasNodesFor, SpansNode, factors_ro
 ghost use Rattle.deep_reduce.specs.Nodes.{IsNodeAnswer, IsNodeOverflow};
 ghost use Rattle.deep_reduce.specs.Rooms.{IsCalmAtZero, SpansRootOf};
 ghost use Rattle.node_pool.specs.State.{free_of};
-ghost use Rattle.number_forms.specs.Lacks.{LacksBelow};
+ghost use Rattle.tree_handles.specs.Lacking.{LacksBelow};
 ghost use Rattle.power_reduce.specs.PowerAnswers.{base_in, exponent_in};
 ghost use Rattle.tree_room.specs.Handed.{sum_count};
 ghost use Rattle.tree_room.specs.Needs.{simple_room, sum_room};

@@ -12,7 +12,7 @@ ghost use Rattle.number_forms.specs.Readers.{numerator};
 ghost use Rattle.power_reduce.specs.Bits.{HasFewBitsRaised};
 ghost use Rattle.product_reduce.specs.Bits.{IsFactorHeld, AreFactorsHeld};
 ghost use Rattle.deep_reduce.specs.Rooms.{IsCalmAtZero, IsJoinedFrom, IsRewritten, SpansRootOf, whole_power_room};
-ghost use Rattle.number_forms.specs.Lacks.{LacksBelow};
+ghost use Rattle.tree_handles.specs.Lacking.{LacksBelow};
 ghost use Rattle.node_pool.specs.State.{free_of};
 ghost use Rattle.tree_room.specs.Handed.{product_count};
 ghost use Rattle.tree_room.specs.Needs.{power_room, product_room};

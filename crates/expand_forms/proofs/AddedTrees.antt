@@ -3,8 +3,8 @@ use Rattle.std.proofs.Common.{◌≡◌, ◌≤◌, ℕ, ◌+◌, true, refl, sy
 use Rattle.calc_terms.specs.Payload.{bare, size_of_payload}
 use Rattle.calc_terms.specs.Trees.{Tree, Trees, none, more, append, count, is_mult, mult, sizes}
 use Rattle.calc_terms.specs.declared.kind.Kind.{Kind}
-use Rattle.coefficients.proofs.Places.{over_product, represents_count}
-use Rattle.coefficients.proofs.Steps.{added_as, moved}
+use Rattle.tree_handles.proofs.Over.{over_product, added_as, moved}
+use Rattle.tree_handles.proofs.Cuts.{represents_count}
 use Rattle.expand_forms.specs.Merging.{AddsTrees, AreFactors, BeginsWith}
 use Rattle.expand_forms.specs.Terms.{HasMonomial, factors_in, first_place}
 use Rattle.expand_forms.specs.Polynomials.{Monomial}

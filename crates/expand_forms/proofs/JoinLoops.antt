@@ -17,8 +17,9 @@ use Rattle.expand_forms.proofs.TermPolynomials.{expanded_terms, tree_normal}
 use Rattle.expand_forms.proofs.TermReadings.{beside}
 use Rattle.expand_forms.proofs.Within.{within}
 use Rattle.node_pool.specs.State.{State, free_of}
-use Rattle.number_forms.proofs.FreeBytes.{replaced_free}
-use Rattle.number_forms.proofs.Loops.{gives_itself, kept_after, kept_same}
+use Rattle.tree_handles.proofs.FreeBytes.{replaced_free}
+use Rattle.tree_handles.proofs.Beside.{gives_itself}
+use Rattle.tree_handles.proofs.Refused.{kept_after, kept_same}
 use Rattle.tree_handles.specs.Expressions.{IsExpression, nth, plain}
 use Rattle.tree_handles.specs.Forest.{Forest}
 use Rattle.tree_handles.specs.Handed.{Gives, IsHanded, KeepsFront, tree_of}

@@ -10,7 +10,7 @@ use Rattle.expand_forms.proofs.Sums.{sum_is}
 use Rattle.node_pool.specs.State.{State, free_of}
 use Rattle.node_pool.specs.declared.full.Full.{Full}
 use Rattle.number_forms.specs.Sums.{removed}
-use Rattle.number_forms.proofs.FreeBytes.{refused_below, replaced_free}
+use Rattle.tree_handles.proofs.FreeBytes.{refused_below, replaced_free}
 use Rattle.tree_handles.specs.Expressions.{children_of}
 use Rattle.tree_handles.specs.Handed.{Gives, tree_of}
 use Rattle.tree_handles.specs.Roots.{without_root}

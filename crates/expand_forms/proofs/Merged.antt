@@ -3,7 +3,7 @@ use Rattle.std.proofs.Common.{◌≡◌, ◌≤◌, ◌<◌, ◌^◌, ℕ, ◌+�
 use Rattle.std.proofs.lemmas.List.{length-append}
 use Rattle.std.specs.Prelude.{None, Option, Some}
 use Rattle.calc_terms.specs.Trees.{Trees}
-use Rattle.coefficients.proofs.Places.{represents_count}
+use Rattle.tree_handles.proofs.Cuts.{represents_count}
 use Rattle.expand_forms.specs.ExpandedTrees.{factor_tree, factor_trees}
 use Rattle.expand_forms.specs.Merging.{AddsTrees, GoesOn, IsNext}
 use Rattle.expand_forms.specs.declared.merging.Next.{Next}

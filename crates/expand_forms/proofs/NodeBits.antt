@@ -17,7 +17,7 @@ use Rattle.expand_forms.proofs.Held.{held_more, held_opposite, held_product, one
 use Rattle.expand_forms.proofs.Nodes.{from}
 use Rattle.expand_forms.proofs.TreeBits.{answers_held, difference_held, expanded_held, held_together, power_within, quotient_held, sum_held}
 use Rattle.expand_forms.proofs.TreeMonomials.{tree_monomials}
-use Rattle.number_forms.proofs.Overflows.{refused_as}
+use Rattle.tree_handles.proofs.Refused.{refused_as}
 use Rattle.tree_handles.specs.Expressions.{children_of, compound, grown, nth}
 use Rattle.tree_handles.specs.Faults.{OfOverflow}
 use Rattle.tree_handles.specs.declared.fault.NumberFault.{NumberFault}

@@ -19,7 +19,7 @@ use Rattle.reduce_walk.proofs.Bits.{own_bits}
 use Rattle.expand_forms.proofs.NodeTerms.{over_names, over_terms}
 use Rattle.expand_forms.proofs.Nodes.{by_children, by_root}
 use Rattle.expand_forms.proofs.TermCounts.{most_of_all}
-use Rattle.number_forms.specs.Lacks.{OfFull}
+use Rattle.tree_handles.specs.Lacking.{OfFull}
 use Rattle.reduce_walk.specs.Answers.{EachTree, IsNext}
 use Rattle.reduce_walk.specs.Leaves.{is_leaf}
 use Rattle.tree_handles.specs.Expressions.{children_of, grown}

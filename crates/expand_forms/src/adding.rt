@@ -12,7 +12,7 @@ ghost use Rattle.expand_forms.specs.PolynomialTrees.{polynomial_of};
 ghost use Rattle.expand_forms.specs.Sums.{IsSum, IsSumOf, with_term};
 ghost use Rattle.expand_forms.specs.Terms.{HasMonomial};
 ghost use Rattle.node_pool.specs.State.{free_of};
-ghost use Rattle.number_forms.specs.Lacks.{OfFull};
+ghost use Rattle.tree_handles.specs.Lacking.{OfFull};
 ghost use Rattle.number_forms.specs.Sums.{removed};
 ghost use Rattle.tree_handles.specs.Causes.{IsCaused};
 ghost use Rattle.tree_handles.specs.Expressions.{IsExpression, children_of, inserted, plain};

@@ -12,7 +12,7 @@ ghost use Rattle.expand_forms.specs.Rows.{row};
 ghost use Rattle.expand_forms.specs.Sums.{IsExpanded, IsSum, IsSumOf};
 ghost use Rattle.expand_forms.specs.Terms.{IsTerm};
 ghost use Rattle.node_pool.specs.State.{free_of};
-ghost use Rattle.number_forms.specs.Lacks.{OfFull};
+ghost use Rattle.tree_handles.specs.Lacking.{OfFull};
 ghost use Rattle.tree_handles.specs.Causes.{IsCaused};
 ghost use Rattle.tree_handles.specs.Expressions.{IsExpression, plain};
 ghost use Rattle.tree_handles.specs.Faults.{Faults};

@@ -12,7 +12,7 @@ ghost use Rattle.expand_forms.specs.Merging.{AddsTrees, BeginsWith, GoesOn, IsFi
 ghost use Rattle.expand_forms.specs.Polynomials.{Factor as FactorOf, IsMonomial, Monomial, monomial_times};
 ghost use Rattle.expand_forms.specs.Terms.{HasMonomial, IsRead};
 ghost use Rattle.node_pool.specs.State.{free_of};
-ghost use Rattle.number_forms.specs.Lacks.{OfFull};
+ghost use Rattle.tree_handles.specs.Lacking.{OfFull};
 ghost use Rattle.std.specs.declared.cmp.Ordering.TheVariants.{Equal};
 ghost use Rattle.tree_handles.specs.Causes.{IsCaused, Overflows};
 ghost use Rattle.tree_handles.specs.Expressions.{IsExpression, plain};

@@ -8,7 +8,7 @@ ghost use Rattle.expand_forms.specs.ExpansionRoom.{number_bytes, term_bytes};
 ghost use Rattle.expand_forms.specs.Polynomials.{Monomial, monomial_times, summand};
 ghost use Rattle.expand_forms.specs.Terms.{HasMonomial, led_by};
 ghost use Rattle.node_pool.specs.State.{free_of};
-ghost use Rattle.number_forms.specs.Lacks.{OfFull};
+ghost use Rattle.tree_handles.specs.Lacking.{OfFull};
 ghost use Rattle.tree_handles.specs.Causes.{IsCaused};
 ghost use Rattle.tree_handles.specs.Expressions.{IsExpression, children_of, plain};
 ghost use Rattle.tree_handles.specs.Faults.{Faults};

@@ -13,7 +13,7 @@ ghost use Rattle.expand_forms.specs.ExpansionRoom.{HasFewTerms, node_bytes, sum_
 ghost use Rattle.expand_forms.specs.PolynomialTrees.{divisor_of, exponent_of as natural_exponent, has_polynomial_root, is_divisor, is_exponent, polynomial_of, sum_of, is_polynomial};
 ghost use Rattle.expand_forms.specs.Sums.{AreExpanded, IsExpanded, IsSum, IsSumOf};
 ghost use Rattle.node_pool.specs.State.{free_of};
-ghost use Rattle.number_forms.specs.Lacks.{OfFull};
+ghost use Rattle.tree_handles.specs.Lacking.{OfFull};
 ghost use Rattle.tree_handles.specs.Causes.{IsCaused};
 ghost use Rattle.tree_handles.specs.Expressions.{IsExpression, children_of, plain};
 ghost use Rattle.tree_handles.specs.Faults.{Faults, OfOverflow};

@@ -9,7 +9,7 @@ ghost use Rattle.expand_forms.specs.Polynomials.{product, raised, scaled, consta
 ghost use Rattle.expand_forms.specs.PolynomialTrees.{polynomial_of};
 ghost use Rattle.expand_forms.specs.Sums.{IsExpanded, IsSum};
 ghost use Rattle.node_pool.specs.State.{free_of};
-ghost use Rattle.number_forms.specs.Lacks.{OfFull};
+ghost use Rattle.tree_handles.specs.Lacking.{OfFull};
 ghost use Rattle.tree_handles.specs.Causes.{IsCaused};
 ghost use Rattle.tree_handles.specs.Expressions.{IsExpression, plain};
 ghost use Rattle.tree_handles.specs.Faults.{Faults};

@@ -3,12 +3,13 @@ use Rattle.std.proofs.Common.{ℕ, ◌+◌, ◌≤◌, ◌<◌, ◌≡◌, inl, 
 use Rattle.calc_terms.specs.declared.kind.Kind.{Kind}
 use Rattle.calc_terms.specs.declared.kind.Kind.TheVariants as kind
 use Rattle.calc_terms.specs.Trees.{Tree, Trees, count, size, sizes}
-use Rattle.coefficients.proofs.Places.{IsOver, over_sum, over_product, over_handed, over_plain, over_put, over_end, over_same, once_count, represents_count, without_put}
+use Rattle.tree_handles.proofs.Over.{IsOver, over_sum, over_product, over_handed, over_plain, over_put, over_end, over_same, once_count, without_put}
+use Rattle.tree_handles.proofs.Cuts.{represents_count}
 use Rattle.like_children.specs.Children.{IsSumOrProduct}
 use Rattle.like_children.proofs.Kids.{represents_nth, represents_without}
 use Rattle.node_pool.specs.Nodes.{used}
 use Rattle.node_pool.specs.State.{State, free_of}
-use Rattle.number_forms.proofs.RationalCalls.{bytes_without}
+use Rattle.tree_handles.proofs.FreeBytes.{bytes_without}
 use Rattle.number_forms.specs.Sums.{removed}
 use Rattle.tree_handles.specs.Expressions.{nth, compound, plain, children_of, takes_kind}
 use Rattle.tree_handles.specs.Forest.{Forest, arity, kids, bytes_in, root_count, tree_nth, without_nth}

@@ -11,7 +11,7 @@ ghost use Rattle.like_children.specs.Folds.{rational_of, rationals_of, AnswersTo
 ghost use Rattle.like_children.specs.Joining.{AreJoined, IsNextOf};
 ghost use Rattle.like_children.specs.Numbers.{numbers_in, others_in};
 ghost use Rattle.node_pool.specs.State.{free_of};
-ghost use Rattle.number_forms.specs.Lacks.{LacksBelow};
+ghost use Rattle.tree_handles.specs.Lacking.{LacksBelow};
 ghost use Rattle.tree_handles.specs.Causes.{IsCaused};
 ghost use Rattle.tree_handles.specs.Expressions.{nth, children_of};
 ghost use Rattle.tree_handles.specs.Faults.{Faults, OfOverflow};
@@ -37,7 +37,7 @@ pub trait Joins {
     ghost use Rattle.like_children.specs.Joining.{IsJoint};
     ghost use Rattle.node_pool.specs.State.{free_of};
     ghost use Rattle.number_forms.specs.Answers.{AnswersRationals};
-    ghost use Rattle.number_forms.specs.Lacks.{LacksBelow};
+    ghost use Rattle.tree_handles.specs.Lacking.{LacksBelow};
     ghost use Rattle.rational128.specs.declared.overflow.Overflow.{Overflow};
     ghost use Rattle.tree_handles.specs.Causes.{IsCaused};
     ghost use Rattle.tree_handles.specs.Faults.{Faults, OfOverflow};

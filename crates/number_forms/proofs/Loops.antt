@@ -1,5 +1,5 @@
 -- Sums to which the terms of a list are joined one by one.
-use Rattle.std.proofs.Common.{◌≡◌, ℕ, zero, suc, ◌+◌, ◌-◌, ◌^◌, min, ◌≤◌, [], ◌∷◌, ◌++◌, true, length, refl, sym, ap, ◌∙◌, subst, arith}
+use Rattle.std.proofs.Common.{◌≡◌, ℕ, zero, suc, ◌≤◌, ◌∷◌, ◌++◌, length, refl, sym, ap, subst, arith, []}
 use Rattle.calc_algebra.specs.Numbers.{value}
 use Rattle.calc_algebra.specs.SquareClasses.{Same}
 use Rattle.calc_algebra.specs.Surds.{Term, Surd}
@@ -7,23 +7,19 @@ use Rattle.calc_bits.specs.Denominators.{SharesDenominators}
 use Rattle.calc_terms.specs.Trees.{Tree}
 use Rattle.calc_algebra.proofs.SquareClassLaws.{Same-trans}
 use Rattle.calc_algebra.proofs.TermLaws.{Same-refl}
-use Rattle.node_pool.specs.declared.full.Full.{Full}
 use Rattle.node_pool.specs.State.{State}
 use Rattle.number_forms.specs.Sums.{IsSum, IsSumOf}
 use Rattle.number_forms.proofs.Denominators.{shares_eq, parts_step, parts_end, parts_part}
 use Rattle.number_forms.proofs.Worth.{terms_from, join_step, join_end, part_step}
-use Rattle.tree_handles.specs.declared.fault.NumberFault.{NumberFault}
 use Rattle.tree_handles.specs.declared.fault.NumberFault.TheVariants as fault
-use Rattle.tree_handles.specs.Expressions.{plain, IsExpression}
-use Rattle.tree_handles.specs.Faults.{Faults}
-use Rattle.tree_handles.specs.Forest.{Forest}
-use Rattle.tree_handles.specs.Handed.{IsHanded, Gives, KeepsFront}
-use Rattle.tree_handles.specs.Inside.{tree_at}
-use Rattle.tree_handles.specs.Roots.{has_root, root_tree, without_root}
-use Rattle.tree_handles.specs.Standing.{Stands, forest, KeepsRefusals, Refuses}
+use Rattle.tree_handles.specs.Expressions.{plain}
+use Rattle.tree_handles.specs.Handed.{Gives, KeepsFront}
+use Rattle.tree_handles.specs.Roots.{root_tree, without_root}
+use Rattle.tree_handles.specs.Standing.{Stands, forest, KeepsRefusals}
 use Rattle.tree_handles.proofs.Fronts.{behind_first, front_after_one, front_same}
-use Rattle.tree_handles.proofs.Given.{given_told, given_rest, given_other, given_same, gives_as}
-use Rattle.tree_handles.proofs.Lasts.{last_tree, ends_at, ends_without, expression_root, plain_root}
+use Rattle.tree_handles.proofs.Given.{given_told, given_rest, gives_as}
+use Rattle.tree_handles.proofs.Refused.{kept_same, kept_after}
+use Rattle.tree_handles.proofs.Beside.{gives_itself}
 
 -- a sum, and with what is left of a list it is worth the whole, over the common denominators of the whole
 pub record IsSumWith (left whole : Surd) (t : Tree) : Type 0 where
@@ -37,16 +33,6 @@ pub record IsJoined (i : ℕ) (left whole : Surd) (old now : State) : Type 0 whe
   pub front : KeepsFront (i ∷ []) (forest old) (forest now)
   pub kept : KeepsRefusals old now
   pub stands : Stands now
-
--- the answer of a call is the tree that stands last
-pub gives_itself : {g f : Forest} {i : ℕ} {P : Tree → Type 0} → Gives g f i P → Gives g f i (λ t. P t × (t ≡ plain (root_tree i f)))
-gives_itself e = record { tree = e.tree; ends = e.ends; once = e.once; whole = e.whole; told = (e.told, ap plain (sym (last_tree e.ends))) }
-
-pub kept_same : (s : State) → KeepsRefusals s s
-kept_same s = record { size = refl; refusals = refl; last_refused = refl }
-
-pub kept_after : {a b x : State} → KeepsRefusals a b → KeepsRefusals b x → KeepsRefusals a x
-kept_after h k = record { size = k.size ∙ h.size; refusals = k.refusals ∙ h.refusals; last_refused = k.last_refused ∙ h.last_refused }
 
 pub joined_none : (i : ℕ) (v : Surd) (s : State) → Stands s → Gives (without_root i (forest s)) (forest s) i IsSum → IsJoined i v (value (plain (root_tree i (forest s))) ++ v) s s
 joined_none i v s st e = record {
@@ -90,30 +76,3 @@ from_all [] zero l = refl
 from_all [] (suc n) l = refl
 from_all (x ∷ v) zero l = absurd (omega arith)
 from_all (x ∷ v) (suc n) l = from_all v n (omega arith)
-
--- a root beside the sum goes
-pub gives_without : {g f h : Forest} {i : ℕ} {P : Tree → Type 0} (j : ℕ) → Gives g f i P → has_root j g ≡ true → h ≡ without_root j f → Gives (without_root j g) h i P
-gives_without j e r q = record { tree = e.tree; ends = ends_at (ends_without j e.ends r) q; once = e.once; whole = e.whole; told = e.told }
-
-pub gives_rest : {g f : Forest} {i : ℕ} {P Q : Tree → Type 0} → Gives g f i P → ((t : Tree) → P t → Q t) → Gives (without_root i f) f i Q
-gives_rest e k = gives_as e (sym (given_rest e)) k
-
--- ---- another root
-
-pub other_plain : {g f : Forest} {i : ℕ} {P : Tree → Type 0} (j : ℕ) → Gives g f i P → has_root j g ≡ true → plain (root_tree j f) ≡ plain (root_tree j g)
-other_plain j e h = ap plain (given_same j e h)
-
-pub other_read : {g : Forest} {i : ℕ} {P : Tree → Type 0} (j : ℕ) (s : State) → Stands s → Gives g (forest s) i P → IsHanded j g → plain (tree_at j (forest s)) ≡ plain (root_tree j g)
-other_read j s st e h = plain_root j st (given_other e h).root ∙ other_plain j e h.root
-
-pub other_expression : {g : Forest} {i : ℕ} {P : Tree → Type 0} (j : ℕ) (s : State) → Stands s → Gives g (forest s) i P → IsHanded j g → IsExpression j (forest s)
-other_expression j s st e h = expression_root st (given_other e h)
-
--- ---- refusals
-
-pub refuses_after : {a b x : State} {full : Full} → KeepsRefusals a b → Refuses b x full → Refuses a x full
-refuses_after k r = record { size = r.size ∙ k.size; refusals = r.refusals ∙ ap (λ (n : ℕ). min (n + 1) (2 ^ 64 - 1)) k.refusals; last_refused = r.last_refused }
-
-pub faults_after : (a b x : State) (e : NumberFault) → KeepsRefusals a b → Faults b x e → Faults a x e
-faults_after a b x (fault.Full full) k r = refuses_after k r
-faults_after a b x (fault.Overflow o) k r = kept_after k r

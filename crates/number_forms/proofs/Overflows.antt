@@ -1,6 +1,5 @@
 -- What a call on Numbers is refused for, from the call that was refused.
-use Rattle.std.proofs.Common.{◌≡◌, ℕ, ◌+◌, ◌*◌, ◌/◌, ◌<◌, ◌≤◌, false, true, Some, Result, Ok, Err, inl, inr, refl, sym, ap, ◌∙◌, subst, arith}
-use Rattle.std.specs.Prelude.{IfErr, IsErr, IsErrAnd}
+use Rattle.std.proofs.Common.{◌≡◌, ℕ, ◌+◌, ◌*◌, ◌/◌, ◌<◌, ◌≤◌, Some, inl, inr, refl, ap, ◌∙◌, subst, arith}
 use Rattle.calc_algebra.specs.Numbers.{term_of, value}
 use Rattle.calc_algebra.specs.SquareClasses.{Same}
 use Rattle.calc_algebra.specs.Surds.{Term, Surd, surd_times}
@@ -11,24 +10,10 @@ use Rattle.calc_bits.specs.Denominators.{SharesDenominators}
 use Rattle.number_forms.specs.Answers.{IsNumberOver, IsPowerOver}
 use Rattle.number_forms.proofs.Over.{shares_append, squared_power}
 use Rattle.number_forms.specs.Overflows.{JoinOverflows, SumOverflows, ProductOverflows, SquareOverflows, PowerOverflows}
-use Rattle.tree_handles.specs.Faults.{OfOverflow}
 use Rattle.rational128.specs.declared.overflow.Overflow.{Overflow}
 use Rattle.surd_terms.specs.Calculations.{calculation_of, first_misfit, joining_calculations}
 use Rattle.tree_handles.specs.Expressions.{children_of, nth}
-use Rattle.tree_handles.specs.declared.fault.NumberFault.{NumberFault}
 use Rattle.tree_handles.specs.declared.fault.NumberFault.TheVariants as fault
-
-pub passed_on : {A E : Type 0} (r : Result A E) (e : E) (P : E → Type 0) → IsErr r → IsErrAnd r (λ x. x ≡ e) → P e → IfErr r P
-passed_on (Ok x) e P h a p = let no : false ≡ true = h in cc
-passed_on (Err f) e P h a p = subst P (sym a) p
-
-pub overflow_as : {P Q : Overflow → Type 0} (e : NumberFault) → OfOverflow P e → ((o : Overflow) → P o → Q o) → OfOverflow Q e
-overflow_as (fault.Full full) p k = tt
-overflow_as (fault.Overflow o) p k = k o p
-
-pub refused_as : {A : Type 0} {P Q : Overflow → Type 0} (r : Result A NumberFault) → IfErr r (OfOverflow P) → ((o : Overflow) → P o → Q o) → IfErr r (OfOverflow Q)
-refused_as (Ok x) p k = p
-refused_as (Err e) p k = overflow_as e p k
 
 -- the term of a sum at a place, once it is read
 pub join_overflow : (sum : Tree) (at : ℕ) (x t : Term) (o : Overflow) → at < count (children_of sum) → x ≡ term_of (nth at (children_of sum)) → Some (calculation_of o) ≡ first_misfit (joining_calculations x t) → JoinOverflows sum t o

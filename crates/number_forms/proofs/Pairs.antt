@@ -4,7 +4,7 @@ use Rattle.calc_terms.specs.Fractions.{Fraction}
 use Rattle.calc_algebra.specs.Numbers.{is_number, is_term}
 use Rattle.calc_terms.specs.Trees.{Tree, num}
 use Rattle.calc_algebra.proofs.NumberLaws.{number_test, term_words}
-use Rattle.number_forms.proofs.Loops.{other_plain}
+use Rattle.tree_handles.proofs.Beside.{other_plain}
 use Rattle.number_forms.proofs.Shaped.{term_number}
 use Rattle.tree_handles.specs.Expressions.{plain}
 use Rattle.tree_handles.specs.Forest.{Forest}

@@ -1,5 +1,5 @@
 -- Rationals in place of others.
-use Rattle.std.proofs.Common.{◌≡◌, ℕ, ◌+◌, ◌≤◌, [], ◌++◌, Result, Bool, true, false, cond, eqb, if◌then◌else◌, refl, sym, ap, ◌∙◌, subst, arith}
+use Rattle.std.proofs.Common.{◌≡◌, ℕ, ◌++◌, Result, true, false, if◌then◌else◌, refl, sym, ap, ◌∙◌, subst, []}
 use Rattle.calc_terms.specs.Fits.{Operation, operation_fits, result_of, fraction_power}
 use Rattle.calc_algebra.specs.Numbers.{value}
 use Rattle.calc_algebra.specs.SquareClasses.{Same}
@@ -17,41 +17,12 @@ use Rattle.tree_handles.specs.declared.fault.NumberFault.{NumberFault}
 use Rattle.calc_terms.specs.Fractions.{Fraction, plus, times, is_zero_fraction}
 use Rattle.calc_measures.specs.PlainValues.{calculated, exactly, overflow}
 use Rattle.calc_terms.specs.Rat.{value_of}
-use Rattle.calc_terms.specs.Trees.{Tree, num, is_num, size}
-use Rattle.node_pool.specs.Nodes.{used}
-use Rattle.node_pool.specs.State.{State, free_of}
+use Rattle.calc_terms.specs.Trees.{Tree, num, is_num}
+use Rattle.node_pool.specs.State.{State}
 use Rattle.rational128.specs.Refusals.{operation_of}
 use Rattle.rational128.specs.declared.overflow.Overflow.{Overflow}
 use Rattle.calc_measures.specs.PlainTrees.{IsPlainAnswer, IsPlainOverflow}
-use Rattle.tree_handles.specs.Expressions.{plain}
-use Rattle.tree_handles.specs.Forest.{Forest, empty, tree, bytes_in}
-use Rattle.tree_handles.specs.Handed.{IsHanded}
-use Rattle.tree_handles.specs.Roots.{has_root, root_tree, without_root}
-use Rattle.tree_handles.specs.Standing.{Stands, forest, KeepsRefusals}
-use Rattle.tree_handles.proofs.Forests.{bytes-flatten}
 use Rattle.tree_handles.proofs.Outcomes.{by_test}
-use Rattle.tree_handles.proofs.Plains.{size-plain}
-use Rattle.tree_handles.proofs.Roots.{root_arity}
-
--- ---- bytes
-
-pub bytes_without : (i : ℕ) (f : Forest) → has_root i f ≡ true → bytes_in f ≡ bytes_in (root_tree i f) + bytes_in (without_root i f)
-bytes_without i empty h = cc
-bytes_without i (tree l k r) h = by_test (λ t. eqb l.id i ≡ t → bytes_in (tree l k r) ≡ bytes_in (cond t (tree l k empty) (root_tree i r)) + bytes_in (cond t r (tree l k (without_root i r)))) (eqb l.id i)
-    (λ e q. omega arith) (λ e q. let rest : bytes_in r ≡ bytes_in (root_tree i r) + bytes_in (without_root i r) = bytes_without i r (let g : cond (eqb l.id i) true (has_root i r) ≡ true = h in ap (λ (t : Bool). cond t true (has_root i r)) (sym q) ∙ g) in omega (arith, rest)) refl
-
-bytes_used : (s : State) → Stands s → used s.nodes ≡ bytes_in (forest s)
-bytes_used s st = ap used st.flat ∙ bytes-flatten (forest s)
-
--- the bytes of a tree that goes are free
-pub room_of : (i : ℕ) (s t : State) → Stands s → Stands t → KeepsRefusals s t → IsHanded i (forest s) → forest t ≡ without_root i (forest s) → size (plain (root_tree i (forest s))) ≤ free_of t
-room_of i s t st su k h e =
-    let tree-bytes = size-plain (root_tree i (forest s)) (root_arity i (forest s) h.root) h.whole in
-    let parts = bytes_without i (forest s) h.root in
-    let after : bytes_in (forest t) ≡ bytes_in (without_root i (forest s)) = ap bytes_in e in
-    let old : used s.nodes ≤ s.size = st.pool.fits in
-    let new : used t.nodes ≤ t.size = su.pool.fits in
-    omega (arith, tree-bytes, parts, after, old, new, bytes_used s st, bytes_used t su, k.size)
 
 -- ---- what an operation answers
 

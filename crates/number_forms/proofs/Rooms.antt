@@ -21,12 +21,12 @@ use Rattle.node_pool.specs.State.{State, free_of}
 use Rattle.node_pool.specs.declared.full.Full.{Full}
 use Rattle.number_forms.specs.Answers.{IsNumberOf}
 use Rattle.number_forms.specs.Inverses.{inverse_trees, IsInverseOf, LacksInverse}
-use Rattle.number_forms.specs.Lacks.{OfFull}
+use Rattle.tree_handles.specs.Lacking.{OfFull}
 use Rattle.number_forms.specs.Overflows.{terms_from}
 use Rattle.number_forms.specs.Rooms.{joining_need, raising_need}
 use Rattle.number_forms.specs.Shapes.{term_tree}
 use Rattle.number_forms.specs.Sums.{IsSum, IsSumOf}
-use Rattle.number_forms.proofs.FreeBytes.{replaced_free}
+use Rattle.tree_handles.proofs.FreeBytes.{replaced_free}
 use Rattle.number_forms.proofs.LastSums.{sum_is}
 use Rattle.number_forms.proofs.Loops.{IsSumWith, IsJoined}
 use Rattle.number_forms.proofs.Placings.{lacking_below}

@@ -7,5 +7,4 @@ pub mod Kept
 pub mod Joins
 pub mod Inverses
 pub mod Overflows
-pub mod Lacks
 pub mod Rooms

@@ -2,7 +2,7 @@
 use Rattle.std.specs.Prelude.{ℕ, ◌*◌, ◌^◌, ◌<◌, List, length, ⊤}
 use Rattle.calc_room.specs.Spans.{SpansTree}
 use Rattle.node_pool.specs.State.{State}
-use Rattle.number_forms.specs.Lacks.{OfFull}
+use Rattle.tree_handles.specs.Lacking.{OfFull}
 use Rattle.number_forms.specs.declared.inverting.Inverse.{Inverse}
 use Rattle.number_forms.specs.declared.inverting.Inverse.TheVariants as inverse
 use Rattle.tree_handles.specs.Handed.{tree_of}

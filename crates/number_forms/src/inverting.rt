@@ -9,7 +9,7 @@ ghost use Rattle.calc_bits.specs.Bounds.{HasFewBits};
 ghost use Rattle.number_forms.specs.Answers.{IsNumberOf};
 ghost use Rattle.node_pool.specs.State.{free_of};
 ghost use Rattle.number_forms.specs.Inverses.{AnswersInverse, HasInverse, IfValue, IsInverseOf, LacksInverse};
-ghost use Rattle.number_forms.specs.Lacks.{OfFull};
+ghost use Rattle.tree_handles.specs.Lacking.{OfFull};
 ghost use Rattle.number_forms.specs.Overflows.{InverseOverflows};
 ghost use Rattle.number_forms.specs.Rooms.{LacksRoom, SpansInverse};
 ghost use Rattle.number_forms.specs.Shapes.{sum_of_terms};

@@ -7,7 +7,7 @@ ghost use Rattle.node_pool.specs.State.{free_of};
 ghost use Rattle.child_lists.specs.Lists.{Lists};
 ghost use Rattle.number_forms.specs.Sums.{IsSum, IsSumOf, IsApart, IsPlace, AreBelow, removed};
 ghost use Rattle.number_forms.specs.Joins.{IsMatch};
-ghost use Rattle.number_forms.specs.Lacks.{OfFull};
+ghost use Rattle.tree_handles.specs.Lacking.{OfFull};
 ghost use Rattle.number_forms.specs.Overflows.{JoinOverflows};
 ghost use Rattle.tree_handles.specs.Standing.{LacksBytes, Stands, forest, KeepsRefusals, Refuses};
 ghost use Rattle.tree_handles.specs.Causes.{IsCaused, Overflows};

@@ -3,8 +3,9 @@ use Rattle.std.proofs.Common.{◌≡◌, ℕ, ◌≤◌, [], ◌∷◌, refl, sy
 use Rattle.calc_terms.specs.declared.kind.Kind.{Kind}
 use Rattle.calc_terms.specs.declared.kind.Kind.TheVariants as kind
 use Rattle.calc_terms.specs.Trees.{Tree, root, Trees, none, more, append, is_root, size}
-use Rattle.coefficients.proofs.Places.{IsOver, IsTaken, taken, over_put, over_same, over_end, cut, cut_rest, once_count, represents_count, without_put}
-use Rattle.coefficients.proofs.Steps.{IsAdded, gives_put}
+use Rattle.tree_handles.proofs.Over.{IsOver, IsTaken, taken, over_put, over_same, over_end, once_count, without_put, IsAdded}
+use Rattle.tree_handles.proofs.Cuts.{cut, cut_rest, represents_count}
+use Rattle.tree_handles.proofs.Beside.{gives_put}
 use Rattle.node_pool.specs.State.{State, free_of}
 use Rattle.tree_handles.proofs.Room.{released_free}
 use Rattle.power_reduce.specs.PowerAnswers.{is_power, base_in, exponent_in}

@@ -4,8 +4,7 @@ use Rattle.calc_terms.specs.declared.kind.Kind.TheVariants as kind
 use Rattle.calc_terms.specs.Payload.{bare}
 use Rattle.calc_algebra.specs.Reduced.{is_opaque_exponent}
 use Rattle.calc_terms.specs.Trees.{Tree, mult, power, Trees, none, more, append}
-use Rattle.coefficients.proofs.Places.{IsOver, IsTaken, taken, over_put}
-use Rattle.coefficients.proofs.Steps.{IsAdded}
+use Rattle.tree_handles.proofs.Over.{IsOver, IsTaken, taken, over_put, IsAdded}
 use Rattle.power_reduce.specs.PowerAnswers.{is_power, base_in, exponent_in}
 use Rattle.power_reduce.specs.PowerSteps.{goes_inside, rewritten}
 use Rattle.power_reduce.proofs.Exponents.{as_whole, inside_whole, whole_no_half}

@@ -5,7 +5,7 @@ use Rattle.calc_algebra.specs.Reduced.{is_reduced, is_num_one, split_product}
 use Rattle.calc_terms.specs.Trees.{Tree, mult, Trees, more, count, is_mult}
 use Rattle.coefficients.specs.Pairs.{GivesTwo}
 use Rattle.coefficients.proofs.Lengths.{some_factors}
-use Rattle.coefficients.proofs.Steps.{seen}
+use Rattle.tree_handles.proofs.Seen.{seen}
 use Rattle.node_pool.specs.State.{State}
 use Rattle.power_reduce.specs.PowerSteps.{goes_inside, parts_of, raised, rewritten}
 use Rattle.power_reduce.proofs.Exponents.{as_whole, inside_whole, whole_no_half}

@@ -1,5 +1,6 @@
 -- A root of the pool that is a power: its sides, and what is left when they are taken.
 use Rattle.std.proofs.Common.{◌≡◌, ℕ, ◌+◌, ◌≤◌, [], ◌∷◌, refl, sym, ap, ◌∙◌, arith, true}
+use Rattle.tree_handles.proofs.Beside.{gives_without}
 use Rattle.calc_terms.specs.declared.kind.Kind.TheVariants as kind
 use Rattle.calc_terms.specs.Payload.{Payload, bare}
 use Rattle.calc_terms.specs.Trees.{Tree, num, power, Trees, none, more, size}
@@ -7,8 +8,8 @@ use Rattle.calc_terms.specs.Fractions.{Fraction, one_fraction}
 use Rattle.calc_terms.proofs.Sizes.{num_least, num_most, whole_size}
 use Rattle.tree_handles.proofs.Room.{least_size}
 use Rattle.coefficients.specs.Pairs.{GivesTwo}
-use Rattle.coefficients.proofs.Places.{IsOver, IsTaken, taken, over_put, once_count, without_put}
-use Rattle.coefficients.proofs.Steps.{children_at, seen, expression, gives_without}
+use Rattle.tree_handles.proofs.Over.{IsOver, IsTaken, taken, over_put, once_count, without_put, children_at}
+use Rattle.tree_handles.proofs.Seen.{seen, expression}
 use Rattle.node_pool.specs.State.{State}
 use Rattle.power_reduce.specs.PowerAnswers.{is_power, base_in, exponent_in}
 use Rattle.tree_handles.specs.Handed.{tree_of, IsOnce, AllOnce, IsOwned, IsHanded, Ends, Gives, KeepsFront}
@@ -122,7 +123,7 @@ pub sides_taken : {i h j : ℕ} {b e : Tree} {f g new end : Forest} → IsOver k
     → end ≡ without_root i new → GivesTwo (without_root i f) end h j (λ t. t ≡ b) (λ t. t ≡ e)
 sides_taken {i = i} {f = f} {g = g} o a c e = record {
   between = without_root i g;
-  first-given = gives_as (gives_without i a.gives (over_put a.now o a.kids).root) (without_put i a.now f) (λ t x. x);
+  first-given = gives_as (gives_without i a.gives (over_put a.now o a.kids).root refl) (without_put i a.now f) (λ t x. x);
   second-given = taken_alone a.over c e;
 }
 

@@ -2,9 +2,9 @@
 use Rattle.std.proofs.Common.{◌≡◌, ℕ, ◌+◌, ◌*◌, ◌<◌, ◌≤◌, refl, ap, ◌∙◌, arith}
 use Rattle.calc_terms.specs.declared.kind.Kind.TheVariants as kind
 use Rattle.calc_terms.specs.Trees.{Tree, mult, Trees, none, more, append, count, size, sizes}
-use Rattle.coefficients.proofs.Places.{IsOver, over_handed, over_plain, without_put}
+use Rattle.tree_handles.proofs.Over.{IsOver, over_handed, over_plain, without_put}
 use Rattle.node_pool.specs.State.{State, free_of}
-use Rattle.number_forms.proofs.RationalCalls.{bytes_without}
+use Rattle.tree_handles.proofs.FreeBytes.{bytes_without}
 use Rattle.power_reduce.specs.PowerSteps.{raised}
 use Rattle.power_reduce.proofs.Raising.{IsPartRaised, raised_append}
 use Rattle.tree_handles.specs.Expressions.{plain}

@@ -3,8 +3,8 @@ use Rattle.std.proofs.Common.{◌≡◌, ℕ, zero, suc, ◌+◌, ◌≤◌, ◌
 use Rattle.calc_terms.specs.declared.kind.Kind.TheVariants as kind
 use Rattle.calc_terms.specs.Payload.{bare}
 use Rattle.calc_terms.specs.Trees.{Tree, mult, power, Trees, none, more, append, count}
-use Rattle.coefficients.proofs.Places.{IsOver, IsTaken, taken, over_put, over_beside, over_same, over_gives, over_handed, over_plain, inserted_behind, without_put}
-use Rattle.coefficients.proofs.Steps.{IsAdded}
+use Rattle.tree_handles.proofs.Over.{IsOver, IsTaken, taken, over_put, over_beside, over_same, over_gives, over_handed, over_plain, without_put, IsAdded}
+use Rattle.tree_handles.proofs.Cuts.{inserted_behind}
 use Rattle.power_reduce.specs.PowerSteps.{raised}
 use Rattle.power_reduce.specs.Raising.{raised_at, HasKids}
 use Rattle.tree_handles.specs.Expressions.{plain, inserted, children_of}

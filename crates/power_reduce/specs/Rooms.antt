@@ -4,7 +4,7 @@ use Rattle.calc_room.specs.Counts.{counted}
 use Rattle.calc_room.specs.Spans.{SpansTree}
 use Rattle.calc_terms.specs.Trees.{Tree, size}
 use Rattle.node_pool.specs.State.{State}
-use Rattle.number_forms.specs.Lacks.{OfFull}
+use Rattle.tree_handles.specs.Lacking.{OfFull}
 use Rattle.power_reduce.specs.PowerAnswers.{base_in, exponent_in}
 use Rattle.power_reduce.specs.PowerSteps.{power_of_root}
 use Rattle.reduce_port.specs.declared.step.Step.{Step}

@@ -9,7 +9,7 @@ ghost use Rattle.number_forms.specs.Answers.{AnswersRationals};
 ghost use Rattle.calc_room.specs.Needs.{power_need};
 ghost use Rattle.calc_room.specs.Spans.{SpansTree};
 ghost use Rattle.node_pool.specs.State.{free_of};
-ghost use Rattle.number_forms.specs.Lacks.{OfFull};
+ghost use Rattle.tree_handles.specs.Lacking.{OfFull};
 ghost use Rattle.number_forms.specs.Rooms.{LacksRoom};
 ghost use Rattle.power_reduce.specs.Bits.{IsNumberPower};
 ghost use Rattle.power_reduce.specs.PowerAnswers.{base_in, exponent_in, HasReducedSides, IsPowerAnswer};

@@ -3,7 +3,8 @@ use Rattle.std.proofs.Common.{ℕ, ◌<◌, ◌≡◌, eqb, true, false, refl, s
 use Rattle.number_forms.specs.Sums.{removed}
 use Rattle.calc_terms.specs.declared.kind.Kind.TheVariants as kind
 use Rattle.calc_terms.specs.Trees.{mult, Trees, count, is_mult}
-use Rattle.coefficients.proofs.Places.{IsOver, over_product, over_put, over_handed, over_plain, without_put, once_count, represents_count}
+use Rattle.tree_handles.proofs.Over.{IsOver, over_product, over_put, over_handed, over_plain, without_put, once_count}
+use Rattle.tree_handles.proofs.Cuts.{represents_count}
 use Rattle.tree_handles.specs.Expressions.{nth, plain, inserted, children_of, IsExpression}
 use Rattle.tree_handles.specs.Forest.{Forest, arity, kids, root_count, tree_nth, merged_nth}
 use Rattle.tree_handles.specs.Handed.{IsOnce, Represents}

@@ -18,7 +18,7 @@ use Rattle.tree_handles.proofs.Roots.{root-put, kids-put}
 use Rattle.product_reduce.specs.Joining.{exponent_of}
 use Rattle.product_reduce.specs.Products.{IsBeside, IsSplit}
 use Rattle.product_reduce.proofs.Beside.{beside_as, beside_root, beside_tree, beside_without, taken_beside}
-use Rattle.coefficients.proofs.Places.{without_put}
+use Rattle.tree_handles.proofs.Over.{without_put}
 use Rattle.tree_handles.proofs.Outcomes.{by_test}
 
 -- ---- powers that are not opaque, and other factors

@@ -9,7 +9,7 @@ ghost use Rattle.calc_room.specs.Spans.{SpansTree, SpansTrees};
 ghost use Rattle.calc_terms.specs.Trees.{Tree, count, is_mult, mult, none, are_rationals, has_undef, size};
 ghost use Rattle.coefficients.specs.Rooms.{LacksRoom};
 ghost use Rattle.node_pool.specs.State.{free_of};
-ghost use Rattle.number_forms.specs.Lacks.{LacksBelow};
+ghost use Rattle.tree_handles.specs.Lacking.{LacksBelow};
 ghost use Rattle.product_reduce.specs.Answers.{AreOthers, IfFinished, IfJoined, IfGathered, IsFinished, IsStop, IsAnswered, AnswersRationalFactors};
 ghost use Rattle.product_reduce.specs.Bits.{AreFactorsHeld, IsFactorHeld};
 ghost use Rattle.product_reduce.specs.Factors.{others_in, coefficient_before};

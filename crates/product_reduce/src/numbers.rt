@@ -6,7 +6,7 @@ ghost use Rattle.calc_measures.specs.PlainValues.{plain_value};
 ghost use Rattle.calc_room.specs.Needs.{product_need};
 ghost use Rattle.calc_room.specs.Spans.{SpansTrees};
 ghost use Rattle.node_pool.specs.State.{free_of};
-ghost use Rattle.number_forms.specs.Lacks.{LacksBelow};
+ghost use Rattle.tree_handles.specs.Lacking.{LacksBelow};
 ghost use Rattle.product_reduce.specs.Bits.{AreFactorsHeld};
 ghost use Rattle.like_children.specs.Numbers.{NoNumberBetween};
 ghost use Rattle.product_reduce.specs.Factors.{numbers_in, others_in, IsCoefficient};

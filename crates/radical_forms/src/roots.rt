@@ -9,7 +9,7 @@ ghost use Rattle.calc_terms.specs.Integers.{int_is_negative};
 ghost use Rattle.calc_bits.specs.Bounds.{HasFewBits};
 ghost use Rattle.calc_terms.specs.Trees.{num, root as root_tree_of, is_root, is_num, size};
 ghost use Rattle.node_pool.specs.State.{free_of};
-ghost use Rattle.number_forms.specs.Lacks.{OfFull};
+ghost use Rattle.tree_handles.specs.Lacking.{OfFull};
 ghost use Rattle.radical_forms.specs.Refusals.{HasWideRoot, LacksRoot, NamesProduct, IsOverflow, IsFull};
 ghost use Rattle.radical_forms.specs.RootAnswers.{argument_of, IfRational, IsRootAnswer};
 ghost use Rattle.surd_bits.specs.Rooted.{IsNoLargerThanRoot};

@@ -7,8 +7,7 @@ use Rattle.calc_terms.specs.declared.kind.Kind.TheVariants as kind
 use Rattle.calc_terms.specs.Payload.{Payload, rational, named, bare, size_of_payload}
 use Rattle.calc_terms.specs.Trees.{Tree, num, Trees, more, append, count, root_size, size, sizes}
 use Rattle.node_pool.specs.State.{State, free_of}
-use Rattle.number_forms.proofs.FreeBytes.{replaced_free}
-use Rattle.number_forms.proofs.RationalCalls.{bytes_without}
+use Rattle.tree_handles.proofs.FreeBytes.{replaced_free, bytes_without}
 use Rattle.reduce_walk.proofs.Parents.{handed_node, held_at}
 use Rattle.reduce_walk.proofs.Walks.{IsNextChild, IsWalked, count_append}
 use Rattle.tree_handles.proofs.Forests.{bytes_in-join}

@@ -2,7 +2,8 @@
 use Rattle.std.proofs.Common.{◌≡◌, ℕ, true, refl, sym, ap, ◌∙◌, arith}
 use Rattle.calc_terms.specs.Payload.{Payload}
 use Rattle.calc_terms.specs.Trees.{Tree, Trees, none, more, count}
-use Rattle.coefficients.proofs.Places.{represents_count, once_count}
+use Rattle.tree_handles.proofs.Cuts.{represents_count}
+use Rattle.tree_handles.proofs.Over.{once_count}
 use Rattle.tree_handles.proofs.Counted.{all-kids}
 use Rattle.tree_handles.proofs.Plains.{children_of-plain, count-plains, whole_kids, grown_whole}
 use Rattle.tree_handles.proofs.Roots.{root_arity}

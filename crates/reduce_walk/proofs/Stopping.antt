@@ -6,8 +6,8 @@ use Rattle.breakers.specs.Breakers.{Check, CalmChecks}
 use Rattle.breakers.specs.State.{State as BreakerState}
 use Rattle.calc_terms.specs.Trees.{Tree, Trees, none, more, count, nodes, nodes_of, size, sizes, root_size}
 use Rattle.node_pool.specs.State.{State, free_of}
-use Rattle.number_forms.proofs.Loops.{kept_after, refuses_after}
-use Rattle.number_forms.specs.Lacks.{OfFull}
+use Rattle.tree_handles.proofs.Refused.{kept_after, refuses_after}
+use Rattle.tree_handles.specs.Lacking.{OfFull}
 use Rattle.rational128.specs.declared.overflow.Overflow.{Overflow}
 use Rattle.reduce_port.proofs.Checks.{one_calm, calm_up_to, trips_at_once, calm_up_to_after, trips_within_after}
 use Rattle.reduce_port.specs.Checks.{CalmUpTo, TripsWithin}

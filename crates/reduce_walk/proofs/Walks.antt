@@ -6,8 +6,8 @@ use Rattle.breakers.proofs.Runs.{CalmChecks-append}
 use Rattle.breakers.specs.Breakers.{CalmChecks}
 use Rattle.breakers.specs.State.{State as BreakerState}
 use Rattle.calc_terms.specs.Trees.{Tree, num, symbol, undef, Trees, none, more, append, count, nodes, nodes_of}
-use Rattle.coefficients.proofs.Places.{cut, cut_rest, represents_count}
-use Rattle.coefficients.proofs.Steps.{expression, seen}
+use Rattle.tree_handles.proofs.Cuts.{cut, cut_rest, represents_count}
+use Rattle.tree_handles.proofs.Seen.{expression, seen}
 use Rattle.reduce_walk.specs.Answers.{AreAnswers, EachTree, IsNext}
 use Rattle.reduce_walk.specs.Leaves.{is_leaf, BeginWithLeaves}
 use Rattle.reduce_walk.proofs.Parents.{IsParent, held_at, parent_handed}

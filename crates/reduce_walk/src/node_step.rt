@@ -7,7 +7,7 @@ pub trait NodeStep {
     ghost use Rattle.std.specs.Prelude.{◌≡◌, ◌+◌, ℕ, IfOk, IfErr, OnOk, true, [], ◌∷◌};
     ghost use Rattle.calc_terms.specs.Trees.{Tree, Trees, nodes, nodes_of, root_size, size, sizes};
     ghost use Rattle.node_pool.specs.State.{free_of};
-    ghost use Rattle.number_forms.specs.Lacks.{OfFull};
+    ghost use Rattle.tree_handles.specs.Lacking.{OfFull};
     ghost use Rattle.rational128.specs.declared.overflow.Overflow.{Overflow};
     ghost use Rattle.reduce_walk.specs.Answers.{EachTree, IsNext, IsOver, IsOverSome};
     ghost use Rattle.reduce_walk.specs.Leaves.{is_leaf};

@@ -1,10 +1,5 @@
 -- What is known of a result, in other words.
-use Rattle.std.specs.Prelude.{Result, Ok, Err, Option, Some, None, IfOk, IfSome, MatchOption, OnOk, IsErr, IsErrAnd}
-use Rattle.std.proofs.Common.{◌≡◌, true, false, sym, subst}
-
-pub if_ok_map : {A E : Type 0} {P Q : A → Type 0} (r : Result A E) → IfOk r P → ((x : A) → P x → Q x) → IfOk r Q
-if_ok_map (Ok x) h f = f x h
-if_ok_map (Err e) h f = tt
+use Rattle.std.specs.Prelude.{Result, Ok, Err, Option, Some, None, IfOk, IfSome, MatchOption, OnOk}
 
 pub if_ok_both : {A E : Type 0} {P Q R : A → Type 0} (r : Result A E) → IfOk r P → IfOk r Q → ((x : A) → P x → Q x → R x) → IfOk r R
 if_ok_both (Ok x) h k f = f x h k
@@ -21,8 +16,3 @@ if_some_given None h = tt
 pub match_option_given : {A : Type 0} (P R : Type 0) (Q S : A → Type 0) (r : Option A) → R → ((x : A) → Q x → S x) → MatchOption r P Q → MatchOption r R S
 match_option_given P R Q S (Some x) g f h = f x h
 match_option_given P R Q S None g f h = g
-
--- what a `?` passes on
-pub passed_on : {A E : Type 0} (r : Result A E) (e : E) (P : Result A E → Type 0) → IsErr r → IsErrAnd r (λ x. x ≡ e) → P (Err e) → P r
-passed_on (Ok x) e P h a p = let no : false ≡ true = h in cc
-passed_on (Err f) e P h a p = subst (λ x. P (Err x)) (sym a) p

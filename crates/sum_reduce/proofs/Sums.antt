@@ -4,8 +4,10 @@ use Rattle.calc_terms.specs.declared.kind.Kind.TheVariants as kind
 use Rattle.calc_terms.specs.Trees.{Tree, Trees, none, more, count, is_add}
 use Rattle.node_pool.specs.State.{State}
 use Rattle.coefficients.specs.Pairs.{GivesTwo}
-use Rattle.coefficients.proofs.Places.{IsOver, over_sum, over_handed, over_plain, over_put, over_same, over_end, over_beside, without_put, represents_count, once_count}
-use Rattle.coefficients.proofs.Steps.{live, expression, seen, children_in, gives_put, gives_without}
+use Rattle.tree_handles.proofs.Over.{IsOver, over_sum, over_handed, over_plain, over_put, over_same, over_end, over_beside, without_put, once_count, children_in}
+use Rattle.tree_handles.proofs.Cuts.{represents_count}
+use Rattle.tree_handles.proofs.Seen.{live, expression, seen}
+use Rattle.tree_handles.proofs.Beside.{gives_put, gives_without}
 use Rattle.tree_handles.specs.Expressions.{nth, plain, inserted, children_of, IsExpression}
 use Rattle.tree_handles.specs.Forest.{Forest, arity, kids, root_count, tree_nth, without_nth, with_nth, merged_nth}
 use Rattle.tree_handles.specs.Handed.{IsOnce, IsHanded, Represents, Ends, Gives, KeepsFront}
@@ -258,5 +260,5 @@ pub only_left : {i h : ℕ} {u : Tree} {f g new : Forest} → Takes i f g h → 
 only_left {i = i} {h = h} {u = u} {f = f} {g = g} t e q =
     let k = t.given in
     let told : Gives (put i t.kids f) g h (λ x. x ≡ u) = record { tree = k.tree; ends = k.ends; once = k.once; whole = k.whole; told = ap plain (sym (last_tree k.ends)) ∙ q } in
-    let w = gives_without i told (root-put i i t.kids f ∙ t.was.handed.root) in
+    let w = gives_without i told (root-put i i t.kids f ∙ t.was.handed.root) refl in
     subst (λ (x : Forest). Gives (without_root i f) x h (λ y. y ≡ u)) (sym e) (gives_as w (without_put i t.kids f) (λ x y. y))

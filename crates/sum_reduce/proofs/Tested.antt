@@ -14,7 +14,7 @@ use Rattle.tree_handles.specs.Roots.{root_tree, without_root}
 use Rattle.tree_handles.proofs.Given.{gives, gives_as, given_handed, given_told, represents_handed}
 use Rattle.tree_handles.proofs.Lasts.{last_tree}
 use Rattle.tree_handles.proofs.Roots.{put-same}
-use Rattle.coefficients.proofs.Places.{over_end}
+use Rattle.tree_handles.proofs.Over.{over_end}
 use Rattle.sum_reduce.specs.Sums.{IsSum, terms_in}
 use Rattle.sum_reduce.specs.Terms.{is_loose}
 use Rattle.sum_reduce.proofs.Sums.{IsRewritten, sum_over, over_is_sum, over_terms}

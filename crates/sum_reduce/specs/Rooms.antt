@@ -2,7 +2,7 @@
 use Rattle.std.specs.Prelude.{ℕ, ◌+◌, ◌*◌, ◌^◌, List, length}
 use Rattle.calc_room.specs.Needs.{sum_need}
 use Rattle.calc_terms.specs.Trees.{Trees}
-use Rattle.number_forms.specs.Lacks.{LacksBelow}
+use Rattle.tree_handles.specs.Lacking.{LacksBelow}
 use Rattle.tree_handles.specs.declared.fault.NumberFault.{NumberFault}
 use Rattle.tree_room.specs.Handed.{sum_count}
 use Rattle.tree_room.specs.Needs.{tree_bytes}

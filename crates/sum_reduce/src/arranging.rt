@@ -7,7 +7,7 @@ ghost use Rattle.calc_room.specs.Spans.{SpansTrees};
 ghost use Rattle.calc_terms.specs.Trees.{add, count, are_rationals, size};
 ghost use Rattle.like_children.specs.Neighbours.{IsPairAt, IsNextPair, NoPairBetween};
 ghost use Rattle.node_pool.specs.State.{free_of};
-ghost use Rattle.number_forms.specs.Lacks.{LacksBelow};
+ghost use Rattle.tree_handles.specs.Lacking.{LacksBelow};
 ghost use Rattle.number_forms.specs.Sums.{removed};
 ghost use Rattle.sum_reduce.specs.Arranging.{IsLed, IsArranged, IsSettled, AnswersFold};
 ghost use Rattle.sum_reduce.specs.Bits.{HaveFewBits};

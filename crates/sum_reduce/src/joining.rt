@@ -13,7 +13,7 @@ ghost use Rattle.coefficients.specs.Rooms.{LacksRoom};
 ghost use Rattle.like_children.specs.Neighbours.{IsPairAt};
 ghost use Rattle.node_pool.specs.State.{free_of};
 ghost use Rattle.number_forms.specs.Answers.{IsNumberOver};
-ghost use Rattle.number_forms.specs.Lacks.{LacksBelow};
+ghost use Rattle.tree_handles.specs.Lacking.{LacksBelow};
 ghost use Rattle.number_forms.specs.Sums.{removed};
 ghost use Rattle.sum_reduce.specs.Bits.{HaveFewBits};
 ghost use Rattle.sum_reduce.specs.Joining.{IsJoining};

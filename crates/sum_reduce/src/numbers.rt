@@ -6,7 +6,7 @@ ghost use Rattle.calc_room.specs.Spans.{SpansTrees};
 ghost use Rattle.calc_terms.specs.Trees.{add, count, are_rationals};
 ghost use Rattle.like_children.specs.Numbers.{IsNextNumber};
 ghost use Rattle.node_pool.specs.State.{free_of};
-ghost use Rattle.number_forms.specs.Lacks.{LacksBelow};
+ghost use Rattle.tree_handles.specs.Lacking.{LacksBelow};
 ghost use Rattle.sum_reduce.specs.Arranging.{IsLed, IsNumbered, AnswersFold};
 ghost use Rattle.sum_reduce.specs.Bits.{HaveFewBits};
 ghost use Rattle.sum_reduce.specs.Overflows.{Overflows};

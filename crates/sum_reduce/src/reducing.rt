@@ -8,7 +8,7 @@ ghost use Rattle.calc_room.specs.Spans.{SpansTree};
 ghost use Rattle.calc_terms.specs.Trees.{count, is_add, are_rationals, has_undef, size};
 ghost use Rattle.node_pool.specs.State.{free_of};
 ghost use Rattle.number_forms.specs.Answers.{AnswersRationals};
-ghost use Rattle.number_forms.specs.Lacks.{LacksBelow};
+ghost use Rattle.tree_handles.specs.Lacking.{LacksBelow};
 ghost use Rattle.sum_reduce.specs.Collected.{others_in, AreUnlike, IsWrittenSum};
 ghost use Rattle.sum_reduce.specs.Overflows.{Overflows};
 ghost use Rattle.sum_reduce.specs.SumAnswers.{IsSumAnswer, IsCollected};

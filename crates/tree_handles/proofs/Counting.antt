@@ -1,5 +1,5 @@
 -- Trees, counted one after another.
-use Rattle.std.proofs.Common.{◌≡◌, ℕ, ◌+◌, ◌-◌, ◌<◌, ◌≤◌, List, [], ◌∷◌, ap, arith, length}
+use Rattle.std.proofs.Common.{◌≡◌, ℕ, ◌+◌, ◌<◌, ◌≤◌, List, [], ◌∷◌, ap, arith, length}
 use Rattle.calc_terms.specs.Node.{Node}
 use Rattle.node_pool.specs.Nodes.{used, first_of}
 use Rattle.node_pool.specs.Places.{since, IsBoundary}

@@ -36,3 +36,9 @@ pub mod Depths
 pub mod Dropping
 pub mod Counting
 pub mod Orders
+pub mod Refused
+pub mod Beside
+pub mod FreeBytes
+pub mod Cuts
+pub mod Over
+pub mod Seen

@@ -1,5 +1,5 @@
 -- Walks that measure a tree.
-use Rattle.std.proofs.Common.{◌≡◌, ℕ, suc, ◌+◌, ◌-◌, ◌≤◌, List, ◌∷◌, ◌++◌, length, cond, eqb, ap, ◌∙◌, arith, true}
+use Rattle.std.proofs.Common.{◌≡◌, ℕ, suc, ◌+◌, ◌≤◌, List, ◌∷◌, ◌++◌, length, cond, eqb, ap, ◌∙◌, arith, true}
 use Rattle.calc_terms.specs.Node.{Node}
 use Rattle.node_pool.specs.Nodes.{used, place_of}
 use Rattle.node_pool.specs.Places.{since}

@@ -1,5 +1,5 @@
 -- Bytes and places of the trees that stand first.
-use Rattle.std.proofs.Common.{◌≡◌, ℕ, ◌+◌, ◌-◌, List, [], ◌∷◌, ◌++◌, cond, eqb, refl, sym, ap, ◌∙◌, arith, true, false}
+use Rattle.std.proofs.Common.{◌≡◌, ℕ, ◌+◌, ◌-◌, List, [], ◌∷◌, ◌++◌, cond, eqb, refl, ap, ◌∙◌, true}
 use Rattle.calc_terms.specs.Node.{Node, size_of}
 use Rattle.node_pool.specs.Nodes.{has, place_of, used}
 use Rattle.node_pool.specs.State.{State, free_of}

@@ -2,7 +2,6 @@
 use Rattle.std.proofs.Common.{◌≡◌, ℕ, ◌+◌, ◌≤◌, true, ap, arith}
 use Rattle.calc_terms.specs.Trees.{Tree, num, symbol, undef, add, mult, power, root, neg, sub, div, size}
 use Rattle.calc_terms.proofs.Sizes.{num_least}
-use Rattle.calc_terms.specs.declared.kind.Kind.TheVariants as kind
 use Rattle.node_pool.specs.State.{State, free_of}
 use Rattle.tree_handles.specs.Expressions.{plain}
 use Rattle.tree_handles.specs.Forest.{Forest, tree, bytes_in}

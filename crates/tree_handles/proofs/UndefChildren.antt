@@ -1,6 +1,5 @@
 -- Undef among the children of a node.
 use Rattle.std.proofs.Common.{ℕ, zero, suc, ◌<◌, ◌≤◌, ◌≡◌, Bool, true, false, ◌||◌, refl, ap, ◌∙◌, arith}
-use Rattle.std.proofs.lemmas.Bool.{and_parts}
 use Rattle.calc_terms.specs.Trees.{Tree, undef, Trees, none, more, count, is_undef, IsPartOf, itself, first, later, has_undef}
 use Rattle.tree_handles.specs.Expressions.{nth}
 

@@ -1,5 +1,5 @@
 -- Steps over nodes.
-use Rattle.std.proofs.Common.{◌≡◌, ℕ, zero, suc, ◌+◌, ◌-◌, ◌<◌, ◌≤◌, List, [], ◌∷◌, refl, sym, ap, ◌∙◌}
+use Rattle.std.proofs.Common.{◌≡◌, ℕ, zero, suc, ◌≤◌, List, [], refl, sym, ap, ◌∙◌}
 use Rattle.calc_terms.specs.declared.leaf.Header.{Header}
 use Rattle.calc_terms.specs.Node.{Node, size_of, header_of, size_of_header}
 use Rattle.node_pool.specs.Nodes.{used, first_of}

@@ -1,6 +1,6 @@
 -- A name is replaced in the last tree: how it begins, goes on and ends, and what finds room.
-use Rattle.std.proofs.Common.{◌≡◌, ℕ, zero, suc, ◌+◌, ◌-◌, ◌<◌, ◌≤◌, List, [], ◌∷◌, ◌++◌, length, leb, refl, sym, ap, ◌∙◌, subst, arith, append_assoc, append-nil, inl, inr, true, false}
-use Rattle.std.specs.Prelude.{Result, Ok, Err, IsErr, IsErrAnd, IfErr}
+use Rattle.std.proofs.Common.{◌≡◌, ℕ, zero, suc, ◌+◌, ◌-◌, ◌<◌, ◌≤◌, List, ◌∷◌, ◌++◌, length, leb, refl, sym, ap, ◌∙◌, subst, arith, append_assoc, append-nil, inl, inr, true, false, []}
+use Rattle.std.specs.Prelude.{Ok, Err}
 use Rattle.std.proofs.lemmas.Bool.{le-leb, lt-leb}
 use Rattle.std.proofs.lemmas.List.{length-append}
 use Rattle.calc_terms.specs.Payload.{Payload, rational, named, bare}
@@ -272,7 +272,3 @@ leaf_done {i = i} {x = x} {u = u} {s = s} {t = t} {v = v} l ss st sv g c a b e =
     }
 
 -- ---- results
-
-pub passed_on : {A : Type 0} (r : Result A Full) (e : Full) (P : Full → Type 0) → IsErr r → IsErrAnd r (λ x. x ≡ e) → P e → IfErr r P
-passed_on (Ok x) e P h a p = let no : false ≡ true = h in cc
-passed_on (Err f) e P h a p = subst P (sym a) p

@@ -4,7 +4,7 @@ use Rattle.calc_terms.specs.Trees.{Tree}
 use Rattle.tree_handles.specs.Standing.{forest}
 use Rattle.coefficients.proofs.Lengths.{long}
 use Rattle.coefficients.proofs.Places.{two_children}
-use Rattle.coefficients.proofs.Steps.{product_kind}
+use Rattle.tree_handles.proofs.Seen.{product_kind}
 use Rattle.coefficients.proofs.multiples.is_led_by_sum.Goals as goal
 
 pub child_id-first-requires-clause-within : goal.child_id-first-requires-clause-within

@@ -1,4 +1,4 @@
-use Rattle.std.proofs.Common.{ap, ◌∙◌, sym, refl}
+use Rattle.std.proofs.Common.{ap, ◌∙◌, sym, refl, arith}
 use Rattle.calc_terms.specs.Payload.{rational}
 use Rattle.calc_terms.specs.Rat.{ratio_of, value_of}
 use Rattle.calc_terms.specs.Fractions.{Fraction}
@@ -9,8 +9,8 @@ use Rattle.tree_handles.specs.Handed.{tree_of}
 use Rattle.tree_handles.proofs.Fronts.{behind_first, front_after, front_at, front_same, front_without}
 use Rattle.tree_handles.proofs.Given.{gives_as, owned}
 use Rattle.coefficients.proofs.LedFactors.{times_number, times_product, times_other}
-use Rattle.coefficients.proofs.Steps.{live, seen, kind_of_root, product_kind, if_map}
-use Rattle.std.proofs.Common.{arith}
+use Rattle.tree_handles.proofs.Seen.{live, seen, kind_of_root, product_kind}
+use Rattle.tree_handles.proofs.Outcomes.{if_map}
 use Rattle.coefficients.proofs.Free.{number_refused, released_free}
 use Rattle.coefficients.proofs.Lacks.{refusal_lacks}
 use Rattle.coefficients.proofs.multiples.rational_times.Goals as goal

@@ -14,8 +14,8 @@ use Rattle.tree_handles.proofs.Fronts.{behind_first, front_after_one}
 use Rattle.tree_handles.proofs.Given.{gives_as, given_handed, given_root, owned}
 use Rattle.coefficients.proofs.LedFactors.{first_led, first_seen, led_taken, led_dropped, added_front, times_to_one, times_to_other, times_unled}
 use Rattle.coefficients.proofs.Lengths.{long}
-use Rattle.coefficients.proofs.Places.{over_product, over_handed, over_plain, without_put}
-use Rattle.coefficients.proofs.Steps.{expression, children_at}
+use Rattle.tree_handles.proofs.Over.{over_product, over_handed, over_plain, without_put, children_at}
+use Rattle.tree_handles.proofs.Seen.{expression}
 use Rattle.coefficients.proofs.Free.{left_free, number_refused, released_free}
 use Rattle.coefficients.proofs.Lacks.{refusal_lacks}
 use Rattle.coefficients.proofs.multiples.rational_times_factors.Goals as goal

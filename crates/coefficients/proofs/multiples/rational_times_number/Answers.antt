@@ -1,4 +1,4 @@
-use Rattle.std.proofs.Common.{ap, ◌∙◌, refl, sym, subst, arith}
+use Rattle.std.proofs.Common.{ap, ◌∙◌, refl, sym, subst, arith, ◌+◌, ◌*◌, ◌^◌, ◌<◌, length}
 use Rattle.calc_terms.specs.Rat.{value_of}
 use Rattle.calc_algebra.specs.Reduced.{is_reduced}
 use Rattle.tree_handles.proofs.Forests.{keeps_none, keeps_after}
@@ -8,10 +8,9 @@ use Rattle.coefficients.specs.Multiples.{mapped, rational_times}
 use Rattle.coefficients.proofs.Loops.{none_done, next_term, next_within, back_within, next_taken, next_done, all_done, part_front}
 use Rattle.coefficients.specs.Overflows.{Leads, LeadsIn}
 use Rattle.coefficients.proofs.Named.{passed_named, multiple_of, leads_behind}
-use Rattle.coefficients.proofs.Places.{over_sum}
+use Rattle.tree_handles.proofs.Over.{over_sum, children_at, children_in, moved, moved_front}
 use Rattle.coefficients.proofs.Rewritten.{given_as, over_back, apart_back, front_lost, term_reduced}
-use Rattle.coefficients.proofs.Steps.{live, children_at, children_in, moved, moved_front}
-use Rattle.std.proofs.Common.{◌+◌, ◌*◌, ◌^◌, ◌<◌, length}
+use Rattle.tree_handles.proofs.Seen.{live}
 use Rattle.calc_room.specs.Spans.{SpansTree}
 use Rattle.calc_terms.specs.Trees.{Tree, add, size, sizes}
 use Rattle.calc_algebra.specs.Numbers.{is_number}

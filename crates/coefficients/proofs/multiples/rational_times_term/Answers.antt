@@ -1,7 +1,7 @@
-use Rattle.std.proofs.Common.{ap, ◌∙◌, sym, refl, subst, arith}
+use Rattle.std.proofs.Common.{ap, ◌∙◌, sym, refl, subst, arith, true, false, ◌≡◌, ◌+◌, ◌^◌, ◌<◌, length}
 use Rattle.calc_terms.specs.Rat.{value_of}
 use Rattle.calc_algebra.specs.Reduced.{is_reduced}
-use Rattle.calc_terms.specs.Trees.{Tree, add, none, is_add}
+use Rattle.calc_terms.specs.Trees.{Tree, add, none, is_add, size}
 use Rattle.tree_handles.specs.Expressions.{children_of}
 use Rattle.tree_handles.proofs.Fronts.{front_same}
 use Rattle.tree_handles.proofs.Given.{gives_as, given_handed, given_root, given_told}
@@ -10,14 +10,13 @@ use Rattle.coefficients.specs.Multiples.{leads_sum, rational_times_number}
 use Rattle.coefficients.specs.Overflows.{Leads, LeadsIn}
 use Rattle.coefficients.proofs.Named.{passed_named, multiple_of, leads_coefficient}
 use Rattle.coefficients.proofs.LedFactors.{sum_led, led_over, led_reduced, times_led, times_sum_unled}
-use Rattle.coefficients.proofs.Places.{taken}
+use Rattle.tree_handles.proofs.Over.{taken, children_in, moved, moved_front}
 use Rattle.coefficients.proofs.Rewritten.{given_as, over_back, apart_back, put_back, front_lost}
-use Rattle.coefficients.proofs.Steps.{expression, seen, children_in, if_map, moved, moved_front}
-use Rattle.std.proofs.Common.{true, false, ◌≡◌, ◌+◌, ◌^◌, ◌<◌, length}
+use Rattle.tree_handles.proofs.Seen.{expression, seen}
+use Rattle.tree_handles.proofs.Outcomes.{if_map}
 use Rattle.calc_algebra.specs.Numbers.{is_number}
 use Rattle.calc_room.specs.Counts.{counted}
 use Rattle.calc_room.specs.Spans.{SpansTree}
-use Rattle.calc_terms.specs.Trees.{size}
 use Rattle.coefficients.proofs.Free.{taken_free}
 use Rattle.coefficients.proofs.Lacks.{passed_lacks}
 use Rattle.coefficients.proofs.Rooms.{coefficient_lacks}

@@ -8,7 +8,8 @@ use Rattle.tree_handles.proofs.Given.{gives, represents_handed, represents_node,
 use Rattle.tree_handles.proofs.Lasts.{last_held, last_apart, other_root}
 use Rattle.coefficients.proofs.Bytes.{product_bytes, other_bytes, always, never, no_bytes, refused_once}
 use Rattle.coefficients.proofs.Factors.{single_factors}
-use Rattle.coefficients.proofs.Steps.{live, kind_of_root, product_kind, no_product_kind, product_factors}
+use Rattle.coefficients.proofs.Steps.{product_factors}
+use Rattle.tree_handles.proofs.Seen.{live, kind_of_root, product_kind, no_product_kind}
 use Rattle.coefficients.proofs.products.as_product.Goals as goal
 
 pub kind-requires-clause-live : goal.kind-requires-clause-live

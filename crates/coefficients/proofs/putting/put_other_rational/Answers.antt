@@ -3,7 +3,8 @@ use Rattle.calc_terms.specs.Rat.{value_of}
 use Rattle.tree_handles.proofs.Given.{gives_as}
 use Rattle.coefficients.proofs.Named.{result_named, names_sum}
 use Rattle.coefficients.proofs.Puttings.{before_sum, before_other}
-use Rattle.coefficients.proofs.Steps.{live, kind_of_root, sum_kind, no_sum_kind, if_map}
+use Rattle.tree_handles.proofs.Seen.{live, kind_of_root, sum_kind, no_sum_kind}
+use Rattle.tree_handles.proofs.Outcomes.{if_map}
 use Rattle.coefficients.proofs.Lacks.{refusal_lacks}
 use Rattle.coefficients.proofs.Rooms.{part_lacks}
 use Rattle.node_pool.specs.State.{free_of}

@@ -11,7 +11,7 @@ use Rattle.tree_handles.proofs.Roots.{tree-without}
 use Rattle.coefficients.specs.Coefficients.{factors_of}
 use Rattle.coefficients.proofs.Factors.{single_factors}
 use Rattle.coefficients.proofs.FirstFactors.{product_children}
-use Rattle.coefficients.proofs.Steps.{live, kind_of_root, product_kind, no_product_kind}
+use Rattle.tree_handles.proofs.Seen.{live, kind_of_root, product_kind, no_product_kind}
 use Rattle.coefficients.proofs.splicing.splice.Goals as goal
 
 pub kind-requires-clause-live : goal.kind-requires-clause-live

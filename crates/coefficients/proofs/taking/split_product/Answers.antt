@@ -1,5 +1,5 @@
 use Rattle.tree_handles.proofs.Fronts.{behind_first, front_same, front_end, front_put, front_without}
-use Rattle.coefficients.proofs.Places.{over_product, over_put, over_end}
+use Rattle.tree_handles.proofs.Over.{over_product, over_put, over_end}
 use Rattle.coefficients.proofs.Steps.{leaves_two}
 use Rattle.coefficients.proofs.taking.split_product.Goals as goal
 

@@ -1,4 +1,5 @@
 use Rattle.std.proofs.Common.{◌≤◌, ◌∙◌, ap, refl, sym, subst}
+use Rattle.tree_handles.proofs.Beside.{gives_without}
 use Rattle.calc_algebra.specs.Reduced.{product_tree}
 use Rattle.calc_terms.specs.Trees.{Tree, num, count, is_mult}
 use Rattle.tree_handles.specs.Expressions.{plain, children_of}
@@ -10,7 +11,8 @@ use Rattle.tree_handles.specs.Roots.{without_root}
 use Rattle.tree_handles.specs.Standing.{forest}
 use Rattle.coefficients.proofs.Bytes.{taking_product, taking_other, as_bytes, never, refused_once, short, short_as, passed_short}
 use Rattle.coefficients.proofs.Lengths.{some_factors, product_coefficient, product_part, other_coefficient, other_part}
-use Rattle.coefficients.proofs.Steps.{live, kind_of_root, product_kind, no_product_kind, gives_without, one_value, one_size}
+use Rattle.coefficients.proofs.Steps.{one_value, one_size}
+use Rattle.tree_handles.proofs.Seen.{live, kind_of_root, product_kind, no_product_kind}
 use Rattle.coefficients.proofs.taking.take_coefficient.Goals as goal
 
 pub kind-requires-clause-live : goal.kind-requires-clause-live
@@ -60,7 +62,7 @@ returns-in_ok-one-in_default c =
     record {
       ok = record {
         between = without_root c.args.term (forest c.number.new.pool);
-        first-given = gives_as (gives_without c.args.term one.given c.requires.handed.root) refl (λ t e. e ∙ ap num (one_value c.whole.result c.whole.ensures) ∙ other_coefficient _ m);
+        first-given = gives_as (gives_without c.args.term one.given c.requires.handed.root refl) refl (λ t e. e ∙ ap num (one_value c.whole.result c.whole.ensures) ∙ other_coefficient _ m);
         second-given = gives c.move_last.ensures.last (represents_handed (given_other one.given c.requires.handed)) (ap plain (given_same c.args.term one.given c.requires.handed.root) ∙ other_part _ m);
       };
       front = front_end c.move_last.ensures.last (front_without behind_first (front_end one.ok front_same));

@@ -15,8 +15,10 @@ use Rattle.coefficients.specs.Pairs.{LeavesRest}
 use Rattle.tree_handles.proofs.Forests.{keeps_after}
 use Rattle.coefficients.proofs.Bytes.{none_bytes, one_bytes, two_bytes, pair_free, always, never, no_bytes, as_bytes, refused_once, short, passed_short, result_short}
 use Rattle.coefficients.proofs.Lengths.{long, measured}
-use Rattle.coefficients.proofs.Places.{IsOver, over_product}
-use Rattle.coefficients.proofs.Steps.{expression, seen, length_seen, children_in, leaves_one, first_taken, pair_taken, pair_front, paired, if_map, one_value, one_size}
+use Rattle.tree_handles.proofs.Over.{IsOver, over_product, children_in}
+use Rattle.coefficients.proofs.Steps.{length_seen, leaves_one, first_taken, pair_taken, pair_front, paired, one_value, one_size}
+use Rattle.tree_handles.proofs.Seen.{expression, seen}
+use Rattle.tree_handles.proofs.Outcomes.{if_map}
 use Rattle.coefficients.proofs.taking.take_leading.Goals as goal
 
 pub coefficient_length-length-requires-clause-expression : goal.coefficient_length-length-requires-clause-expression

@@ -17,15 +17,15 @@ use Rattle.deep_reduce.proofs.Quotients.{div_answer, div_overflow, inverse_overf
 use Rattle.deep_reduce.proofs.Told.{answer_at, overflow_at, div_is, div_children, right_reduced, left_reduced}
 use Rattle.calc_room.specs.Counts.{counted}
 use Rattle.calc_room.specs.Spans.{SpansTree}
-use Rattle.coefficients.proofs.Steps.{expression, seen}
+use Rattle.tree_handles.proofs.Seen.{expression, seen}
 use Rattle.deep_reduce.specs.Nodes.{IsNodeAnswer}
 use Rattle.deep_reduce.specs.Rooms.{IsCalmAtZero}
 use Rattle.deep_reduce.proofs.Lacking.{lacks_as, result_lacks}
 use Rattle.deep_reduce.proofs.NodeBytes.{quotient_sides, right_inverse_lacks, quotient_fits, quotient_keeps, sides_free}
 use Rattle.reduce_walk.proofs.Walks.{stands_last}
 use Rattle.node_pool.specs.State.{free_of}
-use Rattle.number_forms.proofs.FreeBytes.{replaced_free}
-use Rattle.number_forms.proofs.Overflows.{passed_on}
+use Rattle.tree_handles.proofs.FreeBytes.{replaced_free}
+use Rattle.tree_handles.proofs.Outcomes.{passed_on}
 use Rattle.tree_room.specs.Handed.{product_count}
 use Rattle.tree_room.specs.Needs.{product_room, product_power_room}
 use Rattle.deep_reduce.proofs.differences.divide.Goals as goal

@@ -11,8 +11,8 @@ use Rattle.deep_reduce.proofs.Lacking.{result_lacks}
 use Rattle.deep_reduce.proofs.NodeBytes.{inverse_lacks, inverse_calm, inverse_spans}
 use Rattle.deep_reduce.proofs.PowerBytes.{needs_most}
 use Rattle.node_pool.specs.State.{free_of}
-use Rattle.number_forms.proofs.FreeBytes.{both_replaced_free, refused_below}
-use Rattle.number_forms.proofs.Overflows.{passed_on}
+use Rattle.tree_handles.proofs.FreeBytes.{both_replaced_free, refused_below}
+use Rattle.tree_handles.proofs.Outcomes.{passed_on}
 use Rattle.power_reduce.proofs.Whole.{whole_is}
 use Rattle.tree_handles.specs.declared.fault.NumberFault.TheVariants as fault
 use Rattle.tree_handles.proofs.Room.{given_free}

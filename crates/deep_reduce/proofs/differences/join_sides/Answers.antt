@@ -2,15 +2,14 @@ use Rattle.std.proofs.Common.{◌≡◌, ◌⊎◌, ℕ, length, ◌<◌, ◌+�
 use Rattle.calc_algebra.specs.Reduced.{is_reduced, are_reduced}
 use Rattle.calc_room.specs.Spans.{SpansTree}
 use Rattle.calc_terms.specs.Payload.{bare, size_of_payload}
-use Rattle.calc_terms.specs.Trees.{Tree, is_add, is_mult, size}
+use Rattle.calc_terms.specs.Trees.{Tree, is_add, is_mult, size, has_undef}
 use Rattle.deep_reduce.specs.NodeRooms.{factors_room}
 use Rattle.deep_reduce.specs.Rooms.{IsCalmAtZero}
-use Rattle.calc_terms.specs.Trees.{has_undef}
 use Rattle.deep_reduce.specs.NodeBits.{HoldsNode}
 use Rattle.deep_reduce.proofs.Lacking.{result_lacks}
 use Rattle.deep_reduce.proofs.NodeBytes.{sum_node_lacks, product_node_lacks}
-use Rattle.number_forms.proofs.FreeBytes.{both_replaced_free, refused_below}
-use Rattle.number_forms.proofs.Overflows.{passed_on}
+use Rattle.tree_handles.proofs.FreeBytes.{both_replaced_free, refused_below}
+use Rattle.tree_handles.proofs.Outcomes.{passed_on}
 use Rattle.tree_handles.specs.declared.fault.NumberFault.TheVariants as fault
 use Rattle.tree_room.specs.Handed.{sum_count}
 use Rattle.tree_room.specs.Needs.{sum_room}

@@ -6,18 +6,17 @@ use Rattle.calc_terms.specs.Rat.{ratio_of, value_of}
 use Rattle.coefficients.proofs.Free.{number_refused}
 use Rattle.deep_reduce.specs.NodeRooms.{factors_room}
 use Rattle.deep_reduce.specs.Rooms.{IsCalmAtZero}
-use Rattle.calc_terms.specs.Trees.{has_undef}
+use Rattle.calc_terms.specs.Trees.{has_undef, Tree, num, is_mult, size}
 use Rattle.deep_reduce.specs.NodeBits.{HoldsNode}
 use Rattle.deep_reduce.proofs.NodeBits.{opposite_factors, second_side}
 use Rattle.deep_reduce.proofs.Lacking.{result_lacks}
 use Rattle.deep_reduce.proofs.NodeBytes.{opposite_lacks, opposite_calm, opposite_spans, opposite_fits}
 use Rattle.node_pool.specs.State.{free_of}
-use Rattle.number_forms.proofs.FreeBytes.{both_replaced_free, refused_below}
-use Rattle.number_forms.proofs.Overflows.{passed_on}
+use Rattle.tree_handles.proofs.FreeBytes.{both_replaced_free, refused_below}
+use Rattle.tree_handles.proofs.Outcomes.{passed_on}
 use Rattle.tree_handles.specs.declared.fault.NumberFault.TheVariants as fault
 use Rattle.tree_handles.proofs.Room.{given_free}
 use Rattle.calc_terms.specs.Fractions.{minus_one_fraction}
-use Rattle.calc_terms.specs.Trees.{Tree, num, is_mult, size}
 use Rattle.calc_terms.specs.declared.kind.Kind.TheVariants as kind
 use Rattle.calc_algebra.specs.Reduced.{are_reduced}
 use Rattle.tree_handles.specs.Handed.{tree_of}

@@ -1,16 +1,15 @@
 use Rattle.std.proofs.Common.{rules, inl, length, ◌<◌, ◌+◌, ◌^◌, sym, ap, ◌∙◌, subst, arith}
 use Rattle.calc_algebra.specs.Reduced.{is_reduced}
-use Rattle.calc_terms.specs.Trees.{Tree, neg, count, size}
+use Rattle.calc_terms.specs.Trees.{Tree, neg, count, size, is_undef, has_undef}
 use Rattle.calc_room.specs.Counts.{counted}
 use Rattle.calc_room.specs.Spans.{SpansTree}
 use Rattle.deep_reduce.specs.Rooms.{IsCalmAtZero}
-use Rattle.calc_terms.specs.Trees.{is_undef, has_undef}
 use Rattle.product_reduce.specs.Bits.{IsFactorHeld}
 use Rattle.deep_reduce.proofs.NodeBits.{opposite_holds, only_undef}
 use Rattle.deep_reduce.proofs.Lacking.{result_lacks}
 use Rattle.deep_reduce.proofs.NodeBytes.{negated_calm, negated_spans, negated_fits}
 use Rattle.node_pool.specs.State.{free_of}
-use Rattle.number_forms.proofs.FreeBytes.{replaced_free}
+use Rattle.tree_handles.proofs.FreeBytes.{replaced_free}
 use Rattle.tree_room.specs.Needs.{product_room}
 use Rattle.tree_handles.proofs.Forests.{keeps_after}
 use Rattle.tree_handles.specs.Handed.{tree_of}

@@ -13,15 +13,15 @@ use Rattle.deep_reduce.proofs.Steps.{undefined_answer, sub_answer, sub_overflow,
 use Rattle.deep_reduce.proofs.Told.{answer_at, overflow_at, sub_is, sub_children, right_reduced, left_reduced}
 use Rattle.calc_room.specs.Counts.{counted}
 use Rattle.calc_room.specs.Spans.{SpansTree}
-use Rattle.coefficients.proofs.Steps.{expression, seen}
+use Rattle.tree_handles.proofs.Seen.{expression, seen}
 use Rattle.deep_reduce.specs.Nodes.{IsNodeAnswer}
 use Rattle.deep_reduce.specs.Rooms.{IsCalmAtZero}
 use Rattle.deep_reduce.proofs.Lacking.{lacks_as, result_lacks}
 use Rattle.deep_reduce.proofs.NodeBytes.{difference_sides, right_opposite_lacks, difference_fits, difference_keeps, sides_free}
 use Rattle.reduce_walk.proofs.Walks.{stands_last}
 use Rattle.node_pool.specs.State.{free_of}
-use Rattle.number_forms.proofs.FreeBytes.{replaced_free}
-use Rattle.number_forms.proofs.Overflows.{passed_on}
+use Rattle.tree_handles.proofs.FreeBytes.{replaced_free}
+use Rattle.tree_handles.proofs.Outcomes.{passed_on}
 use Rattle.tree_room.specs.Handed.{sum_count}
 use Rattle.tree_room.specs.Needs.{sum_room, product_room}
 use Rattle.deep_reduce.proofs.differences.subtract.Goals as goal

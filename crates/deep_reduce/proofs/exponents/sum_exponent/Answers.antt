@@ -1,12 +1,12 @@
 use Rattle.std.proofs.Common.{rules, ap, sym, ◌∙◌, refl, arith, subst}
 use Rattle.calc_terms.specs.Trees.{Tree, count, is_add}
 use Rattle.coefficients.proofs.Rewritten.{over_back, apart_back, put_back, front_lost}
-use Rattle.coefficients.proofs.Steps.{children_in, moved, moved_front}
+use Rattle.tree_handles.proofs.Over.{children_in, moved, moved_front}
 use Rattle.deep_reduce.proofs.JointRooms.{sum_keeps}
 use Rattle.deep_reduce.proofs.Lacking.{exponent_lacks, exponent_spans}
 use Rattle.coefficients.proofs.Free.{taken_free}
 use Rattle.calc_room.specs.Spans.{SpansTree}
-use Rattle.number_forms.proofs.Overflows.{passed_on}
+use Rattle.tree_handles.proofs.Outcomes.{passed_on}
 use Rattle.node_pool.specs.State.{free_of}
 use Rattle.deep_reduce.proofs.Children.{over_power, power_of_sum, exponent_taken, itself}
 use Rattle.power_reduce.specs.PowerAnswers.{exponent_in}

@@ -1,6 +1,7 @@
 use Rattle.std.proofs.Common.{refl, sym, ap, ◌∙◌, arith}
 use Rattle.calc_algebra.specs.Reduced.{is_half_num}
-use Rattle.coefficients.proofs.Steps.{children_at, expression}
+use Rattle.tree_handles.proofs.Over.{children_at}
+use Rattle.tree_handles.proofs.Seen.{expression}
 use Rattle.deep_reduce.proofs.Children.{over_power}
 use Rattle.deep_reduce.proofs.Nested.{exponent_at}
 use Rattle.deep_reduce.proofs.halves.has_half_exponent.Goals as goal

@@ -8,7 +8,7 @@ use Rattle.power_reduce.specs.PowerAnswers.{base_in, exponent_in}
 use Rattle.reduce_port.specs.Steps.{IfDone}
 use Rattle.reduce_port.specs.declared.step.Step.{Step}
 use Rattle.tree_handles.specs.Handed.{tree_of}
-use Rattle.number_forms.proofs.Overflows.{passed_on}
+use Rattle.tree_handles.proofs.Outcomes.{passed_on}
 use Rattle.tree_handles.proofs.Given.{given_told}
 use Rattle.deep_reduce.proofs.halves.last_step.Goals as goal
 

@@ -8,11 +8,11 @@ use Rattle.calc_room.specs.Spans.{SpansTree}
 use Rattle.coefficients.proofs.Free.{taken_free}
 use Rattle.deep_reduce.proofs.HalfRooms.{root_lacks}
 use Rattle.node_pool.specs.State.{free_of}
-use Rattle.number_forms.proofs.Overflows.{passed_on}
+use Rattle.tree_handles.proofs.Outcomes.{passed_on}
 use Rattle.calc_algebra.specs.Reduced.{is_reduced}
 use Rattle.calc_terms.specs.Trees.{Tree, is_root}
 use Rattle.coefficients.proofs.Rewritten.{over_back, apart_back, put_back, front_lost}
-use Rattle.coefficients.proofs.Steps.{children_in, moved, moved_front}
+use Rattle.tree_handles.proofs.Over.{children_in, moved, moved_front}
 use Rattle.deep_reduce.proofs.Children.{over_power, base_taken, itself}
 use Rattle.radical_forms.specs.RootAnswers.{argument_of, IfRational, IsRootAnswer}
 use Rattle.tree_handles.specs.Handed.{tree_of}

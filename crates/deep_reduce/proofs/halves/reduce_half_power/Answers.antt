@@ -8,15 +8,15 @@ use Rattle.deep_reduce.proofs.Defined.{any_fault, any_refusal, misfit_fault, hal
 use Rattle.deep_reduce.proofs.HalfRooms.{step_finds_none, base_finds_none, last_step, last_finds_none}
 use Rattle.deep_reduce.proofs.HeldRoots.{half_no_whole, half_fits, if_two}
 use Rattle.number_forms.specs.Readers.{numerator}
-use Rattle.number_forms.proofs.Loops.{gives_itself}
+use Rattle.tree_handles.proofs.Beside.{gives_itself}
 use Rattle.power_reduce.specs.Bits.{IsHeldAsPowerOf}
 use Rattle.product_reduce.specs.Bits.{IsFactorHeld}
 use Rattle.radical_forms.specs.RootAnswers.{argument_of}
 use Rattle.deep_reduce.proofs.Lacking.{lacks_as}
 use Rattle.deep_reduce.proofs.Opened.{power_finished}
 use Rattle.node_pool.specs.State.{free_of}
-use Rattle.number_forms.proofs.FreeBytes.{replaced_free}
-use Rattle.number_forms.proofs.Overflows.{passed_on}
+use Rattle.tree_handles.proofs.FreeBytes.{replaced_free}
+use Rattle.tree_handles.proofs.Outcomes.{passed_on}
 use Rattle.number_forms.proofs.Rooms.{refusal_as}
 use Rattle.tree_handles.proofs.Forests.{keeps_after}
 use Rattle.power_reduce.specs.PowerAnswers.{base_in, exponent_in}

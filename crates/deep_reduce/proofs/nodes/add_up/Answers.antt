@@ -1,15 +1,13 @@
-use Rattle.std.proofs.Common.{rules, ◌≡◌, ◌^◌, length, ap, ◌∙◌, sym, refl, arith}
-use Rattle.std.proofs.Common.{ℕ, false}
-use Rattle.calc_terms.specs.Trees.{has_undef}
+use Rattle.std.proofs.Common.{rules, ◌≡◌, ◌^◌, length, ap, ◌∙◌, sym, refl, arith, ℕ, false}
+use Rattle.calc_terms.specs.Trees.{has_undef, Tree, count}
 use Rattle.deep_reduce.proofs.HeldFits.{product_fits}
 use Rattle.deep_reduce.proofs.NodeBits.{as_overflow, held_facts, sum_holds}
 use Rattle.tree_bits.specs.Children.{IsSumHeld, addends_of_each}
 use Rattle.tree_bits.specs.HeldTrees.{IsTreeHeld}
 use Rattle.calc_measures.specs.PlainValues.{plain_value}
-use Rattle.calc_terms.specs.Trees.{Tree, count}
 use Rattle.tree_handles.specs.Handed.{tree_of}
 use Rattle.tree_handles.specs.Expressions.{children_of}
-use Rattle.coefficients.proofs.Steps.{live, expression, seen}
+use Rattle.tree_handles.proofs.Seen.{live, expression, seen}
 use Rattle.std.proofs.lemmas.Nat.{pow_pos}
 use Rattle.deep_reduce.specs.Rooms.{KeepsSumRoom}
 use Rattle.deep_reduce.proofs.Lacking.{result_lacks}

@@ -5,7 +5,7 @@ use Rattle.calc_measures.specs.PlainValues.{plain_value}
 use Rattle.calc_terms.specs.Trees.{Tree, count}
 use Rattle.tree_handles.specs.Handed.{tree_of}
 use Rattle.tree_handles.specs.Expressions.{children_of}
-use Rattle.coefficients.proofs.Steps.{live, expression, seen}
+use Rattle.tree_handles.proofs.Seen.{live, expression, seen}
 use Rattle.deep_reduce.proofs.Lacking.{result_lacks}
 use Rattle.deep_reduce.proofs.NodeBytes.{no_factors, some_factors}
 use Rattle.deep_reduce.proofs.Results.{answered, answer_as, overflowed_defined}

@@ -5,7 +5,7 @@ use Rattle.tree_handles.specs.Handed.{tree_of}
 use Rattle.tree_handles.proofs.Forests.{keeps_none}
 use Rattle.tree_handles.proofs.Fronts.{front_same}
 use Rattle.tree_handles.proofs.Given.{gives, represents_handed}
-use Rattle.coefficients.proofs.Steps.{live, kind_of_root}
+use Rattle.tree_handles.proofs.Seen.{live, kind_of_root}
 use Rattle.std.proofs.lemmas.Nat.{pow_pos}
 use Rattle.calc_room.specs.Spans.{SpansTree}
 use Rattle.calc_algebra.specs.Numbers.{value}

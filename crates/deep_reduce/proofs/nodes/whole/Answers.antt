@@ -2,7 +2,7 @@ use Rattle.std.proofs.Common.{arith}
 use Rattle.calc_terms.specs.Payload.{rational}
 use Rattle.calc_terms.specs.Rat.{ratio_of}
 use Rattle.coefficients.proofs.Free.{released_free, number_refused}
-use Rattle.number_forms.proofs.Overflows.{passed_on}
+use Rattle.tree_handles.proofs.Outcomes.{passed_on}
 use Rattle.tree_handles.specs.declared.fault.NumberFault.TheVariants as fault
 use Rattle.tree_handles.proofs.Fronts.{behind_first, front_same, front_at, front_without, front_after}
 use Rattle.tree_handles.proofs.Given.{owned}

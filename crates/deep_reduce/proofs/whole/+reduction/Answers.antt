@@ -1,9 +1,10 @@
 use Rattle.std.proofs.Common.{rules, ◌≡◌, ◌<◌, ◌+◌, ◌^◌, ℕ, length, Bool, true, false, ap, ◌∙◌, refl, sym, subst, arith, Option, IfSome, Err}
 use Rattle.calc_terms.specs.Trees.{Tree, Trees, add, mult, count, is_mult, is_undef, size, power as power_tree}
-use Rattle.coefficients.proofs.Places.{over_product}
+use Rattle.tree_handles.proofs.Over.{over_product, children_at, children_in, moved, moved_front}
 use Rattle.coefficients.proofs.Puttings.{on_ok_after, fault_after}
 use Rattle.coefficients.proofs.Rewritten.{given_back, over_back, apart_back, put_back, front_lost}
-use Rattle.coefficients.proofs.Steps.{live, children_at, children_in, kind_of_root, product_kind, no_product_kind, if_map, moved, moved_front}
+use Rattle.tree_handles.proofs.Seen.{live, kind_of_root, product_kind, no_product_kind}
+use Rattle.tree_handles.proofs.Outcomes.{if_map, passed_on}
 use Rattle.deep_reduce.specs.Answers.{IsReducedProduct, IsReducedPower}
 use Rattle.deep_reduce.specs.Unfinished.{IsSummed, joins_none, joins_then}
 use Rattle.deep_reduce.proofs.Arms.{is_finished, is_gathered, is_at, is_few, is_done, is_again, is_held}
@@ -29,9 +30,8 @@ use Rattle.calc_room.specs.Counts.{counted}
 use Rattle.calc_room.specs.Spans.{SpansTree}
 use Rattle.coefficients.proofs.Free.{taken_free}
 use Rattle.node_pool.specs.State.{free_of}
-use Rattle.number_forms.proofs.FreeBytes.{replaced_free}
-use Rattle.number_forms.proofs.Loops.{gives_itself}
-use Rattle.number_forms.proofs.Overflows.{passed_on}
+use Rattle.tree_handles.proofs.FreeBytes.{replaced_free}
+use Rattle.tree_handles.proofs.Beside.{gives_itself}
 use Rattle.power_reduce.proofs.Exponents.{whole_no_half}
 use Rattle.tree_handles.specs.declared.fault.NumberFault.TheVariants as fault
 use Rattle.deep_reduce.proofs.Opened.{opened, power_after, power_finished}

@@ -19,9 +19,9 @@ use Rattle.expand_forms.proofs.TermBytes.{factors_most}
 use Rattle.expand_forms.proofs.TermReadings.{beside, product_monomial}
 use Rattle.expand_forms.proofs.TreeMonomials.{monomial_times_monomial}
 use Rattle.node_pool.specs.State.{free_of}
-use Rattle.number_forms.specs.Lacks.{OfFull}
-use Rattle.number_forms.proofs.Loops.{gives_rest}
-use Rattle.number_forms.proofs.Overflows.{passed_on}
+use Rattle.tree_handles.specs.Lacking.{OfFull}
+use Rattle.tree_handles.proofs.Beside.{gives_rest}
+use Rattle.tree_handles.proofs.Outcomes.{passed_on}
 use Rattle.number_forms.proofs.SumChanges.{read_expression}
 use Rattle.tree_handles.specs.Expressions.{children_of, nth, plain}
 use Rattle.tree_handles.specs.Forest.{Forest}

@@ -3,7 +3,7 @@ use Rattle.calc_terms.specs.Trees.{Tree, count}
 use Rattle.child_lists.proofs.ListedChildren.{ids_without, lists_at, lists_less}
 use Rattle.expand_forms.proofs.Lacks.{removed_free}
 use Rattle.expand_forms.proofs.Sums.{sum_of_removed, taken_owned}
-use Rattle.number_forms.proofs.Loops.{kept_after}
+use Rattle.tree_handles.proofs.Refused.{kept_after}
 use Rattle.number_forms.proofs.SumChanges.{many_kids, read_expression, same_plain}
 use Rattle.tree_handles.specs.Children.{IsChildAt}
 use Rattle.tree_handles.specs.Expressions.{children_of}

@@ -1,7 +1,7 @@
 use Rattle.std.proofs.Common.{◌*◌, ◌≤◌, rules, refl, sym, subst}
 use Rattle.calc_algebra.specs.Rewritings.{HasNoNewName}
 use Rattle.calc_terms.specs.Trees.{Tree, size}
-use Rattle.coefficients.proofs.Steps.{if_map}
+use Rattle.tree_handles.proofs.Outcomes.{if_map}
 use Rattle.expand_forms.specs.ExpansionRoom.{expansion_room}
 use Rattle.expand_forms.proofs.Names.{expanded_no_new_name}
 use Rattle.expand_forms.proofs.NodeBits.{beyond_bits}

@@ -15,9 +15,9 @@ use Rattle.expand_forms.proofs.ListedTerms.{lists_beside}
 use Rattle.expand_forms.proofs.Rows.{is_nonzero, next_coefficient, rows_next}
 use Rattle.expand_forms.proofs.TermReadings.{beside}
 use Rattle.node_pool.specs.State.{free_of}
-use Rattle.number_forms.specs.Lacks.{OfFull}
-use Rattle.number_forms.proofs.Loops.{gives_rest}
-use Rattle.number_forms.proofs.Overflows.{passed_on}
+use Rattle.tree_handles.specs.Lacking.{OfFull}
+use Rattle.tree_handles.proofs.Beside.{gives_rest}
+use Rattle.tree_handles.proofs.Outcomes.{passed_on}
 use Rattle.number_forms.proofs.Rooms.{full_as}
 use Rattle.tree_handles.specs.Expressions.{IsExpression, plain}
 use Rattle.tree_handles.specs.Forest.{Forest}

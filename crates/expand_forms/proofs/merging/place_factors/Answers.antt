@@ -11,9 +11,9 @@ use Rattle.expand_forms.proofs.Merged.{all_gone, few_merged, merged_all, merged_
 use Rattle.expand_forms.proofs.TermBytes.{factors_most}
 use Rattle.expand_forms.proofs.TermReadings.{drop_length, drop_monomial, has_count}
 use Rattle.node_pool.specs.State.{free_of}
-use Rattle.number_forms.specs.Lacks.{OfFull}
-use Rattle.number_forms.proofs.Loops.{kept_after, kept_same}
-use Rattle.number_forms.proofs.Overflows.{passed_on}
+use Rattle.tree_handles.specs.Lacking.{OfFull}
+use Rattle.tree_handles.proofs.Refused.{kept_after, kept_same}
+use Rattle.tree_handles.proofs.Outcomes.{passed_on}
 use Rattle.tree_handles.specs.Expressions.{plain}
 use Rattle.tree_handles.specs.Inside.{tree_at}
 use Rattle.tree_handles.specs.Standing.{forest}

@@ -4,8 +4,8 @@ use Rattle.expand_forms.specs.ExpansionRoom.{factor_bytes}
 use Rattle.expand_forms.proofs.AddedTrees.{adds_more, adds_none, adopts, can_adopt, node_free}
 use Rattle.expand_forms.proofs.Lacks.{number_refused}
 use Rattle.node_pool.specs.State.{free_of}
-use Rattle.number_forms.proofs.FreeBytes.{refused_below}
-use Rattle.number_forms.proofs.Overflows.{passed_on}
+use Rattle.tree_handles.proofs.FreeBytes.{refused_below}
+use Rattle.tree_handles.proofs.Outcomes.{passed_on}
 use Rattle.tree_handles.specs.Standing.{forest}
 use Rattle.tree_handles.proofs.Fronts.{front_end, front_same}
 use Rattle.tree_handles.proofs.Given.{given_told}

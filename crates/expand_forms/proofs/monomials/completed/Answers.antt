@@ -2,7 +2,8 @@ use Rattle.std.proofs.Common.{rules, ◌≡◌, ◌≤◌, ◌∙◌, ap, refl, 
 use Rattle.calc_algebra.specs.Reduced.{product_tree}
 use Rattle.calc_terms.specs.Rat.{value_of}
 use Rattle.calc_terms.specs.Trees.{Tree, count, is_mult, mult}
-use Rattle.coefficients.proofs.Steps.{expression, live, many_factors, seen}
+use Rattle.coefficients.proofs.Steps.{many_factors}
+use Rattle.tree_handles.proofs.Seen.{expression, live, seen}
 use Rattle.expand_forms.specs.Terms.{led_by}
 use Rattle.expand_forms.proofs.TermReadings.{led_some, led_term}
 use Rattle.tree_handles.specs.Expressions.{children_of}

@@ -7,9 +7,9 @@ use Rattle.expand_forms.specs.Terms.{HasMonomial}
 use Rattle.expand_forms.proofs.AddedTrees.{adopts, can_adopt}
 use Rattle.expand_forms.proofs.TermReadings.{beside, count_factors}
 use Rattle.node_pool.specs.State.{free_of}
-use Rattle.number_forms.specs.Lacks.{OfFull}
-use Rattle.number_forms.proofs.FreeBytes.{refused_below}
-use Rattle.number_forms.proofs.Overflows.{passed_on}
+use Rattle.tree_handles.specs.Lacking.{OfFull}
+use Rattle.tree_handles.proofs.FreeBytes.{refused_below}
+use Rattle.tree_handles.proofs.Outcomes.{passed_on}
 use Rattle.number_forms.proofs.Rooms.{full_as}
 use Rattle.tree_handles.proofs.Fronts.{front_after, front_end, front_same}
 use Rattle.tree_handles.proofs.Given.{given_told}

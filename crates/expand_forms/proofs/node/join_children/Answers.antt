@@ -13,7 +13,7 @@ use Rattle.expand_forms.proofs.SameCoefficients.{times_one_polynomial}
 use Rattle.expand_forms.proofs.TermReadings.{beside}
 use Rattle.expand_forms.proofs.Within.{inside_child, within}
 use Rattle.number_forms.proofs.ByKind.{children_number}
-use Rattle.number_forms.proofs.Loops.{gives_rest}
+use Rattle.tree_handles.proofs.Beside.{gives_rest}
 use Rattle.tree_handles.specs.Expressions.{IsExpression, children_of, nth, plain}
 use Rattle.tree_handles.specs.Forest.{Forest, arity}
 use Rattle.tree_handles.specs.Handed.{tree_of}
@@ -24,8 +24,8 @@ use Rattle.tree_handles.proofs.Fronts.{behind_first, front_after_one}
 use Rattle.tree_handles.proofs.Given.{given_rest, given_handed}
 use Rattle.expand_forms.specs.ExpansionRoom.{sum_bytes}
 use Rattle.node_pool.specs.State.{free_of}
-use Rattle.number_forms.specs.Lacks.{OfFull}
-use Rattle.number_forms.proofs.Overflows.{passed_on}
+use Rattle.tree_handles.specs.Lacking.{OfFull}
+use Rattle.tree_handles.proofs.Outcomes.{passed_on}
 use Rattle.number_forms.proofs.Rooms.{full_as}
 use Rattle.expand_forms.proofs.FewTerms.{few_as, few_append}
 use Rattle.expand_forms.specs.ExpansionBits.{IsNoOverflow}

@@ -2,7 +2,8 @@ use Rattle.std.proofs.Common.{◌∙◌, inl, ap, refl, sym, subst, ℕ, List, �
 use Rattle.calc_terms.specs.Fractions.{one_fraction, minus_one_fraction, Fraction}
 use Rattle.calc_terms.specs.Rat.{value_of}
 use Rattle.calc_terms.specs.Trees.{num, Tree, size}
-use Rattle.coefficients.proofs.Steps.{expression, one_value, seen}
+use Rattle.coefficients.proofs.Steps.{one_value}
+use Rattle.tree_handles.proofs.Seen.{expression, seen}
 use Rattle.expand_forms.specs.ExpandedTrees.{expanded}
 use Rattle.expand_forms.specs.Polynomials.{scaled, IsMonomial, Polynomial, product}
 use Rattle.expand_forms.specs.PolynomialTrees.{polynomial_of}
@@ -10,7 +11,8 @@ use Rattle.expand_forms.specs.Sums.{IsExpanded, IsSumOf}
 use Rattle.expand_forms.proofs.Expansions.{constant_is_expanded, empty_sum, nothing_added, same_polynomial}
 use Rattle.expand_forms.proofs.NodeAnswers.{difference_is, opposite_value, scaled_expanded}
 use Rattle.expand_forms.proofs.TermReadings.{beside}
-use Rattle.number_forms.proofs.Loops.{gives_rest, gives_without, kept_after}
+use Rattle.tree_handles.proofs.Beside.{gives_rest, gives_without}
+use Rattle.tree_handles.proofs.Refused.{kept_after}
 use Rattle.tree_handles.specs.Children.{root_ids}
 use Rattle.tree_handles.proofs.Lasts.{kids_of_last}
 use Rattle.tree_handles.specs.Expressions.{IsExpression, plain}
@@ -21,8 +23,8 @@ use Rattle.tree_handles.proofs.Fronts.{behind_new, front_after, front_after_one,
 use Rattle.tree_handles.proofs.Given.{given_handed, given_other, given_rest, given_root, given_same, given_told, gives_as, handed_at, owned}
 use Rattle.expand_forms.specs.ExpansionRoom.{HasFewTerms, node_bytes, sum_bytes}
 use Rattle.node_pool.specs.State.{free_of}
-use Rattle.number_forms.specs.Lacks.{OfFull}
-use Rattle.number_forms.proofs.Overflows.{passed_on}
+use Rattle.tree_handles.specs.Lacking.{OfFull}
+use Rattle.tree_handles.proofs.Outcomes.{passed_on}
 use Rattle.number_forms.proofs.Rooms.{full_as}
 use Rattle.expand_forms.proofs.AllMonomials.{AllHave, scaled_all}
 use Rattle.expand_forms.proofs.FewTerms.{answer_few, answer_size, few_append, few_as, few_constant, few_none, few_product, few_scaled, some_few}
@@ -31,7 +33,7 @@ use Rattle.expand_forms.proofs.Lacks.{number_refused}
 use Rattle.expand_forms.proofs.TermBytes.{terms_rise}
 use Rattle.expand_forms.proofs.TreeMonomials.{tree_monomials}
 use Rattle.calc_terms.proofs.Sizes.{num_most}
-use Rattle.number_forms.proofs.FreeBytes.{refused_below}
+use Rattle.tree_handles.proofs.FreeBytes.{refused_below}
 use Rattle.tree_handles.proofs.Room.{given_free}
 use Rattle.tree_handles.specs.declared.fault.NumberFault.TheVariants as fault
 use Rattle.expand_forms.proofs.node.place_difference.Goals.{In_ok-opposite}

@@ -1,7 +1,7 @@
 use Rattle.std.proofs.Common.{◌≡◌, ◌∙◌, ap, refl, sym, subst, arith, ◌<◌, ◌≤◌, ◌+◌, ◌^◌, length, rules, ℕ, ◌*◌}
 use Rattle.calc_terms.specs.Fractions.{inverse, minus_one_fraction, Fraction}
 use Rattle.calc_terms.specs.Trees.{Tree, count, root_kind, sub, names, size}
-use Rattle.coefficients.proofs.Steps.{product_kind, sum_kind}
+use Rattle.tree_handles.proofs.Seen.{product_kind, sum_kind}
 use Rattle.expand_forms.specs.ExpandedTrees.{expanded}
 use Rattle.expand_forms.specs.Polynomials.{raised, scaled}
 use Rattle.expand_forms.specs.PolynomialTrees.{divisor_of, exponent_of, has_polynomial_root, is_divisor, is_exponent, polynomial_of}
@@ -19,15 +19,15 @@ use Rattle.tree_handles.proofs.Fronts.{front_end, front_same}
 use Rattle.tree_handles.proofs.Given.{gives_as}
 use Rattle.expand_forms.specs.ExpansionRoom.{node_bytes}
 use Rattle.node_pool.specs.State.{free_of}
-use Rattle.number_forms.specs.Lacks.{OfFull}
-use Rattle.number_forms.proofs.Overflows.{passed_on}
+use Rattle.tree_handles.specs.Lacking.{OfFull}
+use Rattle.tree_handles.proofs.Outcomes.{passed_on}
 use Rattle.number_forms.proofs.Rooms.{full_as, refusal_as}
 use Rattle.std.proofs.lemmas.List.{length-append}
 use Rattle.expand_forms.proofs.FewTerms.{few_names}
 use Rattle.expand_forms.proofs.NodeRooms.{few_child, leaf_size}
 use Rattle.expand_forms.proofs.TermBytes.{terms_rise}
 use Rattle.expand_forms.proofs.TermCounts.{raised_length, scaled_length}
-use Rattle.number_forms.proofs.FreeBytes.{refused_below}
+use Rattle.tree_handles.proofs.FreeBytes.{refused_below}
 use Rattle.tree_handles.proofs.Plains.{size-plain}
 use Rattle.tree_handles.specs.declared.fault.NumberFault.TheVariants as fault
 use Rattle.calc_measures.specs.Measures.{bits_of, high, low}

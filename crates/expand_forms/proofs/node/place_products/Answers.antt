@@ -10,7 +10,8 @@ use Rattle.expand_forms.proofs.Nodes.{from}
 use Rattle.expand_forms.proofs.TermReadings.{beside}
 use Rattle.expand_forms.proofs.Within.{IsWithin, inside_child, within}
 use Rattle.number_forms.proofs.ByKind.{children_number}
-use Rattle.number_forms.proofs.Loops.{gives_rest, kept_after}
+use Rattle.tree_handles.proofs.Beside.{gives_rest}
+use Rattle.tree_handles.proofs.Refused.{kept_after}
 use Rattle.tree_handles.specs.Expressions.{IsExpression, children_of, nth, plain}
 use Rattle.tree_handles.specs.Forest.{Forest, arity}
 use Rattle.tree_handles.specs.Inside.{kids_of, tree_at}
@@ -20,8 +21,8 @@ use Rattle.tree_handles.proofs.Fronts.{behind_new, front_after_one, front_same}
 use Rattle.tree_handles.proofs.Given.{given_handed, given_rest, given_told, gives_as}
 use Rattle.expand_forms.specs.ExpansionRoom.{node_bytes, sum_bytes}
 use Rattle.node_pool.specs.State.{free_of}
-use Rattle.number_forms.specs.Lacks.{OfFull}
-use Rattle.number_forms.proofs.Overflows.{passed_on}
+use Rattle.tree_handles.specs.Lacking.{OfFull}
+use Rattle.tree_handles.proofs.Outcomes.{passed_on}
 use Rattle.number_forms.proofs.Rooms.{full_as}
 use Rattle.expand_forms.specs.Polynomials.{Polynomial}
 use Rattle.expand_forms.proofs.FewTerms.{answer_few, answer_size}

@@ -3,7 +3,8 @@ use Rattle.coefficients.proofs.Steps.{one_value}
 use Rattle.expand_forms.specs.Sums.{IsExpanded}
 use Rattle.expand_forms.proofs.NodeAnswers.{even_half, odd_half, one_power, power_as, power_expanded, power_squared, power_times}
 use Rattle.expand_forms.proofs.TermReadings.{if_ok_map}
-use Rattle.number_forms.proofs.Loops.{gives_rest, kept_after}
+use Rattle.tree_handles.proofs.Beside.{gives_rest}
+use Rattle.tree_handles.proofs.Refused.{kept_after}
 use Rattle.tree_handles.specs.Expressions.{IsExpression, plain}
 use Rattle.tree_handles.specs.Forest.{Forest}
 use Rattle.tree_handles.specs.Inside.{tree_at}
@@ -13,8 +14,8 @@ use Rattle.tree_handles.proofs.Given.{given_handed, given_rest, given_told, give
 use Rattle.expand_forms.specs.ExpansionRoom.{HasFewTerms, sum_bytes}
 use Rattle.expand_forms.specs.PolynomialTrees.{polynomial_of}
 use Rattle.node_pool.specs.State.{free_of}
-use Rattle.number_forms.specs.Lacks.{OfFull}
-use Rattle.number_forms.proofs.Overflows.{passed_on}
+use Rattle.tree_handles.specs.Lacking.{OfFull}
+use Rattle.tree_handles.proofs.Outcomes.{passed_on}
 use Rattle.number_forms.proofs.Rooms.{full_as, refusal_as}
 use Rattle.tree_handles.proofs.Room.{given_free}
 use Rattle.std.proofs.Math.Nat.{one-le-pow, pow-le-pow_right, pow-succ'}

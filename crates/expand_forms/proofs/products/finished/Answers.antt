@@ -6,7 +6,7 @@ use Rattle.number_forms.proofs.LastSums.{only_child, only_owned}
 use Rattle.number_forms.proofs.Shaped.{two_from}
 use Rattle.number_forms.proofs.SumChanges.{same_plain, read_expression}
 use Rattle.number_forms.proofs.TermTrees.{if_given}
-use Rattle.number_forms.proofs.Loops.{gives_itself}
+use Rattle.tree_handles.proofs.Beside.{gives_itself}
 use Rattle.tree_handles.specs.Handed.{tree_of}
 use Rattle.tree_handles.specs.Expressions.{children_of}
 use Rattle.tree_handles.proofs.Fronts.{behind_first, front_same, front_at, front_end, front_put, front_without, front_after}

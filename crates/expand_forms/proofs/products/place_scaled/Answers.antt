@@ -1,6 +1,6 @@
 use Rattle.std.proofs.Common.{rules, ◌∙◌, inl, ap, sym, subst, ◌<◌, ◌+◌, arith}
 use Rattle.calc_terms.specs.Rat.{value_of}
-use Rattle.coefficients.proofs.Steps.{expression, seen}
+use Rattle.tree_handles.proofs.Seen.{expression, seen}
 use Rattle.expand_forms.specs.ExpandedTrees.{expanded}
 use Rattle.expand_forms.specs.Polynomials.{product, Polynomial, constant}
 use Rattle.expand_forms.specs.PolynomialTrees.{polynomial_of}
@@ -8,7 +8,7 @@ use Rattle.expand_forms.specs.Sums.{IsExpanded}
 use Rattle.expand_forms.proofs.Expansions.{constant_is_expanded}
 use Rattle.expand_forms.proofs.SameCoefficients.{constant_product}
 use Rattle.expand_forms.proofs.TermReadings.{beside}
-use Rattle.number_forms.proofs.Loops.{gives_without}
+use Rattle.tree_handles.proofs.Beside.{gives_without}
 use Rattle.tree_handles.specs.Expressions.{plain}
 use Rattle.tree_handles.specs.Inside.{tree_at}
 use Rattle.tree_handles.specs.Standing.{forest}
@@ -17,8 +17,8 @@ use Rattle.tree_handles.proofs.Given.{given_handed, given_other, given_rest, giv
 use Rattle.calc_terms.specs.Trees.{Tree, size}
 use Rattle.expand_forms.specs.ExpansionRoom.{HasFewTerms, number_bytes, sum_bytes}
 use Rattle.node_pool.specs.State.{free_of}
-use Rattle.number_forms.specs.Lacks.{OfFull}
-use Rattle.number_forms.proofs.Overflows.{passed_on}
+use Rattle.tree_handles.specs.Lacking.{OfFull}
+use Rattle.tree_handles.proofs.Outcomes.{passed_on}
 use Rattle.number_forms.proofs.Rooms.{full_as}
 use Rattle.tree_handles.proofs.Room.{given_free}
 use Rattle.tree_handles.specs.declared.fault.NumberFault.TheVariants as fault

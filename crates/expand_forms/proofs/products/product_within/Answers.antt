@@ -4,7 +4,8 @@ use Rattle.expand_forms.specs.Polynomials.{product, Polynomial}
 use Rattle.expand_forms.specs.PolynomialTrees.{polynomial_of}
 use Rattle.expand_forms.specs.Sums.{IsExpanded}
 use Rattle.expand_forms.proofs.Expansions.{empty_sum, nothing_added, sum_same}
-use Rattle.number_forms.proofs.Loops.{gives_rest, kept_after}
+use Rattle.tree_handles.proofs.Beside.{gives_rest}
+use Rattle.tree_handles.proofs.Refused.{kept_after}
 use Rattle.tree_handles.specs.Expressions.{IsExpression, plain}
 use Rattle.tree_handles.specs.Children.{root_ids}
 use Rattle.tree_handles.specs.Forest.{Forest}
@@ -16,15 +17,15 @@ use Rattle.tree_handles.proofs.Fronts.{behind_new, front_after_one, front_same}
 use Rattle.tree_handles.proofs.Given.{given_rest, given_told, gives_as}
 use Rattle.expand_forms.specs.ExpansionRoom.{HasFewTerms, sum_bytes}
 use Rattle.node_pool.specs.State.{free_of}
-use Rattle.number_forms.specs.Lacks.{OfFull}
-use Rattle.number_forms.proofs.Overflows.{passed_on}
+use Rattle.tree_handles.specs.Lacking.{OfFull}
+use Rattle.tree_handles.proofs.Outcomes.{passed_on}
 use Rattle.number_forms.proofs.Rooms.{full_as}
 use Rattle.tree_handles.proofs.Room.{given_free}
 use Rattle.tree_handles.specs.declared.fault.NumberFault.TheVariants as fault
 use Rattle.expand_forms.proofs.FewTerms.{few_append, few_none, few_product, some_few}
 use Rattle.expand_forms.proofs.TermBytes.{some_bytes}
 use Rattle.std.proofs.lemmas.Nat.{mul-le}
-use Rattle.number_forms.proofs.FreeBytes.{refused_below}
+use Rattle.tree_handles.proofs.FreeBytes.{refused_below}
 use Rattle.expand_forms.specs.ExpansionBits.{IsHeld, IsNoOverflow}
 use Rattle.child_lists.proofs.ListedChildren.{lists_none}
 use Rattle.expand_forms.proofs.products.product_within.Goals as goal

@@ -1,18 +1,18 @@
 use Rattle.std.proofs.Common.{◌∙◌, inl, refl, sym, subst, ◌<◌, ◌*◌}
-use Rattle.coefficients.proofs.Steps.{expression, seen}
+use Rattle.tree_handles.proofs.Seen.{expression, seen}
 use Rattle.expand_forms.specs.ExpandedTrees.{expanded}
 use Rattle.expand_forms.specs.Polynomials.{product}
 use Rattle.expand_forms.specs.PolynomialTrees.{polynomial_of}
 use Rattle.expand_forms.specs.Sums.{IsExpanded}
 use Rattle.expand_forms.proofs.TermReadings.{beside}
-use Rattle.number_forms.proofs.Loops.{gives_without}
+use Rattle.tree_handles.proofs.Beside.{gives_without}
 use Rattle.tree_handles.proofs.Fronts.{behind_first, front_after, front_at, front_same, front_without}
 use Rattle.tree_handles.proofs.Given.{given_other, given_told, gives_as, owned}
 use Rattle.calc_terms.specs.Trees.{Tree}
 use Rattle.expand_forms.specs.ExpansionRoom.{HasFewTerms, sum_bytes}
 use Rattle.node_pool.specs.State.{free_of}
-use Rattle.number_forms.specs.Lacks.{OfFull}
-use Rattle.number_forms.proofs.Overflows.{passed_on}
+use Rattle.tree_handles.specs.Lacking.{OfFull}
+use Rattle.tree_handles.proofs.Outcomes.{passed_on}
 use Rattle.expand_forms.specs.ExpansionBits.{IsHeld, IsNoOverflow}
 use Rattle.tree_handles.specs.Expressions.{plain}
 use Rattle.tree_handles.specs.Inside.{tree_at}

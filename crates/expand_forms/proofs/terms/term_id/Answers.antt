@@ -1,6 +1,6 @@
 use Rattle.std.proofs.Common.{rules, ◌<◌, sym, ◌∙◌, subst}
 use Rattle.calc_terms.specs.Trees.{Trees, count}
-use Rattle.coefficients.proofs.Steps.{sum_kind}
+use Rattle.tree_handles.proofs.Seen.{sum_kind}
 use Rattle.expand_forms.proofs.TermReadings.{sum_terms_in}
 use Rattle.expand_forms.proofs.Within.{inside_child, inside_itself}
 use Rattle.tree_handles.specs.Expressions.{plain}

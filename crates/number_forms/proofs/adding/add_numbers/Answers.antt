@@ -4,7 +4,7 @@ use Rattle.tree_handles.specs.Handed.{tree_of}
 use Rattle.calc_terms.specs.Trees.{is_num}
 use Rattle.number_forms.proofs.Kept.{no_zero}
 use Rattle.number_forms.proofs.Over.{if_number, if_no_larger, of_over}
-use Rattle.number_forms.proofs.Overflows.{refused_as}
+use Rattle.tree_handles.proofs.Refused.{refused_as}
 use Rattle.number_forms.proofs.RationalBits.{sum_not_refused}
 use Rattle.number_forms.proofs.WithinBits.{sum_within}
 use Rattle.number_forms.proofs.SumChanges.{same_plain, read_expression}

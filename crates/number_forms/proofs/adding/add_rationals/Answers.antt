@@ -10,8 +10,8 @@ use Rattle.calc_terms.proofs.Sizes.{num_most}
 use Rattle.calc_terms.specs.Rat.{value_of}
 use Rattle.node_pool.specs.State.{free_of}
 use Rattle.number_forms.specs.Rooms.{LacksRoom}
-use Rattle.number_forms.proofs.FreeBytes.{both_released_free, refused_below}
-use Rattle.number_forms.proofs.Overflows.{passed_on}
+use Rattle.tree_handles.proofs.FreeBytes.{both_released_free, refused_below}
+use Rattle.tree_handles.proofs.Outcomes.{passed_on}
 use Rattle.number_forms.proofs.Rooms.{few_for_sum}
 use Rattle.tree_handles.specs.declared.fault.NumberFault.TheVariants as fault
 use Rattle.number_forms.proofs.adding.add_rationals.Goals as goal

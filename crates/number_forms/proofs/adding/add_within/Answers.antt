@@ -4,7 +4,8 @@ use Rattle.calc_algebra.proofs.SquareClassLaws.{Same-trans}
 use Rattle.calc_algebra.proofs.TermLaws.{Same-append, Same-eq}
 use Rattle.child_lists.proofs.ListedChildren.{lists_at, lists_listed}
 use Rattle.number_forms.proofs.SumChanges.{read_expression}
-use Rattle.number_forms.proofs.Loops.{other_plain, gives_without, gives_rest, kept_after}
+use Rattle.tree_handles.proofs.Beside.{other_plain, gives_without, gives_rest}
+use Rattle.tree_handles.proofs.Refused.{kept_after, overflow_as}
 use Rattle.number_forms.proofs.Denominators.{shares_eq}
 use Rattle.number_forms.proofs.Over.{over_as, shares_append}
 use Rattle.tree_handles.specs.Handed.{tree_of, IsHanded}
@@ -16,14 +17,15 @@ use Rattle.tree_handles.proofs.Given.{given_handed, given_told, given_rest, give
 use Rattle.tree_handles.proofs.Roots.{tree-without}
 use Rattle.number_forms.specs.Overflows.{SumOverflows}
 use Rattle.tree_handles.specs.Faults.{OfOverflow}
-use Rattle.number_forms.proofs.Overflows.{passed_on, overflow_as, sum_overflows_as}
+use Rattle.number_forms.proofs.Overflows.{sum_overflows_as}
+use Rattle.tree_handles.proofs.Outcomes.{passed_on}
 use Rattle.calc_room.specs.Needs.{sum_need}
 use Rattle.calc_room.specs.Spans.{Spans}
 use Rattle.calc_algebra.specs.Surds.{Surd}
 use Rattle.calc_terms.specs.Trees.{size}
 use Rattle.node_pool.specs.State.{free_of}
 use Rattle.number_forms.specs.Rooms.{LacksRoom, joining_need}
-use Rattle.number_forms.proofs.FreeBytes.{replaced_free, both_replaced_free}
+use Rattle.tree_handles.proofs.FreeBytes.{replaced_free, both_replaced_free}
 use Rattle.number_forms.proofs.Rooms.{full_as, few_for_sum, number_spans, sum_lacks, sum_lacks_two, sum_spans_same}
 use Rattle.tree_handles.specs.declared.fault.NumberFault.TheVariants as fault
 use Rattle.number_forms.proofs.adding.add_within.Goals as goal

@@ -11,8 +11,8 @@ use Rattle.tree_handles.proofs.Given.{represents_none, represents_handed, repres
 use Rattle.tree_handles.proofs.Lasts.{last_held, last_apart, other_root}
 use Rattle.node_pool.specs.State.{free_of}
 use Rattle.node_pool.specs.declared.full.Full.{Full}
-use Rattle.number_forms.proofs.FreeBytes.{refused_below}
-use Rattle.number_forms.proofs.Overflows.{passed_on}
+use Rattle.tree_handles.proofs.FreeBytes.{refused_below}
+use Rattle.tree_handles.proofs.Outcomes.{passed_on}
 use Rattle.number_forms.proofs.Rooms.{refusal_as}
 use Rattle.tree_handles.proofs.Room.{released_free}
 use Rattle.number_forms.proofs.adding.sum_over_term.Goals as goal

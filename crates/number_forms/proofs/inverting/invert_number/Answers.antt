@@ -6,7 +6,8 @@ use Rattle.tree_handles.proofs.Fronts.{behind_first, front_same, front_at, front
 use Rattle.tree_handles.proofs.Given.{owned, given_told}
 use Rattle.tree_handles.specs.Faults.{OfOverflow}
 use Rattle.number_forms.proofs.InverseBits.{inverse_no_larger}
-use Rattle.number_forms.proofs.Overflows.{passed_on, overflow_as}
+use Rattle.tree_handles.proofs.Outcomes.{passed_on}
+use Rattle.tree_handles.proofs.Refused.{overflow_as}
 use Rattle.number_forms.proofs.WithinBits.{inverse_within}
 use Rattle.number_forms.proofs.Placings.{rational_classes}
 use Rattle.number_forms.proofs.InverseSteps.{none_to_make, too_wide}
@@ -14,7 +15,6 @@ use Rattle.calc_room.specs.Needs.{inverse_need}
 use Rattle.calc_terms.specs.Trees.{size}
 use Rattle.node_pool.specs.State.{free_of}
 use Rattle.number_forms.specs.Rooms.{LacksRoom}
-use Rattle.number_forms.proofs.Overflows.{passed_on}
 use Rattle.number_forms.proofs.Rooms.{full_as, inverse_lacks, inverse_spans}
 use Rattle.number_forms.proofs.inverting.invert_number.Goals as goal
 

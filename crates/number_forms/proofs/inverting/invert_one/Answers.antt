@@ -1,10 +1,10 @@
-use Rattle.std.proofs.Common.{◌≡◌, Some, sym, ap, ◌∙◌, arith}
+use Rattle.std.proofs.Common.{◌≡◌, Some, sym, ap, ◌∙◌, arith, [], ◌∷◌, ◌≤◌, ◌+◌, refl}
 use Rattle.std.specs.Prelude.{slice_get}
 use Rattle.calc_algebra.specs.Numbers.{is_number, value, classes}
-use Rattle.calc_terms.specs.Trees.{Tree}
+use Rattle.calc_terms.specs.Trees.{Tree, more, none, size}
 use Rattle.number_forms.proofs.InverseSteps.{only_term, inverse_term, tree_of_one, fits_as, unfit, has_inverse, room_for, lacks_inverse}
 use Rattle.number_forms.specs.Inverses.{inverse_trees, LacksInverse}
-use Rattle.number_forms.specs.Lacks.{OfFull}
+use Rattle.tree_handles.specs.Lacking.{OfFull}
 use Rattle.calc_terms.proofs.Sizes.{num_least}
 use Rattle.tree_handles.specs.Building.{building}
 use Rattle.tree_handles.specs.Causes.{OnlyLacksLongForm}
@@ -16,12 +16,10 @@ use Rattle.tree_handles.proofs.Fronts.{behind_first, front_same, front_at, front
 use Rattle.tree_handles.proofs.Given.{gives_as, owned}
 use Rattle.number_forms.specs.Overflows.{InverseOverflows, inverting_calculations}
 use Rattle.tree_handles.specs.Faults.{OfOverflow}
-use Rattle.number_forms.proofs.Overflows.{passed_on}
+use Rattle.tree_handles.proofs.Outcomes.{passed_on}
 use Rattle.surd_terms.specs.Calculations.{first_misfit, calculation_of}
 use Rattle.tree_handles.specs.declared.fault.NumberFault.TheVariants as fault
-use Rattle.std.proofs.Common.{[], ◌∷◌, ◌≤◌, ◌+◌, refl}
 use Rattle.calc_algebra.specs.Surds.{Term}
-use Rattle.calc_terms.specs.Trees.{more, none, size}
 use Rattle.node_pool.specs.State.{free_of}
 use Rattle.number_forms.proofs.Placings.{number_alone, rational_radicand, rational_term, refused, given_tree}
 use Rattle.tree_handles.proofs.Room.{released_free}

@@ -6,14 +6,14 @@ use Rattle.calc_algebra.specs.Surds.{Term}
 use Rattle.number_forms.proofs.InverseSteps.{both_terms, apart_terms, inverse_number, two_rise, tree_of_two, fits_as, unfit, has_inverse, room_for, lacks_inverse}
 use Rattle.node_pool.specs.State.{free_of}
 use Rattle.number_forms.specs.Inverses.{inverse_trees, LacksInverse}
-use Rattle.number_forms.specs.Lacks.{OfFull}
+use Rattle.tree_handles.specs.Lacking.{OfFull}
 use Rattle.number_forms.specs.Shapes.{sum_of_terms}
 use Rattle.surd_terms.specs.Inverses.{first_of_inverse, second_of_inverse}
 use Rattle.number_forms.proofs.Placings.{refused, given_tree}
 use Rattle.tree_handles.proofs.Room.{released_free}
 use Rattle.number_forms.specs.Overflows.{InverseOverflows, inverting_calculations}
 use Rattle.tree_handles.specs.Faults.{OfOverflow}
-use Rattle.number_forms.proofs.Overflows.{passed_on}
+use Rattle.tree_handles.proofs.Outcomes.{passed_on}
 use Rattle.surd_terms.specs.Calculations.{first_misfit, calculation_of}
 use Rattle.tree_handles.specs.declared.fault.NumberFault.TheVariants as fault
 use Rattle.number_forms.proofs.SumChanges.{same_plain, read_expression}

@@ -14,7 +14,7 @@ use Rattle.number_forms.specs.Shapes.{term_tree, sum_of_terms}
 use Rattle.surd_terms.specs.declared.term.Term.{Term}
 use Rattle.tree_handles.specs.Building.{building, node_sizes, nodes_sizes}
 use Rattle.tree_handles.proofs.Room.{given_free}
-use Rattle.number_forms.proofs.Overflows.{passed_on}
+use Rattle.tree_handles.proofs.Outcomes.{passed_on}
 use Rattle.number_forms.proofs.Placings.{refused, lacking, lacking_on, built, placed_before}
 use Rattle.number_forms.proofs.inverting.place_sum.Goals as goal
 use Rattle.number_forms.proofs.inverting.place_sum.Goals.{In_ok-first, In_ok-second}

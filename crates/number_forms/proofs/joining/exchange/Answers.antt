@@ -4,7 +4,7 @@ use Rattle.node_pool.specs.declared.full.Full.{Full}
 use Rattle.number_forms.proofs.Exchanged.{exchanged_sum}
 use Rattle.number_forms.proofs.LastSums.{kids_represented, once_nth}
 use Rattle.child_lists.proofs.ListedChildren.{ids_exchanged, lists_at, lists_other}
-use Rattle.number_forms.proofs.Overflows.{passed_on}
+use Rattle.tree_handles.proofs.Outcomes.{passed_on}
 use Rattle.number_forms.proofs.SumChanges.{same_plain, read_expression, many_kids}
 use Rattle.calc_terms.specs.Trees.{Tree, count}
 use Rattle.surd_terms.specs.Terms.{term_of}

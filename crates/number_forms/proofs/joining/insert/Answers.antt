@@ -15,7 +15,7 @@ use Rattle.tree_handles.specs.Standing.{forest}
 use Rattle.tree_handles.proofs.Fronts.{behind_first, front_same, front_at, front_put}
 use Rattle.tree_handles.proofs.Given.{given_root, given_handed}
 use Rattle.node_pool.specs.State.{free_of}
-use Rattle.number_forms.proofs.Overflows.{passed_on}
+use Rattle.tree_handles.proofs.Outcomes.{passed_on}
 use Rattle.node_pool.specs.declared.full.Full.{Full}
 use Rattle.number_forms.proofs.joining.insert.Goals as goal
 use Rattle.number_forms.proofs.joining.insert.Given.{Over}

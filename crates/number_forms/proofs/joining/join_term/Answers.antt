@@ -9,11 +9,11 @@ use Rattle.surd_terms.specs.Terms.{term_of}
 use Rattle.tree_handles.proofs.Given.{given_root, given_handed, given_told, gives_as}
 use Rattle.number_forms.specs.Overflows.{JoinOverflows}
 use Rattle.tree_handles.specs.Faults.{OfOverflow}
-use Rattle.number_forms.proofs.Overflows.{passed_on}
+use Rattle.tree_handles.proofs.Outcomes.{passed_on}
 use Rattle.tree_handles.specs.declared.fault.NumberFault.TheVariants as fault
 use Rattle.node_pool.specs.State.{free_of}
 use Rattle.node_pool.specs.declared.full.Full.{Full}
-use Rattle.number_forms.specs.Lacks.{OfFull}
+use Rattle.tree_handles.specs.Lacking.{OfFull}
 use Rattle.number_forms.proofs.joining.join_term.Goals as goal
 
 pub returns-in_err-at-clause-room : goal.returns-in_err-at-clause-room

@@ -15,7 +15,8 @@ use Rattle.tree_handles.specs.Expressions.{plain, children_of, nth}
 use Rattle.tree_handles.specs.Inside.{tree_at}
 use Rattle.tree_handles.specs.Standing.{forest}
 use Rattle.number_forms.specs.Overflows.{JoinOverflows}
-use Rattle.number_forms.proofs.Overflows.{passed_on, join_overflow}
+use Rattle.number_forms.proofs.Overflows.{join_overflow}
+use Rattle.tree_handles.proofs.Outcomes.{passed_on}
 use Rattle.number_forms.proofs.joining.match_anywhere.Goals as goal
 use Rattle.number_forms.proofs.joining.match_anywhere.Given.{Over}
 use Rattle.number_forms.proofs.joining.match_anywhere.Goals.{In-Some}

@@ -10,7 +10,8 @@ use Rattle.tree_handles.specs.Inside.{tree_at}
 use Rattle.tree_handles.specs.Standing.{forest}
 use Rattle.calc_algebra.specs.Numbers.{term_of as term_of_tree}
 use Rattle.number_forms.specs.Overflows.{JoinOverflows}
-use Rattle.number_forms.proofs.Overflows.{passed_on, join_overflow}
+use Rattle.number_forms.proofs.Overflows.{join_overflow}
+use Rattle.tree_handles.proofs.Outcomes.{passed_on}
 use Rattle.number_forms.proofs.joining.match_at_place.Goals as goal
 
 pub returns-then-at-children-clause-ok : goal.returns-then-at-children-clause-ok

@@ -13,7 +13,7 @@ use Rattle.tree_handles.proofs.Fronts.{behind_first, front_same, front_at, front
 use Rattle.tree_handles.proofs.Given.{given_root, given_handed}
 use Rattle.tree_handles.proofs.Lasts.{last_root, last_tree, last_rest}
 use Rattle.number_forms.proofs.FreeBytes.{removed_free}
-use Rattle.number_forms.proofs.Loops.{kept_after}
+use Rattle.tree_handles.proofs.Refused.{kept_after}
 use Rattle.number_forms.proofs.joining.remove.Goals as goal
 use Rattle.number_forms.proofs.joining.remove.Given.{Over}
 use Rattle.number_forms.proofs.joining.remove.Goals.{After-release}

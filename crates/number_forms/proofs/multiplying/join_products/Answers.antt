@@ -1,26 +1,26 @@
-use Rattle.std.proofs.Common.{◌≡◌, ℕ, ◌≤◌, ◌∷◌, Some, length, map, sym, ap, ◌∙◌, arith, add-one, rules, ◌+◌, ◌-◌}
+use Rattle.std.proofs.Common.{◌≡◌, ℕ, ◌≤◌, ◌∷◌, Some, length, map, sym, ap, ◌∙◌, arith, add-one, rules, ◌+◌, ◌-◌, inl, inr}
 use Rattle.std.specs.Prelude.{slice_get}
 use Rattle.calc_algebra.specs.Numbers.{is_number, value, classes}
 use Rattle.calc_algebra.specs.Surds.{term_times}
 use Rattle.calc_terms.specs.Trees.{Tree, size}
 use Rattle.calc_algebra.proofs.TermLaws.{Same-refl}
 use Rattle.number_forms.proofs.Denominators.{parts_extracted}
-use Rattle.number_forms.proofs.Loops.{joined_none, joined_more, joined_all, from_all, other_plain, other_read, other_expression, gives_rest}
+use Rattle.number_forms.proofs.Loops.{joined_none, joined_more, joined_all, from_all}
+use Rattle.tree_handles.proofs.Beside.{other_plain, other_read, other_expression, gives_rest}
 use Rattle.number_forms.proofs.Worth.{terms_from, products_next, same_first, get_from, from_from}
 use Rattle.child_lists.proofs.ListedChildren.{lists_at, lists_kept}
 use Rattle.number_forms.proofs.SumChanges.{read_expression, read_sum}
 use Rattle.tree_handles.proofs.Fronts.{behind_first, front_after_one}
 use Rattle.tree_handles.specs.Handed.{tree_of}
 use Rattle.surd_terms.specs.Terms.{term_of}
-use Rattle.tree_handles.proofs.Given.{given_handed, given_other}
+use Rattle.tree_handles.proofs.Given.{given_handed, given_other, given_told}
 use Rattle.tree_handles.proofs.Lasts.{plain_root}
-use Rattle.std.proofs.Common.{inl, inr}
 use Rattle.number_forms.specs.Overflows.{RowOverflows}
 use Rattle.tree_handles.specs.Faults.{OfOverflow}
-use Rattle.number_forms.proofs.Overflows.{passed_on, overflow_as}
+use Rattle.tree_handles.proofs.Outcomes.{passed_on}
+use Rattle.tree_handles.proofs.Refused.{overflow_as}
 use Rattle.number_forms.proofs.Rows.{product_join_overflows}
 use Rattle.number_forms.proofs.multiplying.join_products.Goals.{After-listed_term-other}
-use Rattle.tree_handles.proofs.Given.{given_told}
 use Rattle.tree_handles.specs.declared.fault.NumberFault.TheVariants as fault
 use Rattle.calc_room.proofs.NumberSpans.{spans_append, spans_row}
 use Rattle.node_pool.specs.State.{free_of}

@@ -6,19 +6,20 @@ use Rattle.calc_terms.specs.Trees.{Tree, size}
 use Rattle.calc_bits.specs.Denominators.{SharesDenominators}
 use Rattle.number_forms.specs.Sums.{IsSumOf}
 use Rattle.child_lists.proofs.ListedChildren.{lists_kept}
-use Rattle.number_forms.proofs.Loops.{IsJoined, joined_none, joined_part, joined_all, from_all, other_plain, other_read, other_expression, gives_rest}
+use Rattle.number_forms.proofs.Loops.{IsJoined, joined_none, joined_part, joined_all, from_all}
+use Rattle.tree_handles.proofs.Beside.{other_plain, other_read, other_expression, gives_rest}
 use Rattle.number_forms.proofs.Worth.{terms_from, rows_next}
 use Rattle.tree_handles.specs.Handed.{tree_of, Gives}
 use Rattle.surd_terms.specs.Terms.{term_of}
 use Rattle.tree_handles.specs.Roots.{without_root}
 use Rattle.tree_handles.specs.Standing.{forest}
-use Rattle.tree_handles.proofs.Given.{given_other, given_rest, handed_at, given_handed}
+use Rattle.tree_handles.proofs.Given.{given_other, given_rest, handed_at, given_handed, given_told}
 use Rattle.tree_handles.proofs.Lasts.{plain_root}
 use Rattle.calc_algebra.specs.SquareClasses.{Same}
 use Rattle.number_forms.specs.Overflows.{RowOverflows, ProductOverflows}
 use Rattle.tree_handles.specs.Faults.{OfOverflow}
-use Rattle.number_forms.proofs.Overflows.{passed_on, overflow_as}
-use Rattle.tree_handles.proofs.Given.{given_told}
+use Rattle.tree_handles.proofs.Outcomes.{passed_on}
+use Rattle.tree_handles.proofs.Refused.{overflow_as}
 use Rattle.calc_room.proofs.NumberSpans.{spans_append, spans_times}
 use Rattle.calc_room.specs.Spans.{Spans}
 use Rattle.node_pool.specs.State.{free_of}

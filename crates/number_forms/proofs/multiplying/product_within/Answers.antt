@@ -8,7 +8,8 @@ use Rattle.child_lists.proofs.ListedChildren.{lists_at, lists_none, lists_listed
 use Rattle.tree_handles.specs.Children.{root_ids}
 use Rattle.tree_handles.proofs.Lasts.{kids_of_last, expression_root}
 use Rattle.calc_terms.specs.Trees.{Tree}
-use Rattle.number_forms.proofs.Loops.{other_plain, gives_rest, kept_after}
+use Rattle.tree_handles.proofs.Beside.{other_plain, gives_rest}
+use Rattle.tree_handles.proofs.Refused.{kept_after, overflow_as}
 use Rattle.number_forms.proofs.Denominators.{shares_eq}
 use Rattle.number_forms.proofs.Over.{over_as}
 use Rattle.tree_handles.specs.Handed.{tree_of, IsHanded}
@@ -19,11 +20,11 @@ use Rattle.tree_handles.proofs.Fronts.{behind_new, front_same, front_after_one}
 use Rattle.tree_handles.proofs.Given.{given_told, given_other, given_rest, gives_as, handed_at}
 use Rattle.number_forms.specs.Overflows.{ProductOverflows}
 use Rattle.tree_handles.specs.Faults.{OfOverflow}
-use Rattle.number_forms.proofs.Overflows.{passed_on, overflow_as}
+use Rattle.tree_handles.proofs.Outcomes.{passed_on}
 use Rattle.calc_room.specs.Spans.{Spans}
 use Rattle.node_pool.specs.State.{free_of}
 use Rattle.number_forms.specs.Rooms.{LacksRoom, joining_need}
-use Rattle.number_forms.proofs.FreeBytes.{refused_below}
+use Rattle.tree_handles.proofs.FreeBytes.{refused_below}
 use Rattle.number_forms.proofs.Rooms.{full_as, few_for_joining, number_spans}
 use Rattle.tree_handles.proofs.Room.{given_free}
 use Rattle.tree_handles.specs.declared.fault.NumberFault.TheVariants as fault

@@ -11,7 +11,7 @@ use Rattle.tree_handles.proofs.Lasts.{last_held, last_apart, other_root, ends_as
 use Rattle.node_pool.specs.State.{free_of}
 use Rattle.node_pool.specs.declared.full.Full.{Full}
 use Rattle.tree_handles.specs.Building.{building}
-use Rattle.number_forms.proofs.Overflows.{passed_on}
+use Rattle.tree_handles.proofs.Outcomes.{passed_on}
 use Rattle.number_forms.proofs.Placings.{free_before, refused, taken, lacking, lacking_on}
 use Rattle.number_forms.proofs.placing.place_multiple.Goals as goal
 use Rattle.number_forms.proofs.placing.place_multiple.Goals.{In_ok-rational, In_ok-root}

@@ -9,7 +9,7 @@ use Rattle.tree_handles.proofs.Lasts.{last_held, last_apart, other_root}
 use Rattle.node_pool.specs.State.{free_of}
 use Rattle.node_pool.specs.declared.full.Full.{Full}
 use Rattle.tree_handles.specs.Building.{building, taking}
-use Rattle.number_forms.proofs.Overflows.{passed_on}
+use Rattle.tree_handles.proofs.Outcomes.{passed_on}
 use Rattle.number_forms.proofs.Placings.{free_before, refused, taken, lacking}
 use Rattle.number_forms.proofs.placing.place_root.Goals as goal
 use Rattle.number_forms.proofs.placing.place_root.Goals.{In_ok-rational}

@@ -2,7 +2,8 @@ use Rattle.std.proofs.Common.{ap, ◌∙◌, subst, sym, ◌/◌}
 use Rattle.calc_algebra.specs.Numbers.{is_number, value}
 use Rattle.calc_algebra.specs.Surds.{surd_times}
 use Rattle.calc_terms.specs.Trees.{Tree}
-use Rattle.number_forms.proofs.Loops.{other_plain, kept_after}
+use Rattle.tree_handles.proofs.Beside.{other_plain}
+use Rattle.tree_handles.proofs.Refused.{kept_after, overflow_as, refused_as}
 use Rattle.number_forms.specs.Answers.{IsNumberOver}
 use Rattle.number_forms.proofs.Over.{even_power, odd_power, power_itself, of_over, of_power}
 use Rattle.number_forms.proofs.TermTrees.{if_given}
@@ -15,7 +16,8 @@ use Rattle.tree_handles.proofs.Given.{given_handed, given_told, given_rest, give
 use Rattle.calc_algebra.proofs.TermLaws.{Same-refl}
 use Rattle.number_forms.specs.Overflows.{PowerOverflows, ProductOverflows}
 use Rattle.tree_handles.specs.Faults.{OfOverflow}
-use Rattle.number_forms.proofs.Overflows.{passed_on, overflow_as, refused_as, power_overflows_more, square_overflows, last_overflows}
+use Rattle.number_forms.proofs.Overflows.{power_overflows_more, square_overflows, last_overflows}
+use Rattle.tree_handles.proofs.Outcomes.{passed_on}
 use Rattle.number_forms.proofs.PowerSteps.{half_twice, half_below, half_odd_within}
 use Rattle.calc_room.specs.Spans.{SpansTree}
 use Rattle.node_pool.specs.State.{free_of}

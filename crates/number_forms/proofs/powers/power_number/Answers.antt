@@ -6,7 +6,7 @@ use Rattle.calc_algebra.specs.Numbers.{value}
 use Rattle.calc_algebra.specs.Surds.{surd_power}
 use Rattle.calc_terms.specs.Trees.{is_num, size, Tree}
 use Rattle.calc_algebra.proofs.TermLaws.{Same-refl}
-use Rattle.number_forms.proofs.Loops.{gives_without}
+use Rattle.tree_handles.proofs.Beside.{gives_without}
 use Rattle.number_forms.proofs.SumChanges.{same_plain, read_expression}
 use Rattle.tree_handles.specs.Handed.{tree_of}
 use Rattle.tree_handles.proofs.Fronts.{behind_first, front_same, front_at, front_without, front_after, front_end}
@@ -15,7 +15,8 @@ use Rattle.calc_room.specs.Needs.{power_need}
 use Rattle.calc_room.specs.Spans.{SpansTree}
 use Rattle.node_pool.specs.State.{free_of}
 use Rattle.number_forms.specs.Rooms.{LacksRoom}
-use Rattle.number_forms.proofs.Overflows.{passed_on, overflow_as}
+use Rattle.tree_handles.proofs.Outcomes.{passed_on}
+use Rattle.tree_handles.proofs.Refused.{overflow_as}
 use Rattle.number_forms.proofs.Rooms.{answer_spans, full_as, power_lacks, power_spans}
 use Rattle.tree_handles.proofs.Lasts.{last_tree}
 use Rattle.tree_handles.specs.Expressions.{plain}

@@ -18,8 +18,8 @@ use Rattle.calc_room.specs.Needs.{power_need}
 use Rattle.calc_terms.proofs.Sizes.{num_most}
 use Rattle.node_pool.specs.State.{free_of}
 use Rattle.number_forms.specs.Rooms.{LacksRoom}
-use Rattle.number_forms.proofs.FreeBytes.{refused_below}
-use Rattle.number_forms.proofs.Overflows.{passed_on}
+use Rattle.tree_handles.proofs.FreeBytes.{refused_below}
+use Rattle.tree_handles.proofs.Outcomes.{passed_on}
 use Rattle.number_forms.proofs.Rooms.{few_for_power}
 use Rattle.tree_handles.proofs.Room.{released_free}
 use Rattle.tree_handles.specs.declared.fault.NumberFault.TheVariants as fault

@@ -5,9 +5,11 @@ use Rattle.calc_terms.specs.Trees.{Tree}
 use Rattle.calc_algebra.proofs.TermLaws.{Same-refl}
 use Rattle.number_forms.specs.Answers.{IsNumberOver, IsPowerOver}
 use Rattle.number_forms.specs.Overflows.{PowerOverflows, ProductOverflows}
-use Rattle.number_forms.proofs.Loops.{other_plain}
+use Rattle.tree_handles.proofs.Beside.{other_plain}
 use Rattle.number_forms.proofs.Over.{even_power, odd_power, power_itself, of_over}
-use Rattle.number_forms.proofs.Overflows.{passed_on, overflow_as, refused_as, square_overflows, last_overflows}
+use Rattle.number_forms.proofs.Overflows.{square_overflows, last_overflows}
+use Rattle.tree_handles.proofs.Outcomes.{passed_on}
+use Rattle.tree_handles.proofs.Refused.{overflow_as, refused_as}
 use Rattle.number_forms.proofs.PowerSteps.{half_one, three_odd, half_twice, half_odd_within}
 use Rattle.number_forms.proofs.TermTrees.{if_given}
 use Rattle.tree_handles.specs.Faults.{OfOverflow}

@@ -11,8 +11,10 @@ use Rattle.number_forms.specs.Rooms.{LacksRoom, joining_need}
 use Rattle.number_forms.specs.Squares.{twice, square_row}
 use Rattle.number_forms.specs.Sums.{IsSumOf}
 use Rattle.child_lists.proofs.ListedChildren.{lists_kept}
-use Rattle.number_forms.proofs.Loops.{IsJoined, joined_none, joined_more, joined_part, joined_all, kept_after, other_plain, gives_rest}
-use Rattle.number_forms.proofs.Overflows.{passed_on, overflow_as}
+use Rattle.number_forms.proofs.Loops.{IsJoined, joined_none, joined_more, joined_part, joined_all}
+use Rattle.tree_handles.proofs.Refused.{kept_after, overflow_as}
+use Rattle.tree_handles.proofs.Beside.{other_plain, gives_rest}
+use Rattle.tree_handles.proofs.Outcomes.{passed_on}
 use Rattle.number_forms.proofs.Rooms.{full_as, spans_from, partial_spanned, term_lacks, row_lacks}
 use Rattle.number_forms.proofs.Rows.{nothing_more, joined_extracted}
 use Rattle.number_forms.proofs.Squares.{spans_square_row}

@@ -13,8 +13,10 @@ use Rattle.number_forms.specs.Rooms.{LacksRoom, joining_need}
 use Rattle.number_forms.specs.Squares.{square_row, square_terms}
 use Rattle.number_forms.specs.Sums.{IsSumOf}
 use Rattle.child_lists.proofs.ListedChildren.{lists_kept}
-use Rattle.number_forms.proofs.Loops.{joined_none, joined_part, joined_all, from_all, other_plain, other_read, other_expression, gives_rest}
-use Rattle.number_forms.proofs.Overflows.{passed_on, overflow_as}
+use Rattle.number_forms.proofs.Loops.{joined_none, joined_part, joined_all, from_all}
+use Rattle.tree_handles.proofs.Beside.{other_plain, other_read, other_expression, gives_rest}
+use Rattle.tree_handles.proofs.Outcomes.{passed_on}
+use Rattle.tree_handles.proofs.Refused.{overflow_as}
 use Rattle.number_forms.proofs.Rooms.{full_as, spans_from, spans_nth, partial_spanned, row_lacks}
 use Rattle.number_forms.proofs.Squares.{spans_square}
 use Rattle.number_forms.proofs.Worth.{terms_from, from_next}

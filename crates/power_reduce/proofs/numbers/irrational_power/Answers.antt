@@ -1,13 +1,14 @@
 use Rattle.std.proofs.Common.{refl, sym, ap, ◌∙◌, subst, arith}
 use Rattle.calc_room.specs.Spans.{SpansTree}
-use Rattle.number_forms.proofs.FreeBytes.{replaced_free}
+use Rattle.tree_handles.proofs.FreeBytes.{replaced_free}
 use Rattle.power_reduce.proofs.Rooms.{lacks_as}
 use Rattle.calc_algebra.specs.Numbers.{is_number}
 use Rattle.calc_terms.specs.Trees.{num, is_num}
-use Rattle.coefficients.proofs.Steps.{one_value, if_map}
+use Rattle.coefficients.proofs.Steps.{one_value}
+use Rattle.tree_handles.proofs.Outcomes.{if_map}
 use Rattle.tree_handles.proofs.Fronts.{behind_first, behind_new, front_same, front_without, front_after_one}
 use Rattle.tree_handles.proofs.Given.{gives_as, given_handed, given_rest, given_told}
-use Rattle.number_forms.proofs.Overflows.{refused_as}
+use Rattle.tree_handles.proofs.Refused.{refused_as}
 use Rattle.power_reduce.proofs.Misfits.{positive_misfit}
 use Rattle.power_reduce.proofs.NumberPowers.{irrational_power, zero_answer, one_answer, power_answer}
 use Rattle.std.specs.Prelude.{IfOk}

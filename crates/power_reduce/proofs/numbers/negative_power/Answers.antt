@@ -8,15 +8,15 @@ use Rattle.tree_handles.specs.Expressions.{plain}
 use Rattle.tree_handles.proofs.Lasts.{last_tree}
 use Rattle.calc_room.specs.Spans.{SpansTree}
 use Rattle.number_forms.specs.Rooms.{SpansInverse}
-use Rattle.number_forms.proofs.FreeBytes.{replaced_free}
+use Rattle.tree_handles.proofs.FreeBytes.{replaced_free}
 use Rattle.power_reduce.proofs.Rooms.{lacks_as, inverse_lacks_power}
-use Rattle.coefficients.proofs.Steps.{if_map}
+use Rattle.tree_handles.proofs.Outcomes.{if_map, passed_on}
 use Rattle.tree_handles.specs.Handed.{tree_of}
 use Rattle.tree_handles.specs.Standing.{forest}
 use Rattle.tree_handles.proofs.Fronts.{behind_first, behind_new, front_same, front_at, front_end, front_without, front_after_one}
 use Rattle.tree_handles.proofs.Given.{gives, gives_as, given_handed, given_rest, given_told, represents_handed}
 use Rattle.power_reduce.specs.PowerAnswers.{base_in}
-use Rattle.number_forms.proofs.Overflows.{passed_on, overflow_as, refused_as}
+use Rattle.tree_handles.proofs.Refused.{overflow_as, refused_as}
 use Rattle.power_reduce.proofs.Misfits.{inverse_misfit, negative_misfit, raised_misfit}
 use Rattle.power_reduce.proofs.NumberPowers.{irrational_power, wide_answer, inverse_answer, inverse_given, has_inverse}
 use Rattle.power_reduce.proofs.RationalPowers.{opposite, opposite_above}

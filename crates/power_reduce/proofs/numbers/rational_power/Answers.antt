@@ -4,7 +4,7 @@ use Rattle.calc_measures.specs.PlainValues.{PlainValue, powered}
 use Rattle.calc_terms.specs.Rat.{value_of}
 use Rattle.calc_measures.specs.PlainTrees.{IsPlainOverflow}
 use Rattle.tree_handles.proofs.Given.{gives_as, given_told}
-use Rattle.number_forms.proofs.Overflows.{passed_on}
+use Rattle.tree_handles.proofs.Outcomes.{passed_on}
 use Rattle.tree_handles.specs.declared.fault.NumberFault.TheVariants as fault
 use Rattle.power_reduce.proofs.Misfits.{rational_misfit}
 use Rattle.power_reduce.proofs.HeldPowers.{rational_power_held, no_number_undef}

@@ -2,8 +2,7 @@ use Rattle.std.proofs.Common.{◌≡◌, ◌≤◌, inl, refl, ap, ◌∙◌, ar
 use Rattle.calc_terms.specs.Rat.{value_of}
 use Rattle.calc_terms.specs.declared.kind.Kind.TheVariants as kind
 use Rattle.calc_terms.specs.Trees.{num, none, more, size}
-use Rattle.coefficients.proofs.Places.{IsOver, IsTaken, over_put, over_same, over_end, without_put}
-use Rattle.coefficients.proofs.Steps.{IsAdded, children_in, added_as, moved}
+use Rattle.tree_handles.proofs.Over.{IsOver, IsTaken, over_put, over_same, over_end, without_put, IsAdded, children_in, added_as, moved}
 use Rattle.node_pool.specs.State.{free_of}
 use Rattle.power_reduce.proofs.InPlace.{first_alone, root_merged, merged_front, second_taken, number_bytes, apart_last, without_added}
 use Rattle.power_reduce.proofs.Powers.{over_power}

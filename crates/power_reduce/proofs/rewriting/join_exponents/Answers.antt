@@ -2,8 +2,8 @@ use Rattle.std.proofs.Common.{◌≡◌, ◌≤◌, true, false, Result, Ok, Err
 use Rattle.std.specs.Prelude.{IsOk}
 use Rattle.calc_terms.specs.declared.kind.Kind.TheVariants as kind
 use Rattle.calc_terms.specs.Trees.{none, more, mult}
-use Rattle.coefficients.proofs.Places.{IsOver, IsTaken, represents_count, over_end, without_put}
-use Rattle.coefficients.proofs.Steps.{IsAdded, children_in, added_as, moved}
+use Rattle.tree_handles.proofs.Over.{IsOver, IsTaken, over_end, without_put, IsAdded, children_in, added_as, moved}
+use Rattle.tree_handles.proofs.Cuts.{represents_count}
 use Rattle.power_reduce.specs.PowerAnswers.{base_in, exponent_in}
 use Rattle.tree_handles.specs.Handed.{Gives, tree_of}
 use Rattle.tree_handles.specs.Roots.{put}

@@ -1,11 +1,12 @@
 use Rattle.std.proofs.Common.{refl, inl, sym, ap, ◌∙◌, arith}
-use Rattle.number_forms.proofs.Overflows.{passed_on}
+use Rattle.tree_handles.proofs.Beside.{gives_without}
+use Rattle.tree_handles.proofs.Outcomes.{passed_on}
 use Rattle.power_reduce.proofs.Rooms.{short_below, coefficient_most}
 use Rattle.calc_algebra.specs.Reduced.{is_num_one}
 use Rattle.calc_terms.specs.Trees.{is_mult, mult, more}
 use Rattle.coefficients.proofs.FirstFactors.{first_factor, first_front}
-use Rattle.coefficients.proofs.Places.{over_gives}
-use Rattle.coefficients.proofs.Steps.{expression, gives_without}
+use Rattle.tree_handles.proofs.Over.{over_gives}
+use Rattle.tree_handles.proofs.Seen.{expression}
 use Rattle.power_reduce.proofs.PartsOf.{led_by_one, led_by_other, first_handed, first_tree, first_seen, gives_at}
 use Rattle.tree_handles.specs.Handed.{tree_of}
 use Rattle.tree_handles.specs.Expressions.{children_of}
@@ -24,7 +25,7 @@ pub returns-then-is_one-clause-ok : goal.returns-then-is_one-clause-ok
 returns-then-is_one-clause-ok c =
     let g = c.in_ok-coefficient.ensures.ok in
     let one = ap is_num_one (sym (first_seen c.split_product.new.pool c.id.ensures c.in_ok-coefficient.ensures.stands g)) ∙ sym c.is_one.ensures ∙ c.if-is_one.true in
-    gives_as (gives_at (gives_without c.in_ok-coefficient.coefficient g.second-given (given_root g.first-given)) (c.release.ensures.owned (owned (first_handed _ g)))) (given_rest g.first-given)
+    gives_as (gives_at (gives_without c.in_ok-coefficient.coefficient g.second-given (given_root g.first-given) refl) (c.release.ensures.owned (owned (first_handed _ g)))) (given_rest g.first-given)
     (λ t e. e ∙ ap mult (sym (led_by_one (children_of (tree_of c.args.product c.args.pool.now)) one)))
 
 pub returns-then-is_one-clause-front : goal.returns-then-is_one-clause-front

@@ -1,14 +1,12 @@
 use Rattle.std.proofs.Common.{◌≡◌, refl, arith}
-use Rattle.number_forms.proofs.FreeBytes.{refused_below}
-use Rattle.number_forms.proofs.Overflows.{passed_on}
+use Rattle.tree_handles.proofs.FreeBytes.{refused_below}
+use Rattle.tree_handles.proofs.Outcomes.{passed_on}
 use Rattle.reduce_port.proofs.ChildBytes.{taken_free}
-use Rattle.coefficients.proofs.Places.{over_product, over_end}
-use Rattle.coefficients.proofs.Steps.{children_in, added_as}
+use Rattle.tree_handles.proofs.Over.{over_product, over_end, children_in, added_as, IsOver, IsTaken}
 use Rattle.power_reduce.proofs.InPlace.{apart_last}
 use Rattle.power_reduce.proofs.Raising.{IsSplitAt, split_at, split_within, factor_taken, taken_front, power_given, product_on, words, kids_of_raised, kids_front}
 use Rattle.calc_terms.specs.declared.kind.Kind.TheVariants as kind
 use Rattle.calc_terms.specs.Trees.{append, power}
-use Rattle.coefficients.proofs.Places.{IsOver, IsTaken}
 use Rattle.tree_handles.specs.Expressions.{children_of}
 use Rattle.tree_handles.specs.Handed.{Gives, tree_of}
 use Rattle.tree_handles.specs.Roots.{put, without_root}

@@ -2,14 +2,13 @@ use Rattle.std.proofs.Common.{◌+◌, inl, sym, ap, ◌∙◌, arith, to_z, of_
 use Rattle.calc_terms.specs.Ratio.{Ratio}
 use Rattle.calc_terms.specs.Trees.{num, size, root as root_tree}
 use Rattle.node_pool.specs.State.{free_of}
-use Rattle.number_forms.proofs.FreeBytes.{refused_below, replaced_free}
-use Rattle.number_forms.proofs.Overflows.{passed_on}
+use Rattle.tree_handles.proofs.FreeBytes.{refused_below, replaced_free}
+use Rattle.tree_handles.proofs.Outcomes.{passed_on, if_map, eqb-sym}
 use Rattle.number_forms.proofs.Rooms.{refusal_as}
 use Rattle.power_reduce.proofs.Rooms.{sides_free, no_root, no_exponent, no_power}
 use Rattle.tree_handles.proofs.Room.{given_free, released_free}
 use Rattle.std.specs.Int.{w128}
 use Rattle.calc_terms.specs.Fractions.{lowest, whole_fraction}
-use Rattle.coefficients.proofs.Steps.{if_map}
 use Rattle.power_reduce.specs.PowerAnswers.{base_in, exponent_in}
 use Rattle.tree_handles.specs.Handed.{tree_of}
 use Rattle.power_reduce.proofs.PartsOf.{gives_at}
@@ -18,7 +17,6 @@ use Rattle.rational128.proofs.Signed.{told}
 use Rattle.tree_handles.specs.Expressions.{plain}
 use Rattle.tree_handles.proofs.Fronts.{behind_first, behind_new, front_same, front_at, front_end, front_without, front_after, front_after_one, front_after_two}
 use Rattle.tree_handles.proofs.Given.{gives_as, given_apart, given_handed, given_other, given_rest, given_root, given_same, given_told, given_without, owned}
-use Rattle.tree_handles.proofs.Outcomes.{eqb-sym}
 use Rattle.power_reduce.proofs.rewriting.root_base.Goals as goal
 
 pub release-requires-clause-releasable : goal.release-requires-clause-releasable

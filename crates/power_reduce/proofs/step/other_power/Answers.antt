@@ -1,6 +1,6 @@
 use Rattle.tree_handles.specs.Handed.{tree_of}
 use Rattle.tree_handles.specs.declared.fault.NumberFault.TheVariants as fault
-use Rattle.number_forms.proofs.Overflows.{passed_on}
+use Rattle.tree_handles.proofs.Outcomes.{passed_on}
 use Rattle.power_reduce.specs.PowerAnswers.{exponent_in}
 use Rattle.power_reduce.proofs.Cases.{broken_other, again}
 use Rattle.power_reduce.proofs.step.other_power.Goals as goal

@@ -20,7 +20,7 @@ use Rattle.rational128.proofs.Signed.{told}
 use Rattle.tree_handles.specs.Handed.{tree_of}
 use Rattle.tree_handles.proofs.Given.{gives_as, given_told}
 use Rattle.power_reduce.specs.PowerAnswers.{base_in, exponent_in}
-use Rattle.number_forms.proofs.Overflows.{refused_as}
+use Rattle.tree_handles.proofs.Refused.{refused_as}
 use Rattle.power_reduce.proofs.Cases.{HasUndef, undef_base, undef_exponent, undef_kept, undef_answer, defined_rationals}
 use Rattle.power_reduce.proofs.step.power_step.Goals as goal
 use Rattle.power_reduce.proofs.step.power_step.Goals.{Joined-then-is_undefined, then-is_undefined-via-then-is_undefined, then-is_undefined-via-else-is_undefined+then-is_undefined-2}

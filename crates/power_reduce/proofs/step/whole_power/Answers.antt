@@ -6,7 +6,7 @@ use Rattle.reduce_port.specs.Steps.{IfDone}
 use Rattle.calc_terms.specs.Trees.{root_kind}
 use Rattle.tree_handles.specs.Handed.{tree_of}
 use Rattle.power_reduce.specs.PowerAnswers.{base_in, exponent_in}
-use Rattle.number_forms.proofs.Overflows.{passed_on}
+use Rattle.tree_handles.proofs.Outcomes.{passed_on}
 use Rattle.number_forms.proofs.Rooms.{full_as}
 use Rattle.power_reduce.proofs.Cases.{no_num_kind, number_kept, no_rational, rational_number, step_fault}
 use Rattle.calc_algebra.specs.Reduced.{is_whole_num}

@@ -9,7 +9,8 @@ use Rattle.tree_handles.specs.Handed.{tree_of}
 use Rattle.tree_handles.proofs.Given.{gives_as}
 use Rattle.power_reduce.specs.PowerAnswers.{base_in, exponent_in}
 use Rattle.power_reduce.specs.PowerSteps.{is_even_whole}
-use Rattle.number_forms.proofs.Overflows.{passed_on, refused_as}
+use Rattle.tree_handles.proofs.Outcomes.{passed_on}
+use Rattle.tree_handles.proofs.Refused.{refused_as}
 use Rattle.power_reduce.proofs.Cases.{number_kept, zero_kept, one_kept, other_power, whole_goes_inside, no_number, even_bits, odd_bits, even_whole, odd_root_kept, again}
 use Rattle.power_reduce.proofs.NumberPowers.{zero_answer, one_answer}
 use Rattle.power_reduce.proofs.Powers.{one_room}

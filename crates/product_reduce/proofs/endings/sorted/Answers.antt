@@ -9,7 +9,7 @@ use Rattle.calc_room.specs.Spans.{SpansTree, SpansTrees}
 use Rattle.calc_terms.specs.Trees.{Tree, Trees, mult, size}
 use Rattle.coefficients.specs.Rooms.{put_room}
 use Rattle.coefficients.proofs.Lacks.{result_lacks}
-use Rattle.coefficients.proofs.Steps.{if_map}
+use Rattle.tree_handles.proofs.Outcomes.{if_map, eqb-sym}
 use Rattle.node_order.specs.Sorting.{list_of}
 use Rattle.number_forms.specs.Readers.{is_zero}
 use Rattle.tree_handles.specs.Expressions.{plain}
@@ -18,7 +18,6 @@ use Rattle.tree_handles.specs.Roots.{without_root}
 use Rattle.tree_handles.specs.Standing.{forest}
 use Rattle.tree_handles.proofs.Fronts.{behind_first, behind_later, front_same, front_after_one, front_after_two}
 use Rattle.tree_handles.proofs.Given.{gives_as}
-use Rattle.tree_handles.proofs.Outcomes.{eqb-sym}
 use Rattle.tree_handles.proofs.Roots.{without-swap}
 use Rattle.product_reduce.specs.Answers.{AreOthers, IsEnding}
 use Rattle.product_reduce.specs.Joining.{have_partners}

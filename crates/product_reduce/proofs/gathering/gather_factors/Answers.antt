@@ -12,7 +12,8 @@ use Rattle.calc_terms.specs.Trees.{Trees, mult, none, count, is_mult, are_ration
 use Rattle.number_forms.specs.Answers.{AnswersRationals}
 use Rattle.calc_algebra.specs.Reduced.{NoneIs, are_reduced}
 use Rattle.calc_measures.specs.PlainTrees.{IsPlainAnswer}
-use Rattle.number_forms.proofs.Overflows.{passed_on, overflow_as, refused_as as refused_on}
+use Rattle.tree_handles.proofs.Outcomes.{passed_on}
+use Rattle.tree_handles.proofs.Refused.{overflow_as, refused_as as refused_on}
 use Rattle.tree_handles.specs.Handed.{tree_of}
 use Rattle.tree_handles.specs.Standing.{forest}
 use Rattle.tree_handles.proofs.Fronts.{behind_first, front_after_one}

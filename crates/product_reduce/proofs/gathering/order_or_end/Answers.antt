@@ -25,7 +25,7 @@ use Rattle.tree_handles.specs.Standing.{forest}
 use Rattle.tree_handles.proofs.Fronts.{behind_first, behind_later, front_same, front_after_one, front_after_two}
 use Rattle.tree_handles.proofs.Given.{gives_as, given_told}
 use Rattle.tree_handles.proofs.Lasts.{expression_root, plain_root}
-use Rattle.tree_handles.proofs.Outcomes.{eqb-sym}
+use Rattle.tree_handles.proofs.Outcomes.{eqb-sym, passed_on}
 use Rattle.tree_handles.proofs.Roots.{without-swap}
 use Rattle.product_reduce.specs.Answers.{AreOthers, at_zero, at_end, IsEnding}
 use Rattle.product_reduce.proofs.Beside.{beside_becomes, tree_becomes}
@@ -36,7 +36,6 @@ use Rattle.product_reduce.proofs.Misfits.{put_named}
 use Rattle.product_reduce.proofs.Neighbours.{pair_partners, sorted_apart, apart_before}
 use Rattle.product_reduce.proofs.Products.{factors_are, product_at}
 use Rattle.product_reduce.proofs.Sorted.{permuted_lists}
-use Rattle.number_forms.proofs.Overflows.{passed_on}
 use Rattle.product_reduce.proofs.gathering.order_or_end.Goals as goal
 
 pub is_zero-requires-clause-expression : goal.is_zero-requires-clause-expression

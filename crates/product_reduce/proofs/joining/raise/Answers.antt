@@ -1,6 +1,6 @@
 use Rattle.std.proofs.Common.{◌∙◌, ap, refl, arith}
 use Rattle.calc_terms.specs.Trees.{size}
-use Rattle.number_forms.proofs.FreeBytes.{both_replaced_free, refused_below}
+use Rattle.tree_handles.proofs.FreeBytes.{both_replaced_free, refused_below}
 use Rattle.product_reduce.proofs.FreeBytes.{refusal_told}
 use Rattle.tree_handles.specs.Expressions.{plain}
 use Rattle.tree_handles.proofs.Given.{gives_as, given_handed, given_other, given_apart, given_told, given_same, given_without, handed_beside}

@@ -14,7 +14,7 @@ use Rattle.like_children.specs.Joining.{AreJoined, IsNextOf}
 use Rattle.like_children.specs.Numbers.{numbers_in, others_in}
 use Rattle.like_children.proofs.Folds.{some_number}
 use Rattle.like_children.proofs.Many.{many}
-use Rattle.number_forms.proofs.Overflows.{refused_as}
+use Rattle.tree_handles.proofs.Refused.{refused_as}
 use Rattle.tree_handles.specs.Handed.{tree_of}
 use Rattle.tree_handles.specs.Roots.{without_root}
 use Rattle.tree_handles.specs.Standing.{forest}

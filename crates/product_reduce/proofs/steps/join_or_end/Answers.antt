@@ -9,7 +9,7 @@ use Rattle.tree_handles.specs.Standing.{forest}
 use Rattle.tree_handles.proofs.Given.{gives_as, given_told}
 use Rattle.tree_handles.proofs.Lasts.{expression_root, plain_root}
 use Rattle.product_reduce.specs.Answers.{at_zero, at_end}
-use Rattle.number_forms.proofs.Overflows.{passed_on}
+use Rattle.tree_handles.proofs.Outcomes.{passed_on}
 use Rattle.product_reduce.proofs.Misfits.{none_named}
 use Rattle.product_reduce.proofs.Pairs.{some_partners}
 use Rattle.product_reduce.proofs.steps.join_or_end.Goals as goal

@@ -13,7 +13,8 @@ use Rattle.calc_terms.specs.Trees.{Trees, mult, count, are_rationals, size}
 use Rattle.number_forms.specs.Answers.{AnswersRationals}
 use Rattle.calc_algebra.specs.Reduced.{are_reduced}
 use Rattle.calc_measures.specs.PlainTrees.{IsPlainAnswer}
-use Rattle.number_forms.proofs.Overflows.{passed_on, overflow_as, refused_as as refused_on}
+use Rattle.tree_handles.proofs.Outcomes.{passed_on}
+use Rattle.tree_handles.proofs.Refused.{overflow_as, refused_as as refused_on}
 use Rattle.tree_handles.specs.Handed.{tree_of}
 use Rattle.tree_handles.specs.Expressions.{children_of}
 use Rattle.tree_handles.specs.Standing.{forest}

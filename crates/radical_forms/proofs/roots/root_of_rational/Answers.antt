@@ -13,9 +13,9 @@ use Rattle.surd_terms.proofs.Rationals.{whole_value}
 use Rattle.tree_handles.proofs.Fronts.{behind_first, front_same, front_at, front_without, front_after}
 use Rattle.tree_handles.proofs.Given.{gives_as, given_told, owned}
 use Rattle.tree_handles.specs.Handed.{tree_of}
-use Rattle.number_forms.specs.Lacks.{OfFull}
+use Rattle.tree_handles.specs.Lacking.{OfFull}
 use Rattle.number_forms.specs.Shapes.{term_tree}
-use Rattle.number_forms.proofs.Overflows.{passed_on}
+use Rattle.tree_handles.proofs.Outcomes.{passed_on}
 use Rattle.tree_handles.specs.declared.fault.NumberFault.TheVariants as fault
 use Rattle.rational128.specs.declared.overflow.Overflow.{Overflow}
 use Rattle.radical_forms.specs.Refusals.{LacksRoot, NamesProduct}

@@ -1,7 +1,7 @@
 use Rattle.std.proofs.Common.{◌<◌, sym, ap, ◌∙◌, arith, subst}
 use Rattle.breakers.specs.Watch.{states}
 use Rattle.calc_terms.specs.Trees.{Tree, nodes}
-use Rattle.coefficients.proofs.Steps.{live, expression, seen}
+use Rattle.tree_handles.proofs.Seen.{live, expression, seen}
 use Rattle.reduce_port.specs.Checks.{TripsWithin}
 use Rattle.reduce_port.specs.Faults.{fault_of}
 use Rattle.reduce_port.specs.declared.fault.ReduceFault.TheVariants as fault

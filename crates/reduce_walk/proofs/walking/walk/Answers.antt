@@ -3,7 +3,7 @@ use Rattle.std.specs.Prelude.{OnOk}
 use Rattle.breakers.specs.Breakers.{CalmChecks}
 use Rattle.breakers.specs.Watch.{states}
 use Rattle.calc_terms.specs.Trees.{Tree, nodes}
-use Rattle.coefficients.proofs.Steps.{if_map}
+use Rattle.tree_handles.proofs.Outcomes.{if_map}
 use Rattle.reduce_walk.proofs.Bytes.{last_free}
 use Rattle.reduce_walk.proofs.Port.{if_full, if_overflow, if_interrupted, counts, rose}
 use Rattle.reduce_walk.proofs.Stopping.{stopped, kept_from}

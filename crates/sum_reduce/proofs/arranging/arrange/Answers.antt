@@ -1,9 +1,9 @@
 use Rattle.std.proofs.Common.{◌≤◌, sym, subst, ap, arith, rules}
+use Rattle.tree_handles.proofs.Outcomes.{passed_result}
 use Rattle.calc_algebra.specs.Reduced.{NoneIs}
 use Rattle.calc_measures.specs.PlainValues.{plain_value}
 use Rattle.calc_terms.specs.Trees.{Trees, add, count, sizes}
 use Rattle.sum_reduce.specs.Arranging.{AnswersFold}
-use Rattle.sum_reduce.proofs.Results.{passed_on}
 use Rattle.tree_handles.specs.Standing.{forest}
 use Rattle.tree_handles.proofs.Fronts.{behind_first, front_after_one}
 use Rattle.sum_reduce.specs.Sums.{terms_in}
@@ -36,7 +36,7 @@ join_numbers-requires c = record {
 
 pub returns-in_err-join_numbers-clause-rationals : goal.returns-in_err-join_numbers-clause-rationals
 returns-in_err-join_numbers-clause-rationals c =
-    λ q. passed_on c.from_residual.result c.in_err-join_numbers.field-0.0 (AnswersFold (plain_value (add (terms_in c.args.sum.now (forest c.args.pool.now)))) (terms_in c.args.sum.now (forest c.join_numbers.new.pool)))
+    λ q. passed_result c.from_residual.result c.in_err-join_numbers.field-0.0 (AnswersFold (plain_value (add (terms_in c.args.sum.now (forest c.args.pool.now)))) (terms_in c.args.sum.now (forest c.join_numbers.new.pool)))
     c.from_residual.ensures.0 c.from_residual.ensures.1
     (rationals_faulted (terms_in c.args.sum.now (forest c.args.pool.now)) (terms_in c.args.sum.now (forest c.open_sums.new.pool)) (terms_in c.args.sum.now (forest c.join_numbers.new.pool)) (terms_in c.args.sum.now (forest c.join_numbers.new.pool)) _ q c.open_sums.ensures.opened c.in_err-join_numbers.ensures.rationals)
 

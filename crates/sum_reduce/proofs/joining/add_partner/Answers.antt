@@ -10,9 +10,9 @@ use Rattle.tree_handles.specs.Expressions.{nth}
 use Rattle.tree_handles.specs.Standing.{forest}
 use Rattle.tree_handles.proofs.Fronts.{behind_first, behind_later, front_after_one, front_after_two}
 use Rattle.tree_handles.proofs.Given.{given_told}
-use Rattle.tree_handles.proofs.Outcomes.{eqb-sym}
+use Rattle.tree_handles.proofs.Outcomes.{eqb-sym, if_map}
 use Rattle.sum_reduce.specs.Sums.{terms_in}
-use Rattle.sum_reduce.proofs.Results.{if_ok_both, if_ok_map}
+use Rattle.sum_reduce.proofs.Results.{if_ok_both}
 use Rattle.sum_reduce.proofs.Sums.{sum_within, term_out, takes_handed, takes_behind, takes_front, rewritten, other_handed, other_same, other_clear, both_rewritten}
 use Rattle.coefficients.proofs.Named.{result_named}
 use Rattle.sum_reduce.proofs.Hindered.{numbers_named, names_as}
@@ -59,13 +59,13 @@ pub returns-clause-ok : goal.returns-clause-ok
 returns-clause-ok c =
     let o = term_out c.args.at c.requires.sum c.requires.within (c.take_child-term.ensures.last c.requires.sum.handed.root) in
     let r = rewritten o.takes c.in_ok-coefficient.ensures.ok in
-    if_ok_map c.add_numbers.result c.add_numbers.ensures.ok (λ h k. (both_rewritten c.requires.apart c.requires.handed r.takes k).takes)
+    if_map c.add_numbers.result _ _ c.add_numbers.ensures.ok (λ h k. (both_rewritten c.requires.apart c.requires.handed r.takes k).takes)
 
 pub returns-clause-terms : goal.returns-clause-terms
 returns-clause-terms c =
     let o = term_out c.args.at c.requires.sum c.requires.within (c.take_child-term.ensures.last c.requires.sum.handed.root) in
     let r = rewritten o.takes c.in_ok-coefficient.ensures.ok in
-    if_ok_map c.add_numbers.result c.add_numbers.ensures.ok (λ h k. (both_rewritten c.requires.apart c.requires.handed r.takes k).terms ∙ r.terms ∙ o.terms)
+    if_map c.add_numbers.result _ _ c.add_numbers.ensures.ok (λ h k. (both_rewritten c.requires.apart c.requires.handed r.takes k).terms ∙ r.terms ∙ o.terms)
 
 pub returns-clause-number : goal.returns-clause-number
 returns-clause-number c =

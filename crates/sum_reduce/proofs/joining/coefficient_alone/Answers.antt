@@ -1,10 +1,10 @@
 use Rattle.std.proofs.Common.{inl, ◌<◌}
+use Rattle.tree_handles.proofs.Outcomes.{passed_result}
 use Rattle.tree_handles.proofs.Fronts.{behind_first, front_same, front_end, front_without}
 use Rattle.tree_handles.proofs.Given.{owned, given_handed, given_root}
 use Rattle.sum_reduce.proofs.Sums.{part_gone}
 use Rattle.std.specs.Prelude.{IfErr}
 use Rattle.node_pool.specs.State.{free_of}
-use Rattle.sum_reduce.proofs.Results.{passed_on}
 use Rattle.sum_reduce.proofs.Rooms.{taking_lacks}
 use Rattle.tree_handles.specs.Handed.{tree_of}
 use Rattle.sum_reduce.proofs.joining.coefficient_alone.Goals as goal
@@ -23,5 +23,5 @@ returns-clause-front c =
 
 pub returns-in_err-coefficient-clause-room : goal.returns-in_err-coefficient-clause-room
 returns-in_err-coefficient-clause-room c =
-    passed_on c.from_residual.result c.in_err-coefficient.field-0.0 (λ r. IfErr r (λ full. free_of c.args.pool.now < 40)) c.from_residual.ensures.0 c.from_residual.ensures.1
+    passed_result c.from_residual.result c.in_err-coefficient.field-0.0 (λ r. IfErr r (λ full. free_of c.args.pool.now < 40)) c.from_residual.ensures.0 c.from_residual.ensures.1
     (taking_lacks (tree_of c.args.term c.args.pool.now) c.in_err-coefficient.ensures.full)

@@ -1,10 +1,11 @@
 use Rattle.std.proofs.Common.{◌∙◌, ap, arith, ℕ, ◌<◌, subst, rules}
+use Rattle.tree_handles.proofs.Outcomes.{passed_result}
 use Rattle.like_children.proofs.Kids.{count_removed}
 use Rattle.calc_algebra.specs.Numbers.{is_number}
 use Rattle.calc_algebra.specs.Reduced.{is_reduced, part_of}
 use Rattle.calc_terms.specs.Trees.{more, none, count, is_undef}
 use Rattle.coefficients.specs.Coefficients.{coefficient_of}
-use Rattle.coefficients.proofs.Steps.{children_in}
+use Rattle.tree_handles.proofs.Over.{children_in}
 use Rattle.tree_handles.specs.Expressions.{inserted}
 use Rattle.tree_handles.specs.Standing.{forest}
 use Rattle.tree_handles.proofs.Fronts.{front_after_one}
@@ -14,7 +15,6 @@ use Rattle.sum_reduce.specs.Sums.{terms_in}
 use Rattle.sum_reduce.proofs.Sums.{sum_within, term_out, takes_handed, takes_behind, takes_front, part_back, both_over, both_apart}
 use Rattle.std.specs.Prelude.{IfErr}
 use Rattle.node_pool.specs.State.{free_of}
-use Rattle.sum_reduce.proofs.Results.{passed_on}
 use Rattle.sum_reduce.proofs.Rooms.{taking_lacks}
 use Rattle.sum_reduce.proofs.SumBytes.{out_free}
 use Rattle.tree_handles.specs.Handed.{tree_of}
@@ -78,5 +78,5 @@ pub returns-in_err-coefficient-clause-room : goal.returns-in_err-coefficient-cla
 returns-in_err-coefficient-clause-room c =
     let o = term_out c.args.at c.requires.sum c.requires.within (c.take_child-term.ensures.last c.requires.sum.handed.root) in
     let free = out_free c.requires.stands c.take_child-term.ensures.stands c.take_child-term.ensures.kept c.requires.within o in
-    passed_on c.from_residual.result c.in_err-coefficient.field-0.0 (λ r. IfErr r (λ full. free_of c.args.pool.now < 40)) c.from_residual.ensures.0 c.from_residual.ensures.1
+    passed_result c.from_residual.result c.in_err-coefficient.field-0.0 (λ r. IfErr r (λ full. free_of c.args.pool.now < 40)) c.from_residual.ensures.0 c.from_residual.ensures.1
     (subst (λ (n : ℕ). n < 40) free (taking_lacks (tree_of c.take_child-term.result c.take_child-term.new.pool) c.in_err-coefficient.ensures.full))

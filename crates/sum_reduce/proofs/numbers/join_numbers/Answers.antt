@@ -1,10 +1,10 @@
 use Rattle.std.proofs.Common.{◌∙◌, inl, ap, sym, subst, arith, rules}
+use Rattle.tree_handles.proofs.Outcomes.{passed_result}
 use Rattle.like_children.proofs.Parts.{permuted_parts}
 use Rattle.calc_algebra.specs.Numbers.{is_number}
 use Rattle.calc_measures.specs.PlainValues.{plain_value}
 use Rattle.calc_terms.specs.Trees.{add, more}
 use Rattle.sum_reduce.specs.Arranging.{AnswersFold}
-use Rattle.sum_reduce.proofs.Results.{passed_on}
 use Rattle.tree_handles.specs.Standing.{forest}
 use Rattle.tree_handles.proofs.Forests.{keeps_none}
 use Rattle.tree_handles.proofs.Fronts.{behind_first, front_same, front_after_two}
@@ -94,7 +94,7 @@ returns-in_err-total-in-Some-clause-rationals c =
     λ q.
     let o = term_out c.in-Some.at c.requires.sum c.in-Some.ensures.within (c.take_child-number.ensures.last c.requires.sum.handed.root) in
     let r = rationals_taken c.in-Some.at (terms_in c.args.sum.now (forest c.args.pool.now)) _ _ c.in-Some.ensures q o.terms o.tree in
-    passed_on c.from_residual.result c.in_err-total-in-Some.field-0.0 (AnswersFold (plain_value (add (terms_in c.args.sum.now (forest c.args.pool.now)))) (terms_in c.args.sum.now (forest c.collect_numbers.new.pool)))
+    passed_result c.from_residual.result c.in_err-total-in-Some.field-0.0 (AnswersFold (plain_value (add (terms_in c.args.sum.now (forest c.args.pool.now)))) (terms_in c.args.sum.now (forest c.collect_numbers.new.pool)))
     c.from_residual.ensures.0 c.from_residual.ensures.1 (total_faulted _ _ c.collect_numbers.new.pool (terms_in c.args.sum.now (forest c.collect_numbers.new.pool)) _ r.plain (c.in_err-total-in-Some.ensures.rationals r.first r.others))
 
 pub returns-in_err-total-in-Some-clause-front : goal.returns-in_err-total-in-Some-clause-front

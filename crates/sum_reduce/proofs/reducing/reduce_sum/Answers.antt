@@ -1,4 +1,5 @@
 use Rattle.std.proofs.Common.{◌≡◌, true, false, ◌∙◌, sym, subst, refl, ap, arith, ◌^◌, length}
+use Rattle.tree_handles.proofs.Outcomes.{passed_result}
 use Rattle.calc_measures.specs.PlainValues.{plain_value}
 use Rattle.number_forms.specs.Answers.{AnswersRationals}
 use Rattle.tree_handles.specs.Handed.{tree_of}
@@ -10,7 +11,6 @@ use Rattle.sum_reduce.specs.SumAnswers.{IsSumAnswer, IsCollected}
 use Rattle.sum_reduce.specs.Sums.{terms_in}
 use Rattle.sum_reduce.proofs.Collected.{settled_collected, settled_written}
 use Rattle.sum_reduce.proofs.Rationals.{undef_rationals, rationals_answer, rationals_fault}
-use Rattle.sum_reduce.proofs.Results.{passed_on}
 use Rattle.sum_reduce.proofs.Settled.{reduced_formed, undef_answer, settled_answer}
 use Rattle.sum_reduce.proofs.Sums.{changes_rest}
 use Rattle.calc_room.specs.Counts.{counted}
@@ -83,7 +83,7 @@ returns-clause-rationals c =
 
 pub returns-in_err-settle-clause-rationals : goal.returns-in_err-settle-clause-rationals
 returns-in_err-settle-clause-rationals c =
-    λ q. passed_on c.from_residual.result c.in_err-settle.field-0.0 (AnswersRationals (plain_value (tree_of c.args.sum c.args.pool.now)) c.settle.new.pool)
+    λ q. passed_result c.from_residual.result c.in_err-settle.field-0.0 (AnswersRationals (plain_value (tree_of c.args.sum c.args.pool.now)) c.settle.new.pool)
     c.from_residual.ensures.0 c.from_residual.ensures.1
     (rationals_fault (tree_of c.args.sum c.args.pool.now) (terms_in c.args.sum (forest c.settle.new.pool)) c.settle.new.pool _ c.requires.sum (c.in_err-settle.ensures.rationals q))
 

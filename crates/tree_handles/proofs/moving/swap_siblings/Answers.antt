@@ -1,5 +1,4 @@
 use Rattle.std.proofs.Common.{◌≡◌, ℕ, sym, ap, ◌∙◌, arith}
-use Rattle.node_pool.specs.Nodes.{place_of}
 use Rattle.tree_handles.specs.Children.{AreSiblings}
 use Rattle.tree_handles.specs.Forest.{Forest, swapped_nth}
 use Rattle.tree_handles.specs.Inside.{kids_of, with_kids}

@@ -1,5 +1,4 @@
 use Rattle.std.proofs.Common.{◌≡◌, ◌+◌, ◌-◌, ◌∙◌, ap, sym, subst, arith}
-use Rattle.node_pool.specs.Nodes.{used}
 use Rattle.node_pool.specs.Places.{IsBoundary, without}
 use Rattle.node_pool.specs.State.{State}
 use Rattle.tree_handles.specs.Forest.{Forest, bytes_in}

@@ -1,4 +1,4 @@
-use Rattle.std.proofs.Common.{ℕ, suc, ◌≡◌, [], ◌∷◌, ◌++◌, length, refl, ap, ◌∙◌, sym, arith}
+use Rattle.std.proofs.Common.{ℕ, suc, ◌≡◌, [], ◌∷◌, ◌++◌, length, ap, ◌∙◌, sym, arith}
 use Rattle.std.proofs.lemmas.List.{length-append}
 use Rattle.calc_terms.specs.Trees.{is_undef, has_undef}
 use Rattle.tree_handles.proofs.UndefChildren.{behind, undef_here, undef_later, undef_end}

@@ -1,7 +1,7 @@
 use Rattle.std.proofs.Common.{ℕ, rules, refl, subst}
 use Rattle.breakers.specs.Breakers.{CalmChecks}
 use Rattle.breakers.specs.Watch.{states}
-use Rattle.coefficients.proofs.Steps.{if_map}
+use Rattle.tree_handles.proofs.Outcomes.{if_map}
 use Rattle.deep_reduce.proofs.ChildRooms.{five_answers, lacks_room}
 use Rattle.reduce_walk.proofs.Port.{full_as, overflow_as, unfit_after_checks}
 use Rattle.tree_handles.specs.Handed.{tree_of}

@@ -1,5 +1,5 @@
 use Rattle.std.proofs.Common.{rules, refl}
-use Rattle.coefficients.proofs.Steps.{if_map}
+use Rattle.tree_handles.proofs.Outcomes.{if_map}
 use Rattle.deep_reduce.proofs.NodeAnswers.{node_answered}
 use Rattle.deep_reduce.proofs.Ready.{answers_reduced, over_answers, step_lacks, step_overflows}
 use Rattle.tree_handles.specs.Expressions.{children_of}

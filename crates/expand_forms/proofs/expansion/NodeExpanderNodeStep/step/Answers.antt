@@ -1,5 +1,5 @@
 use Rattle.std.proofs.Common.{rules, refl}
-use Rattle.coefficients.proofs.Steps.{if_map}
+use Rattle.tree_handles.proofs.Outcomes.{if_map}
 use Rattle.expand_forms.proofs.OverAnswers.{children_expanded, expanded_from, polynomial_root, step_lacks, step_overflows}
 use Rattle.node_pool.specs.State.{free_of}
 use Rattle.tree_handles.specs.Handed.{tree_of}

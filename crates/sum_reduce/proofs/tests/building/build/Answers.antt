@@ -1,6 +1,6 @@
 use Rattle.std.proofs.Common.{refl}
+use Rattle.tree_handles.proofs.Outcomes.{if_map}
 use Rattle.tree_handles.proofs.Given.{gives_as, given_handed, given_told, given_rest}
-use Rattle.sum_reduce.proofs.Results.{if_ok_map}
 use Rattle.sum_reduce.proofs.Tested.{number_reduced}
 use Rattle.sum_reduce.proofs.tests.building.build.Goals as goal
 
@@ -14,7 +14,7 @@ multiple-requires-clause-number c =
 
 pub returns-in_ok-coefficient-in-Multiple-clause-ok : goal.returns-in_ok-coefficient-in-Multiple-clause-ok
 returns-in_ok-coefficient-in-Multiple-clause-ok c =
-    if_ok_map c.multiple.result c.multiple.ensures.ok (λ h k. gives_as k (given_rest c.in_ok-coefficient-in-Multiple.ensures.ok) (λ t e. e))
+    if_map c.multiple.result _ _ c.multiple.ensures.ok (λ h k. gives_as k (given_rest c.in_ok-coefficient-in-Multiple.ensures.ok) (λ t e. e))
 
 pub multiple-requires-in-RootMultiple-clause-handed : goal.multiple-requires-in-RootMultiple-clause-handed
 multiple-requires-in-RootMultiple-clause-handed c =
@@ -26,7 +26,7 @@ multiple-requires-in-RootMultiple-clause-number c =
 
 pub returns-in_ok-coefficient-in-RootMultiple-clause-ok : goal.returns-in_ok-coefficient-in-RootMultiple-clause-ok
 returns-in_ok-coefficient-in-RootMultiple-clause-ok c =
-    if_ok_map c.multiple-in-RootMultiple.result c.multiple-in-RootMultiple.ensures.ok (λ h k. gives_as k (given_rest c.in_ok-coefficient-in-RootMultiple.ensures.ok) (λ t e. e))
+    if_map c.multiple-in-RootMultiple.result _ _ c.multiple-in-RootMultiple.ensures.ok (λ h k. gives_as k (given_rest c.in_ok-coefficient-in-RootMultiple.ensures.ok) (λ t e. e))
 
 pub multiple-requires-in-WholeAndRootMultiple-clause-handed : goal.multiple-requires-in-WholeAndRootMultiple-clause-handed
 multiple-requires-in-WholeAndRootMultiple-clause-handed c =
@@ -38,16 +38,16 @@ multiple-requires-in-WholeAndRootMultiple-clause-number c =
 
 pub returns-in_ok-coefficient-in-WholeAndRootMultiple-clause-ok : goal.returns-in_ok-coefficient-in-WholeAndRootMultiple-clause-ok
 returns-in_ok-coefficient-in-WholeAndRootMultiple-clause-ok c =
-    if_ok_map c.multiple-in-WholeAndRootMultiple.result c.multiple-in-WholeAndRootMultiple.ensures.ok (λ h k. gives_as k (given_rest c.in_ok-coefficient-in-WholeAndRootMultiple.ensures.ok) (λ t e. e))
+    if_map c.multiple-in-WholeAndRootMultiple.result _ _ c.multiple-in-WholeAndRootMultiple.ensures.ok (λ h k. gives_as k (given_rest c.in_ok-coefficient-in-WholeAndRootMultiple.ensures.ok) (λ t e. e))
 
 pub returns-in-Whole-clause-ok : goal.returns-in-Whole-clause-ok
 returns-in-Whole-clause-ok c =
-    if_ok_map c.whole.result c.whole.ensures.ok (λ h k. gives_as k refl (λ t e. number_reduced t e))
+    if_map c.whole.result _ _ c.whole.ensures.ok (λ h k. gives_as k refl (λ t e. number_reduced t e))
 
 pub returns-in-Root-clause-ok : goal.returns-in-Root-clause-ok
 returns-in-Root-clause-ok c =
-    if_ok_map c.root.result c.root.ensures.ok (λ h k. gives_as k refl (λ t e. number_reduced t e))
+    if_map c.root.result _ _ c.root.ensures.ok (λ h k. gives_as k refl (λ t e. number_reduced t e))
 
 pub returns-in-WholeAndRoot-clause-ok : goal.returns-in-WholeAndRoot-clause-ok
 returns-in-WholeAndRoot-clause-ok c =
-    if_ok_map c.whole_and_root.result c.whole_and_root.ensures.ok (λ h k. gives_as k refl (λ t e. number_reduced t e))
+    if_map c.whole_and_root.result _ _ c.whole_and_root.ensures.ok (λ h k. gives_as k refl (λ t e. number_reduced t e))

@@ -6,8 +6,7 @@ use Rattle.coefficients.proofs.Coefficients.{put_reduces}
 use Rattle.tree_handles.specs.Expressions.{plain}
 use Rattle.tree_handles.specs.Roots.{without_root}
 use Rattle.tree_handles.proofs.Given.{gives_as, given_handed, given_other, given_apart, given_rest, given_same, given_told}
-use Rattle.tree_handles.proofs.Outcomes.{eqb-sym}
-use Rattle.sum_reduce.proofs.Results.{if_ok_map}
+use Rattle.tree_handles.proofs.Outcomes.{eqb-sym, if_map}
 use Rattle.sum_reduce.proofs.tests.building.multiple.Goals as goal
 
 pub put_coefficient-requires-clause-first : goal.put_coefficient-requires-clause-first
@@ -26,5 +25,5 @@ pub returns-clause-ok : goal.returns-clause-ok
 returns-clause-ok c =
     let p = c.in_ok-part.ensures.ok in
     let same = ap plain (given_same c.args.coefficient p c.requires.handed.root) in
-    if_ok_map c.put_coefficient.result c.put_coefficient.ensures.ok
+    if_map c.put_coefficient.result _ _ c.put_coefficient.ensures.ok
     (λ h k. gives_as k (ap (without_root c.args.coefficient) (given_rest p)) (λ t e. ap is_reduced e ∙ (put_reduces _ _ (number_words _ (ap is_number same ∙ c.requires.number)) (given_told p)).reduced))

@@ -1,8 +1,8 @@
 use Rattle.std.proofs.Common.{◌∙◌, ap}
+use Rattle.tree_handles.proofs.Outcomes.{if_map}
 use Rattle.number_forms.proofs.Pairs.{first_handed, pair_apart, first_told}
 use Rattle.tree_handles.specs.Roots.{without_root}
 use Rattle.tree_handles.proofs.Given.{gives_as, given_handed, given_told, given_rest}
-use Rattle.sum_reduce.proofs.Results.{if_ok_map}
 use Rattle.sum_reduce.proofs.tests.building.sum_multiple.Goals as goal
 
 pub before_sum-requires-clause-first : goal.before_sum-requires-clause-first
@@ -22,5 +22,5 @@ before_sum-requires-clause-reduced c = given_told c.in_ok-sum.ensures.ok
 
 pub returns-clause-ok : goal.returns-clause-ok
 returns-clause-ok c =
-    if_ok_map c.before_sum.result c.before_sum.ensures.ok
+    if_map c.before_sum.result _ _ c.before_sum.ensures.ok
     (λ h k. gives_as k (ap (without_root c.in_ok-coefficient.coefficient) (given_rest c.in_ok-sum.ensures.ok) ∙ given_rest c.in_ok-coefficient.ensures.ok) (λ t x. x))

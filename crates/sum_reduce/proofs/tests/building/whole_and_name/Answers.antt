@@ -1,4 +1,5 @@
 use Rattle.std.proofs.Common.{◌∙◌, ap, refl, sym, subst, arith}
+use Rattle.tree_handles.proofs.Outcomes.{if_map}
 use Rattle.std.specs.Prelude.{◌≤◌}
 use Rattle.std.proofs.lemmas.Bool.{and_from}
 use Rattle.calc_terms.specs.Trees.{Tree, count, is_add}
@@ -6,7 +7,6 @@ use Rattle.number_forms.proofs.Pairs.{first_handed, pair_apart, first_told, pair
 use Rattle.calc_algebra.specs.Reduced.{are_reduced}
 use Rattle.tree_handles.specs.Expressions.{children_of}
 use Rattle.tree_handles.proofs.Given.{gives_as, given_handed, given_told, given_rest}
-use Rattle.sum_reduce.proofs.Results.{if_ok_map}
 use Rattle.sum_reduce.proofs.Tested.{number_reduced}
 use Rattle.sum_reduce.proofs.tests.building.whole_and_name.Goals as goal
 
@@ -37,5 +37,5 @@ reduce_sum-requires-clause-reduced c =
 
 pub returns-clause-ok : goal.returns-clause-ok
 returns-clause-ok c =
-    if_ok_map c.reduce_sum.result c.reduce_sum.ensures.ok
+    if_map c.reduce_sum.result _ _ c.reduce_sum.ensures.ok
     (λ h k. gives_as k (given_rest c.in_ok-sum.ensures.ok ∙ pair_rest c.in_ok-first.ensures.ok c.in_ok-second.ensures.ok) (λ t x. x.reduces.reduced))

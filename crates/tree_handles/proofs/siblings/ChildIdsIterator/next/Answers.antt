@@ -1,4 +1,4 @@
-use Rattle.std.proofs.Common.{◌≡◌, ◌∷◌, ◌-◌, ℕ, sym, ap, ◌∙◌, arith, length, List}
+use Rattle.std.proofs.Common.{◌≡◌, ◌∷◌, ◌-◌, ℕ, sym, ap, ◌∙◌, arith, length}
 use Rattle.calc_terms.specs.declared.leaf.Header.{Header}
 use Rattle.node_pool.specs.Places.{since}
 use Rattle.tree_handles.specs.Children.{root_ids}

@@ -1,0 +1,73 @@
+-- Free bytes and those of handed trees, from one pool to the next.
+use Rattle.std.proofs.Common.{◌≡◌, ℕ, ◌+◌, ◌≤◌, Bool, true, false, cond, eqb, refl, sym, ap, ◌∙◌, subst, arith, ◌<◌}
+use Rattle.calc_terms.specs.Trees.{Tree, size}
+use Rattle.node_pool.specs.Nodes.{used}
+use Rattle.node_pool.specs.State.{State, free_of}
+use Rattle.tree_handles.specs.Expressions.{plain}
+use Rattle.tree_handles.specs.Forest.{Forest, empty, tree, bytes_in}
+use Rattle.tree_handles.specs.Handed.{IsHanded, tree_of, Gives}
+use Rattle.tree_handles.specs.Roots.{has_root, root_tree, without_root}
+use Rattle.tree_handles.specs.Standing.{Stands, forest, KeepsRefusals, IsRefused}
+use Rattle.tree_handles.proofs.Forests.{bytes-flatten, bytes_in-join}
+use Rattle.tree_handles.proofs.Outcomes.{by_test}
+use Rattle.tree_handles.proofs.Plains.{size-plain}
+use Rattle.tree_handles.proofs.Roots.{root_arity, tree-without}
+use Rattle.node_pool.specs.declared.full.Full.{Full}
+use Rattle.tree_handles.proofs.Given.{handed_beside}
+use Rattle.tree_handles.proofs.Lasts.{last_tree}
+use Rattle.tree_handles.proofs.Places.{used_forest}
+
+-- ---- bytes
+
+pub bytes_without : (i : ℕ) (f : Forest) → has_root i f ≡ true → bytes_in f ≡ bytes_in (root_tree i f) + bytes_in (without_root i f)
+bytes_without i empty h = cc
+bytes_without i (tree l k r) h = by_test (λ t. eqb l.id i ≡ t → bytes_in (tree l k r) ≡ bytes_in (cond t (tree l k empty) (root_tree i r)) + bytes_in (cond t r (tree l k (without_root i r)))) (eqb l.id i)
+    (λ e q. omega arith) (λ e q. let rest : bytes_in r ≡ bytes_in (root_tree i r) + bytes_in (without_root i r) = bytes_without i r (let g : cond (eqb l.id i) true (has_root i r) ≡ true = h in ap (λ (t : Bool). cond t true (has_root i r)) (sym q) ∙ g) in omega (arith, rest)) refl
+
+bytes_used : (s : State) → Stands s → used s.nodes ≡ bytes_in (forest s)
+bytes_used s st = ap used st.flat ∙ bytes-flatten (forest s)
+
+-- the bytes of a tree that goes are free
+pub room_of : (i : ℕ) (s t : State) → Stands s → Stands t → KeepsRefusals s t → IsHanded i (forest s) → forest t ≡ without_root i (forest s) → size (plain (root_tree i (forest s))) ≤ free_of t
+room_of i s t st su k h e =
+    let tree-bytes = size-plain (root_tree i (forest s)) (root_arity i (forest s) h.root) h.whole in
+    let parts = bytes_without i (forest s) h.root in
+    let after : bytes_in (forest t) ≡ bytes_in (without_root i (forest s)) = ap bytes_in e in
+    let old : used s.nodes ≤ s.size = st.pool.fits in
+    let new : used t.nodes ≤ t.size = su.pool.fits in
+    omega (arith, tree-bytes, parts, after, old, new, bytes_used s st, bytes_used t su, k.size)
+
+all_bytes : (s : State) → Stands s → free_of s + bytes_in (forest s) ≡ s.size
+all_bytes s st = let fits : used s.nodes ≤ s.size = st.pool.fits in omega (arith, fits, used_forest s st)
+
+beside_bytes : (i : ℕ) (f : Forest) → IsHanded i f → bytes_in f ≡ bytes_in (without_root i f) + size (plain (root_tree i f))
+beside_bytes i f h = omega (arith, bytes_without i f h.root, size-plain (root_tree i f) (root_arity i f h.root) h.whole)
+
+beside_both_bytes : (i j : ℕ) (f : Forest) → eqb i j ≡ false → IsHanded i f → IsHanded j f → bytes_in f ≡ bytes_in (without_root j (without_root i f)) + size (plain (root_tree i f)) + size (plain (root_tree j f))
+beside_both_bytes i j f a h k =
+    let same = ap (λ (x : Forest). size (plain x)) (tree-without i j f a) in
+    omega (arith, beside_bytes i f h, beside_bytes j (without_root i f) (handed_beside i a k), same)
+
+last_bytes : {g f : Forest} {i : ℕ} {Told : Tree → Type 0} → Gives g f i Told → bytes_in f ≡ bytes_in g + size (plain (root_tree i f))
+last_bytes {g = g} {f = f} e =
+    omega (arith, ap bytes_in e.ends.whole, bytes_in-join g e.tree, size-plain e.tree e.ends.alone e.whole, ap (λ (x : Forest). size (plain x)) (last_tree e.ends))
+
+-- a tree in place of a handed one
+pub replaced_free : {s t : State} {i h : ℕ} {Told : Tree → Type 0} → Stands s → Stands t → KeepsRefusals s t → IsHanded i (forest s) → Gives (without_root i (forest s)) (forest t) h Told
+    → free_of t + size (tree_of h t) ≡ free_of s + size (tree_of i s)
+replaced_free {s = s} {t = t} {i = i} st su k o e = omega (arith, all_bytes s st, all_bytes t su, k.size, beside_bytes i (forest s) o, last_bytes e)
+
+-- a tree in place of two
+pub both_replaced_free : {s t : State} {i j h : ℕ} {Told : Tree → Type 0} → Stands s → Stands t → KeepsRefusals s t → eqb i j ≡ false → IsHanded i (forest s) → IsHanded j (forest s) → Gives (without_root j (without_root i (forest s))) (forest t) h Told
+    → free_of t + size (tree_of h t) ≡ free_of s + size (tree_of i s) + size (tree_of j s)
+both_replaced_free {s = s} {t = t} {i = i} {j = j} st su k a o p e = omega (arith, all_bytes s st, all_bytes t su, k.size, beside_both_bytes i j (forest s) a o p, last_bytes e)
+
+-- two handed trees are gone
+pub both_released_free : {s t : State} {i j : ℕ} → Stands s → Stands t → KeepsRefusals s t → eqb i j ≡ false → IsHanded i (forest s) → IsHanded j (forest s) → forest t ≡ without_root j (without_root i (forest s))
+    → free_of t ≡ free_of s + size (tree_of i s) + size (tree_of j s)
+both_released_free {s = s} {t = t} {i = i} {j = j} st su k a o p e = omega (arith, all_bytes s st, all_bytes t su, k.size, beside_both_bytes i j (forest s) a o p, ap bytes_in e)
+
+-- ---- refusals
+
+pub refused_below : {s t : State} {n : ℕ} {full : Full} → IsRefused n s t full → free_of s < n
+refused_below r = subst (λ (f : Full). f.free < f.needed) r.told r.lacks.lacking

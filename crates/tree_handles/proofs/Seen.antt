@@ -1,0 +1,62 @@
+-- What a reader sees of a root.
+use Rattle.std.proofs.Common.{◌≡◌, ℕ, refl, sym, ap, ◌∙◌, subst, true, false}
+use Rattle.calc_terms.specs.declared.kind.Kind.{Kind}
+use Rattle.calc_terms.specs.Trees.{Tree, num, symbol, undef, add, mult, power, root, neg, sub, div, root_kind, is_mult, is_add}
+use Rattle.node_pool.specs.State.{State}
+use Rattle.tree_handles.specs.Handed.{tree_of, IsHanded}
+use Rattle.tree_handles.specs.Expressions.{plain, IsExpression}
+use Rattle.tree_handles.specs.Inside.{holds, tree_at}
+use Rattle.tree_handles.specs.Roots.{has_root}
+use Rattle.tree_handles.specs.Standing.{Stands, forest}
+use Rattle.tree_handles.proofs.Lasts.{expression_root, plain_root}
+use Rattle.tree_handles.proofs.Roots.{root_held}
+use Rattle.calc_terms.specs.declared.kind.Kind.TheVariants as kind
+
+-- ---- reading a root
+
+pub live : {i j : ℕ} (s : State) → j ≡ i → has_root i (forest s) ≡ true → holds j (forest s) ≡ true
+live {i = i} {j = j} s e h = subst (λ (x : ℕ). holds x (forest s) ≡ true) (sym e) (root_held i (forest s) h)
+
+pub expression : {s : State} {i j : ℕ} → j ≡ i → Stands s → IsHanded i (forest s) → IsExpression j (forest s)
+expression {s = s} {i = i} {j = j} e st h = subst (λ (x : ℕ). IsExpression x (forest s)) (sym e) (expression_root st h)
+
+-- what is read there is the root's tree
+pub seen : {s : State} {i j : ℕ} → j ≡ i → Stands s → IsHanded i (forest s) → plain (tree_at j (forest s)) ≡ tree_of i s
+seen {s = s} {i = i} {j = j} e st h = ap (λ (x : ℕ). plain (tree_at x (forest s))) e ∙ plain_root i st h.root
+
+-- ---- kinds
+
+pub kind_of_root : {s : State} {i j : ℕ} {k : Kind} → j ≡ i → Stands s → IsHanded i (forest s) → (IsExpression j (forest s) → k ≡ root_kind (plain (tree_at j (forest s)))) → k ≡ root_kind (tree_of i s)
+kind_of_root e st h told = told (expression e st h) ∙ ap root_kind (seen e st h)
+
+pub product_kind : (t : Tree) → kind.Mult ≡ root_kind t → is_mult t ≡ true
+product_kind (mult ts) e = refl
+product_kind (num q) e = cc
+product_kind (symbol x) e = cc
+product_kind undef e = cc
+product_kind (add ts) e = cc
+product_kind (power b x) e = cc
+product_kind (root a) e = cc
+product_kind (neg a) e = cc
+product_kind (sub a b) e = cc
+product_kind (div a b) e = cc
+
+pub no_product_kind : (t : Tree) → (kind.Mult ≡ root_kind t → ⊥) → is_mult t ≡ false
+no_product_kind (mult ts) h = absurd (h refl)
+no_product_kind t h = refl
+
+pub sum_kind : (t : Tree) → kind.Add ≡ root_kind t → is_add t ≡ true
+sum_kind (add ts) e = refl
+sum_kind (num q) e = cc
+sum_kind (symbol x) e = cc
+sum_kind undef e = cc
+sum_kind (mult ts) e = cc
+sum_kind (power b x) e = cc
+sum_kind (root a) e = cc
+sum_kind (neg a) e = cc
+sum_kind (sub a b) e = cc
+sum_kind (div a b) e = cc
+
+pub no_sum_kind : (t : Tree) → (kind.Add ≡ root_kind t → ⊥) → is_add t ≡ false
+no_sum_kind (add ts) h = absurd (h refl)
+no_sum_kind t h = refl
